@@ -32,7 +32,8 @@ taken_more (x ∷ path) (suc d) lt =
     let next : suc d + 1 ≡ suc (d + 1) = omega arith in
     ap (λ n. take n (x ∷ path)) next ∙ ap (λ xs. x ∷ xs) (taken_more path d (omega arith))
 
-reversed_more : (path : List ℕ) (d : ℕ) → d < length path → reverse (take (d + 1) path) ≡ get_or path d 0 ∷ reverse (take d path)
+reversed_more : (path : List ℕ) (d : ℕ) → d < length path
+    → reverse (take (d + 1) path) ≡ get_or path d 0 ∷ reverse (take d path)
 reversed_more path d lt = ap reverse (taken_more path d lt) ∙ reverse-append (take d path) (get_or path d 0 ∷ [])
 
 module _ (tree : PackageTree ℕ) (root : ℕ) where
@@ -67,19 +68,30 @@ module _ (tree : PackageTree ℕ) (root : ℕ) where
     unfolding climb_on
     climbs_nowhere e = climbs_on last path d p lt ∙ ap (climb_on (reverse (take d path))) e
 
-    pub climbs_own : (x : ConnectionInto) (q : ℕ) → entry tree (standing tree root (reverse (take d path))) (get_or path d 0) p ≡ Some x → x.source ≡ Own q
-        → climb tree root last (reverse (take (d + 1) path)) p ≡ climb tree root (Some x.connection) (reverse (take d path)) q
+    pub climbs_own : (x : ConnectionInto) (q : ℕ)
+        → entry tree (standing tree root (reverse (take d path))) (get_or path d 0) p ≡ Some x → x.source ≡ Own q
+        → climb tree root last (reverse (take (d + 1) path)) p
+        ≡ climb tree root (Some x.connection) (reverse (take d path)) q
     unfolding climb_on
     climbs_own x q e own = climbs_on last path d p lt ∙ (ap (climb_on (reverse (take d path))) e
-        ∙ ap (climb_by (λ k q. climb tree root (Some k) (reverse (take d path)) q) (reverse (take d path)) x.declaration x.connection) own)
+        ∙ ap (climb_by (λ k q. climb tree root (Some k) (reverse (take d path)) q) (reverse (take d path)) x.declaration
+        x.connection) own)
 
-    pub climbs_inner : (x : ConnectionInto) (t q : ℕ) → entry tree (standing tree root (reverse (take d path))) (get_or path d 0) p ≡ Some x
+    pub climbs_inner : (x : ConnectionInto) (t q : ℕ)
+        → entry tree (standing tree root (reverse (take d path))) (get_or path d 0) p ≡ Some x
         → x.source ≡ Inner t q
         → climb tree root last (reverse (take (d + 1) path)) p
-        ≡ crosses (record { path = reverse (take d path); declaration = x.declaration; connection = x.connection; sub = t; port = q })
+        ≡ crosses (record {
+          path = reverse (take d path);
+          declaration = x.declaration;
+          connection = x.connection;
+          sub = t;
+          port = q;
+        })
     unfolding climb_on
     climbs_inner x t q e inner = climbs_on last path d p lt ∙ (ap (climb_on (reverse (take d path))) e
-        ∙ ap (climb_by (λ k q. climb tree root (Some k) (reverse (take d path)) q) (reverse (take d path)) x.declaration x.connection) inner)
+        ∙ ap (climb_by (λ k q. climb tree root (Some k) (reverse (take d path)) q) (reverse (take d path)) x.declaration
+        x.connection) inner)
 
   -- what stands where a crossing comes from
   pub record From (c : Crossing) : Type 0 where
@@ -88,11 +100,14 @@ module _ (tree : PackageTree ℕ) (root : ℕ) where
     pub goes_out : is_in_at tree number c.port ≡ false
     pub stands : standing tree root (c.sub ∷ c.path) ≡ Some number
 
-  pub crossing_from : AreDeclared tree → (path : List ℕ) (p : ℕ) (c : Crossing) → climb tree root None path p ≡ crosses c → From c
+  pub crossing_from : AreDeclared tree → (path : List ℕ) (p : ℕ) (c : Crossing)
+      → climb tree root None path p ≡ crosses c → From c
   crossing_from sound path p c is =
       let x = crossed tree root None path p c is in
       let g = x.goes in
-      let k = known tree root sound (record { path = c.path; connection = c.connection }) (record { path = c.sub ∷ c.path; port = c.port }) x.target g in
+      let k =
+      known tree root sound (record { path = c.path; connection = c.connection })
+      (record { path = c.sub ∷ c.path; port = c.port }) x.target g in
       let m = leaves_by g.number g.source k.leaves x.source_is in
       let names : below tree c.declaration c.sub ≡ Some m.0 = ap (λ n. below tree n c.sub) (sym x.number_is) ∙ m.1 in
       record {
@@ -111,7 +126,8 @@ pub rank : List ℕ → ℕ → ℕ
 rank keys n = option_map_or (λ k. k) (first_number (nat_eq n) keys) 0
 
 module _ (tree : PackageTree ℕ) (keys : List ℕ) (order : IsOrder (containment tree) keys) where
-  place_of : (n i : ℕ) → slice_get keys i ≡ Some n → (k : ℕ) × (first_number (nat_eq n) keys ≡ Some k) × (k ≤ i) × (slice_get keys k ≡ Some n)
+  place_of : (n i : ℕ) → slice_get keys i ≡ Some n
+      → (k : ℕ) × (first_number (nat_eq n) keys ≡ Some k) × (k ≤ i) × (slice_get keys k ≡ Some n)
   place_of n i is =
       let f = some_first (nat_eq n) keys 0 i n is (eq-eqb n n refl) in
       let at = first_at (nat_eq n) keys 0 f.0 f.1 in
@@ -124,10 +140,13 @@ module _ (tree : PackageTree ℕ) (keys : List ℕ) (order : IsOrder (containmen
   declared_by n s m b = by (cases_lt n (length tree.declarations))
     where
       none_past : length tree.declarations ≤ n → below tree n s ≡ None
-      none_past past = ap (λ o. option_and_then (λ sub. referred tree sub.classifier) (slice_get (subcomponents_of (implementation_in o)) s))
+      none_past past =
+          ap (λ o. option_and_then (λ sub. referred tree sub.classifier)
+          (slice_get (subcomponents_of (implementation_in o)) s))
           (slice_get_past tree.declarations n past) ∙ nothing s
         where
-          nothing : (s : ℕ) → option_and_then (λ (sub : Subcomponent ℕ). referred tree sub.classifier) (slice_get [] s) ≡ None
+          nothing : (s : ℕ) → option_and_then (λ (sub : Subcomponent ℕ). referred tree sub.classifier)
+              (slice_get [] s) ≡ None
           nothing zero = refl
           nothing (suc s) = refl
 
@@ -147,6 +166,8 @@ module _ (tree : PackageTree ℕ) (keys : List ℕ) (order : IsOrder (containmen
       let q = place_of m j.0 j.2 in
       let before = j.1 in
       let first = q.2 in
-      let left : option_map_or (λ k. k) (first_number (nat_eq m) keys) 0 ≡ q.0 = ap (λ o. option_map_or (λ k. k) o 0) q.1 in
-      let right : option_map_or (λ k. k) (first_number (nat_eq n) keys) 0 ≡ p.0 = ap (λ o. option_map_or (λ k. k) o 0) p.1 in
+      let left : option_map_or (λ k. k) (first_number (nat_eq m) keys) 0
+      ≡ q.0 = ap (λ o. option_map_or (λ k. k) o 0) q.1 in
+      let right : option_map_or (λ k. k) (first_number (nat_eq n) keys) 0
+      ≡ p.0 = ap (λ o. option_map_or (λ k. k) o 0) p.1 in
       omega arith

@@ -35,7 +35,8 @@ use Rattle.aadl_chains.specs.proof.Sound.{MayLeave, MayEnter, NotBothOwn, IsDecl
 
 -- ---- lists with nothing in them
 
-numbered : {X : Type 0} (i : ℕ) (xs : List X) (k : ℕ) (x : X) → slice_get xs k ≡ Some x → slice_get (enumerate_from i xs) k ≡ Some (i + k, x)
+numbered : {X : Type 0} (i : ℕ) (xs : List X) (k : ℕ) (x : X) → slice_get xs k ≡ Some x
+    → slice_get (enumerate_from i xs) k ≡ Some (i + k, x)
 numbered i [] k x e = absurd (Contains-nil x (Contains-from_slice_get [] k x e))
 numbered i (y ∷ xs) zero x e = ap (λ z. Some (i, z)) (same_Some y x e) ∙ ap (λ n. Some (n, x)) (omega arith)
 numbered i (y ∷ xs) (suc k) x e = numbered (i + 1) xs k x e ∙ ap (λ n. Some (n, x)) (omega arith)
@@ -45,7 +46,8 @@ not_wrong true at e = absurd (cc e)
 not_wrong false at e = refl
 
 -- ---- ends
-port_there : (may : PortPlace × Option Direction → Bool) (end : ConnectionEnd ℕ) (at : ℕ) (o : Option (PortPlace × Option Direction)) → end_faults may end at o ≡ []
+port_there : (may : PortPlace × Option Direction → Bool) (end : ConnectionEnd ℕ) (at : ℕ)
+    (o : Option (PortPlace × Option Direction)) → end_faults may end at o ≡ []
     → (port : PortPlace × Option Direction) × (o ≡ Some port) × (may port ≡ true)
 port_there may end at None e = absurd (cc e)
 port_there may end at (Some port) e = (port, refl, not-false (may port) (not_wrong (not (may port)) at e))
@@ -63,7 +65,8 @@ module _ (tree : PackageTree ℕ) (x : Implementation ℕ) where
     pub names : referred tree sub.classifier ≡ Some target
     pub is_named : implementation_at tree target ≡ Some named
 
-  inner_by : (s p : ℕ) (name : List ℕ) (o : Option (Implementation ℕ)) → option_and_then (target_of tree) (slice_get x.subcomponents s) ≡ o
+  inner_by : (s p : ℕ) (name : List ℕ) (o : Option (Implementation ℕ))
+      → option_and_then (target_of tree) (slice_get x.subcomponents s) ≡ o
       → port_named (ports_at tree o) name ≡ Some p → InnerPort s p
   inner_by s p name None e is = absurd (no_port name p is)
   inner_by s p name (Some y) e is =
@@ -78,11 +81,14 @@ module _ (tree : PackageTree ℕ) (x : Implementation ℕ) where
   inner_site_by t s p name e =
       let m = option_map-parts (Inner t) (port_named (inner_ports tree x t) name) (Inner s p) e in
       let same = same_inner t s m.0 p m.2 in
-      let is : port_named (inner_ports tree x s) name ≡ Some p = ap (λ k. port_named (inner_ports tree x k) name) (sym same.0) ∙ (m.1 ∙ ap Some same.1) in
+      let is : port_named (inner_ports tree x s) name ≡ Some p =
+      ap (λ k. port_named (inner_ports tree x k) name) (sym same.0) ∙ (m.1 ∙ ap Some same.1) in
       inner_by s p name (option_and_then (target_of tree) (slice_get x.subcomponents s)) refl is
 
-  by_second : (s p : ℕ) (first : Identifier ℕ) (second : Option (Identifier ℕ)) → site_by tree x first second ≡ Some (Inner s p) → InnerPort s p
-  by_second s p first None e = let m = option_map-parts Own (port_named (ports_of tree x) first.spelling) (Inner s p) e in let c = m.2 in absurd (cc c)
+  by_second : (s p : ℕ) (first : Identifier ℕ) (second : Option (Identifier ℕ))
+      → site_by tree x first second ≡ Some (Inner s p) → InnerPort s p
+  by_second s p first None e = let m =
+      option_map-parts Own (port_named (ports_of tree x) first.spelling) (Inner s p) e in let c = m.2 in absurd (cc c)
   by_second s p first (Some port) e =
       option_and_then_some (inner_site tree x port.spelling) (sub_named x.subcomponents first.spelling) (Inner s p) e
       (λ t h f. inner_site_by t s p port.spelling f)
@@ -93,8 +99,10 @@ module _ (tree : PackageTree ℕ) (x : Implementation ℕ) where
 
   module _ (n : ℕ) (is : implementation_at tree n ≡ Some x) where
     below_is : (s p : ℕ) → (i : InnerPort s p) → below tree n s ≡ Some i.target
-    below_is s p i = ap (λ (o : Option (Implementation ℕ)). option_and_then (λ (sub : Subcomponent ℕ). referred tree sub.classifier)
-        (slice_get (subcomponents_of o) s)) is ∙ (ap (option_and_then (λ (sub : Subcomponent ℕ). referred tree sub.classifier)) i.is_sub ∙ i.names)
+    below_is s p i =
+        ap (λ (o : Option (Implementation ℕ)). option_and_then (λ (sub : Subcomponent ℕ). referred tree sub.classifier)
+        (slice_get (subcomponents_of o) s)) is
+        ∙ (ap (option_and_then (λ (sub : Subcomponent ℕ). referred tree sub.classifier)) i.is_sub ∙ i.names)
 
     own_way : (p : ℕ) → is_in_at tree n p ≡ goes_in (direction_of tree x (Own p))
     own_way p = ap (λ o. goes_in (option_map (λ (f : Feature ℕ). f.direction) (slice_get (ports_at tree o) p))) is
@@ -102,15 +110,19 @@ module _ (tree : PackageTree ℕ) (x : Implementation ℕ) where
     inner_way : (s p : ℕ) → (i : InnerPort s p) → is_in_at tree i.target p ≡ goes_in (direction_of tree x (Inner s p))
     inner_way s p i =
         ap (λ o. goes_in (option_map (λ (f : Feature ℕ). f.direction) (slice_get (ports_at tree o) p))) i.is_named
-        ∙ sym (ap (λ (o : Option (Implementation ℕ)). goes_in (option_map (λ (f : Feature ℕ). f.direction) (slice_get (ports_at tree o) p)))
-        (ap (option_and_then (target_of tree)) i.is_sub ∙ (ap (option_and_then (implementation_at tree)) i.names ∙ i.is_named)))
+        ∙ sym (ap (λ (o : Option (Implementation ℕ)).
+        goes_in (option_map (λ (f : Feature ℕ). f.direction) (slice_get (ports_at tree o) p)))
+        (ap (option_and_then (target_of tree)) i.is_sub
+        ∙ (ap (option_and_then (implementation_at tree)) i.names ∙ i.is_named)))
 
-    leaves : (end : ConnectionEnd ℕ) (s : PortPlace) → site tree x end ≡ Some s → may_leave (with_direction tree x s) ≡ true → MayLeave tree n s
+    leaves : (end : ConnectionEnd ℕ) (s : PortPlace) → site tree x end ≡ Some s
+        → may_leave (with_direction tree x s) ≡ true → MayLeave tree n s
     leaves end (Own p) e m = own_way p ∙ m
     leaves end (Inner s p) e m = let i = inner_port s p end e in
         (i.target, below_is s p i, inner_way s p i ∙ not-true (goes_in (direction_of tree x (Inner s p))) m)
 
-    enters : (end : ConnectionEnd ℕ) (s : PortPlace) → site tree x end ≡ Some s → may_enter (with_direction tree x s) ≡ true → MayEnter tree n s
+    enters : (end : ConnectionEnd ℕ) (s : PortPlace) → site tree x end ≡ Some s
+        → may_enter (with_direction tree x s) ≡ true → MayEnter tree n s
     enters end (Own p) e m = own_way p ∙ not-true (goes_in (direction_of tree x (Own p))) m
     enters end (Inner s p) e m = let i = inner_port s p end e in (
       i.target,
@@ -119,7 +131,8 @@ module _ (tree : PackageTree ℕ) (x : Implementation ℕ) where
           (not-true (not (goes_in (direction_of tree x (Inner s p)))) m),
     )
 
-    not_both : (s t : PortPlace) → (is_own (Some (with_direction tree x s)) && is_own (Some (with_direction tree x t))) ≡ false → NotBothOwn s t
+    not_both : (s t : PortPlace)
+        → (is_own (Some (with_direction tree x s)) && is_own (Some (with_direction tree x t))) ≡ false → NotBothOwn s t
     not_both (Own p) (Own q) e = true≢false e
     not_both (Own p) (Inner t q) e = tt
     not_both (Inner s p) (Own q) e = tt
@@ -176,13 +189,17 @@ module _ (tree : PackageTree ℕ) (x : Implementation ℕ) where
       not_both = d.not_both;
     }
 
-    no_subs : (s p : ℕ) → is_thread x.category ≡ true → flat_map (subcomponent_faults tree x.category) x.subcomponents ≡ [] → InnerPort s p → ⊥
+    no_subs : (s p : ℕ) → is_thread x.category ≡ true
+        → flat_map (subcomponent_faults tree x.category) x.subcomponents ≡ [] → InnerPort s p → ⊥
     no_subs s p thread clean i =
         let sub = i.sub in
-        let f : subcomponent_faults tree x.category sub ≡ [] = flat_map-nil_at (subcomponent_faults tree x.category) x.subcomponents s sub clean i.is_sub in
+        let f : subcomponent_faults tree x.category sub ≡ [] =
+        flat_map-nil_at (subcomponent_faults tree x.category) x.subcomponents s sub clean i.is_sub in
         let a = wrong_if (not (may_contain x.category sub.category)) sub.name.at in
         let b = names_faults tree sub sub.classifier.implementation in
-        let first = append_is_nil_left a b (append_is_nil_left (a ++ b) (list_faults (holders.Subcomponent sub.category) sub.properties) f) in
+        let first =
+        append_is_nil_left a b (append_is_nil_left (a ++ b)
+        (list_faults (holders.Subcomponent sub.category) sub.properties) f) in
         contains_nothing x.category sub.category thread (not-false (may_contain x.category sub.category)
         (not_wrong (not (may_contain x.category sub.category)) sub.name.at first))
       where
@@ -191,7 +208,8 @@ module _ (tree : PackageTree ℕ) (x : Implementation ℕ) where
         contains_nothing categories.Process b t m = true≢false (sym t)
         contains_nothing categories.Thread b t m = true≢false (sym m)
 
-    no_connection : (c : Connection ℕ) → is_thread x.category ≡ true → flat_map (subcomponent_faults tree x.category) x.subcomponents ≡ [] → Declares c → ⊥
+    no_connection : (c : Connection ℕ) → is_thread x.category ≡ true
+        → flat_map (subcomponent_faults tree x.category) x.subcomponents ≡ [] → Declares c → ⊥
     no_connection c thread clean d = by d.source d.target d.source_is d.target_is d.not_both
       where
         by : (s t : PortPlace) → site tree x c.source ≡ Some s → site tree x c.target ≡ Some t → NotBothOwn s t → ⊥
@@ -210,12 +228,15 @@ module _ (tree : PackageTree ℕ) (root : ℕ) (clean : package_faults tree root
   unfolding wrong_names
   all_clean = append_is_nil_right _ _ (append_is_nil_left (wrong_names tree root) _ clean)
 
-  clean_at : (n : ℕ) (x : Implementation ℕ) → implementation_at tree n ≡ Some x → outer_faults tree (nat_eq root n) x ≡ []
+  clean_at : (n : ℕ) (x : Implementation ℕ) → implementation_at tree n ≡ Some x
+      → outer_faults tree (nat_eq root n) x ≡ []
   clean_at n x e =
       let d : slice_get (enumerate_from 0 tree.declarations) n ≡ Some (n, implementation x) =
-      numbered 0 tree.declarations n (implementation x) (there (slice_get tree.declarations n) x e) ∙ ap (λ k. Some (k, implementation x)) (omega arith) in
+      numbered 0 tree.declarations n (implementation x) (there (slice_get tree.declarations n) x e)
+      ∙ ap (λ k. Some (k, implementation x)) (omega arith) in
       append_is_nil_left (outer_faults tree (nat_eq root n) x) (annex_faults tree x (behaviours x.annexes))
-      (flat_map-nil_at (declaration_faults tree root) (enumerate_from 0 tree.declarations) n (n, implementation x) all_clean d)
+      (flat_map-nil_at (declaration_faults tree root) (enumerate_from 0 tree.declarations) n (n, implementation x)
+      all_clean d)
 
   pub record CleanParts (x : Implementation ℕ) : Type 0 where
     pub subs : flat_map (subcomponent_faults tree x.category) x.subcomponents ≡ []
@@ -229,26 +250,35 @@ module _ (tree : PackageTree ℕ) (root : ℕ) (clean : package_faults tree root
       let l = list_faults (holders.Declaration x.category (nat_eq root n)) x.properties in
       let v = flat_map variables_faults x.annexes in
       let front = append_is_nil_left (h ++ s ++ c) l (append_is_nil_left (h ++ s ++ c ++ l) v (clean_at n x e)) in
-      record { subs = append_is_nil_right h s (append_is_nil_left (h ++ s) c front); links = append_is_nil_right (h ++ s) c front }
+      record {
+        subs = append_is_nil_right h s (append_is_nil_left (h ++ s) c front);
+        links = append_is_nil_right (h ++ s) c front;
+      }
 
-  declares_at : (n k : ℕ) (x : Implementation ℕ) (c : Connection ℕ) → (e : implementation_at tree n ≡ Some x) → slice_get x.connections k ≡ Some c
+  declares_at : (n k : ℕ) (x : Implementation ℕ) (c : Connection ℕ) → (e : implementation_at tree n ≡ Some x)
+      → slice_get x.connections k ≡ Some c
       → Declares tree x n e c
-  declares_at n k x c e is = declares tree x n e c (flat_map-nil_at (connection_faults tree x) x.connections k c (parts n x e).links is)
+  declares_at n k x c e is =
+      declares tree x n e c (flat_map-nil_at (connection_faults tree x) x.connections k c (parts n x e).links is)
 
-  each_by : (n : ℕ) (wire : Wire) (o : Option (Implementation ℕ)) → implementation_at tree n ≡ o → (h : Contains (wires_of tree o) wire)
+  each_by : (n : ℕ) (wire : Wire) (o : Option (Implementation ℕ)) → implementation_at tree n ≡ o
+      → (h : Contains (wires_of tree o) wire)
       → IsDeclared tree n wire
   each_by n wire None e h = absurd (Contains-nil wire h)
   each_by n wire (Some x) e h =
-      let l = listed (wire_of tree x) x.connections h.0 wire (slice_get-from_Contains (wires_of tree (Some x)) wire h) in
+      let l =
+      listed (wire_of tree x) x.connections h.0 wire (slice_get-from_Contains (wires_of tree (Some x)) wire h) in
       wired tree x n e l.0 wire (declares_at n h.0 x l.0 e l.1) l.2
 
-  threads_by : (n : ℕ) (o : Option (Implementation ℕ)) → implementation_at tree n ≡ o → is_thread_in o ≡ true → wires_of tree o ≡ []
+  threads_by : (n : ℕ) (o : Option (Implementation ℕ)) → implementation_at tree n ≡ o → is_thread_in o ≡ true
+      → wires_of tree o ≡ []
   threads_by n None e t = refl
   threads_by n (Some x) e t = by x.connections refl
     where
       by : (cs : List (Connection ℕ)) → x.connections ≡ cs → map (wire_of tree x) cs ≡ []
       by [] f = refl
-      by (c ∷ cs) f = absurd (no_connection tree x n e c t (parts n x e).subs (declares_at n 0 x c e (ap (λ l. slice_get l 0) f)))
+      by (c ∷ cs) f =
+          absurd (no_connection tree x n e c t (parts n x e).subs (declares_at n 0 x c e (ap (λ l. slice_get l 0) f)))
 
   pub declared : AreDeclared tree
   declared = record {

@@ -25,7 +25,8 @@ pub last_of : (path : List ℕ) → (path ≡ []) ⊎ ((s : ℕ) × (inner : Lis
 last_of [] = inl refl
 last_of (u ∷ path) = by (last_of path)
   where
-    by : (path ≡ []) ⊎ ((s : ℕ) × (inner : List ℕ) × (path ≡ inner ++ s ∷ [])) → (u ∷ path ≡ []) ⊎ ((s : ℕ) × (inner : List ℕ) × (u ∷ path ≡ inner ++ s ∷ []))
+    by : (path ≡ []) ⊎ ((s : ℕ) × (inner : List ℕ) × (path ≡ inner ++ s ∷ []))
+        → (u ∷ path ≡ []) ⊎ ((s : ℕ) × (inner : List ℕ) × (u ∷ path ≡ inner ++ s ∷ []))
     by (inl e) = inr (u, [], ap (λ p. u ∷ p) e)
     by (inr h) = inr (h.0, u ∷ h.1, ap (λ p. u ∷ p) h.2)
 
@@ -55,44 +56,61 @@ module _ (tree : PackageTree ℕ) where
     component_inner path = ap (option_and_then (implementation_at tree)) (standing_inner path)
 
     is_in_inner : (path : List ℕ) (p : ℕ) → is_in tree n (port (path ++ s ∷ []) p) ≡ is_in tree m (port path p)
-    is_in_inner path p = ap (λ o. goes_in (option_map (λ (f : Feature ℕ). f.direction) (slice_get (ports_at tree o) p))) (component_inner path)
+    is_in_inner path p =
+        ap (λ o. goes_in (option_map (λ (f : Feature ℕ). f.direction) (slice_get (ports_at tree o) p)))
+        (component_inner path)
 
-    pub port_outer : (path : List ℕ) (p : ℕ) → IsThreadPort tree m (port path p) → IsThreadPort tree n (port (path ++ s ∷ []) p)
+    pub port_outer : (path : List ℕ) (p : ℕ) → IsThreadPort tree m (port path p)
+        → IsThreadPort tree n (port (path ++ s ∷ []) p)
     port_outer path p t = ((t.0.0, (component_inner path ∙ t.0.1.0, t.0.1.1)), is_in_inner path p ∙ t.1)
 
-    pub port_inner : (path : List ℕ) (p : ℕ) → IsThreadPort tree n (port (path ++ s ∷ []) p) → IsThreadPort tree m (port path p)
+    pub port_inner : (path : List ℕ) (p : ℕ) → IsThreadPort tree n (port (path ++ s ∷ []) p)
+        → IsThreadPort tree m (port path p)
     port_inner path p t = ((t.0.0, (sym (component_inner path) ∙ t.0.1.0, t.0.1.1)), sym (is_in_inner path p) ∙ t.1)
 
     -- ---- a walk, one level further out
     pub outer : Climb → Climb
     outer nowhere = nowhere
     outer (at_root l p) = climb_along (λ k q. at_root (Some k) q) [] n (into tree n (Inner s p))
-    outer (crosses c) = crosses (record { path = c.path ++ s ∷ []; declaration = c.declaration; connection = c.connection; sub = c.sub; port = c.port })
+    outer (crosses c) =
+        crosses (record {
+          path = c.path ++ s ∷ [];
+          declaration = c.declaration;
+          connection = c.connection;
+          sub = c.sub;
+          port = c.port;
+        })
 
-    outer_by : (up wide : ℕ → ℕ → Climb) → ((k q : ℕ) → wide k q ≡ outer (up k q)) → (path : List ℕ) (j k : ℕ) (source : PortPlace)
+    outer_by : (up wide : ℕ → ℕ → Climb) → ((k q : ℕ) → wide k q ≡ outer (up k q))
+        → (path : List ℕ) (j k : ℕ) (source : PortPlace)
         → climb_by wide (path ++ s ∷ []) j k source ≡ outer (climb_by up path j k source)
     unfolding outer
     outer_by up wide same path j k (Own q) = same k q
     outer_by up wide same path j k (Inner t q) = refl
 
-    outer_along : (up wide : ℕ → ℕ → Climb) → ((k q : ℕ) → wide k q ≡ outer (up k q)) → (path : List ℕ) (j : ℕ) (o : Option (ℕ × PortPlace))
+    outer_along : (up wide : ℕ → ℕ → Climb) → ((k q : ℕ) → wide k q ≡ outer (up k q))
+        → (path : List ℕ) (j : ℕ) (o : Option (ℕ × PortPlace))
         → climb_along wide (path ++ s ∷ []) j o ≡ outer (climb_along up path j o)
     unfolding outer
     outer_along up wide same path j None = refl
     outer_along up wide same path j (Some from) = outer_by up wide same path j from.0 from.1
 
-    outer_into : (up wide : ℕ → ℕ → Climb) → ((k q : ℕ) → wide k q ≡ outer (up k q)) → (path : List ℕ) (u p : ℕ) (o : Option ℕ)
+    outer_into : (up wide : ℕ → ℕ → Climb) → ((k q : ℕ) → wide k q ≡ outer (up k q))
+        → (path : List ℕ) (u p : ℕ) (o : Option ℕ)
         → climb_into tree wide (path ++ s ∷ []) u p o ≡ outer (climb_into tree up path u p o)
     unfolding outer
     outer_into up wide same path u p None = refl
     outer_into up wide same path u p (Some j) = outer_along up wide same path j (into tree j (Inner u p))
 
-    pub climb_outer : (last : Option ℕ) (path : List ℕ) (p : ℕ) → climb tree n last (path ++ s ∷ []) p ≡ outer (climb tree m last path p)
+    pub climb_outer : (last : Option ℕ) (path : List ℕ) (p : ℕ)
+        → climb tree n last (path ++ s ∷ []) p ≡ outer (climb tree m last path p)
     unfolding outer
     climb_outer last [] p = refl
     climb_outer last (u ∷ path) p =
-        ap (climb_into tree (λ k q. climb tree n (Some k) (path ++ s ∷ []) q) (path ++ s ∷ []) u p) (standing_inner path)
-        ∙ outer_into (λ k q. climb tree m (Some k) path q) (λ k q. climb tree n (Some k) (path ++ s ∷ []) q) (λ k q. climb_outer (Some k) path q) path u p
+        ap (climb_into tree (λ k q. climb tree n (Some k) (path ++ s ∷ []) q) (path ++ s ∷ []) u p)
+        (standing_inner path)
+        ∙ outer_into (λ k q. climb tree m (Some k) path q) (λ k q. climb tree n (Some k) (path ++ s ∷ []) q)
+        (λ k q. climb_outer (Some k) path q) path u p
         (standing tree m path)
 
     -- ---- what a walk one level further out comes from
@@ -112,7 +130,8 @@ module _ (tree : PackageTree ℕ) where
         → (last : Option ℕ) × (p k : ℕ) × (r ≡ at_root last p) × Entered tree n (Inner s p) k (Own q)
     unfolding outer
     root_outer nowhere l q is = absurd (cc is)
-    root_outer (at_root last p) l q is = let e = root_along p l q (into tree n (Inner s p)) refl is in (last, p, e.0, refl, e.1)
+    root_outer (at_root last p) l q is = let e = root_along p l q (into tree n (Inner s p)) refl is in
+        (last, p, e.0, refl, e.1)
     root_outer (crosses c) l q is = absurd (cc is)
 
     -- a crossing further in, or of the implementation itself
@@ -131,7 +150,8 @@ module _ (tree : PackageTree ℕ) where
       pub enters : Entered tree n (Inner s port) connection (Inner c.sub c.port)
       pub declaration_is : c.declaration ≡ n
 
-    crossing_by : (last : Option ℕ) (p k : ℕ) (c : Crossing) (source : PortPlace) → into tree n (Inner s p) ≡ Some (k, source)
+    crossing_by : (last : Option ℕ) (p k : ℕ) (c : Crossing) (source : PortPlace)
+        → into tree n (Inner s p) ≡ Some (k, source)
         → climb_by (λ k q. at_root (Some k) q) [] n k source ≡ crosses c → Itself (at_root last p) c
     crossing_by last p k c (Own r) i is = absurd (cc is)
     crossing_by last p k c (Inner t r) i is =
@@ -141,7 +161,9 @@ module _ (tree : PackageTree ℕ) where
           port = p;
           connection = k;
           is = refl;
-          enters = subst (λ (x : Crossing). Entered tree n (Inner s p) k (Inner x.sub x.port)) same (entered tree n (Inner s p) (k, Inner t r) i);
+          enters =
+              subst (λ (x : Crossing). Entered tree n (Inner s p) k (Inner x.sub x.port)) same
+              (entered tree n (Inner s p) (k, Inner t r) i);
           declaration_is = ap (λ (x : Crossing). x.declaration) (sym same);
         }
 
@@ -155,7 +177,13 @@ module _ (tree : PackageTree ℕ) where
     crossing_outer nowhere c is = absurd (cc is)
     crossing_outer (at_root last p) c is = inr (crossing_along last p c (into tree n (Inner s p)) refl is)
     crossing_outer (crosses x) c is =
-        let same : record { path = x.path ++ s ∷ []; declaration = x.declaration; connection = x.connection; sub = x.sub; port = x.port } ≡ c = cc is in
+        let same : record {
+          path = x.path ++ s ∷ [];
+          declaration = x.declaration;
+          connection = x.connection;
+          sub = x.sub;
+          port = x.port;
+        } ≡ c = cc is in
         inl (record {
           crossing = x;
           is = refl;
@@ -165,16 +193,24 @@ module _ (tree : PackageTree ℕ) where
         })
 
     pub crossing_kept : (r : Climb) (x : Crossing) → r ≡ crosses x
-        → outer r ≡ crosses (record { path = x.path ++ s ∷ []; declaration = x.declaration; connection = x.connection; sub = x.sub; port = x.port })
+        → outer r ≡ crosses (record {
+          path = x.path ++ s ∷ [];
+          declaration = x.declaration;
+          connection = x.connection;
+          sub = x.sub;
+          port = x.port;
+        })
     unfolding outer
     crossing_kept r x e = ap outer e
 
-    pub root_kept : (r : Climb) (last : Option ℕ) (p k q : ℕ) → r ≡ at_root last p → into tree n (Inner s p) ≡ Some (k, Own q)
+    pub root_kept : (r : Climb) (last : Option ℕ) (p k q : ℕ) → r ≡ at_root last p
+        → into tree n (Inner s p) ≡ Some (k, Own q)
         → outer r ≡ at_root (Some k) q
     unfolding outer
     root_kept r last p k q e i = ap outer e ∙ ap (climb_along (λ k q. at_root (Some k) q) [] n) i
 
-    pub root_crosses : (r : Climb) (last : Option ℕ) (p k t q : ℕ) → r ≡ at_root last p → into tree n (Inner s p) ≡ Some (k, Inner t q)
+    pub root_crosses : (r : Climb) (last : Option ℕ) (p k t q : ℕ) → r ≡ at_root last p
+        → into tree n (Inner s p) ≡ Some (k, Inner t q)
         → outer r ≡ crosses (record { path = []; declaration = n; connection = k; sub = t; port = q })
     unfolding outer
     root_crosses r last p k t q e i = ap outer e ∙ ap (climb_along (λ k q. at_root (Some k) q) [] n) i
@@ -188,7 +224,8 @@ module _ (tree : PackageTree ℕ) where
   below_of n s path t = by (below tree n s) refl
     where
       by : (o : Option ℕ) → below tree n s ≡ o → (m : ℕ) × (o ≡ Some m)
-      by None e = absurd (none-some t.0 (sym (ap (option_and_then (implementation_at tree)) (none_inner n s path e)) ∙ t.1.0))
+      by None e =
+          absurd (none-some t.0 (sym (ap (option_and_then (implementation_at tree)) (none_inner n s path e)) ∙ t.1.0))
       by (Some m) e = (m, refl)
 
   pub thread_itself : (n : ℕ) → IsThreadAt tree n [] → is_thread_at tree n ≡ true

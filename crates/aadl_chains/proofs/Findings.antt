@@ -10,10 +10,13 @@ use Rattle.aadl_uses.specs.proof.Uses.{FirstIn}
 use Rattle.aadl_names.proofs.Covers.{found_is_first}
 use Rattle.aadl_chains.specs.proof.Findings.{FindsAll}
 
-pub finds_nothing : (P : PackageFault → Type 0) (old : Option PackageFault) → ((fault : PackageFault) → P fault → ⊥) → FindsAll P old old
-finds_nothing P old none = record { faults = []; is = refl; each = λ f h. absurd (Contains-nil f h); all = λ f p. absurd (none f p) }
+pub finds_nothing : (P : PackageFault → Type 0) (old : Option PackageFault) → ((fault : PackageFault) → P fault → ⊥)
+    → FindsAll P old old
+finds_nothing P old none =
+    record { faults = []; is = refl; each = λ f h. absurd (Contains-nil f h); all = λ f p. absurd (none f p) }
 
-pub finds_both : (P Q R : PackageFault → Type 0) (a b c : Option PackageFault) → ((f : PackageFault) → P f → R f) → ((f : PackageFault) → Q f → R f)
+pub finds_both : (P Q R : PackageFault → Type 0) (a b c : Option PackageFault) → ((f : PackageFault) → P f → R f)
+    → ((f : PackageFault) → Q f → R f)
     → ((f : PackageFault) → R f → P f ⊎ Q f)
     → FindsAll P a b → FindsAll Q b c → FindsAll R a c
 finds_both P Q R a b c left right either p q = record {
@@ -31,9 +34,11 @@ finds_both P Q R a b c left right either p q = record {
     by_kind f (inl h) = Contains-append_left p.faults q.faults f (p.all f h)
     by_kind f (inr h) = Contains-append_right p.faults q.faults f (q.all f h)
 
-pub finds_same : (P Q : PackageFault → Type 0) (a b : Option PackageFault) → ((f : PackageFault) → P f → Q f) → ((f : PackageFault) → Q f → P f) → FindsAll P a b
+pub finds_same : (P Q : PackageFault → Type 0) (a b : Option PackageFault) → ((f : PackageFault) → P f → Q f)
+    → ((f : PackageFault) → Q f → P f) → FindsAll P a b
     → FindsAll Q a b
-finds_same P Q a b to from p = record { faults = p.faults; is = p.is; each = λ f h. to f (p.each f h); all = λ f q. p.all f (from f q) }
+finds_same P Q a b to from p =
+    record { faults = p.faults; is = p.is; each = λ f h. to f (p.each f h); all = λ f q. p.all f (from f q) }
 
 -- the first of all that is found
 pub first_found : (P : PackageFault → Type 0) (new : Option PackageFault) → FindsAll P None new → FirstIn P new

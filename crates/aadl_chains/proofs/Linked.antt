@@ -24,7 +24,8 @@ use Rattle.aadl_chains.proofs.Climbs.{Rooted, rooted, crossed}
 use Rattle.aadl_chains.proofs.Coming.{Crosses, Down, down, into_own, from_inner, never_both, MetRoot, MetCrossing, met}
 
 -- chains one behind the other
-appended : (tree : PackageTree ℕ) (root : ℕ) (ds cs : List Place) (a b c : Port) → Leads tree root ds b c → Leads tree root cs a b
+appended : (tree : PackageTree ℕ) (root : ℕ) (ds cs : List Place) (a b c : Port) → Leads tree root ds b c
+    → Leads tree root cs a b
     → Leads tree root (ds ++ cs) a c
 appended tree root [] cs a b c l k = subst (λ p. Leads tree root cs a p) l k
 appended tree root (x ∷ ds) cs a b c l k = (l.0, appended tree root ds cs a b l.0 l.1 k, l.2)
@@ -35,12 +36,14 @@ module _ (tree : PackageTree ℕ) (root : ℕ) where
   standing_of path t =
       option_and_then_some (implementation_at tree) (standing tree root path) t.0 t.1.0 (λ n e f. (n, e))
 
-  into_at : (p : Port) (n : ℕ) → standing tree root p.path ≡ Some n → is_in tree root p ≡ true → is_in_at tree n p.port ≡ true
+  into_at : (p : Port) (n : ℕ) → standing tree root p.path ≡ Some n → is_in tree root p ≡ true
+      → is_in_at tree n p.port ≡ true
   into_at p n e i = sym (is_in-at tree root p n e) ∙ i
 
   root_no_thread : is_thread_at tree root ≡ false → (path : List ℕ) → path ≡ [] → IsThreadAt tree root path → ⊥
   root_no_thread none path e t =
-      opposed (is_thread_at tree root) (ap is_thread_in (subst (λ p. component_at tree root p ≡ Some t.0) e t.1.0) ∙ t.1.1) none
+      opposed (is_thread_at tree root)
+      (ap is_thread_in (subst (λ p. component_at tree root p ≡ Some t.0) e t.1.0) ∙ t.1.1) none
 
   -- ---- from walks to chains
   pub link_from : (ends : Ends) (c : Crossing) (chain : List Place) → IsThreadPort tree root ends.to
@@ -55,7 +58,9 @@ module _ (tree : PackageTree ℕ) (root : ℕ) where
       let stands : standing tree root c.path ≡ Some ends.declaration = g.stands ∙ ap Some (x.number_is ∙ sym d) in (
         x.chain ++ here ∷ chain,
         record {
-          leads = appended tree root x.chain (here ∷ chain) ends.from x.target ends.to x.leads (record { path = c.sub ∷ c.path; port = c.port }, leads, g);
+          leads =
+              appended tree root x.chain (here ∷ chain) ends.from x.target ends.to x.leads
+              (record { path = c.sub ∷ c.path; port = c.port }, leads, g);
           start = inl (from, out);
           ends = inl (to.0, to.1);
         },
@@ -72,18 +77,21 @@ module _ (tree : PackageTree ℕ) (root : ℕ) where
           is_link = ap (slice_get g.component.connections) k ∙ g.is_link;
           kind = inl (
             refl,
-            ap (λ (o : Option PortPlace). not_own o && not_own (site tree g.component g.link.target)) (g.is_source ∙ ap Some x.source_is)
+            ap (λ (o : Option PortPlace). not_own o && not_own (site tree g.component g.link.target))
+                (g.is_source ∙ ap Some x.source_is)
                 ∙ ap not_own (g.is_target ∙ ap Some x.target_is),
           );
         },
       )
 
   pub feed_from : AreDeclared tree → (ends : Ends) (k q : ℕ) → IsThreadPort tree root ends.to
-      → climb tree root None ends.to.path ends.to.port ≡ at_root (Some k) q → ends.from ≡ record { path = []; port = q } → ends.declaration ≡ root
+      → climb tree root None ends.to.path ends.to.port ≡ at_root (Some k) q → ends.from ≡ record { path = []; port = q }
+      → ends.declaration ≡ root
       → ends.connection ≡ k → IsFeed tree root ends
   feed_from sound ends k q to is from d e = by (rooted tree root None ends.to.path ends.to.port (Some k) q is)
     where
-      carried : (chain : List Place) (j s r : ℕ) → Some k ≡ Some j → Contains chain (record { path = []; connection = j })
+      carried : (chain : List Place) (j s r : ℕ) → Some k ≡ Some j
+          → Contains chain (record { path = []; connection = j })
           → Entered tree root (Inner s r) j (Own q)
           → Carries tree root false chain ends
       carried chain j s r same among x =
@@ -109,7 +117,8 @@ module _ (tree : PackageTree ℕ) (root : ℕ) where
           ap (is_in tree root) from ∙ (is_in-at tree root (record { path = []; port = q }) root refl ∙ known.leaves)
 
       last_of : (chain : List Place) → ((ends.to.path ≡ []) × (Some k ≡ None) × (q ≡ ends.to.port))
-          ⊎ ((j s r : ℕ) × (Some k ≡ Some j) × Contains chain (record { path = []; connection = j }) × Entered tree root (Inner s r) j (Own q))
+          ⊎ ((j s r : ℕ) × (Some k ≡ Some j) × Contains chain (record { path = []; connection = j })
+          × Entered tree root (Inner s r) j (Own q))
           → Carries tree root false chain ends × (is_in tree root ends.from ≡ true)
       last_of chain (inl h) = absurd (none-some k (sym h.1))
       last_of chain (inr h) = (carried chain h.0 h.1 h.2 h.3 h.4 h.5, into h.0 h.1 h.2 h.5)
@@ -129,13 +138,17 @@ module _ (tree : PackageTree ℕ) (root : ℕ) where
           )
 
   -- a connection into an own out port of the root
-  pub tap_from : (ends : Ends) (port k t q : ℕ) (chain : List Place) → ends.to ≡ record { path = []; port = port } → is_in tree root ends.to ≡ false
-      → Entered tree root (Own port) k (Inner t q) → IsThreadAt tree root ends.from.path → is_in tree root ends.from ≡ false
-      → Leads tree root chain ends.from (record { path = t ∷ []; port = q }) → ends.declaration ≡ root → ends.connection ≡ k → IsTap tree root ends
+  pub tap_from : (ends : Ends) (port k t q : ℕ) (chain : List Place) → ends.to ≡ record { path = []; port = port }
+      → is_in tree root ends.to ≡ false
+      → Entered tree root (Own port) k (Inner t q) → IsThreadAt tree root ends.from.path
+      → is_in tree root ends.from ≡ false
+      → Leads tree root chain ends.from (record { path = t ∷ []; port = q }) → ends.declaration ≡ root
+      → ends.connection ≡ k → IsTap tree root ends
   tap_from ends port k t q chain to out x from gives leads d e =
       let g = (goes_into tree root [] root (Own port) k (Inner t q) refl x).0 in
       let here : Place = record { path = []; connection = k } in
-      let component : implementation_at tree root ≡ Some g.component = ap (implementation_at tree) (same_Some root g.number g.stands) ∙ g.is_component in (
+      let component : implementation_at tree root ≡ Some g.component =
+      ap (implementation_at tree) (same_Some root g.number g.stands) ∙ g.is_component in (
         here ∷ chain,
         record {
           leads = (
@@ -168,10 +181,12 @@ module _ (tree : PackageTree ℕ) (root : ℕ) where
       pub crossing : Crossing
       pub climbs : climb tree root None ends.to.path ends.to.port ≡ crosses crossing
       pub earlier : List Place
-      pub leads : Leads tree root earlier ends.from (record { path = crossing.sub ∷ crossing.path; port = crossing.port })
+      pub leads : Leads tree root earlier ends.from
+          (record { path = crossing.sub ∷ crossing.path; port = crossing.port })
       pub number : ℕ
       pub is_below : below tree crossing.declaration crossing.sub ≡ Some number
-      pub is_down : Down tree root sound earlier ends.from (record { path = crossing.sub ∷ crossing.path; port = crossing.port }) number
+      pub is_down : Down tree root sound earlier ends.from
+          (record { path = crossing.sub ∷ crossing.path; port = crossing.port }) number
       pub declaration_is : ends.declaration ≡ crossing.declaration
       pub connection_is : ends.connection ≡ crossing.connection
 
@@ -187,10 +202,13 @@ module _ (tree : PackageTree ℕ) (root : ℕ) where
     thread_end p t (inl e) = (t, e.1)
     thread_end p t (inr e) = absurd (root_no_thread no_thread p.path e.0 t)
 
-    link_met_by : (ends : Ends) (chain : List Place) → IsThreadPort tree root ends.to → IsThreadAt tree root ends.from.path
+    link_met_by : (ends : Ends) (chain : List Place) → IsThreadPort tree root ends.to
+        → IsThreadAt tree root ends.from.path
         → (carried : Carries tree root true chain ends)
-        → MetRoot tree root sound None chain ends.from ends.to ⊎ MetCrossing tree root sound None chain ends.from ends.to → LinkMet ends
-    link_met_by ends chain to from carried (inl m) = absurd (root_no_thread no_thread ends.from.path (ap (λ (p : Port). p.path) m.from_is) from)
+        → MetRoot tree root sound None chain ends.from ends.to
+        ⊎ MetCrossing tree root sound None chain ends.from ends.to → LinkMet ends
+    link_met_by ends chain to from carried (inl m) =
+        absurd (root_no_thread no_thread ends.from.path (ap (λ (p : Port). p.path) m.from_is) from)
     link_met_by ends chain to from carried (inr m) =
         let o = m.only carried.place carried.among (crossing_of carried.kind) in
         record {
@@ -206,7 +224,8 @@ module _ (tree : PackageTree ℕ) (root : ℕ) where
           connection_is = sym carried.number ∙ o.1;
         }
       where
-        crossing_of : ((true ≡ true) × (is_crossing tree carried.component carried.link ≡ true)) ⊎ ((true ≡ false) × (carried.place.path ≡ []))
+        crossing_of : ((true ≡ true) × (is_crossing tree carried.component carried.link ≡ true))
+            ⊎ ((true ≡ false) × (carried.place.path ≡ []))
             → Crosses tree root carried.place
         crossing_of (inl h) = record {
           number = ends.declaration;
@@ -224,11 +243,15 @@ module _ (tree : PackageTree ℕ) (root : ℕ) where
         let port = thread_end ends.to l.3 l.1.ends in
         let n = standing_of ends.to.path l.3 in
         link_met_by ends l.0 port l.2 l.4
-        (met tree root sound one None l.0 ends.from ends.to n.0 l.1.leads l.1.start n.1 (into_at ends.to n.0 n.1 port.1))
+        (met tree root sound one None l.0 ends.from ends.to n.0 l.1.leads l.1.start n.1
+        (into_at ends.to n.0 n.1 port.1))
 
-    feed_met_by : (ends : Ends) (chain : List Place) → IsThreadPort tree root ends.to → ends.from.path ≡ [] → (carried : Carries tree root false chain ends)
-        → MetRoot tree root sound None chain ends.from ends.to ⊎ MetCrossing tree root sound None chain ends.from ends.to → FeedMet ends
-    feed_met_by ends chain to from carried (inr m) = absurd (root_no_thread no_thread ends.from.path from m.is_down.thread)
+    feed_met_by : (ends : Ends) (chain : List Place) → IsThreadPort tree root ends.to → ends.from.path ≡ []
+        → (carried : Carries tree root false chain ends)
+        → MetRoot tree root sound None chain ends.from ends.to
+        ⊎ MetCrossing tree root sound None chain ends.from ends.to → FeedMet ends
+    feed_met_by ends chain to from carried (inr m) =
+        absurd (root_no_thread no_thread ends.from.path from m.is_down.thread)
     feed_met_by ends chain to from carried (inl m) =
         let root_is = outside_of carried.kind in
         let port_is : ends.from.port ≡ m.port = ap (λ (p : Port). p.port) m.from_is in
@@ -236,13 +259,16 @@ module _ (tree : PackageTree ℕ) (root : ℕ) where
         record {
           port = to;
           connection = carried.place.connection;
-          climbs = m.climbs ∙ (ap (λ o. at_root o m.port) by_is ∙ ap (at_root (Some carried.place.connection)) (sym port_is));
+          climbs =
+              m.climbs ∙ (ap (λ o. at_root o m.port) by_is
+              ∙ ap (at_root (Some carried.place.connection)) (sym port_is));
           from_is = m.from_is ∙ ap (λ q. record { path = []; port = q }) (sym port_is);
           declaration_is = same_Some ends.declaration root (sym carried.stands ∙ ap (standing tree root) root_is);
           connection_is = sym carried.number;
         }
       where
-        outside_of : ((false ≡ true) × (is_crossing tree carried.component carried.link ≡ true)) ⊎ ((false ≡ false) × (carried.place.path ≡ []))
+        outside_of : ((false ≡ true) × (is_crossing tree carried.component carried.link ≡ true))
+            ⊎ ((false ≡ false) × (carried.place.path ≡ []))
             → carried.place.path ≡ []
         outside_of (inl h) = absurd (false≢true h.0)
         outside_of (inr h) = h.1
@@ -252,7 +278,8 @@ module _ (tree : PackageTree ℕ) (root : ℕ) where
         let port = thread_end ends.to l.3 l.1.ends in
         let n = standing_of ends.to.path l.3 in
         feed_met_by ends l.0 port l.2 l.4
-        (met tree root sound one None l.0 ends.from ends.to n.0 l.1.leads l.1.start n.1 (into_at ends.to n.0 n.1 port.1))
+        (met tree root sound one None l.0 ends.from ends.to n.0 l.1.leads l.1.start n.1
+        (into_at ends.to n.0 n.1 port.1))
 
     -- ---- taps
     pub record TapMet (ends : Ends) : Type 0 where
@@ -266,23 +293,34 @@ module _ (tree : PackageTree ℕ) (root : ℕ) where
       pub start : IsStart tree root ends.from
       pub declaration_is : ends.declaration ≡ root
 
-    tap_step : (ends : Ends) (c : Place) (cs : List Place) (mid : Port) (g : Goes tree root c mid ends.to) → (x : PortPlace) → g.source ≡ x
-        → Leads tree root cs ends.from mid → IsStart tree root ends.from → ends.to.path ≡ [] → is_in tree root ends.to ≡ false
+    tap_step : (ends : Ends) (c : Place) (cs : List Place) (mid : Port) (g : Goes tree root c mid ends.to)
+        → (x : PortPlace) → g.source ≡ x
+        → Leads tree root cs ends.from mid → IsStart tree root ends.from → ends.to.path ≡ []
+        → is_in tree root ends.to ≡ false
         → Carries tree root false (c ∷ cs) ends → TapMet ends
     tap_step ends c cs mid g (Own r) e leads start outside out carried =
         let stands : standing tree root ends.to.path ≡ Some root = ap (standing tree root) outside in
-        let o = into_own tree root sound c mid ends.to g g.target refl root stands (sym (is_in-at tree root ends.to root stands) ∙ out) in
+        let o =
+        into_own tree root sound c mid ends.to g g.target refl root stands
+        (sym (is_in-at tree root ends.to root stands) ∙ out) in
         absurd (never_both tree root sound c mid ends.to g r o.0 e o.1)
     tap_step ends c cs mid g (Inner t q) e leads start outside out carried =
         let stands : standing tree root ends.to.path ≡ Some root = ap (standing tree root) outside in
-        let o = into_own tree root sound c mid ends.to g g.target refl root stands (sym (is_in-at tree root ends.to root stands) ∙ out) in
+        let o =
+        into_own tree root sound c mid ends.to g g.target refl root stands
+        (sym (is_in-at tree root ends.to root stands) ∙ out) in
         let i = from_inner tree root sound c mid ends.to g t q e in
         let path : c.path ≡ [] = sym (ap (λ (p : Port). p.path) o.2) ∙ outside in
         let port : ends.to.port ≡ o.0 = ap (λ (p : Port). p.port) o.2 in
-        let mid_is : mid ≡ record { path = t ∷ []; port = q } = i.0 ∙ ap (λ l. record { path = t ∷ l; port = q }) path in
-        let d = down tree root sound cs ends.from mid i.1 leads start (ap (λ (p : Port). standing tree root p.path) i.0 ∙ i.3)
+        let mid_is : mid ≡ record { path = t ∷ []; port = q } = i.0
+        ∙ ap (λ l. record { path = t ∷ l; port = q }) path in
+        let d =
+        down tree root sound cs ends.from mid i.1 leads start
+        (ap (λ (p : Port). standing tree root p.path) i.0 ∙ i.3)
         (ap (is_in_at tree i.1) (ap (λ (p : Port). p.port) i.0) ∙ i.4) in
-        let here : c ≡ carried.place = placed_by d.none_outside (ap (λ (p : Port). p.path) mid_is) (Contains-cons_cases c cs carried.place carried.among) in
+        let here : c ≡ carried.place =
+        placed_by d.none_outside (ap (λ (p : Port). p.path) mid_is)
+        (Contains-cons_cases c cs carried.place carried.among) in
         record {
           to_is = ap (λ l. record { path = l; port = ends.to.port }) outside;
           out = out;
@@ -297,10 +335,12 @@ module _ (tree : PackageTree ℕ) (root : ℕ) where
           earlier = cs;
           leads = subst (Leads tree root cs ends.from) mid_is leads;
           start = start;
-          declaration_is = same_Some ends.declaration root (sym carried.stands ∙ ap (standing tree root) (outside_of carried.kind));
+          declaration_is =
+              same_Some ends.declaration root (sym carried.stands ∙ ap (standing tree root) (outside_of carried.kind));
         }
       where
-        outside_of : ((false ≡ true) × (is_crossing tree carried.component carried.link ≡ true)) ⊎ ((false ≡ false) × (carried.place.path ≡ []))
+        outside_of : ((false ≡ true) × (is_crossing tree carried.component carried.link ≡ true))
+            ⊎ ((false ≡ false) × (carried.place.path ≡ []))
             → carried.place.path ≡ []
         outside_of (inl h) = absurd (false≢true h.0)
         outside_of (inr h) = h.1
@@ -312,11 +352,13 @@ module _ (tree : PackageTree ℕ) (root : ℕ) where
             let none : [] ≡ t ∷ [] = sym (never carried.place h (outside_of carried.kind)) ∙ is in
             absurd (cc none)
 
-    tap_by : (ends : Ends) (chain : List Place) → Leads tree root chain ends.from ends.to → IsStart tree root ends.from → IsThreadAt tree root ends.from.path
+    tap_by : (ends : Ends) (chain : List Place) → Leads tree root chain ends.from ends.to → IsStart tree root ends.from
+        → IsThreadAt tree root ends.from.path
         → ends.to.path ≡ [] → is_in tree root ends.to ≡ false → Carries tree root false chain ends → TapMet ends
     tap_by ends [] leads start from outside out carried =
         absurd (root_no_thread no_thread ends.from.path (ap (λ (p : Port). p.path) leads ∙ outside) from)
-    tap_by ends (c ∷ cs) leads start from outside out carried = tap_step ends c cs leads.0 leads.2 leads.2.source refl leads.1 start outside out carried
+    tap_by ends (c ∷ cs) leads start from outside out carried =
+        tap_step ends c cs leads.0 leads.2 leads.2.source refl leads.1 start outside out carried
 
     tap_out : (p : Port) → p.path ≡ [] → IsEnd tree root p → is_in tree root p ≡ false
     tap_out p e (inl h) = absurd (root_no_thread no_thread p.path e h.0)

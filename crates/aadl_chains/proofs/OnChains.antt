@@ -28,7 +28,8 @@ use Rattle.aadl_chains.specs.proof.OnChains.{IsOnWay}
 pub opposed : (b : Bool) → b ≡ true → b ≡ false → ⊥
 opposed b e f = true≢false (sym e ∙ f)
 
-thread_by : (o : Option (Implementation ℕ)) → is_thread_in o ≡ true → (x : Implementation ℕ) × (o ≡ Some x) × (is_thread x.category ≡ true)
+thread_by : (o : Option (Implementation ℕ)) → is_thread_in o ≡ true
+    → (x : Implementation ℕ) × (o ≡ Some x) × (is_thread x.category ≡ true)
 thread_by None e = absurd (true≢false (sym e))
 thread_by (Some x) e = (x, refl, e)
 
@@ -37,28 +38,35 @@ port path p = record { path = path; port = p }
 
 module _ (tree : PackageTree ℕ) (root : ℕ) where
   -- ---- what stands at a path
-  pub next_at : (path : List ℕ) (n s m : ℕ) → standing tree root path ≡ Some n → below tree n s ≡ Some m → standing tree root (s ∷ path) ≡ Some m
+  pub next_at : (path : List ℕ) (n s m : ℕ) → standing tree root path ≡ Some n → below tree n s ≡ Some m
+      → standing tree root (s ∷ path) ≡ Some m
   next_at path n s m e b = ap (option_and_then (λ k. below tree k s)) e ∙ b
 
-  pub below_at : (path : List ℕ) (n s m : ℕ) → standing tree root path ≡ Some n → standing tree root (s ∷ path) ≡ Some m → below tree n s ≡ Some m
+  pub below_at : (path : List ℕ) (n s m : ℕ) → standing tree root path ≡ Some n → standing tree root (s ∷ path) ≡ Some m
+      → below tree n s ≡ Some m
   below_at path n s m e b = sym (ap (option_and_then (λ k. below tree k s)) e) ∙ b
 
   pub is_in-at : (p : Port) (n : ℕ) → standing tree root p.path ≡ Some n → is_in tree root p ≡ is_in_at tree n p.port
   is_in-at p n e = ap (λ o. goes_in (option_map (λ (f : Feature ℕ). f.direction)
       (slice_get (ports_at tree (option_and_then (implementation_at tree) o)) p.port))) e
 
-  thread_at : (path : List ℕ) (n : ℕ) → standing tree root path ≡ Some n → is_thread_at tree n ≡ true → IsThreadAt tree root path
-  thread_at path n e t = let x = thread_by (implementation_at tree n) t in (x.0, (ap (option_and_then (implementation_at tree)) e ∙ x.1, x.2))
+  thread_at : (path : List ℕ) (n : ℕ) → standing tree root path ≡ Some n → is_thread_at tree n ≡ true
+      → IsThreadAt tree root path
+  thread_at path n e t = let x = thread_by (implementation_at tree n) t in
+      (x.0, (ap (option_and_then (implementation_at tree)) e ∙ x.1, x.2))
 
-  pub thread_from : (path : List ℕ) (n : ℕ) → standing tree root path ≡ Some n → IsThreadAt tree root path → is_thread_at tree n ≡ true
+  pub thread_from : (path : List ℕ) (n : ℕ) → standing tree root path ≡ Some n → IsThreadAt tree root path
+      → is_thread_at tree n ≡ true
   thread_from path n e t = ap is_thread_in (sym (ap (option_and_then (implementation_at tree)) e) ∙ t.1.0) ∙ t.1.1
 
   -- ---- connections
-  goes_if : (place : Place) (n : ℕ) (wire : Wire) (source target : PortPlace) (o : Option (Implementation ℕ)) → implementation_at tree n ≡ o
+  goes_if : (place : Place) (n : ℕ) (wire : Wire) (source target : PortPlace) (o : Option (Implementation ℕ))
+      → implementation_at tree n ≡ o
       → standing tree root place.path ≡ Some n
       → slice_get (wires_of tree o) place.connection ≡ Some wire → wire.source ≡ Some source → wire.target ≡ Some target
       → Goes tree root place (port_at place.path source) (port_at place.path target)
-  goes_if place n wire source target None e stands is s t = absurd (Contains-nil wire (Contains-from_slice_get [] place.connection wire is))
+  goes_if place n wire source target None e stands is s t =
+      absurd (Contains-nil wire (Contains-from_slice_get [] place.connection wire is))
   goes_if place n wire source target (Some x) e stands is s t =
       let l = listed (wire_of tree x) x.connections place.connection wire is in
       record {
@@ -76,36 +84,47 @@ module _ (tree : PackageTree ℕ) (root : ℕ) where
         enters = refl;
       }
 
-  goes_by : (path : List ℕ) (n : ℕ) (wire : Wire) (source target : PortPlace) → standing tree root path ≡ Some n → (h : Contains (wires_at tree n) wire)
+  goes_by : (path : List ℕ) (n : ℕ) (wire : Wire) (source target : PortPlace) → standing tree root path ≡ Some n
+      → (h : Contains (wires_at tree n) wire)
       → wire.source ≡ Some source → wire.target ≡ Some target
       → Goes tree root (record { path = path; connection = h.0 }) (port_at path source) (port_at path target)
-  goes_by path n wire source target stands h s t = goes_if (record { path = path; connection = h.0 }) n wire source target (implementation_at tree n) refl
+  goes_by path n wire source target stands h s t =
+      goes_if (record { path = path; connection = h.0 }) n wire source target (implementation_at tree n) refl
       stands (slice_get-from_Contains (wires_at tree n) wire h) s t
 
-  wire_if : (n k : ℕ) (x : Implementation ℕ) (link : Connection ℕ) (source target : PortPlace) (o : Option (Implementation ℕ)) → o ≡ Some x
-      → slice_get x.connections k ≡ Some link → site tree x link.source ≡ Some source → site tree x link.target ≡ Some target
+  wire_if : (n k : ℕ) (x : Implementation ℕ) (link : Connection ℕ) (source target : PortPlace)
+      (o : Option (Implementation ℕ)) → o ≡ Some x
+      → slice_get x.connections k ≡ Some link → site tree x link.source ≡ Some source
+      → site tree x link.target ≡ Some target
       → slice_get (wires_of tree o) k ≡ Some (record { source = Some source; target = Some target })
   wire_if n k x link source target o e is s t =
       ap (λ o. slice_get (wires_of tree o) k) e
       ∙ (mapped x.connections k is
-      ∙ (ap (λ a. Some (record { source = a; target = site tree x link.target })) s ∙ ap (λ b. Some (record { source = Some source; target = b })) t))
+      ∙ (ap (λ a. Some (record { source = a; target = site tree x link.target })) s
+      ∙ ap (λ b. Some (record { source = Some source; target = b })) t))
     where
-      mapped : (cs : List (Connection ℕ)) (k : ℕ) → slice_get cs k ≡ Some link → slice_get (map (wire_of tree x) cs) k ≡ Some (wire_of tree x link)
+      mapped : (cs : List (Connection ℕ)) (k : ℕ) → slice_get cs k ≡ Some link
+          → slice_get (map (wire_of tree x) cs) k ≡ Some (wire_of tree x link)
       mapped [] k e = absurd (Contains-nil link (Contains-from_slice_get [] k link e))
       mapped (c ∷ cs) zero e = ap (λ (o : Connection ℕ). Some (wire_of tree x o)) (same_Some c link e)
       mapped (c ∷ cs) (suc k) e = mapped cs k e
 
   pub wire_of_goes : (place : Place) (from to : Port) → (g : Goes tree root place from to)
-      → slice_get (wires_at tree g.number) place.connection ≡ Some (record { source = Some g.source; target = Some g.target })
-  wire_of_goes place from to g = wire_if g.number place.connection g.component g.link g.source g.target (implementation_at tree g.number) g.is_component
+      → slice_get (wires_at tree g.number) place.connection
+      ≡ Some (record { source = Some g.source; target = Some g.target })
+  wire_of_goes place from to g =
+      wire_if g.number place.connection g.component g.link g.source g.target (implementation_at tree g.number)
+      g.is_component
       g.is_link g.is_source g.is_target
 
   pub among_goes : (place : Place) (from to : Port) → (g : Goes tree root place from to)
       → Contains (wires_at tree g.number) (record { source = Some g.source; target = Some g.target })
-  among_goes place from to g = Contains-from_slice_get (wires_at tree g.number) place.connection _ (wire_of_goes place from to g)
+  among_goes place from to g =
+      Contains-from_slice_get (wires_at tree g.number) place.connection _ (wire_of_goes place from to g)
 
   -- ---- chains one behind the other
-  appended : (ds cs : List Place) (a b c : Port) → Leads tree root ds b c → Leads tree root cs a b → Leads tree root (ds ++ cs) a c
+  appended : (ds cs : List Place) (a b c : Port) → Leads tree root ds b c → Leads tree root cs a b
+      → Leads tree root (ds ++ cs) a c
   appended [] cs a b c l k = subst (λ p. Leads tree root cs a p) l k
   appended (x ∷ ds) cs a b c l k = (l.0, appended ds cs a b l.0 l.1 k, l.2)
 
@@ -122,7 +141,8 @@ module _ (tree : PackageTree ℕ) (root : ℕ) where
     pub leads : Leads tree root chain (port path p) to
     pub ends : IsEnd tree root to
 
-  gives_chain : {n p : ℕ} → Reaches tree directions.Out n p → (path : List ℕ) → standing tree root path ≡ Some n → Begins path p
+  gives_chain : {n p : ℕ} → Reaches tree directions.Out n p → (path : List ℕ) → standing tree root path ≡ Some n
+      → Begins path p
   gives_chain (of_thread thread way) path stands = record {
     chain = [];
     from = port path _;
@@ -138,7 +158,8 @@ module _ (tree : PackageTree ℕ) (root : ℕ) where
         start = b.start;
       }
 
-  takes_chain : {n p : ℕ} → Reaches tree directions.In n p → (path : List ℕ) → standing tree root path ≡ Some n → Ends path p
+  takes_chain : {n p : ℕ} → Reaches tree directions.In n p → (path : List ℕ) → standing tree root path ≡ Some n
+      → Ends path p
   takes_chain (of_thread thread way) path stands = record {
     chain = [];
     to = port path _;
@@ -157,12 +178,14 @@ module _ (tree : PackageTree ℕ) (root : ℕ) where
 
   module _ (sound : AreDeclared tree) where
     -- what is known of an end of a connection
-    leaves_own : (k q : ℕ) (wire : Wire) → Contains (wires_at tree k) wire → wire.source ≡ Some (Own q) → is_in_at tree k q ≡ true
+    leaves_own : (k q : ℕ) (wire : Wire) → Contains (wires_at tree k) wire → wire.source ≡ Some (Own q)
+        → is_in_at tree k q ≡ true
     leaves_own k q wire among e =
         let d = sound.each k wire among in
         subst (MayLeave tree k) (same_Some d.source (Own q) (sym d.source_is ∙ e)) d.leaves
 
-    enters_own : (k q : ℕ) (wire : Wire) → Contains (wires_at tree k) wire → wire.target ≡ Some (Own q) → is_in_at tree k q ≡ false
+    enters_own : (k q : ℕ) (wire : Wire) → Contains (wires_at tree k) wire → wire.target ≡ Some (Own q)
+        → is_in_at tree k q ≡ false
     enters_own k q wire among e =
         let d = sound.each k wire among in
         subst (MayEnter tree k) (same_Some d.target (Own q) (sym d.target_is ∙ e)) d.enters
@@ -181,7 +204,13 @@ module _ (tree : PackageTree ℕ) (root : ℕ) where
     fed_chain (of_root e) into = record {
       path = [];
       stands = ap Some (sym e);
-      begins = record { chain = []; from = port [] _; leads = refl; start = inr (refl, is_in-at (port [] _) _ (ap Some (sym e)) ∙ into) };
+      begins =
+          record {
+            chain = [];
+            from = port [] _;
+            leads = refl;
+            start = inr (refl, is_in-at (port [] _) _ (ap Some (sym e)) ∙ into);
+          };
     }
     fed_chain (of_own k s q wire among inner outer b rest) into =
         let f = fed_chain rest (leaves_own k q wire among outer) in
@@ -191,7 +220,8 @@ module _ (tree : PackageTree ℕ) (root : ℕ) where
           begins = record {
             chain = record { path = f.path; connection = among.0 } ∷ f.begins.chain;
             from = f.begins.from;
-            leads = (port f.path q, f.begins.leads, goes_by f.path k wire (Own q) (Inner s _) f.stands among outer inner);
+            leads =
+                (port f.path q, f.begins.leads, goes_by f.path k wire (Own q) (Inner s _) f.stands among outer inner);
             start = f.begins.start;
           };
         }
@@ -203,7 +233,8 @@ module _ (tree : PackageTree ℕ) (root : ℕ) where
           begins = record {
             chain = record { path = used.0; connection = among.0 } ∷ f.chain;
             from = f.from;
-            leads = (port (t ∷ used.0) q, f.leads, goes_by used.0 k wire (Inner t q) (Inner s _) used.1 among outer inner);
+            leads =
+                (port (t ∷ used.0) q, f.leads, goes_by used.0 k wire (Inner t q) (Inner s _) used.1 among outer inner);
             start = f.start;
           };
         }
@@ -212,7 +243,13 @@ module _ (tree : PackageTree ℕ) (root : ℕ) where
     led_chain (of_root e) out = record {
       path = [];
       stands = ap Some (sym e);
-      ends = record { chain = []; to = port [] _; leads = refl; ends = inr (refl, is_in-at (port [] _) _ (ap Some (sym e)) ∙ out) };
+      ends =
+          record {
+            chain = [];
+            to = port [] _;
+            leads = refl;
+            ends = inr (refl, is_in-at (port [] _) _ (ap Some (sym e)) ∙ out);
+          };
     }
     led_chain (of_own k s q wire among inner outer b rest) out =
         let f = led_chain rest (enters_own k q wire among outer) in
@@ -253,7 +290,8 @@ module _ (tree : PackageTree ℕ) (root : ℕ) where
       pub is_connection : place.connection ≡ connection
 
     -- chains that lead to it and on from it are one
-    through_it : (path : List ℕ) (n : ℕ) (wire : Wire) (source target : PortPlace) (h : Contains (wires_at tree n) wire) → standing tree root path ≡ Some n
+    through_it : (path : List ℕ) (n : ℕ) (wire : Wire) (source target : PortPlace) (h : Contains (wires_at tree n) wire)
+        → standing tree root path ≡ Some n
         → wire.source ≡ Some source → wire.target ≡ Some target
         → (cs ds : List Place) (from to : Port) → Leads tree root cs from (port_at path source) → IsStart tree root from
         → Leads tree root ds (port_at path target) to → IsEnd tree root to → Chained n h.0
@@ -265,36 +303,46 @@ module _ (tree : PackageTree ℕ) (root : ℕ) where
           to = to;
           place = here;
           is_chain = record {
-            leads = appended ds (here ∷ cs) from (port_at path target) to m (port_at path source, l, goes_by path n wire source target stands h s t);
+            leads =
+                appended ds (here ∷ cs) from (port_at path target) to m
+                (port_at path source, l, goes_by path n wire source target stands h s t);
             start = start;
             ends = ends;
           };
-          among = Contains-append_right ds (here ∷ cs) here (Contains-append_left (here ∷ []) cs here (Contains-push [] here));
+          among =
+              Contains-append_right ds (here ∷ cs) here
+              (Contains-append_left (here ∷ []) cs here (Contains-push [] here));
           stands = stands;
           is_connection = refl;
         }
 
-    chained_by : (n : ℕ) (wire : Wire) (source target : PortPlace) → IsInUse tree root n → (h : Contains (wires_at tree n) wire) → wire.source ≡ Some source
+    chained_by : (n : ℕ) (wire : Wire) (source target : PortPlace) → IsInUse tree root n
+        → (h : Contains (wires_at tree n) wire) → wire.source ≡ Some source
         → wire.target ≡ Some target → NotBothOwn source target
         → LeadsFrom tree root directions.In n source → LeadsFrom tree root directions.Out n target → Chained n h.0
     chained_by n wire (Own p) (Own q) used h s t both comes goes = absurd both
     chained_by n wire (Own p) (Inner u q) used h s t both comes goes =
         let f = fed_chain comes (leaves_own n p wire h s) in
         let g = takes_chain goes.2 (u ∷ f.path) (next_at f.path n u goes.0 f.stands goes.1) in
-        through_it f.path n wire (Own p) (Inner u q) h f.stands s t f.begins.chain g.chain f.begins.from g.to f.begins.leads f.begins.start g.leads g.ends
+        through_it f.path n wire (Own p) (Inner u q) h f.stands s t f.begins.chain g.chain f.begins.from g.to
+        f.begins.leads f.begins.start g.leads g.ends
     chained_by n wire (Inner u p) (Own q) used h s t both comes goes =
         let g = led_chain goes (enters_own n q wire h t) in
         let f = gives_chain comes.2 (u ∷ g.path) (next_at g.path n u comes.0 g.stands comes.1) in
-        through_it g.path n wire (Inner u p) (Own q) h g.stands s t f.chain g.ends.chain f.from g.ends.to f.leads f.start g.ends.leads g.ends.ends
+        through_it g.path n wire (Inner u p) (Own q) h g.stands s t f.chain g.ends.chain f.from g.ends.to f.leads
+        f.start g.ends.leads g.ends.ends
     chained_by n wire (Inner u p) (Inner v q) used h s t both comes goes =
         let f = gives_chain comes.2 (u ∷ used.0) (next_at used.0 n u comes.0 used.1 comes.1) in
         let g = takes_chain goes.2 (v ∷ used.0) (next_at used.0 n v goes.0 used.1 goes.1) in
-        through_it used.0 n wire (Inner u p) (Inner v q) h used.1 s t f.chain g.chain f.from g.to f.leads f.start g.leads g.ends
+        through_it used.0 n wire (Inner u p) (Inner v q) h used.1 s t f.chain g.chain f.from g.to f.leads f.start
+        g.leads g.ends
 
-    pub chained : (n : ℕ) (wire : Wire) → IsInUse tree root n → (h : Contains (wires_at tree n) wire) → IsOnWay tree root n wire → Chained n h.0
+    pub chained : (n : ℕ) (wire : Wire) → IsInUse tree root n → (h : Contains (wires_at tree n) wire)
+        → IsOnWay tree root n wire → Chained n h.0
     chained n wire used h w =
         let d = sound.each n wire h in
         let s : d.source ≡ w.source = same_Some d.source w.source (sym d.source_is ∙ w.source_is) in
         let t : d.target ≡ w.target = same_Some d.target w.target (sym d.target_is ∙ w.target_is) in
-        let both : NotBothOwn w.source w.target = subst (λ a. NotBothOwn a w.target) s (subst (NotBothOwn d.source) t d.not_both) in
+        let both : NotBothOwn w.source w.target =
+        subst (λ a. NotBothOwn a w.target) s (subst (NotBothOwn d.source) t d.not_both) in
         chained_by n wire w.source w.target used h w.source_is w.target_is both w.comes w.goes

@@ -33,9 +33,14 @@ module _ (tree : PackageTree ℕ) (d : Direction) where
     pub complete : (k n : ℕ) → k < at → slice_get keys k ≡ Some n → HasAll tree d ports n
 
   pub no_front : (keys : List ℕ) → FrontInside keys 0 []
-  no_front keys = record { sound = λ n port h. absurd (Contains-nil (port_at n port) h); complete = λ k n lt e. absurd (omega arith) }
+  no_front keys =
+      record {
+        sound = λ n port h. absurd (Contains-nil (port_at n port) h);
+        complete = λ k n lt e. absurd (omega arith);
+      }
 
-  pub front_more : (keys : List ℕ) (at n : ℕ) (old new : List PortAt) → IsOrder (containment tree) keys → slice_get keys at ≡ Some n
+  pub front_more : (keys : List ℕ) (at n : ℕ) (old new : List PortAt) → IsOrder (containment tree) keys
+      → slice_get keys at ≡ Some n
       → AreJoined tree d n old new → FrontInside keys at old → FrontInside keys (at + 1) new
   front_more keys at n old new order is joined front = record {
     sound = joined.sound front.sound;
@@ -49,9 +54,11 @@ module _ (tree : PackageTree ℕ) (d : Direction) where
 
       which : (k m : ℕ) → slice_get keys k ≡ Some m → (k < at) ⊎ (k ≡ at) → HasAll tree d new m
       which k m e (inl h) = λ port thread r. joined.kept (port_at m port) (front.complete k m h e port thread r)
-      which k m e (inr h) = subst (HasAll tree d new) (same_Some n m (sym is ∙ (ap (slice_get keys) (sym h) ∙ e))) (joined.complete ready)
+      which k m e (inr h) =
+          subst (HasAll tree d new) (same_Some n m (sym is ∙ (ap (slice_get keys) (sym h) ∙ e))) (joined.complete ready)
 
-  pub front_past : (keys : List ℕ) (at : ℕ) (ports : List PortAt) → slice_get keys at ≡ None → FrontInside keys at ports → FrontInside keys (at + 1) ports
+  pub front_past : (keys : List ℕ) (at : ℕ) (ports : List PortAt) → slice_get keys at ≡ None → FrontInside keys at ports
+      → FrontInside keys (at + 1) ports
   front_past keys at ports is front = record {
     sound = front.sound;
     complete = λ k m lt e. which k m e (one_of_two k at lt);
@@ -80,7 +87,8 @@ module _ (tree : PackageTree ℕ) (d : Direction) where
       next (inl h) = inl (omega arith)
       next (inr h) = inr (omega arith)
 
-  pub front_all : (keys : List ℕ) (at : ℕ) (ports : List PortAt) → IsOrder (containment tree) keys → length keys ≤ at → FrontInside keys at ports
+  pub front_all : (keys : List ℕ) (at : ℕ) (ports : List PortAt) → IsOrder (containment tree) keys → length keys ≤ at
+      → FrontInside keys at ports
       → IsInside tree d ports
   front_all keys at ports order past front = record {
     sound = front.sound;

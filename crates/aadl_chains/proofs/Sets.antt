@@ -10,8 +10,10 @@ use Rattle.aadl_chains.specs.proof.Ports.{same_port, has, with_port}
 
 port_by : (a b : PortAt) → a.declaration ≡ b.declaration → a.port ≡ b.port → a ≡ b
 port_by a b first second =
-    let one : a ≡ record { declaration = b.declaration; port = a.port } = ap (λ n. record { declaration = n; port = a.port }) first in
-    let two : record { declaration = b.declaration; port = a.port } ≡ b = ap (λ n. record { declaration = b.declaration; port = n }) second in
+    let one : a ≡ record { declaration = b.declaration; port = a.port } =
+    ap (λ n. record { declaration = n; port = a.port }) first in
+    let two : record { declaration = b.declaration; port = a.port }
+    ≡ b = ap (λ n. record { declaration = b.declaration; port = n }) second in
     one ∙ two
 
 same_port-true : (a b : PortAt) → same_port a b ≡ true → a ≡ b
@@ -28,24 +30,28 @@ has-true ports port e = Contains-list_any same_port same_port-true ports port e
 pub has-from : (ports : List PortAt) (port : PortAt) → Contains ports port → has ports port ≡ true
 has-from ports port h = list_any_at (same_port port) ports h.0 port h.1 (ap (same_port port) h.2 ∙ itself port)
 
-kept_if : (ports : List PortAt) (port other : PortAt) (b : Bool) → Contains ports other → Contains (if b then ports else ports ++ port ∷ []) other
+kept_if : (ports : List PortAt) (port other : PortAt) (b : Bool) → Contains ports other
+    → Contains (if b then ports else ports ++ port ∷ []) other
 kept_if ports port other true h = h
 kept_if ports port other false h = Contains-append_left ports (port ∷ []) other h
 
 pub kept : (ports : List PortAt) (port other : PortAt) → Contains ports other → Contains (with_port ports port) other
 kept ports port other h = kept_if ports port other (has ports port) h
 
-added_if : (ports : List PortAt) (port : PortAt) (b : Bool) → has ports port ≡ b → Contains (if b then ports else ports ++ port ∷ []) port
+added_if : (ports : List PortAt) (port : PortAt) (b : Bool) → has ports port ≡ b
+    → Contains (if b then ports else ports ++ port ∷ []) port
 added_if ports port true e = has-true ports port e
 added_if ports port false e = Contains-push ports port
 
 pub added : (ports : List PortAt) (port : PortAt) → Contains (with_port ports port) port
 added ports port = added_if ports port (has ports port) refl
 
-either_if : (ports : List PortAt) (port other : PortAt) (b : Bool) → Contains (if b then ports else ports ++ port ∷ []) other
+either_if : (ports : List PortAt) (port other : PortAt) (b : Bool)
+    → Contains (if b then ports else ports ++ port ∷ []) other
     → Contains ports other ⊎ (port ≡ other)
 either_if ports port other true h = inl h
 either_if ports port other false h = Contains-push_cases ports port other h
 
-pub either : (ports : List PortAt) (port other : PortAt) → Contains (with_port ports port) other → Contains ports other ⊎ (port ≡ other)
+pub either : (ports : List PortAt) (port other : PortAt) → Contains (with_port ports port) other
+    → Contains ports other ⊎ (port ≡ other)
 either ports port other h = either_if ports port other (has ports port) h

@@ -17,7 +17,9 @@ module _ (tree : PackageTree ℕ) (root : ℕ) where
   wire_at : (n k : ℕ) (component : Implementation ℕ) (x : Connection ℕ) → implementation_at tree n ≡ Some component
       → slice_get component.connections k ≡ Some x → slice_get (wires_at tree n) k ≡ Some (wire_of tree component x)
   wire_at n k component x e is =
-      ap (λ o. slice_get (wires_of tree o) k) e ∙ (slice_get-map (wire_of tree component) component.connections k ∙ ap (option_map (wire_of tree component)) is)
+      ap (λ o. slice_get (wires_of tree o) k) e
+      ∙ (slice_get-map (wire_of tree component) component.connections k
+      ∙ ap (option_map (wire_of tree component)) is)
 
   pub sound_by : AreDeclared tree → OneEach tree root → IsSound tree root
   sound_by declared one = record {
@@ -25,7 +27,9 @@ module _ (tree : PackageTree ℕ) (root : ℕ) where
         one n i j target used (ap (option_and_then (λ (w : Wire). w.target)) (wire_at n i component x e at_i) ∙ site_i)
         (ap (option_and_then (λ (w : Wire). w.target)) (wire_at n j component y e at_j) ∙ site_j);
     enters = λ n i component x target e at is.
-        let d = declared.each n (wire_of tree component x) (Contains-from_slice_get (wires_at tree n) i (wire_of tree component x) (wire_at n i component x e at)) in
+        let d =
+        declared.each n (wire_of tree component x)
+        (Contains-from_slice_get (wires_at tree n) i (wire_of tree component x) (wire_at n i component x e at)) in
         let same : d.target ≡ target = same_Some d.target target (sym d.target_is ∙ is) in
         subst (MayEnter tree n) same d.enters;
     threads = λ n i component x e thread at.

@@ -37,9 +37,11 @@ pub record FirstAt {X : Type 0} (test : X → Bool) (xs : List X) (k n : ℕ) : 
   pub passes : test item ≡ true
 
 module _ {X : Type 0} (test : X → Bool) where
-  first_by : (x : X) (xs : List X) (k n : ℕ) (b : Bool) → test x ≡ b → (position_from test (k + 1) xs ≡ Some n → FirstAt test xs (k + 1) n)
+  first_by : (x : X) (xs : List X) (k n : ℕ) (b : Bool) → test x ≡ b
+      → (position_from test (k + 1) xs ≡ Some n → FirstAt test xs (k + 1) n)
       → cond b (Some k) (position_from test (k + 1) xs) ≡ Some n → FirstAt test (x ∷ xs) k n
-  first_by x xs k n true e rest f = let s = same_Some k n f in record { index = 0; item = x; is = omega arith; is_item = refl; passes = e }
+  first_by x xs k n true e rest f = let s = same_Some k n f in
+      record { index = 0; item = x; is = omega arith; is_item = refl; passes = e }
   first_by x xs k n false e rest f =
       let r = rest f in
       let s = r.is in
@@ -56,12 +58,14 @@ module _ {X : Type 0} (test : X → Bool) where
   some_if x y xs k zero false e is t rest = absurd (true≢false (sym t ∙ (ap test (sym (same_Some x y is)) ∙ e)))
   some_if x y xs k (suc i) false e is t rest = let r = rest i is in let least = r.2 in (r.0, r.1, omega arith)
 
-  pub some_first : (xs : List X) (k i : ℕ) (y : X) → slice_get xs i ≡ Some y → test y ≡ true → (n : ℕ) × (position_from test k xs ≡ Some n) × (n ≤ k + i)
+  pub some_first : (xs : List X) (k i : ℕ) (y : X) → slice_get xs i ≡ Some y → test y ≡ true
+      → (n : ℕ) × (position_from test k xs ≡ Some n) × (n ≤ k + i)
   some_first [] k i y is t = absurd (Contains-nil y (Contains-from_slice_get [] i y is))
   some_first (x ∷ xs) k i y is t = some_if x y xs k i (test x) refl is t (λ j h. some_first xs (k + 1) j y h t)
 
 -- ---- ends of connections
-pub own_no_inner : (o : Option PortPlace) (x : PortPlace) (q s p : ℕ) → o ≡ Some x → x ≡ Own q → o ≡ Some (Inner s p) → ⊥
+pub own_no_inner : (o : Option PortPlace) (x : PortPlace) (q s p : ℕ) → o ≡ Some x → x ≡ Own q
+    → o ≡ Some (Inner s p) → ⊥
 own_no_inner o x q s p a b c = let e : Some (Own q) ≡ Some (Inner s p) = sym (a ∙ ap Some b) ∙ c in cc e
 
 pub none_no_inner : (o : Option PortPlace) (s p : ℕ) → o ≡ None → o ≡ Some (Inner s p) → ⊥
@@ -91,14 +95,16 @@ module _ (tree : PackageTree ℕ) where
       let same : f.index ≡ k = omega arith in
       (f.item, ap (slice_get (wires_at tree n)) (sym same) ∙ f.is_item, is_site-true target f.item.target f.passes)
 
-  source_if : (k : ℕ) (o : Option PortPlace) (from : ℕ × PortPlace) → option_map_or (λ (source : PortPlace). Some (k, source)) o None ≡ Some from
+  source_if : (k : ℕ) (o : Option PortPlace) (from : ℕ × PortPlace)
+      → option_map_or (λ (source : PortPlace). Some (k, source)) o None ≡ Some from
       → (o ≡ Some from.1) × (k ≡ from.0)
   source_if k None from e = absurd (none-some from e)
   source_if k (Some source) from e =
       let same : (k, source) ≡ from = same_Some (k, source) from e in
       (ap (λ (x : ℕ × PortPlace). Some x.1) same, ap (λ (x : ℕ × PortPlace). x.0) same)
 
-  pub entered : (n : ℕ) (target : PortPlace) (from : ℕ × PortPlace) → into tree n target ≡ Some from → Entered n target from.0 from.1
+  pub entered : (n : ℕ) (target : PortPlace) (from : ℕ × PortPlace) → into tree n target ≡ Some from
+      → Entered n target from.0 from.1
   entered n target from e =
       option_and_then_some (sourced (wires_at tree n)) (first_into_at tree n target) from e
       (λ k a b.
@@ -112,33 +118,47 @@ module _ (tree : PackageTree ℕ) where
         first = a ∙ ap Some s.1;
       })
 
-  pub into_first : (n : ℕ) (target source : PortPlace) (k : ℕ) (wire : Wire) → first_into_at tree n target ≡ Some k → slice_get (wires_at tree n) k ≡ Some wire
+  pub into_first : (n : ℕ) (target source : PortPlace) (k : ℕ) (wire : Wire) → first_into_at tree n target ≡ Some k
+      → slice_get (wires_at tree n) k ≡ Some wire
       → wire.source ≡ Some source → into tree n target ≡ Some (k, source)
   into_first n target source k wire first is s =
       ap (option_and_then (sourced (wires_at tree n))) first
-      ∙ (ap (option_and_then (with_source k)) is ∙ ap (λ (o : Option PortPlace). option_map_or (λ (source : PortPlace). Some (k, source)) o None) s)
+      ∙ (ap (option_and_then (with_source k)) is
+      ∙ ap (λ (o : Option PortPlace). option_map_or (λ (source : PortPlace). Some (k, source)) o None) s)
 
-  target_of : (n k : ℕ) (wire : Wire) (target : PortPlace) → slice_get (wires_at tree n) k ≡ Some wire → wire.target ≡ Some target
+  target_of : (n k : ℕ) (wire : Wire) (target : PortPlace) → slice_get (wires_at tree n) k ≡ Some wire
+      → wire.target ≡ Some target
       → target_in (wires_at tree n) k ≡ Some target
   target_of n k wire target is e = ap (option_and_then (λ (w : Wire). w.target)) is ∙ e
 
   -- a connection that is not behind another one into its port is the first into it
-  pub first_if : (n k : ℕ) (wire : Wire) (target : PortPlace) → slice_get (wires_at tree n) k ≡ Some wire → wire.target ≡ Some target
+  pub first_if : (n k : ℕ) (wire : Wire) (target : PortPlace) → slice_get (wires_at tree n) k ≡ Some wire
+      → wire.target ≡ Some target
       → (IsSecond (wires_at tree n) k → ⊥) → first_into_at tree n target ≡ Some k
   first_if n k wire target is e only =
-      let some = some_first (λ (w : Wire). is_site target w.target) (wires_at tree n) 0 k wire is (of_site target wire.target e) in
+      let some =
+      some_first (λ (w : Wire). is_site target w.target) (wires_at tree n) 0 k wire is
+      (of_site target wire.target e) in
       let w = first_wire n target some.0 some.1 in
       let least = some.2 in
       some.1 ∙ ap Some (by some.0 w.0 w.1 w.2 (omega arith) (cases_order some.0 k))
     where
-      by : (m : ℕ) (w : Wire) → slice_get (wires_at tree n) m ≡ Some w → w.target ≡ Some target → m ≤ k → (m ≡ k) ⊎ ((m < k) ⊎ (k < m)) → m ≡ k
+      by : (m : ℕ) (w : Wire) → slice_get (wires_at tree n) m ≡ Some w → w.target ≡ Some target → m ≤ k
+          → (m ≡ k) ⊎ ((m < k) ⊎ (k < m)) → m ≡ k
       by m w at f least (inl same) = same
       by m w at f least (inr (inl less)) =
-          absurd (only (record { first = m; target = target; in_order = less; earlier = target_of n m w target at f; here = target_of n k wire target is e }))
+          absurd (only (record {
+            first = m;
+            target = target;
+            in_order = less;
+            earlier = target_of n m w target at f;
+            here = target_of n k wire target is e;
+          }))
       by m w at f least (inr (inr more)) = absurd (omega arith)
 
   -- one behind another is not
-  pub second_never : (n k : ℕ) (target : PortPlace) → IsSecond (wires_at tree n) k → first_into_at tree n target ≡ Some k → ⊥
+  pub second_never : (n k : ℕ) (target : PortPlace) → IsSecond (wires_at tree n) k
+      → first_into_at tree n target ≡ Some k → ⊥
   second_never n k target second first =
       let w = first_wire n target k first in
       let e = second_from (wires_at tree n) k target (target_of n k w.0 target w.1 w.2) second in
@@ -148,11 +168,15 @@ module _ (tree : PackageTree ℕ) where
       never k e = grind (arith, nat_tests)
 
   module _ (root : ℕ) where
-    goes_if : (place : Place) (n : ℕ) (wire : Wire) (source target : PortPlace) (o : Option (Implementation ℕ)) → implementation_at tree n ≡ o
-        → standing tree root place.path ≡ Some n → slice_get (wires_of tree o) place.connection ≡ Some wire → wire.source ≡ Some source
+    goes_if : (place : Place) (n : ℕ) (wire : Wire) (source target : PortPlace) (o : Option (Implementation ℕ))
+        → implementation_at tree n ≡ o
+        → standing tree root place.path ≡ Some n → slice_get (wires_of tree o) place.connection ≡ Some wire
+        → wire.source ≡ Some source
         → wire.target ≡ Some target
-        → (g : Goes tree root place (port_at place.path source) (port_at place.path target)) × (g.number ≡ n) × (g.source ≡ source) × (g.target ≡ target)
-    goes_if place n wire source target None e stands is s t = absurd (Contains-nil wire (Contains-from_slice_get [] place.connection wire is))
+        → (g : Goes tree root place (port_at place.path source) (port_at place.path target)) × (g.number ≡ n)
+        × (g.source ≡ source) × (g.target ≡ target)
+    goes_if place n wire source target None e stands is s t =
+        absurd (Contains-nil wire (Contains-from_slice_get [] place.connection wire is))
     goes_if place n wire source target (Some x) e stands is s t =
         let l = listed (wire_of tree x) x.connections place.connection wire is in (
           record {
@@ -178,18 +202,22 @@ module _ (tree : PackageTree ℕ) where
         → slice_get (wires_at tree n) k ≡ Some wire → wire.source ≡ Some source → wire.target ≡ Some target
         → Goes tree root (record { path = path; connection = k }) (port_at path source) (port_at path target)
     goes_at path n k wire source target stands is s t =
-        (goes_if (record { path = path; connection = k }) n wire source target (implementation_at tree n) refl stands is s t).0
+        (goes_if (record { path = path; connection = k }) n wire source target (implementation_at tree n) refl
+        stands is s t).0
 
     -- the first connection into a port goes there
-    pub goes_into : (path : List ℕ) (n : ℕ) (target : PortPlace) (k : ℕ) (source : PortPlace) → standing tree root path ≡ Some n → Entered n target k source
+    pub goes_into : (path : List ℕ) (n : ℕ) (target : PortPlace) (k : ℕ) (source : PortPlace)
+        → standing tree root path ≡ Some n → Entered n target k source
         → (g : Goes tree root (record { path = path; connection = k }) (port_at path source) (port_at path target))
         × (g.number ≡ n) × (g.source ≡ source) × (g.target ≡ target)
     goes_into path n target k source stands x =
-        goes_if (record { path = path; connection = k }) n x.wire source target (implementation_at tree n) refl stands x.is_wire x.source_is x.target_is
+        goes_if (record { path = path; connection = k }) n x.wire source target (implementation_at tree n) refl stands
+        x.is_wire x.source_is x.target_is
 
     module _ (one : OneEach tree root) where
       -- a connection into a port is the first one
-      pub first_of_goes : (place : Place) (from to : Port) → (g : Goes tree root place from to) → first_into_at tree g.number g.target ≡ Some place.connection
+      pub first_of_goes : (place : Place) (from to : Port) → (g : Goes tree root place from to)
+          → first_into_at tree g.number g.target ≡ Some place.connection
       first_of_goes place from to g =
           let is = wire_of_goes tree root place from to g in
           let some = some_first (λ (w : Wire). is_site g.target w.target) (wires_at tree g.number) 0 place.connection
@@ -201,7 +229,9 @@ module _ (tree : PackageTree ℕ) where
 
       pub into_of_goes : (place : Place) (from to : Port) → (g : Goes tree root place from to)
           → into tree g.number g.target ≡ Some (place.connection, g.source)
-      into_of_goes place from to g = into_first g.number g.target g.source place.connection (record { source = Some g.source; target = Some g.target })
+      into_of_goes place from to g =
+          into_first g.number g.target g.source place.connection
+          (record { source = Some g.source; target = Some g.target })
           (first_of_goes place from to g) (wire_of_goes tree root place from to g) refl
 
     -- what is known of both ends of a connection
@@ -216,7 +246,8 @@ module _ (tree : PackageTree ℕ) where
       pub no_thread : is_thread_at tree n ≡ false
 
     module _ (sound : AreDeclared tree) where
-      known_wire : (n : ℕ) (wire : Wire) (source target : PortPlace) → Contains (wires_at tree n) wire → wire.source ≡ Some source → wire.target ≡ Some target
+      known_wire : (n : ℕ) (wire : Wire) (source target : PortPlace) → Contains (wires_at tree n) wire
+          → wire.source ≡ Some source → wire.target ≡ Some target
           → Known n source target
       known_wire n wire source target h es et =
           let d = sound.each n wire h in
@@ -237,18 +268,25 @@ module _ (tree : PackageTree ℕ) where
           by true e = absurd (Contains-nil wire (subst (λ ws. Contains ws wire) (sound.threads n e) h))
           by false e = e
 
-      pub known : (place : Place) (from to : Port) → (g : Goes tree root place from to) → Known g.number g.source g.target
-      known place from to g = known_wire g.number (record { source = Some g.source; target = Some g.target }) g.source g.target
+      pub known : (place : Place) (from to : Port) → (g : Goes tree root place from to)
+          → Known g.number g.source g.target
+      known place from to g =
+          known_wire g.number (record { source = Some g.source; target = Some g.target }) g.source g.target
           (among_goes tree root place from to g) refl refl
 
-      pub known_into : (n : ℕ) (target : PortPlace) (k : ℕ) (source : PortPlace) → Entered n target k source → Known n source target
-      known_into n target k source x = known_wire n x.wire source target (Contains-from_slice_get (wires_at tree n) k x.wire x.is_wire) x.source_is x.target_is
+      pub known_into : (n : ℕ) (target : PortPlace) (k : ℕ) (source : PortPlace) → Entered n target k source
+          → Known n source target
+      known_into n target k source x =
+          known_wire n x.wire source target (Contains-from_slice_get (wires_at tree n) k x.wire x.is_wire)
+          x.source_is x.target_is
 
 -- into an own out port a connection goes from an out port of a subcomponent
-pub inner_of : (tree : PackageTree ℕ) → AreDeclared tree → (here out k : ℕ) (source : PortPlace) → is_in_at tree here out ≡ false
+pub inner_of : (tree : PackageTree ℕ) → AreDeclared tree → (here out k : ℕ) (source : PortPlace)
+    → is_in_at tree here out ≡ false
     → into tree here (Own out) ≡ Some (k, source) → IsFromInner tree here source
 inner_of tree sound here out k (Own q) goes_out e =
     absurd (known_into tree 0 sound here (Own out) k (Own q) (entered tree here (Own out) (k, Own q) e)).not_both
 inner_of tree sound here out k (Inner s p) goes_out e =
-    let m = (known_into tree 0 sound here (Own out) k (Inner s p) (entered tree here (Own out) (k, Inner s p) e)).leaves in
+    let m =
+    (known_into tree 0 sound here (Own out) k (Inner s p) (entered tree here (Own out) (k, Inner s p) e)).leaves in
     (s, p, m.0, refl, m.1, m.2)

@@ -33,11 +33,14 @@ module _ (tree : PackageTree ℕ) (n : ℕ) where
   from_path P x path e p = subst (λ l. P (port l x.port)) (sym e) p
 
   -- ---- ports entered from an own port
-  own_by : (q : ℕ) (x : Port) (s : ℕ) (inner : List ℕ) → x.path ≡ inner ++ s ∷ [] → ComesFrom tree n q (port (inner ++ s ∷ []) x.port)
+  own_by : (q : ℕ) (x : Port) (s : ℕ) (inner : List ℕ) → x.path ≡ inner ++ s ∷ []
+      → ComesFrom tree n q (port (inner ++ s ∷ []) x.port)
       → (k : ℕ) × FromOwn tree n q k x
   own_by q x s inner e c =
       let b = below_of tree n s inner c.0.0 in
-      let r = root_outer tree n s b.0 b.1 (climb tree b.0 None inner x.port) c.1.0 q (sym (climb_outer tree n s b.0 b.1 None inner x.port) ∙ c.1.1) in
+      let r =
+      root_outer tree n s b.0 b.1 (climb tree b.0 None inner x.port) c.1.0 q
+      (sym (climb_outer tree n s b.0 b.1 None inner x.port) ∙ c.1.1) in
       let enters = r.4 in (
         r.2,
         (
@@ -55,14 +58,18 @@ module _ (tree : PackageTree ℕ) (n : ℕ) where
         ),
       )
 
-  pub own_from : (q : ℕ) (x : Port) → is_thread_at tree n ≡ false → ComesFrom tree n q x → (k : ℕ) × FromOwn tree n q k x
+  pub own_from : (q : ℕ) (x : Port) → is_thread_at tree n ≡ false → ComesFrom tree n q x
+      → (k : ℕ) × FromOwn tree n q k x
   own_from q x none c = by (last_of x.path)
     where
       by : (x.path ≡ []) ⊎ ((s : ℕ) × (inner : List ℕ) × (x.path ≡ inner ++ s ∷ [])) → (k : ℕ) × FromOwn tree n q k x
-      by (inl e) = absurd (opposed (is_thread_at tree n) (thread_itself tree n (at_path (IsThreadPort tree n) x [] e c.0).0) none)
+      by (inl e) =
+          absurd (opposed (is_thread_at tree n)
+          (thread_itself tree n (at_path (IsThreadPort tree n) x [] e c.0).0) none)
       by (inr h) = own_by q x h.0 h.1 h.2 (at_path (ComesFrom tree n q) x (h.1 ++ h.0 ∷ []) h.2 c)
 
-  into_of : (k : ℕ) (x : Port) (source : PortPlace) (wire : Wire) → (t : Through tree n k x) → slice_get (wires_at tree n) k ≡ Some wire
+  into_of : (k : ℕ) (x : Port) (source : PortPlace) (wire : Wire) → (t : Through tree n k x)
+      → slice_get (wires_at tree n) k ≡ Some wire
       → wire.source ≡ Some source → into tree n (Inner t.sub t.inner_port) ≡ Some (k, source)
   into_of k x source wire t is e = into_first tree n (Inner t.sub t.inner_port) source k wire t.first is e
 
@@ -75,14 +82,17 @@ module _ (tree : PackageTree ℕ) (n : ℕ) where
         (
           Some k,
           climb_outer tree n t.sub t.number t.is_below None t.inner x.port
-              ∙ root_kept tree n t.sub t.number t.is_below (climb tree t.number None t.inner x.port) t.comes.1.0 t.inner_port k q t.comes.1.1 i,
+              ∙ root_kept tree n t.sub t.number t.is_below (climb tree t.number None t.inner x.port) t.comes.1.0
+              t.inner_port k q t.comes.1.1 i,
         ),
       )
 
   -- ---- targets of links
-  crossing_by : (x : Port) (s : ℕ) (inner : List ℕ) → x.path ≡ inner ++ s ∷ [] → (c : EndsLink tree n (port (inner ++ s ∷ []) x.port)) → (m : ℕ)
+  crossing_by : (x : Port) (s : ℕ) (inner : List ℕ) → x.path ≡ inner ++ s ∷ []
+      → (c : EndsLink tree n (port (inner ++ s ∷ []) x.port)) → (m : ℕ)
       → (b : below tree n s ≡ Some m)
-      → Within tree n s m b (climb tree m None inner x.port) c.1.0 ⊎ Itself tree n s m b (climb tree m None inner x.port) c.1.0
+      → Within tree n s m b (climb tree m None inner x.port) c.1.0
+      ⊎ Itself tree n s m b (climb tree m None inner x.port) c.1.0
       → ((s : ℕ) × Deeper tree n s x) ⊎ ((k : ℕ) × FromThread tree n k x)
   crossing_by x s inner e c m b (inl w) = inl (
     s,
@@ -133,15 +143,18 @@ module _ (tree : PackageTree ℕ) (n : ℕ) where
   link_parts x c = by (last_of x.path)
     where
       never : (path : List ℕ) → path ≡ [] → (r : Crossing) → climb tree n None path x.port ≡ crosses r → ⊥
-      never path e r is = let none : at_root None x.port ≡ crosses r = sym (ap (λ l. climb tree n None l x.port) e) ∙ is in cc none
+      never path e r is = let none : at_root None x.port ≡ crosses r = sym (ap (λ l. climb tree n None l x.port) e)
+          ∙ is in cc none
 
-      by : (x.path ≡ []) ⊎ ((s : ℕ) × (inner : List ℕ) × (x.path ≡ inner ++ s ∷ [])) → ((s : ℕ) × Deeper tree n s x) ⊎ ((k : ℕ) × FromThread tree n k x)
+      by : (x.path ≡ []) ⊎ ((s : ℕ) × (inner : List ℕ) × (x.path ≡ inner ++ s ∷ []))
+          → ((s : ℕ) × Deeper tree n s x) ⊎ ((k : ℕ) × FromThread tree n k x)
       by (inl e) = absurd (never x.path e c.1.0 c.1.1)
       by (inr h) =
           let d = at_path (EndsLink tree n) x (h.1 ++ h.0 ∷ []) h.2 c in
           let b = below_of tree n h.0 h.1 d.0.0 in
           crossing_by x h.0 h.1 h.2 d b.0 b.1
-          (crossing_outer tree n h.0 b.0 b.1 (climb tree b.0 None h.1 x.port) d.1.0 (sym (climb_outer tree n h.0 b.0 b.1 None h.1 x.port) ∙ d.1.1))
+          (crossing_outer tree n h.0 b.0 b.1 (climb tree b.0 None h.1 x.port) d.1.0
+          (sym (climb_outer tree n h.0 b.0 b.1 None h.1 x.port) ∙ d.1.1))
 
   pub deeper_ends : (s : ℕ) (x : Port) → Deeper tree n s x → EndsLink tree n x
   deeper_ends s x d =
@@ -149,7 +162,13 @@ module _ (tree : PackageTree ℕ) (n : ℕ) where
       from_path (EndsLink tree n) x (d.inner ++ s ∷ []) d.path_is (
         port_outer tree n s d.number d.is_below d.inner x.port d.ends.0,
         (
-          record { path = c.path ++ s ∷ []; declaration = c.declaration; connection = c.connection; sub = c.sub; port = c.port },
+          record {
+            path = c.path ++ s ∷ [];
+            declaration = c.declaration;
+            connection = c.connection;
+            sub = c.sub;
+            port = c.port;
+          },
           climb_outer tree n s d.number d.is_below None d.inner x.port
               ∙ crossing_kept tree n s d.number d.is_below (climb tree d.number None d.inner x.port) c d.ends.1.1,
           d.ends.1.2,
@@ -166,7 +185,8 @@ module _ (tree : PackageTree ℕ) (n : ℕ) where
         (
           record { path = []; declaration = n; connection = k; sub = w.1; port = w.2 },
           climb_outer tree n t.sub t.number t.is_below None t.inner x.port
-              ∙ root_crosses tree n t.sub t.number t.is_below (climb tree t.number None t.inner x.port) t.comes.1.0 t.inner_port k w.1 w.2 t.comes.1.1 i,
+              ∙ root_crosses tree n t.sub t.number t.is_below (climb tree t.number None t.inner x.port) t.comes.1.0
+              t.inner_port k w.1 w.2 t.comes.1.1 i,
           w.5,
         ),
       )
@@ -178,11 +198,15 @@ module _ (tree : PackageTree ℕ) (n : ℕ) where
   pub one_through : (k j : ℕ) (x : Port) → Through tree n k x → Through tree n j x → k ≡ j
   one_through k j x a b =
       let e = same_ends a.inner b.inner a.sub b.sub (sym a.path_is ∙ b.path_is) in
-      let m : a.number ≡ b.number = same_Some a.number b.number (sym a.is_below ∙ (ap (below tree n) e.1 ∙ b.is_below)) in
+      let m : a.number ≡ b.number =
+      same_Some a.number b.number (sym a.is_below ∙ (ap (below tree n) e.1 ∙ b.is_below)) in
       let climbs : climb tree a.number None a.inner x.port ≡ climb tree b.number None b.inner x.port =
       ap (λ i. climb tree i None a.inner x.port) m ∙ ap (λ l. climb tree b.number None l x.port) e.0 in
-      let p : a.inner_port ≡ b.inner_port = root_port a.comes.1.0 b.comes.1.0 a.inner_port b.inner_port (sym a.comes.1.1 ∙ (climbs ∙ b.comes.1.1)) in
-      same_Some k j (sym a.first ∙ (ap (λ s. first_into_at tree n (Inner s a.inner_port)) e.1 ∙ (ap (λ o. first_into_at tree n (Inner b.sub o)) p ∙ b.first)))
+      let p : a.inner_port ≡ b.inner_port =
+      root_port a.comes.1.0 b.comes.1.0 a.inner_port b.inner_port (sym a.comes.1.1 ∙ (climbs ∙ b.comes.1.1)) in
+      same_Some k j (sym a.first
+      ∙ (ap (λ s. first_into_at tree n (Inner s a.inner_port)) e.1
+      ∙ (ap (λ o. first_into_at tree n (Inner b.sub o)) p ∙ b.first)))
 
   pub one_deeper : (s t : ℕ) (x : Port) → Deeper tree n s x → Deeper tree n t x → s ≡ t
   one_deeper s t x a b = (same_ends a.inner b.inner s t (sym a.path_is ∙ b.path_is)).1
@@ -190,7 +214,8 @@ module _ (tree : PackageTree ℕ) (n : ℕ) where
   pub not_both : (s k : ℕ) (x : Port) → Deeper tree n s x → Through tree n k x → ⊥
   not_both s k x a b =
       let e = same_ends a.inner b.inner s b.sub (sym a.path_is ∙ b.path_is) in
-      let m : a.number ≡ b.number = same_Some a.number b.number (sym a.is_below ∙ (ap (below tree n) e.1 ∙ b.is_below)) in
+      let m : a.number ≡ b.number =
+      same_Some a.number b.number (sym a.is_below ∙ (ap (below tree n) e.1 ∙ b.is_below)) in
       let climbs : climb tree a.number None a.inner x.port ≡ climb tree b.number None b.inner x.port =
       ap (λ i. climb tree i None a.inner x.port) m ∙ ap (λ l. climb tree b.number None l x.port) e.0 in
       let none : crosses a.ends.1.0 ≡ at_root b.comes.1.0 b.inner_port = sym a.ends.1.1 ∙ (climbs ∙ b.comes.1.1) in
@@ -199,10 +224,13 @@ module _ (tree : PackageTree ℕ) (n : ℕ) where
   -- ---- numbers
   module _ (limit : ℕ) where
     -- of the ports entered through one connection
-    pub through_number : (k s p m c : ℕ) (wire : Wire) → slice_get (wires_at tree n) k ≡ Some wire → wire.target ≡ Some (Inner s p)
-        → first_into_at tree n (Inner s p) ≡ Some k → below tree n s ≡ Some m → IsNumber limit (ComesFrom tree m p) c → IsNumber limit (Through tree n k) c
+    pub through_number : (k s p m c : ℕ) (wire : Wire) → slice_get (wires_at tree n) k ≡ Some wire
+        → wire.target ≡ Some (Inner s p)
+        → first_into_at tree n (Inner s p) ≡ Some k → below tree n s ≡ Some m → IsNumber limit (ComesFrom tree m p) c
+        → IsNumber limit (Through tree n k) c
     through_number k s p m c wire is target first b number =
-        image_number limit (λ x. port (x.path ++ s ∷ []) x.port) (ComesFrom tree m p) (Through tree n k) c one to from number
+        image_number limit (λ x. port (x.path ++ s ∷ []) x.port) (ComesFrom tree m p) (Through tree n k) c one
+        to from number
       where
         one : (x y : Port) → port (x.path ++ s ∷ []) x.port ≡ port (y.path ++ s ∷ []) y.port → x ≡ y
         one x y e =
@@ -210,13 +238,25 @@ module _ (tree : PackageTree ℕ) (n : ℕ) where
             ap (λ l. port l x.port) path ∙ ap (port y.path) (ap (λ (z : Port). z.port) e)
 
         to : (x : Port) → ComesFrom tree m p x → Through tree n k (port (x.path ++ s ∷ []) x.port)
-        to x c = record { sub = s; number = m; inner = x.path; inner_port = p; path_is = refl; is_below = b; comes = c; first = first }
+        to x c =
+            record {
+              sub = s;
+              number = m;
+              inner = x.path;
+              inner_port = p;
+              path_is = refl;
+              is_below = b;
+              comes = c;
+              first = first;
+            }
 
-        from : (y : Port) → Through tree n k y → (x : Port) × ComesFrom tree m p x × (y ≡ port (x.path ++ s ∷ []) x.port)
+        from : (y : Port) → Through tree n k y
+            → (x : Port) × ComesFrom tree m p x × (y ≡ port (x.path ++ s ∷ []) x.port)
         from y t =
             let w = first_wire tree n (Inner t.sub t.inner_port) k t.first in
             let same : Inner s p ≡ Inner t.sub t.inner_port =
-            same_Some (Inner s p) (Inner t.sub t.inner_port) (sym target ∙ (ap (λ (x : Wire). x.target) (same_Some wire w.0 (sym is ∙ w.1)) ∙ w.2)) in
+            same_Some (Inner s p) (Inner t.sub t.inner_port)
+            (sym target ∙ (ap (λ (x : Wire). x.target) (same_Some wire w.0 (sym is ∙ w.1)) ∙ w.2)) in
             let sub : s ≡ t.sub = cc same in
             let inner : p ≡ t.inner_port = cc same in
             let number_is : m ≡ t.number = same_Some m t.number (sym b ∙ (ap (below tree n) sub ∙ t.is_below)) in (
@@ -227,9 +267,11 @@ module _ (tree : PackageTree ℕ) (n : ℕ) where
             )
 
     -- of those that are the targets of links below one subcomponent
-    pub deeper_number : (s m c : ℕ) → below tree n s ≡ Some m → IsNumber limit (EndsLink tree m) c → IsNumber limit (Deeper tree n s) c
+    pub deeper_number : (s m c : ℕ) → below tree n s ≡ Some m → IsNumber limit (EndsLink tree m) c
+        → IsNumber limit (Deeper tree n s) c
     deeper_number s m c b number =
-        image_number limit (λ x. port (x.path ++ s ∷ []) x.port) (EndsLink tree m) (Deeper tree n s) c one to from number
+        image_number limit (λ x. port (x.path ++ s ∷ []) x.port) (EndsLink tree m) (Deeper tree n s) c one
+        to from number
       where
         one : (x y : Port) → port (x.path ++ s ∷ []) x.port ≡ port (y.path ++ s ∷ []) y.port → x ≡ y
         one x y e =
@@ -241,33 +283,42 @@ module _ (tree : PackageTree ℕ) (n : ℕ) where
 
         from : (y : Port) → Deeper tree n s y → (x : Port) × EndsLink tree m x × (y ≡ port (x.path ++ s ∷ []) x.port)
         from y d =
-            let number_is : m ≡ d.number = same_Some m d.number (sym b ∙ d.is_below) in
-            (port d.inner y.port, subst (λ i. EndsLink tree i (port d.inner y.port)) (sym number_is) d.ends, ap (λ l. port l y.port) d.path_is)
+            let number_is : m ≡ d.number = same_Some m d.number (sym b ∙ d.is_below) in (
+              port d.inner y.port,
+              subst (λ i. EndsLink tree i (port d.inner y.port)) (sym number_is) d.ends,
+              ap (λ l. port l y.port) d.path_is,
+            )
 
     pub no_deeper : (s : ℕ) → below tree n s ≡ None → IsNumber limit (Deeper tree n s) 0
     no_deeper s e = no_number limit (Deeper tree n s) (λ x d. none-some d.number (sym e ∙ d.is_below))
 
     -- a thread has its own in ports alone
-    pub thread_number : (q : ℕ) → AreDeclared tree → is_thread_at tree n ≡ true → is_in_at tree n q ≡ true → IsThreadPort tree n (port [] q)
+    pub thread_number : (q : ℕ) → AreDeclared tree → is_thread_at tree n ≡ true → is_in_at tree n q ≡ true
+        → IsThreadPort tree n (port [] q)
         → IsNumber limit (ComesFrom tree n q) (min limit 1)
     thread_number q sound thread into here =
         one_number limit (ComesFrom tree n q) (port [] q) (here, (None, refl)) (λ y c. by y c (last_of y.path))
       where
-        by : (y : Port) → ComesFrom tree n q y → (y.path ≡ []) ⊎ ((s : ℕ) × (inner : List ℕ) × (y.path ≡ inner ++ s ∷ [])) → y ≡ port [] q
+        by : (y : Port) → ComesFrom tree n q y
+            → (y.path ≡ []) ⊎ ((s : ℕ) × (inner : List ℕ) × (y.path ≡ inner ++ s ∷ [])) → y ≡ port [] q
         by y c (inl e) =
             let is : at_root None y.port ≡ at_root c.1.0 q = sym (ap (λ l. climb tree n None l y.port) e) ∙ c.1.1 in
             ap (λ l. port l y.port) e ∙ ap (port []) (root_port None c.1.0 y.port q is)
         by y c (inr h) =
             let d = at_path (ComesFrom tree n q) y (h.1 ++ h.0 ∷ []) h.2 c in
             let b = below_of tree n h.0 h.1 d.0.0 in
-            let r = root_outer tree n h.0 b.0 b.1 (climb tree b.0 None h.1 y.port) d.1.0 q (sym (climb_outer tree n h.0 b.0 b.1 None h.1 y.port) ∙ d.1.1) in
+            let r =
+            root_outer tree n h.0 b.0 b.1 (climb tree b.0 None h.1 y.port) d.1.0 q
+            (sym (climb_outer tree n h.0 b.0 b.1 None h.1 y.port) ∙ d.1.1) in
             let k = known_into tree n sound n (Inner h.0 r.1) r.2 (Own q) r.4 in
             absurd (opposed (is_thread_at tree n) thread k.no_thread)
 
-    pub no_thread_number : (q : ℕ) → AreDeclared tree → is_thread_at tree n ≡ true → is_in_at tree n q ≡ false → IsNumber limit (ComesFrom tree n q) 0
+    pub no_thread_number : (q : ℕ) → AreDeclared tree → is_thread_at tree n ≡ true → is_in_at tree n q ≡ false
+        → IsNumber limit (ComesFrom tree n q) 0
     no_thread_number q sound thread out = no_number limit (ComesFrom tree n q) (λ y c. by y c (last_of y.path))
       where
-        by : (y : Port) → ComesFrom tree n q y → (y.path ≡ []) ⊎ ((s : ℕ) × (inner : List ℕ) × (y.path ≡ inner ++ s ∷ [])) → ⊥
+        by : (y : Port) → ComesFrom tree n q y
+            → (y.path ≡ []) ⊎ ((s : ℕ) × (inner : List ℕ) × (y.path ≡ inner ++ s ∷ [])) → ⊥
         by y c (inl e) =
             let is : at_root None y.port ≡ at_root c.1.0 q = sym (ap (λ l. climb tree n None l y.port) e) ∙ c.1.1 in
             let t = at_path (IsThreadPort tree n) y [] e c.0 in
@@ -276,7 +327,9 @@ module _ (tree : PackageTree ℕ) (n : ℕ) where
         by y c (inr h) =
             let d = at_path (ComesFrom tree n q) y (h.1 ++ h.0 ∷ []) h.2 c in
             let b = below_of tree n h.0 h.1 d.0.0 in
-            let r = root_outer tree n h.0 b.0 b.1 (climb tree b.0 None h.1 y.port) d.1.0 q (sym (climb_outer tree n h.0 b.0 b.1 None h.1 y.port) ∙ d.1.1) in
+            let r =
+            root_outer tree n h.0 b.0 b.1 (climb tree b.0 None h.1 y.port) d.1.0 q
+            (sym (climb_outer tree n h.0 b.0 b.1 None h.1 y.port) ∙ d.1.1) in
             let k = known_into tree n sound n (Inner h.0 r.1) r.2 (Own q) r.4 in
             opposed (is_thread_at tree n) thread k.no_thread
 
@@ -295,9 +348,11 @@ module _ (limit : ℕ) (P : ℕ → Port → Type 0) (apart : (k j : ℕ) (x : P
       next (inl h) = inl (omega arith)
       next (inr h) = inr (ap suc h)
 
-  pub more_first : (i a c b : ℕ) → IsNumber limit (AmongFirst P i) a → IsNumber limit (P i) c → b ≡ min limit (a + c) → IsNumber limit (AmongFirst P (i + 1)) b
+  pub more_first : (i a c b : ℕ) → IsNumber limit (AmongFirst P i) a → IsNumber limit (P i) c → b ≡ min limit (a + c)
+      → IsNumber limit (AmongFirst P (i + 1)) b
   more_first i a c b x y is =
-      both_numbers limit (AmongFirst P i) (P i) (AmongFirst P (i + 1)) a c b others (λ z h. let lt = h.1 in (h.0, omega arith, h.2)) (λ z p.
+      both_numbers limit (AmongFirst P i) (P i) (AmongFirst P (i + 1)) a c b others
+      (λ z h. let lt = h.1 in (h.0, omega arith, h.2)) (λ z p.
       (i, omega arith, p)) either x y is
     where
       others : (z : Port) → AmongFirst P i z → P i z → ⊥

@@ -56,10 +56,12 @@ is_in tree root p = goes_in (option_map (λ f. f.direction) (port_of tree root p
 
 -- where chains begin, and where they end
 abbrev pub IsStart : PackageTree ℕ → ℕ → Port → Type 0
-IsStart tree root p = (IsThreadAt tree root p.path × (is_in tree root p ≡ false)) ⊎ ((p.path ≡ []) × (is_in tree root p ≡ true))
+IsStart tree root p =
+    (IsThreadAt tree root p.path × (is_in tree root p ≡ false)) ⊎ ((p.path ≡ []) × (is_in tree root p ≡ true))
 
 abbrev pub IsEnd : PackageTree ℕ → ℕ → Port → Type 0
-IsEnd tree root p = (IsThreadAt tree root p.path × (is_in tree root p ≡ true)) ⊎ ((p.path ≡ []) × (is_in tree root p ≡ false))
+IsEnd tree root p =
+    (IsThreadAt tree root p.path × (is_in tree root p ≡ true)) ⊎ ((p.path ≡ []) × (is_in tree root p ≡ false))
 
 -- A chain: from a thread's out port or a root in port to a thread's in port or a root out port.
 pub record IsChain (tree : PackageTree ℕ) (root : ℕ) (chain : List Place) (from to : Port) : Type 0 where
@@ -73,7 +75,8 @@ pub record IsDeadEnd (tree : PackageTree ℕ) (root : ℕ) (x : Connection ℕ) 
   pub connection : ℕ
   pub used : IsInUse tree root number
   pub is_connection : slice_get (connections_of (implementation_at tree number)) connection ≡ Some x
-  pub on_none : (chain : List Place) (from to : Port) (place : Place) → IsChain tree root chain from to → Contains chain place
+  pub on_none : (chain : List Place) (from to : Port) (place : Place) → IsChain tree root chain from to
+      → Contains chain place
       → standing tree root place.path ≡ Some number → place.connection ≢ connection
 
 -- a connection of an implementation in use into a port into which one goes that stands before it

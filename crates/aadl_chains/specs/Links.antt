@@ -37,17 +37,20 @@ pub record Carries (tree : PackageTree ℕ) (root : ℕ) (crossing : Bool) (chai
 
 abbrev pub IsLink : PackageTree ℕ → ℕ → Ends → Type 0
 IsLink tree root ends =
-    (chain : List Place) × IsChain tree root chain ends.from ends.to × IsThreadAt tree root ends.from.path × IsThreadAt tree root ends.to.path
+    (chain : List Place) × IsChain tree root chain ends.from ends.to × IsThreadAt tree root ends.from.path
+    × IsThreadAt tree root ends.to.path
     × Carries tree root true chain ends
 
 abbrev pub IsFeed : PackageTree ℕ → ℕ → Ends → Type 0
 IsFeed tree root ends =
-    (chain : List Place) × IsChain tree root chain ends.from ends.to × (ends.from.path ≡ []) × IsThreadAt tree root ends.to.path
+    (chain : List Place) × IsChain tree root chain ends.from ends.to × (ends.from.path ≡ [])
+    × IsThreadAt tree root ends.to.path
     × Carries tree root false chain ends
 
 abbrev pub IsTap : PackageTree ℕ → ℕ → Ends → Type 0
 IsTap tree root ends =
-    (chain : List Place) × IsChain tree root chain ends.from ends.to × IsThreadAt tree root ends.from.path × (ends.to.path ≡ [])
+    (chain : List Place) × IsChain tree root chain ends.from ends.to × IsThreadAt tree root ends.from.path
+    × (ends.to.path ≡ [])
     × Carries tree root false chain ends
 
 -- they end at different ports
@@ -62,7 +65,9 @@ same_path (x ∷ xs) [] = false
 same_path (x ∷ xs) (y ∷ ys) = nat_eq x y && same_path xs ys
 
 abbrev pub TargetBefore : Ends → Ends → Type 0
-TargetBefore a b = (path_before (reverse a.to.path) (reverse b.to.path) || (same_path a.to.path b.to.path && nat_lt a.to.port b.to.port)) ≡ true
+TargetBefore a b =
+    (path_before (reverse a.to.path) (reverse b.to.path)
+    || (same_path a.to.path b.to.path && nat_lt a.to.port b.to.port)) ≡ true
 
 abbrev pub PortBefore : Ends → Ends → Type 0
 PortBefore a b = nat_lt a.to.port b.to.port ≡ true

@@ -15,5 +15,5 @@ pub use inside::InnerJoins;
 pub use links::has_too_many_links;
 pub use outside::{OuterJoins, PortSearch};
 pub use ports::{PortAt, Ports};
-pub use walks::{ChainStart, ChainRoute, trace_back, trace_tap};
+pub use walks::{ChainRoute, ChainStart, trace_back, trace_tap};
 pub use ways::JoinedPorts;

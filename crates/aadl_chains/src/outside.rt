@@ -55,7 +55,13 @@ impl OuterJoins {
     }
 
     /// Whether connections lead from an end of a connection of an implementation in use to a thread or the root.
-    pub fn leads(&self, wires: &Wires<'_>, inside: &InnerJoins, declaration: usize, site: PortPlace) -> bool
+    pub fn leads(
+        &self,
+        wires: &Wires<'_>,
+        inside: &InnerJoins,
+        declaration: usize,
+        site: PortPlace,
+    ) -> bool
         requires outside { IsOutside (placed wires.now.uses.names.tree.now) self.now.side.root self.now.side.direction self.now.ports }
         requires opposite { inside.now.direction ≡ opposite self.now.side.direction }
         requires inside { IsInside (placed wires.now.uses.names.tree.now) (opposite self.now.side.direction) inside.now.ports }

@@ -96,7 +96,9 @@ pub fn trace_back(
     match climb(wires, root, path, port) {
         ClimbResult::Nowhere => Ok(None),
         ClimbResult::Root(last, from) => Ok(route_from_root(root, last, from)),
-        ClimbResult::Crossing(crossed) => { trace_over(alloc, wires, order, root, path, port, crossed) }
+        ClimbResult::Crossing(crossed) => {
+            trace_over(alloc, wires, order, root, path, port, crossed)
+        }
     }
 }
 
@@ -141,7 +143,11 @@ fn route_from_root(root: usize, last: Option<usize>, port: usize) -> Option<Chai
 }
 
 // The chain from a beginning, if there is one, by a connection.
-fn route_from(begin: Option<ChainStart>, declaration: usize, connection: usize) -> Option<ChainRoute>
+fn route_from(
+    begin: Option<ChainStart>,
+    declaration: usize,
+    connection: usize,
+) -> Option<ChainRoute>
     ensures { result ≡ spec.route_from begin declaration connection }
 {
     match begin {
@@ -205,7 +211,12 @@ fn entry_at(
 }
 
 // The connection of a declaration into a port of a subcomponent.
-fn entry_into(wires: &Wires<'_>, declaration: usize, sub: usize, port: usize) -> Option<ConnectionInto>
+fn entry_into(
+    wires: &Wires<'_>,
+    declaration: usize,
+    sub: usize,
+    port: usize,
+) -> Option<ConnectionInto>
     ensures { result ≡ spec.entry (placed wires.now.uses.names.tree.now) (Some declaration) sub port }
 {
     match wires.into(declaration, PortPlace::Inner(sub, port)) {

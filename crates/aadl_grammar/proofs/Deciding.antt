@@ -10,13 +10,17 @@ use Rattle.aadl_grammar.proofs.Derived.Tails.{among, firsts, distinct, distinct_
 
 differ : (c : Class) (rs : List Row) → (among (class_number c) (firsts rs) ≡ true → ⊥) → Differ c rs
 differ c [] never = tt
-differ c (r ∷ rs) never =
-    ((λ e. never (or_left _ _ (eq-eqb _ _ (sym (ap class_number e))))), differ c rs (λ e. never (or_right (class_number c == class_number r.first) _ e)))
+differ c (r ∷ rs) never = (
+  (λ e. never (or_left _ _ (eq-eqb _ _ (sym (ap class_number e))))),
+  differ c rs (λ e. never (or_right (class_number c == class_number r.first) _ e)),
+)
 
 decides : (rs : List Row) → distinct (firsts rs) ≡ true → Decides rs
 decides [] e = tt
-decides (r ∷ rs) e =
-    (differ r.first rs (λ a. not_both (among (class_number r.first) (firsts rs)) (first_so _ _ e) a), decides rs (second_so (not (among (class_number r.first) (firsts rs))) _ e))
+decides (r ∷ rs) e = (
+  differ r.first rs (λ a. not_both (among (class_number r.first) (firsts rs)) (first_so _ _ e) a),
+  decides rs (second_so (not (among (class_number r.first) (firsts rs))) _ e),
+)
 
 pub rows_decide : (x : Symbol) → Decides (rows x)
 rows_decide x = decides (rows x) (distinct_firsts x)

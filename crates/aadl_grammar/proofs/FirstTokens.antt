@@ -19,10 +19,12 @@ use Rattle.aadl_tree.specs.Marks.{mark_text, symbol_of}
 
 -- a byte that passes a test is none that does not
 pub other_byte : (p : ℕ → Bool) (c d : ℕ) → p c ≡ true → p d ≡ false → (c == d) ≡ false
-other_byte p c d h fails = false_from_ne_true (c == d) (λ e. let same = eqb-true c d e in let f = ap p same in absurd cc)
+other_byte p c d h fails =
+    false_from_ne_true (c == d) (λ e. let same = eqb-true c d e in let f = ap p same in absurd cc)
 
 pub other_bytes : (p : ℕ → Bool) (c d : ℕ) → p c ≡ true → p d ≡ false → (d == c) ≡ false
-other_bytes p c d h fails = false_from_ne_true (d == c) (λ e. let same = eqb-true d c e in let f = ap p same in absurd cc)
+other_bytes p c d h fails =
+    false_from_ne_true (d == c) (λ e. let same = eqb-true d c e in let f = ap p same in absurd cc)
 
 -- blanks are passed over
 pub space_first : (r : Reading) (at : ℕ) (s : List ℕ) → first r at (32 ∷ s) ≡ Skipped 1
@@ -42,12 +44,15 @@ prefix_stops : (p : ℕ → Bool) (rest : List ℕ) → stops p rest ≡ true �
 prefix_stops p [] e = refl
 prefix_stops p (h ∷ t) e = ap (λ b. cond b (1 + prefix_len p t) 0) (not-true (p h) e)
 
-prefix_all : (p : ℕ → Bool) (w rest : List ℕ) → list_all p w ≡ true → stops p rest ≡ true → prefix_len p (w ++ rest) ≡ length w
+prefix_all : (p : ℕ → Bool) (w rest : List ℕ) → list_all p w ≡ true → stops p rest ≡ true
+    → prefix_len p (w ++ rest) ≡ length w
 prefix_all p [] rest e h = prefix_stops p rest h
 prefix_all p (c ∷ w) rest e h =
-    ap (λ b. cond b (1 + prefix_len p (w ++ rest)) 0) (both_left (p c) _ e) ∙ (let more = prefix_all p w rest (second_so (p c) _ e) h in omega arith)
+    ap (λ b. cond b (1 + prefix_len p (w ++ rest)) 0) (both_left (p c) _ e)
+    ∙ (let more = prefix_all p w rest (second_so (p c) _ e) h in omega arith)
 
-pub run_all : (p : ℕ → Bool) (w rest : List ℕ) → list_all p w ≡ true → stops p rest ≡ true → run p (w ++ rest) ≡ length w
+pub run_all : (p : ℕ → Bool) (w rest : List ℕ) → list_all p w ≡ true → stops p rest ≡ true
+    → run p (w ++ rest) ≡ length w
 run_all p w rest e h = length-prefix_len p (w ++ rest) ∙ prefix_all p w rest e h
 
 -- a byte that is no blank and no `-`
@@ -60,9 +65,12 @@ pub record Visible (p : ℕ → Bool) : Type 0 where
 
 pub not_blank : (p : ℕ → Bool) (c : ℕ) → Visible p → p c ≡ true → is_blank c ≡ false
 not_blank p c v h =
-    or_from ((c == 32 || c == 9) || c == 10) _ (or_from (c == 32 || c == 9) _ (or_from (c == 32) _ (other_byte p c 32 h v.space) (other_byte p c 9 h v.tab)) (other_byte p c 10 h v.line)) (other_byte p c 13 h v.return)
+    or_from ((c == 32 || c == 9) || c == 10) _
+    (or_from (c == 32 || c == 9) _ (or_from (c == 32) _ (other_byte p c 32 h v.space) (other_byte p c 9 h v.tab))
+    (other_byte p c 10 h v.line)) (other_byte p c 13 h v.return)
 
-pub not_comment : (p : ℕ → Bool) (c : ℕ) (s : List ℕ) → Visible p → p c ≡ true → starts_with nat_eq (c ∷ s) (codes "--") ≡ false
+pub not_comment : (p : ℕ → Bool) (c : ℕ) (s : List ℕ) → Visible p → p c ≡ true
+    → starts_with nat_eq (c ∷ s) (codes "--") ≡ false
 not_comment p c s v h = let e = other_bytes p c 45 h v.dash in rw e refl
 
 third : (a b c : Bool) (x y z w : First) → a ≡ false → b ≡ false → c ≡ true → cond a x (cond b y (cond c z w)) ≡ z
@@ -71,7 +79,8 @@ third false false false x y z w e f g = absurd cc
 third false true c x y z w e f g = absurd cc
 third true b c x y z w e f g = absurd cc
 
-pub fourth : (a b c d : Bool) (x y z w v : First) → a ≡ false → b ≡ false → c ≡ false → d ≡ true → cond a x (cond b y (cond c z (cond d w v))) ≡ w
+pub fourth : (a b c d : Bool) (x y z w v : First) → a ≡ false → b ≡ false → c ≡ false → d ≡ true
+    → cond a x (cond b y (cond c z (cond d w v))) ≡ w
 fourth false false c d x y z w v e f g h = third false c d y z w v refl g h
 fourth false true c d x y z w v e f g h = absurd cc
 fourth true b c d x y z w v e f g h = absurd cc
@@ -80,16 +89,22 @@ fourth true b c d x y z w v e f g h = absurd cc
 letter_goes : (r : Reading) (at c : ℕ) (s : List ℕ) → is_ascii_alphabetic c ≡ true → nat_le (run is_in_word (c ∷ s)) NAME_BYTES ≡ true → first r at (c ∷ s) ≡ Taken Word (run is_in_word (c ∷ s))
 unfolding first
 letter_goes r at c s letter short =
-    let v : Visible is_ascii_alphabetic = record { space = refl; tab = refl; line = refl; return = refl; dash = refl } in
-    third (is_blank c) (starts_with nat_eq (c ∷ s) (codes "--")) (is_ascii_alphabetic c) _ _ _ _ (not_blank is_ascii_alphabetic c v letter) (not_comment is_ascii_alphabetic c s v letter) letter
+    let v : Visible is_ascii_alphabetic =
+    record { space = refl; tab = refl; line = refl; return = refl; dash = refl } in
+    third (is_blank c) (starts_with nat_eq (c ∷ s) (codes "--")) (is_ascii_alphabetic c) _ _ _ _
+    (not_blank is_ascii_alphabetic c v letter) (not_comment is_ascii_alphabetic c s v letter) letter
     ∙ ap (λ b. cond b (Taken Word (run is_in_word (c ∷ s))) (Refused (LongName at))) short
 
-pub word_first : (r : Reading) (at : ℕ) (w rest : List ℕ) → is_word w ≡ true → stops is_in_word rest ≡ true → first r at (w ++ rest) ≡ Taken Word (length w)
+pub word_first : (r : Reading) (at : ℕ) (w rest : List ℕ) → is_word w ≡ true → stops is_in_word rest ≡ true
+    → first r at (w ++ rest) ≡ Taken Word (length w)
 word_first r at [] rest w stop = absurd cc
 word_first r at (c ∷ cs) rest w stop =
-    let letter : is_ascii_alphabetic c ≡ true = both_left (is_ascii_alphabetic c) _ (both_left (is_ascii_alphabetic c && list_all is_in_word (c ∷ cs)) _ w) in
-    let all : list_all is_in_word (c ∷ cs) ≡ true = second_so (is_ascii_alphabetic c) _ (both_left (is_ascii_alphabetic c && list_all is_in_word (c ∷ cs)) _ w) in
-    let short : nat_le (length (c ∷ cs)) NAME_BYTES ≡ true = second_so (is_ascii_alphabetic c && list_all is_in_word (c ∷ cs)) _ w in
+    let letter : is_ascii_alphabetic c ≡ true =
+    both_left (is_ascii_alphabetic c) _ (both_left (is_ascii_alphabetic c && list_all is_in_word (c ∷ cs)) _ w) in
+    let all : list_all is_in_word (c ∷ cs) ≡ true =
+    second_so (is_ascii_alphabetic c) _ (both_left (is_ascii_alphabetic c && list_all is_in_word (c ∷ cs)) _ w) in
+    let short : nat_le (length (c ∷ cs)) NAME_BYTES ≡ true =
+    second_so (is_ascii_alphabetic c && list_all is_in_word (c ∷ cs)) _ w in
     let len = run_all is_in_word (c ∷ cs) rest all stop in
     letter_goes r at c (cs ++ rest) letter (ap (λ n. nat_le n NAME_BYTES) len ∙ short) ∙ ap (λ n. Taken Word n) len
 
@@ -108,7 +123,8 @@ extends k.Bang h = 61 == h
 extends k.Star h = 42 == h
 extends _ h = false
 
-pub symbol_first : (m : Mark) (r : Reading) (at : ℕ) (rest : List ℕ) → symbol_of (mark_text m) ≡ Some m → extends m (get_or rest 0 0) ≡ false → first r at (mark_text m ++ rest) ≡ Taken Symbol (length (mark_text m))
+pub symbol_first : (m : Mark) (r : Reading) (at : ℕ) (rest : List ℕ) → symbol_of (mark_text m) ≡ Some m
+    → extends m (get_or rest 0 0) ≡ false → first r at (mark_text m ++ rest) ≡ Taken Symbol (length (mark_text m))
 unfolding first
 symbol_first k.Semicolon r at [] s c = refl
 symbol_first k.Semicolon r at (h ∷ t) s c = refl
@@ -167,7 +183,8 @@ symbol_first k.Greater r at (h ∷ t) s c = rw c refl
 symbol_first k.Bang r at [] s c = refl
 symbol_first k.Bang r at (h ∷ t) s c = rw c refl
 symbol_first k.Colon r at [] s c = refl
-symbol_first k.Colon r at (h ∷ t) s c = let e = or_parts (58 == h) (61 == h) c in let f = e.0 in let g = e.1 in rw (f, g) refl
+symbol_first k.Colon r at (h ∷ t) s c = let e = or_parts (58 == h) (61 == h) c in let f = e.0 in let g = e.1 in
+    rw (f, g) refl
 symbol_first k.Minus r at [] s c = refl
 symbol_first k.Minus r at (h ∷ t) s c =
     let e = or_parts ((45 == h) || (62 == h)) (91 == h) c in let f = or_parts (45 == h) (62 == h) e.0 in

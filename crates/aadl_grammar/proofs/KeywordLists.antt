@@ -22,7 +22,8 @@ listed (x ∷ xs) m = mark_number x == mark_number m || listed xs m
 behind : (x m : Mark) (xs : List Mark) → Contains xs m → Contains (x ∷ xs) m
 behind x m xs c = let within = c.1 in (suc c.0, omega arith, c.2)
 
-listed_first : (b : Bool) (x m : Mark) (xs : List Mark) → (b ≡ true → x ≡ m) → (listed xs m ≡ true → Contains xs m) → (b || listed xs m) ≡ true → Contains (x ∷ xs) m
+listed_first : (b : Bool) (x m : Mark) (xs : List Mark) → (b ≡ true → x ≡ m) → (listed xs m ≡ true → Contains xs m)
+    → (b || listed xs m) ≡ true → Contains (x ∷ xs) m
 listed_first true x m xs same more e = (0, omega arith, same refl)
 listed_first false x m xs same more e = behind x m xs (more e)
 

@@ -36,21 +36,26 @@ Fine keywords side = (x : Symbol) → (list_all (λ r. fine keywords r.first) (r
 not_annex : (c : Class) → (c ≡ the k.AnnexOpen → ⊥) → is_the k.AnnexOpen c ≡ false
 not_annex c never = false_from_ne_true (is_the k.AnnexOpen c) (λ e. never (the_mark k.AnnexOpen c e))
 
-passing : (side : Symbol → Bool) → Stays side → (first : List Symbol) → list_all side first ≡ true → (x : Symbol) → Stands first x → side x ≡ true
+passing : (side : Symbol → Bool) → Stays side → (first : List Symbol) → list_all side first ≡ true → (x : Symbol)
+    → Stands first x → side x ≡ true
 passing side stays first e _ (at_first x among) = passes_by_list_all side first x e among
 passing side stays first e _ (later x y row stands among other wanted) =
     let here = passing side stays first e x stands in
     let row_passes = passes_by_list_all (row_stays side) (rows x) row (or_not _ (side x) (stays x) here) among in
     passes_by_list_all side row.wanted y (or_false _ _ row_passes (not_annex row.first other)) wanted
 
-word_is_listed : (keywords : List Mark) (m : Mark) → is_word m ≡ true → fine_mark keywords m ≡ true → Contains keywords m
+word_is_listed : (keywords : List Mark) (m : Mark) → is_word m ≡ true → fine_mark keywords m ≡ true
+    → Contains keywords m
 word_is_listed keywords m e f = is_listed keywords m (or_not _ (is_word m) f e)
 
-pub listed_if_it_comes : (keywords : List Mark) (side : Symbol → Bool) → Stays side → Fine keywords side → (first : List Symbol) → list_all side first ≡ true → (m : Mark)
+pub listed_if_it_comes : (keywords : List Mark) (side : Symbol → Bool) → Stays side → Fine keywords side
+    → (first : List Symbol) → list_all side first ≡ true → (m : Mark)
     → is_word m ≡ true → CanCome first m → Contains keywords m
 listed_if_it_comes keywords side stays fines first e m is_one comes =
     let here = passing side stays first e comes.symbol comes.stands in
-    let first_is_fine = passes_by_list_all (λ r. fine keywords r.first) (rows comes.symbol) comes.row (or_not _ (side comes.symbol) (fines comes.symbol) here) comes.among in
+    let first_is_fine =
+    passes_by_list_all (λ r. fine keywords r.first) (rows comes.symbol) comes.row
+    (or_not _ (side comes.symbol) (fines comes.symbol) here) comes.among in
     word_is_listed keywords m is_one (subst (λ c. fine keywords c ≡ true) comes.begins first_is_fine)
 
 either : (b : Bool) → ((b && true) || not b) ≡ true

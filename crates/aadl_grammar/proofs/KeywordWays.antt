@@ -39,7 +39,9 @@ abbrev pub next : Symbol → Turn → Symbol
 next x t = get_or (row_of x t.by).wanted t.to x
 
 abbrev pub may_go : Symbol → Turn → Bool
-may_go x t = nat_lt t.by (length (rows x)) && (nat_lt t.to (length (row_of x t.by).wanted) && not (is_the k.AnnexOpen (row_of x t.by).first))
+may_go x t =
+    nat_lt t.by (length (rows x))
+    && (nat_lt t.to (length (row_of x t.by).wanted) && not (is_the k.AnnexOpen (row_of x t.by).first))
 
 abbrev pub end_of : Symbol → List Turn → Symbol
 end_of x [] = x
@@ -61,7 +63,9 @@ start first w = get_or first w.first s.a_package
 abbrev pub leads_to : List Symbol → Mark → Way → Bool
 leads_to first m w =
     nat_lt w.first (length first)
-    && (is_way (start first w) w.turns && (nat_lt w.row (length (rows (end_of (start first w) w.turns))) && is_the m (row_of (end_of (start first w) w.turns) w.row).first))
+    && (is_way (start first w) w.turns
+    && (nat_lt w.row (length (rows (end_of (start first w) w.turns)))
+    && is_the m (row_of (end_of (start first w) w.turns) w.row).first))
 
 other_class : (m : Mark) (c : Class) → not (is_the m c) ≡ true → c ≢ the m
 other_class m a_word e f = cc
@@ -77,11 +81,14 @@ goes first x t e stands =
     let rest = second_so (nat_lt t.by (length (rows x))) _ e in
     later x (next x t) (row_of x t.by) stands (Contains-get_or (rows x) t.by _ (ltb-true _ _ by))
     (other_class k.AnnexOpen _ (second_so (nat_lt t.to (length (row_of x t.by).wanted)) _ rest))
-    (Contains-get_or (row_of x t.by).wanted t.to x (ltb-true _ _ (first_so (nat_lt t.to (length (row_of x t.by).wanted)) _ rest)))
+    (Contains-get_or (row_of x t.by).wanted t.to x
+    (ltb-true _ _ (first_so (nat_lt t.to (length (row_of x t.by).wanted)) _ rest)))
 
-arrives : (first : List Symbol) (x : Symbol) (ts : List Turn) → is_way x ts ≡ true → Stands first x → Stands first (end_of x ts)
+arrives : (first : List Symbol) (x : Symbol) (ts : List Turn) → is_way x ts ≡ true → Stands first x
+    → Stands first (end_of x ts)
 arrives first x [] e stands = stands
-arrives first x (t ∷ ts) e stands = arrives first (next x t) ts (second_so (may_go x t) _ e) (goes first x t (first_so (may_go x t) _ e) stands)
+arrives first x (t ∷ ts) e stands =
+    arrives first (next x t) ts (second_so (may_go x t) _ e) (goes first x t (first_so (may_go x t) _ e) stands)
 
 pub comes : (first : List Symbol) (m : Mark) (w : Way) → leads_to first m w ≡ true → CanCome first m
 comes first m w e =
@@ -93,7 +100,9 @@ comes first m w e =
     record {
       symbol = end;
       row = row_of end w.row;
-      stands = arrives first (start first w) w.turns way (at_first (start first w) (Contains-get_or first w.first _ (ltb-true _ _ within)));
+      stands =
+          arrives first (start first w) w.turns way
+          (at_first (start first w) (Contains-get_or first w.first _ (ltb-true _ _ within)));
       among = Contains-get_or (rows end) w.row _ (ltb-true _ _ (first_so (nat_lt w.row (length (rows end))) _ last));
       begins = the_mark m _ (second_so (nat_lt w.row (length (rows end))) _ last);
     }

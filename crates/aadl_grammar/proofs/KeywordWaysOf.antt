@@ -81,7 +81,8 @@ way_inside _ = way 0 [] 0
 is_reached : List Symbol → (Mark → Way) → Mark → Bool
 is_reached first ways m = is_word m && leads_to first m (ways m)
 
-reached : (first : List Symbol) (ways : Mark → Way) (keywords : List Mark) → list_all (is_reached first ways) keywords ≡ true → (m : Mark) → Contains keywords m
+reached : (first : List Symbol) (ways : Mark → Way) (keywords : List Mark)
+    → list_all (is_reached first ways) keywords ≡ true → (m : Mark) → Contains keywords m
     → (is_word m ≡ true) × CanCome first m
 unfolding is_reached
 reached first ways keywords e m among =

@@ -64,7 +64,8 @@ first_named reading at s =
     (if_named (is_ascii_alphabetic (slice_index s 0)) _ _ (word_named at s)
     (if_named (is_ascii_digit (slice_index s 0)) _ _ (number_by_named at s (real_len s))
     (if_named (slice_index s 0 == 34) _ _ (string_named at s)
-    (if_named (starts_with nat_eq s (codes "{**") && can_open reading) _ _ (annex_named reading at (body_len (drop 3 s)))
+    (if_named (starts_with nat_eq s (codes "{**") && can_open reading) _ _
+    (annex_named reading at (body_len (drop 3 s)))
     (symbol_named at s))))))
 
 -- ---- from a byte on
@@ -78,11 +79,13 @@ EndsFrom r text at = ((tokens : List Token) × Lexes r text at tokens) ⊎ HasFa
 abbrev Below : ℕ → Type 0
 Below n = (r : Reading) (text : List ℕ) (at : ℕ) → length text ≤ at + n → EndsFrom r text at
 
-behind_skipped : (r : Reading) (text : List ℕ) (at n : ℕ) → at < length text → first r at (drop at text) ≡ Skipped n → EndsFrom r text (at + n) → EndsFrom r text at
+behind_skipped : (r : Reading) (text : List ℕ) (at n : ℕ) → at < length text → first r at (drop at text) ≡ Skipped n
+    → EndsFrom r text (at + n) → EndsFrom r text at
 behind_skipped r text at n less e (inl (ts, l)) = inl (ts, skips r text at n ts less e l)
 behind_skipped r text at n less e (inr (f, m, l)) = inr (f, m, past_skipped r text at n f less e l)
 
-behind_taken : (r : Reading) (text : List ℕ) (at : ℕ) (kind : TokenKind) (n : ℕ) → at < length text → first r at (drop at text) ≡ Taken kind n
+behind_taken : (r : Reading) (text : List ℕ) (at : ℕ) (kind : TokenKind) (n : ℕ) → at < length text
+    → first r at (drop at text) ≡ Taken kind n
     → EndsFrom (after r kind (take n (drop at text))) text (at + n) → EndsFrom r text at
 behind_taken r text at kind n less e (inl (ts, l)) = inl (token kind at n ∷ ts, takes r text at kind n ts less e l)
 behind_taken r text at kind n less e (inr (f, m, l)) = inr (f, m, past_token r text at kind n f less e l)
@@ -90,23 +93,31 @@ behind_taken r text at kind n less e (inr (f, m, l)) = inr (f, m, past_token r t
 behind_body : (r : Reading) (text : List ℕ) (at n : ℕ) → at < length text → first r at (drop at text) ≡ Body n
     → EndsFrom Inside (take (at + 3 + n) text) (at + 3) → EndsFrom Outside text (at + 3 + n + 3) → EndsFrom r text at
 behind_body r text at n less e (inr (f, m, l)) rest = inr (f, m, in_body r text at n f less e l)
-behind_body r text at n less e (inl (body, b)) (inl (ts, l)) = inl (token AnnexOpen at 3 ∷ body ++ token AnnexClose (at + 3 + n) 3 ∷ ts, reads r text at n body ts less e b l)
+behind_body r text at n less e (inl (body, b)) (inl (ts, l)) =
+    inl (token AnnexOpen at 3 ∷ body ++ token AnnexClose (at + 3 + n) 3 ∷ ts, reads r text at n body ts less e b l)
 behind_body r text at n less e (inl (body, b)) (inr (f, m, l)) = inr (f, m, past_body r text at n body f less e b l)
 
 by_first : (n : ℕ) → Below n → (r : Reading) (text : List ℕ) (at : ℕ) → length text ≤ at + suc n → at < length text
-    → (what : First) → first r at (drop at text) ≡ what → IsWithin (length (drop at text)) what → IsNamed what → EndsFrom r text at
-by_first n below r text at fuel less (Skipped m) e w named = behind_skipped r text at m less e (below r text (at + m) (omega (arith, w.0)))
+    → (what : First) → first r at (drop at text) ≡ what → IsWithin (length (drop at text)) what → IsNamed what
+    → EndsFrom r text at
+by_first n below r text at fuel less (Skipped m) e w named =
+    behind_skipped r text at m less e (below r text (at + m) (omega (arith, w.0)))
 by_first n below r text at fuel less (Taken kind m) e w named =
-    behind_taken r text at kind m less e (below (after r kind (take m (drop at text))) text (at + m) (omega (arith, w.0)))
+    behind_taken r text at kind m less e
+    (below (after r kind (take m (drop at text))) text (at + m) (omega (arith, w.0)))
 by_first n below r text at fuel less (Body m) e w named =
-    behind_body r text at m less e (below Inside (take (at + 3 + m) text) (at + 3) (omega (arith, w, length-take (at + 3 + m) text, length-drop at text)))
+    behind_body r text at m less e
+    (below Inside (take (at + 3 + m) text) (at + 3)
+    (omega (arith, w, length-take (at + 3 + m) text, length-drop at text)))
     (below Outside text (at + 3 + m + 3) (omega (arith, w)))
 by_first n below r text at fuel less (Refused fault) e w named = inr (fault, named, refused r text at fault less e)
 
-from_by : (n : ℕ) → Below n → (r : Reading) (text : List ℕ) (at : ℕ) → length text ≤ at + suc n → (at < length text) ⊎ (length text ≤ at) → EndsFrom r text at
+from_by : (n : ℕ) → Below n → (r : Reading) (text : List ℕ) (at : ℕ) → length text ≤ at + suc n
+    → (at < length text) ⊎ (length text ≤ at) → EndsFrom r text at
 from_by n below r text at fuel (inr past) = inl ([], ended r text at past)
 from_by n below r text at fuel (inl less) =
-    by_first n below r text at fuel less (first r at (drop at text)) refl (stands_within r text at (first r at (drop at text)) less refl) (first_named r at (drop at text))
+    by_first n below r text at fuel less (first r at (drop at text)) refl
+    (stands_within r text at (first r at (drop at text)) less refl) (first_named r at (drop at text))
 
 from_byte : (n : ℕ) → Below n
 from_byte zero r text at fuel = inl ([], ended r text at (omega arith))
@@ -119,7 +130,12 @@ whole text utf8 (inr (f, m, l)) = inr (f, m, not_lexed text f utf8 l)
 
 by_utf8 : (text : List ℕ) (b : Bool) → is_utf8 text ≡ b → HasTokens text ⊎ HasLexFault text
 by_utf8 text true e = whole text (IsUtf8-from_is_utf8 text e) (from_byte (length text) Outside text 0 (omega arith))
-by_utf8 text false e = inr (NotUtf8 (utf8_valid_len text), (λ h. absurd cc), not_utf8 text (λ u. let t = is_utf8-from_IsUtf8 text u in absurd cc))
+by_utf8 text false e =
+    inr (
+      NotUtf8 (utf8_valid_len text),
+      (λ h. absurd cc),
+      not_utf8 text (λ u. let t = is_utf8-from_IsUtf8 text u in absurd cc),
+    )
 
 pub tokens_or_fault : (text : List ℕ) → HasTokens text ⊎ HasLexFault text
 tokens_or_fault text = by_utf8 text (is_utf8 text) refl

@@ -156,13 +156,18 @@ seam_any n (x ∷ f) y = refl
 class_guard : Guard any_top any_pair has_class
 class_guard = record {
   omits = λ p x y o h g. refl;
-  wants = λ x r m. and_from (on_top any_top (class_number r.first) r.wanted) _ (on_top_any (class_number r.first) r.wanted) (neat_any r.wanted);
+  wants =
+      λ x r m. and_from (on_top any_top (class_number r.first) r.wanted) _ (on_top_any (class_number r.first) r.wanted)
+      (neat_any r.wanted);
   seams = λ x y r m h. seam_any (class_number r.first) r.wanted y;
   takes = λ p x r m h. class_stands r.first;
 }
 
-all_beside : (p : ℕ) (ks : List Kind) → Beside (after_beside (class_number (the k.Dot)) is_word) p ks → Beside (after_beside (class_number (the k.Bang)) is_group) p ks
-    → Beside (after_beside (class_number (the k.Colon)) no_colon) p ks → Beside (before_beside (class_number a_word) is_dot) p ks → Beside (before_beside (class_number a_word) is_annex) p ks
+all_beside : (p : ℕ) (ks : List Kind) → Beside (after_beside (class_number (the k.Dot)) is_word) p ks
+    → Beside (after_beside (class_number (the k.Bang)) is_group) p ks
+    → Beside (after_beside (class_number (the k.Colon)) no_colon) p ks
+    → Beside (before_beside (class_number a_word) is_dot) p ks
+    → Beside (before_beside (class_number a_word) is_annex) p ks
     → Beside has_class p ks → AreNeighbours p ks
 all_beside p [] a b c d e f = tt
 all_beside p (kind ∷ ks) (a, a_s) (b, b_s) (c, c_s) (d, d_s) (e, e_s) (f, f_s) = (
@@ -177,9 +182,14 @@ all_beside p (kind ∷ ks) (a, a_s) (b, b_s) (c, c_s) (d, d_s) (e, e_s) (f, f_s)
 pub neighbours : (ks : List Kind) → Derives whole_package ks → AreNeighbours 0 ks
 neighbours ks d =
     all_beside 0 ks
-    (guarded _ _ _ (after_guard (class_number (the k.Dot)) names_one nothing_more is_word dot_checked) 0 whole_package ks refl refl d)
-    (guarded _ _ _ (after_guard (class_number (the k.Bang)) tests nothing_more is_group bang_checked) 0 whole_package ks refl refl d)
-    (guarded _ _ _ (after_guard (class_number (the k.Colon)) declares of_state no_colon colon_checked) 0 whole_package ks refl refl d)
-    (guarded _ _ _ (before_guard (class_number a_word) goes_on of_name is_dot word_checked) 0 whole_package ks refl refl d)
-    (guarded _ _ _ (before_guard (class_number a_word) has_annex is_identifier is_annex annex_checked) 0 whole_package ks refl refl d)
+    (guarded _ _ _ (after_guard (class_number (the k.Dot)) names_one nothing_more is_word dot_checked) 0 whole_package
+    ks refl refl d)
+    (guarded _ _ _ (after_guard (class_number (the k.Bang)) tests nothing_more is_group bang_checked) 0 whole_package ks
+    refl refl d)
+    (guarded _ _ _ (after_guard (class_number (the k.Colon)) declares of_state no_colon colon_checked) 0 whole_package
+    ks refl refl d)
+    (guarded _ _ _ (before_guard (class_number a_word) goes_on of_name is_dot word_checked) 0 whole_package ks
+    refl refl d)
+    (guarded _ _ _ (before_guard (class_number a_word) has_annex is_identifier is_annex annex_checked) 0 whole_package
+    ks refl refl d)
     (guarded _ _ _ class_guard 0 whole_package ks refl refl d)

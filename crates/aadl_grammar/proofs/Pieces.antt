@@ -42,19 +42,27 @@ pub drop_past : (text : List ℕ) (at : ℕ) (w s : List ℕ) → drop at text �
 drop_past text at w s e = drop_add at (length w) text ∙ ap (drop (length w)) e ∙ drop-append_seam w s
 
 -- a piece, in a text that ends some bytes behind it
-pub drop_cut : (text : List ℕ) (at : ℕ) (w s : List ℕ) (m : ℕ) → drop at text ≡ w ++ s → drop at (take (at + (length w + m)) text) ≡ w ++ take m s
+pub drop_cut : (text : List ℕ) (at : ℕ) (w s : List ℕ) (m : ℕ) → drop at text ≡ w ++ s
+    → drop at (take (at + (length w + m)) text) ≡ w ++ take m s
 drop_cut text at w s m e = drop-take at (length w + m) text ∙ ap (take (length w + m)) e ∙ take-append-add w s m
 
 -- blanks before tokens
-pub gap_skipped : (r : Reading) (text : List ℕ) (at : ℕ) (ts : List Token) (gap s : List ℕ) → IsGap gap → drop at text ≡ gap ++ s → Lexes r text (at + length gap) ts → Lexes r text at ts
+pub gap_skipped : (r : Reading) (text : List ℕ) (at : ℕ) (ts : List Token) (gap s : List ℕ) → IsGap gap
+    → drop at text ≡ gap ++ s → Lexes r text (at + length gap) ts → Lexes r text at ts
 gap_skipped r text at ts _ s none e l = subst (λ (n : ℕ). Lexes r text n ts) (let g : at + 0 ≡ at = omega arith in g) l
-gap_skipped r text at ts _ s space e l = skips r text at 1 ts (stands_within text at (codes " ") s (omega arith) e) (ap (first r at) e ∙ space_first r at s) l
-gap_skipped r text at ts _ s line e l = skips r text at 1 ts (stands_within text at line_end s (omega arith) e) (ap (first r at) e ∙ line_end_first r at s) l
+gap_skipped r text at ts _ s space e l =
+    skips r text at 1 ts (stands_within text at (codes " ") s (omega arith) e)
+    (ap (first r at) e ∙ space_first r at s) l
+gap_skipped r text at ts _ s line e l =
+    skips r text at 1 ts (stands_within text at line_end s (omega arith) e)
+    (ap (first r at) e ∙ line_end_first r at s) l
 
 -- the bytes of a token are the piece at its place
-pub token_bytes : (text : List ℕ) (class : TokenKind) (at : ℕ) (w s : List ℕ) → drop at text ≡ w ++ s → bytes_of text (token class at (length w)) ≡ w
+pub token_bytes : (text : List ℕ) (class : TokenKind) (at : ℕ) (w s : List ℕ) → drop at text ≡ w ++ s
+    → bytes_of text (token class at (length w)) ≡ w
 token_bytes text class at w s e =
-    ap (λ n. take n (drop at text)) (let g : at + length w - at ≡ length w = omega arith in g) ∙ ap (take (length w)) e ∙ take-append_seam w s
+    ap (λ n. take n (drop at text)) (let g : at + length w - at ≡ length w = omega arith in g) ∙ ap (take (length w)) e
+    ∙ take-append_seam w s
 
 pub close_gap : (gap s : List ℕ) → IsGap gap → close_from 0 (gap ++ 42 ∷ 42 ∷ 125 ∷ s) ≡ Some (length gap)
 close_gap _ s none = refl

@@ -10,9 +10,13 @@ use Rattle.aadl_tree.specs.proof.Maps.{kept_place}
 use Rattle.aadl_grammar.specs.proof.Reading.{AtMark, Reads}
 use Rattle.aadl_grammar.proofs.Written.{nothing, then, marked, respelled, listed}
 
-pub qualified : (xs ys : List Identifier) (x : Identifier) {ss mid rest : List Spot} → ys ≡ xs ++ x ∷ [] → Reads (flat_map qualifier_parts (map (identifier_view kept_place) xs) ++ identifier_parts (identifier_view kept_place x)) ss mid → AtMark k.Scope mid rest
+pub qualified : (xs ys : List Identifier) (x : Identifier) {ss mid rest : List Spot} → ys ≡ xs ++ x ∷ []
+    → Reads (flat_map qualifier_parts (map (identifier_view kept_place) xs)
+    ++ identifier_parts (identifier_view kept_place x)) ss mid → AtMark k.Scope mid rest
     → Reads (flat_map qualifier_parts (map (identifier_view kept_place) ys)) ss rest
 qualified xs ys x e a l = respelled
-    (append_assoc (flat_map qualifier_parts (map (identifier_view kept_place) xs)) (identifier_parts (identifier_view kept_place x)) (plain k.Scope ∷ [])
-    ∙ sym (ap (λ l. flat_map qualifier_parts (map (identifier_view kept_place) l)) e ∙ listed qualifier_parts (identifier_view kept_place) xs x))
+    (append_assoc (flat_map qualifier_parts (map (identifier_view kept_place) xs))
+    (identifier_parts (identifier_view kept_place x)) (plain k.Scope ∷ [])
+    ∙ sym (ap (λ l. flat_map qualifier_parts (map (identifier_view kept_place) l)) e
+    ∙ listed qualifier_parts (identifier_view kept_place) xs x))
     (then a (marked l nothing))

@@ -32,14 +32,19 @@ use Rattle.aadl_grammar.proofs.TokenTerminals.{text_said}
 use Rattle.aadl_grammar.proofs.Utf8.{text_utf8}
 
 -- tokens in order stand one behind the other
-all_behind : (inside : Bool) (text : List ℕ) (n from to : ℕ) (ts : List Token) → n < from → AreInOrder from to ts → Behind n (spots_from inside text ts)
+all_behind : (inside : Bool) (text : List ℕ) (n from to : ℕ) (ts : List Token) → n < from → AreInOrder from to ts
+    → Behind n (spots_from inside text ts)
 all_behind inside text n from to [] less order = tt
-all_behind inside text n from to (t ∷ ts) less (start, some, order) = ((omega arith), all_behind (inside_behind inside t.kind) text n t.end to ts (omega arith) order)
+all_behind inside text n from to (t ∷ ts) less (start, some, order) =
+    ((omega arith), all_behind (inside_behind inside t.kind) text n t.end to ts (omega arith) order)
 
-rising : (inside : Bool) (text : List ℕ) (from to : ℕ) (ts : List Token) → AreInOrder from to ts → Rising (spots_from inside text ts)
+rising : (inside : Bool) (text : List ℕ) (from to : ℕ) (ts : List Token) → AreInOrder from to ts
+    → Rising (spots_from inside text ts)
 rising inside text from to [] order = tt
-rising inside text from to (t ∷ ts) (start, some, order) =
-    (all_behind (inside_behind inside t.kind) text t.start t.end to ts some order, rising (inside_behind inside t.kind) text t.end to ts order)
+rising inside text from to (t ∷ ts) (start, some, order) = (
+  all_behind (inside_behind inside t.kind) text t.start t.end to ts some order,
+  rising (inside_behind inside t.kind) text t.end to ts order,
+)
 
 derived : (tree : PackageTree ℕ) (ks : List Kind) → Spells (package_parts tree) ks [] → Derives whole_package ks
 derived tree ks s = packages.derived ks (record { tree = tree; spelled = s })
@@ -52,20 +57,26 @@ canon_of tree = sym (ap canonical (alike_kept (package_alike no_place tree)))
 pub no_other : (text : List ℕ) (tree other : PackageTree ℕ) → IsTreeOf text tree → IsTreeOf text other → tree ≡ other
 no_other text tree other h g =
     let tokens = lexes_one Outside text 0 h.tokens g.tokens h.lexed.lexed g.lexed.lexed in
-    one_placed_package (spots text h.tokens) tree other h.written (subst (λ (ts : List Token). Written (package_parts other) (spots text ts) []) (sym tokens) g.written)
+    one_placed_package (spots text h.tokens) tree other h.written
+    (subst (λ (ts : List Token). Written (package_parts other) (spots text ts) []) (sym tokens) g.written)
 
-pub reads_back : (text : List ℕ) (tree : PackageTree ℕ) → IsTreeOf text tree → HasTree (canon tree) (package_to no_place tree)
+pub reads_back : (text : List ℕ) (tree : PackageTree ℕ) → IsTreeOf text tree
+    → HasTree (canon tree) (package_to no_place tree)
 reads_back text tree h =
     let parts = package_parts tree in
     let first = kinds_of (spots text h.tokens) in
     let spelled : Spells parts first [] = written_spells parts (spots text h.tokens) [] h.written in
     let near = neighbours first (derived tree first spelled) in
-    let said : Said Outside (kept parts) = kept_said parts 0 Outside first spelled near (text_said text h.tokens h.lexed) in
-    let again : Spells parts (kept parts) [] = subst (λ (l : List Kind). Spells parts l []) (append-nil (kept parts)) (kept_spells parts []) in
+    let said : Said Outside (kept parts) =
+    kept_said parts 0 Outside first spelled near (text_said text h.tokens h.lexed) in
+    let again : Spells parts (kept parts) [] =
+    subst (λ (l : List Kind). Spells parts l []) (append-nil (kept parts)) (kept_spells parts []) in
     let beside = neighbours (kept parts) (derived tree (kept parts) again) in
     let lexed = outer (mark k.ParenOpen) (kept parts) Outside (canon tree) 0 refl (refl, beside.1) said refl in
     let order = order_lexes Outside text 0 h.tokens (omega arith) h.lexed.lexed in
-    let moved = same_package tree (spots text h.tokens) (spots (canon tree) lexed.tokens) h.written (rising false text 0 (length text) h.tokens order) lexed.kinds in
+    let moved =
+    same_package tree (spots text h.tokens) (spots (canon tree) lexed.tokens) h.written
+    (rising false text 0 (length text) h.tokens order) lexed.kinds in
     let shallow = kept_shallow 0 parts first spelled h.shallow in
     record {
       tree = moved.tree;
@@ -78,7 +89,8 @@ reads_back text tree h =
       same = moved.same;
     }
 
-pub only_so : (text : List ℕ) (tree again : PackageTree ℕ) → IsTreeOf text tree → IsTreeOf (canon tree) again → package_to no_place again ≡ package_to no_place tree
+pub only_so : (text : List ℕ) (tree again : PackageTree ℕ) → IsTreeOf text tree → IsTreeOf (canon tree) again
+    → package_to no_place again ≡ package_to no_place tree
 only_so text tree again h g =
     let read = reads_back text tree h in
     ap (package_to no_place) (no_other (canon tree) again read.tree g read.read) ∙ read.same

@@ -34,23 +34,43 @@ of_bare t ss sp =
     let f = package_fill t p.parts p.like in
     record {
       tree = f.tree;
-      written = subst (λ (a : List (Part ℕ)). Written a ss []) (sym f.is) (subst (λ (l : List Spot). Written p.parts ss l) (none_left p.left p.kinds) p.written);
+      written =
+          subst (λ (a : List (Part ℕ)). Written a ss []) (sym f.is)
+          (subst (λ (l : List Spot). Written p.parts ss l) (none_left p.left p.kinds) p.written);
     }
 
 pub is_written : (ss : List Spot) → IsPackage (kinds_of ss) → IsWritten ss
-is_written ss x = of_bare (package_to no_place x.tree) ss (alike_spells (kinds_of ss) [] (package_alike no_place x.tree) x.spelled)
+is_written ss x =
+    of_bare (package_to no_place x.tree) ss (alike_spells (kinds_of ss) [] (package_alike no_place x.tree) x.spelled)
 
-by_fate : (text : List ℕ) (tokens : List Token) → AreTokensOf text tokens → (f : Fate) → fate 0 (length text) whole_package (spots text tokens) ≡ f → HasTree text ⊎ HasLexFault text ⊎ Stops text ⊎ NestsTooDeep text
+by_fate : (text : List ℕ) (tokens : List Token) → AreTokensOf text tokens → (f : Fate)
+    → fate 0 (length text) whole_package (spots text tokens) ≡ f
+    → HasTree text ⊎ HasLexFault text ⊎ Stops text ⊎ NestsTooDeep text
 by_fate text tokens l finished e =
     let both = (answers_text IsPackage 0 (length text) packages (spots text tokens)).0 e in
     let w = is_written (spots text tokens) both.0 in
     inl (w.tree, record { tokens = tokens; lexed = l; written = w.written; shallow = both.1 })
 by_fate text tokens l (syntax_at at) e =
-    inr (inr (inl (at, record { tokens = tokens; lexed = l; fails = (answers_fault IsPackage 0 (length text) packages (spots text tokens) at).0 e })))
+    inr (inr (inl (
+      at,
+      record {
+        tokens = tokens;
+        lexed = l;
+        fails = (answers_fault IsPackage 0 (length text) packages (spots text tokens) at).0 e;
+      },
+    )))
 by_fate text tokens l (deep_at at) e =
-    inr (inr (inr (at, record { tokens = tokens; lexed = l; deep = (answers_depth IsPackage 0 (length text) packages (spots text tokens) at).0 e })))
+    inr (inr (inr (
+      at,
+      record {
+        tokens = tokens;
+        lexed = l;
+        deep = (answers_depth IsPackage 0 (length text) packages (spots text tokens) at).0 e;
+      },
+    )))
 
-by_tokens : (text : List ℕ) → HasTokens text ⊎ HasLexFault text → HasTree text ⊎ HasLexFault text ⊎ Stops text ⊎ NestsTooDeep text
+by_tokens : (text : List ℕ) → HasTokens text ⊎ HasLexFault text
+    → HasTree text ⊎ HasLexFault text ⊎ Stops text ⊎ NestsTooDeep text
 by_tokens text (inl (tokens, l)) = by_fate text tokens l (fate 0 (length text) whole_package (spots text tokens)) refl
 by_tokens text (inr fault) = inr (inl fault)
 

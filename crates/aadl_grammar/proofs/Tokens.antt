@@ -33,7 +33,8 @@ abbrev pub Ends : Kind → List ℕ → Type 0
 Ends kind [] = Unit {0}
 Ends kind (h ∷ t) = goes_on kind h ≡ false
 
-ends_stops : (kind : Kind) (p : ℕ → Bool) (rest : List ℕ) → ((h : ℕ) → goes_on kind h ≡ false → p h ≡ false) → Ends kind rest → stops p rest ≡ true
+ends_stops : (kind : Kind) (p : ℕ → Bool) (rest : List ℕ) → ((h : ℕ) → goes_on kind h ≡ false → p h ≡ false)
+    → Ends kind rest → stops p rest ≡ true
 ends_stops kind p [] same e = refl
 ends_stops kind p (h ∷ t) same e = not_from_false (p h) (same h e)
 
@@ -142,7 +143,8 @@ after_inside Outside _ b = refl
 after_inside AfterName Word b = named (str_eq_ignore_ascii_case b (codes "behavior_specification"))
 after_inside AfterName _ b = refl
 
-stays : (r : Reading) (class : TokenKind) (kind : Kind) → IsInner class → after r class (kind_text kind) ≡ behind r kind → inside_behind (is_inside r) class ≡ is_inside (behind r kind)
+stays : (r : Reading) (class : TokenKind) (kind : Kind) → IsInner class → after r class (kind_text kind) ≡ behind r kind
+    → inside_behind (is_inside r) class ≡ is_inside (behind r kind)
 stays r class kind inner e = inner (is_inside r) ∙ sym (after_inside r class (kind_text kind)) ∙ ap is_inside e
 
 pub word_then : (r : Reading) (b : List ℕ) → after r Word b ≡ behind r (word b)
@@ -150,7 +152,8 @@ word_then Outside b = refl
 word_then AfterName b = refl
 word_then Inside b = refl
 
-pub keyword_then : (r : Reading) (m : Mark) → keyword_of (is_inside r) (mark_text m) ≡ Some m → after r Word (mark_text m) ≡ behind r (mark m)
+pub keyword_then : (r : Reading) (m : Mark) → keyword_of (is_inside r) (mark_text m) ≡ Some m
+    → after r Word (mark_text m) ≡ behind r (mark m)
 keyword_then Outside k.AnnexOpen e = absurd cc
 keyword_then Outside _ e = refl
 keyword_then AfterName k.AnnexOpen e = absurd cc
@@ -158,7 +161,8 @@ keyword_then AfterName _ e = refl
 keyword_then Inside k.AnnexClose e = absurd cc
 keyword_then Inside _ e = refl
 
-pub symbol_then : (r : Reading) (m : Mark) → symbol_of (mark_text m) ≡ Some m → after r Symbol (mark_text m) ≡ behind r (mark m)
+pub symbol_then : (r : Reading) (m : Mark) → symbol_of (mark_text m) ≡ Some m
+    → after r Symbol (mark_text m) ≡ behind r (mark m)
 symbol_then Outside k.AnnexOpen e = absurd cc
 symbol_then Outside _ e = refl
 symbol_then AfterName k.AnnexOpen e = absurd cc
@@ -189,11 +193,15 @@ symbol_ends : (m : Mark) (rest : List ℕ) → Ends (mark m) rest → extends m 
 symbol_ends m [] e = extends_nothing m
 symbol_ends m (h ∷ t) e = (or_parts (is_word (mark_text m) && is_in_word h) (extends m h) e).1
 
-keyword_stops : (m : Mark) (rest : List ℕ) → is_word (mark_text m) ≡ true → Ends (mark m) rest → stops is_in_word rest ≡ true
+keyword_stops : (m : Mark) (rest : List ℕ) → is_word (mark_text m) ≡ true → Ends (mark m) rest
+    → stops is_in_word rest ≡ true
 keyword_stops m rest w e =
-    ends_stops (mark m) is_in_word rest (λ h g. sym (ap (λ b. b && is_in_word h) w) ∙ (or_parts (is_word (mark_text m) && is_in_word h) (extends m h) g).0) e
+    ends_stops (mark m) is_in_word rest
+    (λ h g. sym (ap (λ b. b && is_in_word h) w)
+    ∙ (or_parts (is_word (mark_text m) && is_in_word h) (extends m h) g).0) e
 
-pub lexed : (r : Reading) (kind : Kind) (rest : List ℕ) → Spoken r kind → IsPlain kind → Ends kind rest → Lexed r kind rest
+pub lexed : (r : Reading) (kind : Kind) (rest : List ℕ) → Spoken r kind → IsPlain kind → Ends kind rest
+    → Lexed r kind rest
 lexed r _ rest (a_word _ b w h) plain e = record {
   class = Word;
   taken = λ at. word_first r at b rest w (ends_stops (word b) is_in_word rest (λ c g. g) e);

@@ -46,7 +46,8 @@ one_low c d e h = ap low (eqb-true c d e) ∙ h
 
 word_low : (c : ℕ) → is_in_word c ≡ true → low c ≡ true
 word_low c w = elim (or_cases (is_ascii_alphabetic c || is_ascii_digit c) (c == 95) w) [
-  | inl a ↦ elim (or_cases (is_ascii_alphabetic c) (is_ascii_digit c) a) [ inl l ↦ letter_low c l | inr d ↦ digit_low c d ]
+  | inl a ↦ elim (or_cases (is_ascii_alphabetic c) (is_ascii_digit c) a)
+      [ inl l ↦ letter_low c l | inr d ↦ digit_low c d ]
   | inr a ↦ one_low c 95 a refl
 ]
 
@@ -65,16 +66,20 @@ mark_utf8 m = low_utf8 (mark_text m) refl
 
 word_utf8 : (b : List ℕ) → is_word b ≡ true → IsUtf8 b
 word_utf8 [] w = absurd cc
-word_utf8 (c ∷ b) w = low_utf8 (c ∷ b) (all_weaker is_in_word low (c ∷ b) word_low (second_so (is_ascii_alphabetic c) _ (first_so (is_ascii_alphabetic c && list_all is_in_word (c ∷ b)) _ w)))
+word_utf8 (c ∷ b) w =
+    low_utf8 (c ∷ b) (all_weaker is_in_word low (c ∷ b) word_low
+    (second_so (is_ascii_alphabetic c) _ (first_so (is_ascii_alphabetic c && list_all is_in_word (c ∷ b)) _ w)))
 
 real_utf8 : (b : List ℕ) → IsReal b → IsUtf8 b
 real_utf8 b h =
     low_utf8 b (ap (list_all low) h.spelled
-    ∙ all_append low h.whole (46 ∷ h.fraction) (all_weaker is_ascii_digit low h.whole digit_low h.whole_digits) (all_weaker is_ascii_digit low h.fraction digit_low h.fraction_digits))
+    ∙ all_append low h.whole (46 ∷ h.fraction) (all_weaker is_ascii_digit low h.whole digit_low h.whole_digits)
+    (all_weaker is_ascii_digit low h.fraction digit_low h.fraction_digits))
 
 kind_utf8 : (r : Reading) (kind : Kind) → Spoken r kind → IsUtf8 (kind_text kind)
 kind_utf8 r _ (a_word _ b w h) = word_utf8 b w
-kind_utf8 r _ (a_number _ n h) = low_utf8 (fmt.decimal n) (all_weaker is_ascii_digit low (fmt.decimal n) digit_low (number_digits n h))
+kind_utf8 r _ (a_number _ n h) =
+    low_utf8 (fmt.decimal n) (all_weaker is_ascii_digit low (fmt.decimal n) digit_low (number_digits n h))
 kind_utf8 r _ (a_real _ b h) = real_utf8 b h
 kind_utf8 r _ (a_string _ b h u c) = u
 kind_utf8 _ _ (an_annex b h u) = u
@@ -86,5 +91,8 @@ kind_utf8 _ _ closes = mark_utf8 k.AnnexClose
 pub text_utf8 : (r : Reading) (p : Kind) (ks : List Kind) → Said r ks → IsUtf8 (text_behind p ks)
 text_utf8 r p [] said = low_utf8 line_end refl
 text_utf8 r p (kind ∷ ks) (said, saids) =
-    IsUtf8-append (between p kind) (kind_text kind ++ text_behind kind ks) (low_utf8 (between p kind) (all_weaker is_blank low (between p kind) blank_low (gap_blank (between p kind) (is_gap p kind))))
-    (IsUtf8-append (kind_text kind) (text_behind kind ks) (kind_utf8 r kind said) (text_utf8 (behind r kind) kind ks saids))
+    IsUtf8-append (between p kind) (kind_text kind ++ text_behind kind ks)
+    (low_utf8 (between p kind)
+    (all_weaker is_blank low (between p kind) blank_low (gap_blank (between p kind) (is_gap p kind))))
+    (IsUtf8-append (kind_text kind) (text_behind kind ks) (kind_utf8 r kind said)
+    (text_utf8 (behind r kind) kind ks saids))

@@ -19,8 +19,10 @@ use Rattle.aadl_instance.proofs.PortByPort.{into_skip, into_link, into_feed, in_
 
 module _ (tree : PackageTree ℕ) (root : ℕ) where
   -- ---- where routes begin
-  begins_of : (begin : ChainStart) (ends : Ends) → ends.from ≡ begin_port begin → IsOfKind tree root begin ends → IsBegin tree root begin
-  begins_of (begins.Root port) ends e f = subst (HasPort tree root) e (begins_there tree root f.0 f.4.place ends.from ends.to f.4.among f.1.leads)
+  begins_of : (begin : ChainStart) (ends : Ends) → ends.from ≡ begin_port begin → IsOfKind tree root begin ends
+      → IsBegin tree root begin
+  begins_of (begins.Root port) ends e f =
+      subst (HasPort tree root) e (begins_there tree root f.0 f.4.place ends.from ends.to f.4.among f.1.leads)
   begins_of (begins.Thread path port) ends e l = (
     subst (λ (p : Port). IsThreadAt tree root p.path) e l.2,
     subst (HasPort tree root) e (begins_there tree root l.0 l.4.place ends.from ends.to l.4.among l.1.leads),
@@ -29,8 +31,10 @@ module _ (tree : PackageTree ℕ) (root : ℕ) where
   pub route_begins : (to : Port) (route : ChainRoute) → IsRoute tree root to route → IsBegin tree root route.begin
   route_begins to route r = begins_of route.begin (route_ends to route) refl r.kind
 
-  tap_begins_of : (begin : ChainStart) (ends : Ends) → ends.from ≡ begin_port begin → IsTap tree root ends → IsBegin tree root begin
-  tap_begins_of (begins.Root port) ends e t = subst (HasPort tree root) e (begins_there tree root t.0 t.4.place ends.from ends.to t.4.among t.1.leads)
+  tap_begins_of : (begin : ChainStart) (ends : Ends) → ends.from ≡ begin_port begin → IsTap tree root ends
+      → IsBegin tree root begin
+  tap_begins_of (begins.Root port) ends e t =
+      subst (HasPort tree root) e (begins_there tree root t.0 t.4.place ends.from ends.to t.4.among t.1.leads)
   tap_begins_of (begins.Thread path port) ends e t = (
     subst (λ (p : Port). IsThreadAt tree root p.path) e t.2,
     subst (HasPort tree root) e (begins_there tree root t.0 t.4.place ends.from ends.to t.4.among t.1.leads),
@@ -40,16 +44,23 @@ module _ (tree : PackageTree ℕ) (root : ℕ) where
   tap_begins to route r = tap_begins_of route.begin (route_ends to route) refl r.is_tap
 
   -- ---- links and feeds
-  module _ (no_thread : is_thread_at tree root ≡ false) (paths : List (List ℕ)) (pairs : AllPairs PathBefore paths) (node port : ℕ) (path : List ℕ)
+  module _ (no_thread : is_thread_at tree root ≡ false) (paths : List (List ℕ)) (pairs : AllPairs PathBefore paths)
+      (node port : ℕ) (path : List ℕ)
       (at : slice_get paths node ≡ Some path) where
-    added_by : (begin : ChainStart) (one : Ends) (incoming : Incoming) → one.to ≡ record { path = path; port = port } → IsOfKind tree root begin one
+    added_by : (begin : ChainStart) (one : Ends) (incoming : Incoming) → one.to ≡ record { path = path; port = port }
+        → IsOfKind tree root begin one
         → ((x : Ends) → IsLink tree root x ⊎ IsFeed tree root x → x.to ≡ record { path = path; port = port } → x ≡ one)
-        → AreInto tree root paths node port incoming → AreInto tree root paths node (port + 1) (with_chain incoming begin (chain_in tree root paths one))
-    added_by (begins.Root p) one incoming there kind only i = into_feed tree root paths no_thread node port path at pairs one there only incoming kind i
-    added_by (begins.Thread q p) one incoming there kind only i = into_link tree root paths no_thread node port path at pairs one there only incoming kind i
+        → AreInto tree root paths node port incoming
+        → AreInto tree root paths node (port + 1) (with_chain incoming begin (chain_in tree root paths one))
+    added_by (begins.Root p) one incoming there kind only i =
+        into_feed tree root paths no_thread node port path at pairs one there only incoming kind i
+    added_by (begins.Thread q p) one incoming there kind only i =
+        into_link tree root paths no_thread node port path at pairs one there only incoming kind i
 
-    pub route_added : (route : ChainRoute) (chain : Chain) (old new : Incoming) → IsRoute tree root (record { path = path; port = port }) route
-        → chain ≡ chain_in tree root paths (route_ends (record { path = path; port = port }) route) → new ≡ with_chain old route.begin chain
+    pub route_added : (route : ChainRoute) (chain : Chain) (old new : Incoming)
+        → IsRoute tree root (record { path = path; port = port }) route
+        → chain ≡ chain_in tree root paths (route_ends (record { path = path; port = port }) route)
+        → new ≡ with_chain old route.begin chain
         → AreInto tree root paths node port old → AreInto tree root paths node (port + 1) new
     route_added route chain old new r is added i =
         let to : Port = record { path = path; port = port } in
@@ -60,11 +71,13 @@ module _ (tree : PackageTree ℕ) (root : ℕ) where
         → AreInto tree root paths node port incoming → AreInto tree root paths node (port + 1) incoming
     none_added incoming none i = into_skip tree root paths no_thread node port path at pairs incoming none i
 
-    pub out_added : (incoming : Incoming) → IsThreadAt tree root path → is_in tree root (record { path = path; port = port }) ≡ false
+    pub out_added : (incoming : Incoming) → IsThreadAt tree root path
+        → is_in tree root (record { path = path; port = port }) ≡ false
         → AreInto tree root paths node port incoming → AreInto tree root paths node (port + 1) incoming
     out_added incoming thread out i = into_skip tree root paths no_thread node port path at pairs incoming never i
       where
-        not_in : (x : Ends) → x.to ≡ record { path = path; port = port } → IsThreadAt tree root x.to.path → IsEnd tree root x.to → ⊥
+        not_in : (x : Ends) → x.to ≡ record { path = path; port = port } → IsThreadAt tree root x.to.path
+            → IsEnd tree root x.to → ⊥
         not_in x e t end =
             true≢false (sym (in_by tree root paths no_thread x.to t end) ∙ (ap (is_in tree root) e ∙ out))
 
@@ -74,8 +87,10 @@ module _ (tree : PackageTree ℕ) (root : ℕ) where
 
   -- ---- taps
   module _ (paths : List (List ℕ)) (port : ℕ) where
-    pub tap_added : (route : ChainRoute) (chain : Chain) (old new : List Chain) → IsTapRoute tree root (record { path = []; port = port }) route
-        → chain ≡ chain_in tree root paths (route_ends (record { path = []; port = port }) route) → new ≡ old ++ chain ∷ []
+    pub tap_added : (route : ChainRoute) (chain : Chain) (old new : List Chain)
+        → IsTapRoute tree root (record { path = []; port = port }) route
+        → chain ≡ chain_in tree root paths (route_ends (record { path = []; port = port }) route)
+        → new ≡ old ++ chain ∷ []
         → AreTapsTo tree root paths port old → AreTapsTo tree root paths (port + 1) new
     tap_added route chain old new r is added t =
         let to : Port = record { path = []; port = port } in
@@ -86,7 +101,8 @@ module _ (tree : PackageTree ℕ) (root : ℕ) where
         → AreTapsTo tree root paths port taps → AreTapsTo tree root paths (port + 1) taps
     no_tap taps none t = taps_skip tree root paths port taps none t
 
-    pub in_tap : (no_thread : is_thread_at tree root ≡ false) (taps : List Chain) → is_in tree root (record { path = []; port = port }) ≡ true
+    pub in_tap : (no_thread : is_thread_at tree root ≡ false) (taps : List Chain)
+        → is_in tree root (record { path = []; port = port }) ≡ true
         → AreTapsTo tree root paths port taps → AreTapsTo tree root paths (port + 1) taps
     in_tap no_thread taps goes t = taps_skip tree root paths port taps (λ x tap e. by x e tap.1.ends tap.3) t
       where

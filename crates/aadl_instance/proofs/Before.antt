@@ -14,7 +14,8 @@ use Rattle.aadl_instance.proofs.Shown.{never_before}
 
 -- ---- where a comparison ends
 pub ended_before : (p q : List ℕ) (i : ℕ) → length p ≤ i → i < length q → path_before (drop i p) (drop i q) ≡ true
-ended_before p q i ended within = ap (λ l. path_before l (drop i q)) (drop_all i p ended) ∙ ap (path_before []) (drop_more q i 0 within)
+ended_before p q i ended within =
+    ap (λ l. path_before l (drop i q)) (drop_all i p ended) ∙ ap (path_before []) (drop_more q i 0 within)
 
 never_before_nil : (p : List ℕ) → path_before p [] ≡ false
 never_before_nil [] = refl
@@ -43,7 +44,8 @@ less_steps : (x y : ℕ) (b : Bool) → x < y → step x y b ≡ true
 less_steps x y true lt = grind (arith, nat_tests)
 less_steps x y false lt = grind (arith, nat_tests)
 
-steps_follow : (x y z : ℕ) (a b c : Bool) → (a ≡ true → b ≡ true → c ≡ true) → (x < y) ⊎ ((x ≡ y) × (a ≡ true)) → (y < z) ⊎ ((y ≡ z) × (b ≡ true)) → step x z c ≡ true
+steps_follow : (x y z : ℕ) (a b c : Bool) → (a ≡ true → b ≡ true → c ≡ true) → (x < y) ⊎ ((x ≡ y) × (a ≡ true))
+    → (y < z) ⊎ ((y ≡ z) × (b ≡ true)) → step x z c ≡ true
 steps_follow x y z a b c rest (inl h) (inl g) = less_steps x z c (omega arith)
 steps_follow x y z a b c rest (inl h) (inr g) = let same = g.0 in less_steps x z c (omega arith)
 steps_follow x y z a b c rest (inr h) (inl g) = let same = h.0 in less_steps x z c (omega arith)
@@ -67,29 +69,36 @@ module _ (threads : List (Vec ℕ Global)) (path : List ℕ) (pairs : AllPairs P
   long : length (paths_of threads) ≡ length threads
   long = length-map threads line
 
-  seen : (i : ℕ) (d : Vec ℕ Global) → i < length threads → get_or (paths_of threads) i (line d) ≡ line (get_or threads i d)
+  seen : (i : ℕ) (d : Vec ℕ Global) → i < length threads
+      → get_or (paths_of threads) i (line d) ≡ line (get_or threads i d)
   seen i d lt = get_or-map line threads i d (line d) lt
 
-  in_turn : (i j : ℕ) (d : Vec ℕ Global) → i < j → j < length threads → path_before (get_or threads i d).items (get_or threads j d).items ≡ true
+  in_turn : (i j : ℕ) (d : Vec ℕ Global) → i < j → j < length threads
+      → path_before (get_or threads i d).items (get_or threads j d).items ≡ true
   in_turn i j d less within =
       let a = (get_or threads i d).items in
       let b = (get_or threads j d).items in
       let size = long in
-      let given : PathBefore (get_or (paths_of threads) i (line d)) (get_or (paths_of threads) j (line d)) = pairs i j (line d) less (omega arith) in
+      let given : PathBefore (get_or (paths_of threads) i (line d)) (get_or (paths_of threads) j (line d)) =
+      pairs i j (line d) less (omega arith) in
       let left : PathBefore (reverse a) (get_or (paths_of threads) j (line d)) =
       subst (λ l. PathBefore l (get_or (paths_of threads) j (line d))) (seen i d (omega arith)) given in
       let both : PathBefore (reverse a) (reverse b) = subst (PathBefore (reverse a)) (seen j d within) left in
-      subst (λ l. path_before l b ≡ true) (reverse-reverse a) (subst (λ l. path_before (reverse (reverse a)) l ≡ true) (reverse-reverse b) both)
+      subst (λ l. path_before l b ≡ true) (reverse-reverse a)
+      (subst (λ l. path_before (reverse (reverse a)) l ≡ true) (reverse-reverse b) both)
 
   pub parted : IsPartitionedBy (λ (thread : Vec ℕ Global). path_before thread.items path) threads
   parted i j d le within h = by (cases_lt i j)
     where
       by : (i < j) ⊎ (j ≤ i) → path_before (get_or threads i d).items path ≡ true
-      by (inl lt) = before_follows (get_or threads i d).items (get_or threads j d).items path (in_turn i j d lt within) h
-      by (inr more) = let same : j ≡ i = omega arith in subst (λ k. path_before (get_or threads k d).items path ≡ true) same h
+      by (inl lt) =
+          before_follows (get_or threads i d).items (get_or threads j d).items path (in_turn i j d lt within) h
+      by (inr more) = let same : j ≡ i = omega arith in
+          subst (λ k. path_before (get_or threads k d).items path ≡ true) same h
 
   pub number_found : (n : ℕ)
-      → IsPartitionPoint (λ (thread : Vec ℕ Global). path_before thread.items path ≡ true) (λ (thread : Vec ℕ Global). path_before thread.items path ≡ false) threads n
+      → IsPartitionPoint (λ (thread : Vec ℕ Global). path_before thread.items path ≡ true)
+      (λ (thread : Vec ℕ Global). path_before thread.items path ≡ false) threads n
       → Contains (paths_of threads) (reverse path) → slice_get (paths_of threads) n ≡ Some (reverse path)
   number_found n point (k, within, is) = by threads refl
     where

@@ -12,10 +12,13 @@ module _ {X : Type 0} (P Q : X → Type 0) (Before : X → X → Type 0) where
     complete = λ x q. l.complete x (from x q);
   }
 
-  pub lists_more : (xs : List X) (y : X) → ((x : X) → P x → Q x) → Q y → ((x : X) → Q x → P x ⊎ (y ≡ x)) → ((x : X) → P x → Before x y) → Lists P Before xs
+  pub lists_more : (xs : List X) (y : X) → ((x : X) → P x → Q x) → Q y → ((x : X) → Q x → P x ⊎ (y ≡ x))
+      → ((x : X) → P x → Before x y) → Lists P Before xs
       → Lists Q Before (xs ++ y ∷ [])
   lists_more xs y to here cases before l = record {
-    each = λ k d lt. each_by (get_or (xs ++ y ∷ []) k d) (Contains-push_cases xs y (get_or (xs ++ y ∷ []) k d) (Contains-get_or (xs ++ y ∷ []) k d lt));
+    each =
+        λ k d lt. each_by (get_or (xs ++ y ∷ []) k d)
+        (Contains-push_cases xs y (get_or (xs ++ y ∷ []) k d) (Contains-get_or (xs ++ y ∷ []) k d lt));
     in_order = all_pairs_push Before xs y l.in_order (λ k d lt. before (get_or xs k d) (l.each k d lt));
     complete = λ x q. complete_by x (cases x q);
   }

@@ -34,13 +34,16 @@ module _ (paths : List (List ℕ)) where
   thread_passed node port to (inl h) = let lt = h.1 in inl (h.0, omega arith, h.2)
   thread_passed node port to (inr h) = inl (node, omega arith, h.0)
 
-  not_later : (node port : ℕ) (to : Port) → (slice_get paths node ≡ Some to.path → to.port < port) → (k : ℕ) → k < node + 1 → slice_get paths k ≡ Some to.path
+  not_later : (node port : ℕ) (to : Port) → (slice_get paths node ≡ Some to.path → to.port < port) → (k : ℕ)
+      → k < node + 1 → slice_get paths k ≡ Some to.path
       → (k ≡ node) ⊎ ((k < node) ⊎ (node < k)) → IsPassed paths node port to
-  not_later node port to within k lt e (inl same) = let here = subst (λ i. slice_get paths i ≡ Some to.path) same e in inr (here, within here)
+  not_later node port to within k lt e (inl same) = let here = subst (λ i. slice_get paths i ≡ Some to.path) same e in
+      inr (here, within here)
   not_later node port to within k lt e (inr (inl less)) = inl (k, less, e)
   not_later node port to within k lt e (inr (inr more)) = absurd (omega arith)
 
-  passed_thread : (node port : ℕ) (to : Port) → (slice_get paths node ≡ Some to.path → to.port < port) → IsPassed paths (node + 1) 0 to
+  passed_thread : (node port : ℕ) (to : Port) → (slice_get paths node ≡ Some to.path → to.port < port)
+      → IsPassed paths (node + 1) 0 to
       → IsPassed paths node port to
   passed_thread node port to within (inl h) = not_later node port to within h.0 h.1 h.2 (cases_order h.0 node)
   passed_thread node port to within (inr h) = let lt = h.1 in absurd (omega arith)
@@ -53,15 +56,18 @@ module _ (paths : List (List ℕ)) where
     this_passed : IsPassed paths node (port + 1) (record { path = path; port = port })
     this_passed = inr (at, omega arith)
 
-    this_or : (to : Port) → slice_get paths node ≡ Some to.path → to.port < port + 1 → (to.port ≡ port) ⊎ ((to.port < port) ⊎ (port < to.port))
+    this_or : (to : Port) → slice_get paths node ≡ Some to.path → to.port < port + 1
+        → (to.port ≡ port) ⊎ ((to.port < port) ⊎ (port < to.port))
         → IsPassed paths node port to ⊎ (to ≡ record { path = path; port = port })
     this_or to e lt (inl same) =
         let p : to.path ≡ path = same_Some to.path path (sym e ∙ at) in
-        inr (ap (λ (q : List ℕ). record { path = q; port = to.port }) p ∙ ap (λ (k : ℕ). record { path = path; port = k }) same)
+        inr (ap (λ (q : List ℕ). record { path = q; port = to.port }) p
+        ∙ ap (λ (k : ℕ). record { path = path; port = k }) same)
     this_or to e lt (inr (inl less)) = inl (inr (e, less))
     this_or to e lt (inr (inr more)) = absurd (omega arith)
 
-    passed_port : (to : Port) → IsPassed paths node (port + 1) to → IsPassed paths node port to ⊎ (to ≡ record { path = path; port = port })
+    passed_port : (to : Port) → IsPassed paths node (port + 1) to
+        → IsPassed paths node port to ⊎ (to ≡ record { path = path; port = port })
     passed_port to (inl h) = inl (inl h)
     passed_port to (inr h) = this_or to h.0 h.1 (cases_order to.port port)
 
@@ -75,24 +81,30 @@ first_before a b e = ap (λ t. t || (same_path a.to.path b.to.path && nat_lt a.t
 
 then_before : (a b : Ends) → a.to.path ≡ b.to.path → a.to.port < b.to.port → TargetBefore a b
 then_before a b e lt =
-    let same : same_path a.to.path b.to.path ≡ true = subst (λ q. same_path a.to.path q ≡ true) e (same_itself a.to.path) in
+    let same : same_path a.to.path b.to.path ≡ true =
+    subst (λ q. same_path a.to.path q ≡ true) e (same_itself a.to.path) in
     let less : nat_lt a.to.port b.to.port ≡ true = grind (arith, nat_tests) in
     ap (λ t. path_before (reverse a.to.path) (reverse b.to.path) || (t && nat_lt a.to.port b.to.port)) same
-    ∙ (ap (λ t. path_before (reverse a.to.path) (reverse b.to.path) || t) less ∙ or-true (path_before (reverse a.to.path) (reverse b.to.path)))
+    ∙ (ap (λ t. path_before (reverse a.to.path) (reverse b.to.path) || t) less
+    ∙ or-true (path_before (reverse a.to.path) (reverse b.to.path)))
 
-before_by : (paths : List (List ℕ)) (node port : ℕ) → AllPairs PathBefore paths → (a b : Ends) → slice_get paths node ≡ Some b.to.path → b.to.port ≡ port
+before_by : (paths : List (List ℕ)) (node port : ℕ) → AllPairs PathBefore paths → (a b : Ends)
+    → slice_get paths node ≡ Some b.to.path → b.to.port ≡ port
     → IsPassed paths node port a.to → TargetBefore a b
 before_by paths node port pairs a b at is (inl h) =
     first_before a b
     (subst (λ p. PathBefore p b.to.path) (get_or_from_slice_get paths h.0 a.to.path [] h.2)
     (subst (PathBefore (get_or paths h.0 [])) (get_or_from_slice_get paths node b.to.path [] at)
     (pairs h.0 node [] h.1 (slice_get_within paths node b.to.path at))))
-before_by paths node port pairs a b at is (inr h) = let lt = h.1 in then_before a b (same_Some a.to.path b.to.path (sym h.0 ∙ at)) (omega arith)
+before_by paths node port pairs a b at is (inr h) = let lt = h.1 in
+    then_before a b (same_Some a.to.path b.to.path (sym h.0 ∙ at)) (omega arith)
 
-pub thread_listed : (tree : PackageTree ℕ) (root : ℕ) (paths : List (List ℕ)) → Lists (IsThreadAt tree root) PathBefore paths → (node : ℕ) (path : List ℕ)
+pub thread_listed : (tree : PackageTree ℕ) (root : ℕ) (paths : List (List ℕ))
+    → Lists (IsThreadAt tree root) PathBefore paths → (node : ℕ) (path : List ℕ)
     → slice_get paths node ≡ Some path → IsThreadAt tree root path
 thread_listed tree root paths threads node path at =
-    subst (IsThreadAt tree root) (get_or_from_slice_get paths node path [] at) (threads.each node [] (slice_get_within paths node path at))
+    subst (IsThreadAt tree root) (get_or_from_slice_get paths node path [] at)
+    (threads.each node [] (slice_get_within paths node path at))
 
 pub not_root : (tree : PackageTree ℕ) (root : ℕ) → is_thread_at tree root ≡ false → IsThreadAt tree root [] → ⊥
 not_root tree root no_thread t = true≢false (sym (thread_from tree root [] root refl t) ∙ no_thread)
@@ -100,19 +112,26 @@ not_root tree root no_thread t = true≢false (sym (thread_from tree root [] roo
 -- ---- shown lists
 module _ (tree : PackageTree ℕ) (root : ℕ) (paths : List (List ℕ)) where
   module _ (P Q : Ends → Type 0) (Before : Ends → Ends → Type 0) where
-    shown_same : (chains : List Chain) → ((x : Ends) → P x → Q x) → ((x : Ends) → Q x → P x) → AreShown tree root paths P Before chains
+    shown_same : (chains : List Chain) → ((x : Ends) → P x → Q x) → ((x : Ends) → Q x → P x)
+        → AreShown tree root paths P Before chains
         → AreShown tree root paths Q Before chains
-    shown_same chains to from s = record { ends = s.ends; listed = lists_same P Q Before s.ends to from s.listed; shown = s.shown }
+    shown_same chains to from s =
+        record { ends = s.ends; listed = lists_same P Q Before s.ends to from s.listed; shown = s.shown }
 
-    shown_more : (chains : List Chain) (y : Ends) → ((x : Ends) → P x → Q x) → Q y → ((x : Ends) → Q x → P x ⊎ (y ≡ x)) → ((x : Ends) → P x → Before x y)
-        → AreShown tree root paths P Before chains → AreShown tree root paths Q Before (chains ++ chain_in tree root paths y ∷ [])
+    shown_more : (chains : List Chain) (y : Ends) → ((x : Ends) → P x → Q x) → Q y → ((x : Ends) → Q x → P x ⊎ (y ≡ x))
+        → ((x : Ends) → P x → Before x y)
+        → AreShown tree root paths P Before chains
+        → AreShown tree root paths Q Before (chains ++ chain_in tree root paths y ∷ [])
     shown_more chains y to here cases before s = record {
       ends = s.ends ++ y ∷ [];
       listed = lists_more P Q Before s.ends y to here cases before s.listed;
-      shown = ap (λ (l : List Chain). l ++ chain_in tree root paths y ∷ []) s.shown ∙ sym (map-append (chain_in tree root paths) s.ends (y ∷ []));
+      shown =
+          ap (λ (l : List Chain). l ++ chain_in tree root paths y ∷ []) s.shown
+          ∙ sym (map-append (chain_in tree root paths) s.ends (y ∷ []));
     }
 
-  shown_none : (P : Ends → Type 0) (Before : Ends → Ends → Type 0) → ((x : Ends) → P x → ⊥) → AreShown tree root paths P Before []
+  shown_none : (P : Ends → Type 0) (Before : Ends → Ends → Type 0) → ((x : Ends) → P x → ⊥)
+      → AreShown tree root paths P Before []
   shown_none P Before none = record { ends = []; listed = lists_none P Before none; shown = refl }
 
   -- ---- links and feeds
@@ -130,27 +149,41 @@ module _ (tree : PackageTree ℕ) (root : ℕ) (paths : List (List ℕ)) where
 
     into_none : AreInto tree root paths 0 0 (record { links = []; feeds = [] })
     into_none = record {
-      links = shown_none (λ x. IsLink tree root x × IsPassed paths 0 0 x.to) TargetBefore (λ x h. none_passed paths x.to h.1);
-      feeds = shown_none (λ x. IsFeed tree root x × IsPassed paths 0 0 x.to) TargetBefore (λ x h. none_passed paths x.to h.1);
+      links =
+          shown_none (λ x. IsLink tree root x × IsPassed paths 0 0 x.to) TargetBefore
+          (λ x h. none_passed paths x.to h.1);
+      feeds =
+          shown_none (λ x. IsFeed tree root x × IsPassed paths 0 0 x.to) TargetBefore
+          (λ x h. none_passed paths x.to h.1);
     }
 
-    pub into_start : (incoming : Incoming) → incoming.links ≡ [] → incoming.feeds ≡ [] → AreInto tree root paths 0 0 incoming
+    pub into_start : (incoming : Incoming) → incoming.links ≡ [] → incoming.feeds ≡ []
+        → AreInto tree root paths 0 0 incoming
     into_start incoming e f = record {
-      links = subst (AreShown tree root paths (λ x. IsLink tree root x × IsPassed paths 0 0 x.to) TargetBefore) (sym e) (into_none.links);
-      feeds = subst (AreShown tree root paths (λ x. IsFeed tree root x × IsPassed paths 0 0 x.to) TargetBefore) (sym f) (into_none.feeds);
+      links =
+          subst (AreShown tree root paths (λ x. IsLink tree root x × IsPassed paths 0 0 x.to) TargetBefore) (sym e)
+          (into_none.links);
+      feeds =
+          subst (AreShown tree root paths (λ x. IsFeed tree root x × IsPassed paths 0 0 x.to) TargetBefore) (sym f)
+          (into_none.feeds);
     }
 
     -- all ports of a thread are passed
-    pub into_thread : (node port n : ℕ) (path : List ℕ) (incoming : Incoming) → slice_get paths node ≡ Some path → standing tree root path ≡ Some n
+    pub into_thread : (node port n : ℕ) (path : List ℕ) (incoming : Incoming) → slice_get paths node ≡ Some path
+        → standing tree root path ≡ Some n
         → length (ports_at tree (implementation_at tree n)) ≤ port → AreInto tree root paths node port incoming
         → AreInto tree root paths (node + 1) 0 incoming
     into_thread node port n path incoming at stands all i = record {
-      links = shown_same (λ x. IsLink tree root x × IsPassed paths node port x.to) (λ x. IsLink tree root x × IsPassed paths (node + 1) 0 x.to) TargetBefore
+      links =
+          shown_same (λ x. IsLink tree root x × IsPassed paths node port x.to)
+          (λ x. IsLink tree root x × IsPassed paths (node + 1) 0 x.to) TargetBefore
           incoming.links
           (λ x h. (h.0, thread_passed paths node port x.to h.1))
           (λ x h. (h.0, passed_thread paths node port x.to (λ e. within x (inl h.0) e) h.1))
           i.links;
-      feeds = shown_same (λ x. IsFeed tree root x × IsPassed paths node port x.to) (λ x. IsFeed tree root x × IsPassed paths (node + 1) 0 x.to) TargetBefore
+      feeds =
+          shown_same (λ x. IsFeed tree root x × IsPassed paths node port x.to)
+          (λ x. IsFeed tree root x × IsPassed paths (node + 1) 0 x.to) TargetBefore
           incoming.feeds
           (λ x h. (h.0, thread_passed paths node port x.to h.1))
           (λ x h. (h.0, passed_thread paths node port x.to (λ e. within x (inr h.0) e) h.1))
@@ -158,50 +191,66 @@ module _ (tree : PackageTree ℕ) (root : ℕ) (paths : List (List ℕ)) where
     }
       where
         here : (p : List ℕ) → slice_get paths node ≡ Some p → component_at tree root p ≡ implementation_at tree n
-        here p e = subst (λ q. component_at tree root q ≡ implementation_at tree n) (same_Some path p (sym at ∙ e)) (open_at tree root path n stands)
+        here p e =
+            subst (λ q. component_at tree root q ≡ implementation_at tree n) (same_Some path p (sym at ∙ e))
+            (open_at tree root path n stands)
 
-        within : (x : Ends) → IsLink tree root x ⊎ IsFeed tree root x → slice_get paths node ≡ Some x.to.path → x.to.port < port
+        within : (x : Ends) → IsLink tree root x ⊎ IsFeed tree root x → slice_get paths node ≡ Some x.to.path
+            → x.to.port < port
         within x k e =
             let lt = in_within (ports_at tree (component_at tree root x.to.path)) x.to.port (enters_in x k) in
-            let inside : x.to.port < length (ports_at tree (implementation_at tree n)) = subst (λ o. x.to.port < length (ports_at tree o)) (here x.to.path e) lt in
+            let inside : x.to.port < length (ports_at tree (implementation_at tree n)) =
+            subst (λ o. x.to.port < length (ports_at tree o)) (here x.to.path e) lt in
             omega arith
 
-    module _ (node port : ℕ) (path : List ℕ) (at : slice_get paths node ≡ Some path) (pairs : AllPairs PathBefore paths) where
+    module _ (node port : ℕ) (path : List ℕ) (at : slice_get paths node ≡ Some path)
+        (pairs : AllPairs PathBefore paths) where
       to : Port
       to = record { path = path; port = port }
 
       -- no chain of a kind comes into the port
-      module _ (Kind : Ends → Type 0) (none : (x : Ends) → Kind x → x.to ≡ record { path = path; port = port } → ⊥) where
-        still : (x : Ends) → Kind x → IsPassed paths node port x.to ⊎ (x.to ≡ record { path = path; port = port }) → IsPassed paths node port x.to
+      module _ (Kind : Ends → Type 0)
+          (none : (x : Ends) → Kind x → x.to ≡ record { path = path; port = port } → ⊥) where
+        still : (x : Ends) → Kind x → IsPassed paths node port x.to ⊎ (x.to ≡ record { path = path; port = port })
+            → IsPassed paths node port x.to
         still x k (inl h) = h
         still x k (inr e) = absurd (none x k e)
 
-        shown_skip : (chains : List Chain) → AreShown tree root paths (λ x. Kind x × IsPassed paths node port x.to) TargetBefore chains
+        shown_skip : (chains : List Chain)
+            → AreShown tree root paths (λ x. Kind x × IsPassed paths node port x.to) TargetBefore chains
             → AreShown tree root paths (λ x. Kind x × IsPassed paths node (port + 1) x.to) TargetBefore chains
         shown_skip chains s =
-            shown_same (λ x. Kind x × IsPassed paths node port x.to) (λ x. Kind x × IsPassed paths node (port + 1) x.to) TargetBefore chains
-            (λ x h. (h.0, port_passed paths node port x.to h.1)) (λ x h. (h.0, still x h.0 (passed_port paths node port path at x.to h.1))) s
+            shown_same (λ x. Kind x × IsPassed paths node port x.to) (λ x. Kind x × IsPassed paths node (port + 1) x.to)
+            TargetBefore chains
+            (λ x h. (h.0, port_passed paths node port x.to h.1))
+            (λ x h. (h.0, still x h.0 (passed_port paths node port path at x.to h.1))) s
 
       -- one comes
-      module _ (Kind : Ends → Type 0) (one : Ends) (is : Kind one) (there : one.to ≡ record { path = path; port = port })
+      module _ (Kind : Ends → Type 0) (one : Ends) (is : Kind one)
+          (there : one.to ≡ record { path = path; port = port })
           (only : (x : Ends) → Kind x → x.to ≡ record { path = path; port = port } → one ≡ x) where
         or_one : (x : Ends) → Kind x → IsPassed paths node port x.to ⊎ (x.to ≡ record { path = path; port = port })
             → (Kind x × IsPassed paths node port x.to) ⊎ (one ≡ x)
         or_one x k (inl h) = inl (k, h)
         or_one x k (inr e) = inr (only x k e)
 
-        shown_one : (chains : List Chain) → AreShown tree root paths (λ x. Kind x × IsPassed paths node port x.to) TargetBefore chains
-            → AreShown tree root paths (λ x. Kind x × IsPassed paths node (port + 1) x.to) TargetBefore (chains ++ chain_in tree root paths one ∷ [])
+        shown_one : (chains : List Chain)
+            → AreShown tree root paths (λ x. Kind x × IsPassed paths node port x.to) TargetBefore chains
+            → AreShown tree root paths (λ x. Kind x × IsPassed paths node (port + 1) x.to) TargetBefore
+            (chains ++ chain_in tree root paths one ∷ [])
         shown_one chains s =
-            shown_more (λ x. Kind x × IsPassed paths node port x.to) (λ x. Kind x × IsPassed paths node (port + 1) x.to) TargetBefore chains one
+            shown_more (λ x. Kind x × IsPassed paths node port x.to) (λ x. Kind x × IsPassed paths node (port + 1) x.to)
+            TargetBefore chains one
             (λ x h. (h.0, port_passed paths node port x.to h.1))
             (is, subst (IsPassed paths node (port + 1)) (sym there) (this_passed paths node port path at))
             (λ x h. or_one x h.0 (passed_port paths node port path at x.to h.1))
-            (λ x h. before_by paths node port pairs x one (subst (λ (q : Port). slice_get paths node ≡ Some q.path) (sym there) at)
+            (λ x h. before_by paths node port pairs x one
+            (subst (λ (q : Port). slice_get paths node ≡ Some q.path) (sym there) at)
             (ap (λ (q : Port). q.port) there) h.1)
             s
 
-      pub into_skip : (incoming : Incoming) → ((x : Ends) → IsLink tree root x ⊎ IsFeed tree root x → x.to ≡ record { path = path; port = port } → ⊥)
+      pub into_skip : (incoming : Incoming)
+          → ((x : Ends) → IsLink tree root x ⊎ IsFeed tree root x → x.to ≡ record { path = path; port = port } → ⊥)
           → AreInto tree root paths node port incoming → AreInto tree root paths node (port + 1) incoming
       into_skip incoming none i = record {
         links = shown_skip (IsLink tree root) (λ x k e. none x (inl k) e) incoming.links i.links;
@@ -209,25 +258,35 @@ module _ (tree : PackageTree ℕ) (root : ℕ) (paths : List (List ℕ)) where
       }
 
       module _ (one : Ends) (there : one.to ≡ record { path = path; port = port })
-          (only : (x : Ends) → IsLink tree root x ⊎ IsFeed tree root x → x.to ≡ record { path = path; port = port } → x ≡ one) where
+          (only : (x : Ends) → IsLink tree root x ⊎ IsFeed tree root x → x.to ≡ record { path = path; port = port }
+          → x ≡ one) where
         pub into_link : (incoming : Incoming) → IsLink tree root one → AreInto tree root paths node port incoming
-            → AreInto tree root paths node (port + 1) (record incoming { links = incoming.links ++ chain_in tree root paths one ∷ [] })
+            → AreInto tree root paths node (port + 1)
+            (record incoming { links = incoming.links ++ chain_in tree root paths one ∷ [] })
         into_link incoming is i = record {
           links = shown_one (IsLink tree root) one is there (λ x k e. sym (only x (inl k) e)) incoming.links i.links;
-          feeds = shown_skip (IsFeed tree root) (λ x k e. not_link_and_feed one is (subst (IsFeed tree root) (only x (inr k) e) k)) incoming.feeds i.feeds;
+          feeds =
+              shown_skip (IsFeed tree root)
+              (λ x k e. not_link_and_feed one is (subst (IsFeed tree root) (only x (inr k) e) k))
+              incoming.feeds i.feeds;
         }
 
         pub into_feed : (incoming : Incoming) → IsFeed tree root one → AreInto tree root paths node port incoming
-            → AreInto tree root paths node (port + 1) (record incoming { feeds = incoming.feeds ++ chain_in tree root paths one ∷ [] })
+            → AreInto tree root paths node (port + 1)
+            (record incoming { feeds = incoming.feeds ++ chain_in tree root paths one ∷ [] })
         into_feed incoming is i = record {
-          links = shown_skip (IsLink tree root) (λ x k e. not_link_and_feed one (subst (IsLink tree root) (only x (inl k) e) k) is) incoming.links i.links;
+          links =
+              shown_skip (IsLink tree root)
+              (λ x k e. not_link_and_feed one (subst (IsLink tree root) (only x (inl k) e) k) is)
+              incoming.links i.links;
           feeds = shown_one (IsFeed tree root) one is there (λ x k e. sym (only x (inr k) e)) incoming.feeds i.feeds;
         }
 
     -- all threads are passed
     module _ (node : ℕ) (all : length paths ≤ node) (threads : Lists (IsThreadAt tree root) PathBefore paths) where
       whole : (Kind : Ends → Type 0) (chains : List Chain) → ((x : Ends) → Kind x → IsThreadAt tree root x.to.path)
-          → AreShown tree root paths (λ x. Kind x × IsPassed paths node 0 x.to) TargetBefore chains → AreShown tree root paths Kind TargetBefore chains
+          → AreShown tree root paths (λ x. Kind x × IsPassed paths node 0 x.to) TargetBefore chains
+          → AreShown tree root paths Kind TargetBefore chains
       whole Kind chains is s =
           shown_same (λ x. Kind x × IsPassed paths node 0 x.to) Kind TargetBefore chains (λ x h. h.0)
           (λ x k. (k, reached x (threads.complete x.to.path (is x k)))) s
@@ -245,32 +304,42 @@ module _ (tree : PackageTree ℕ) (root : ℕ) (paths : List (List ℕ)) where
 
   -- ---- taps
   pub taps_none : AreTapsTo tree root paths 0 []
-  taps_none = shown_none (λ x. IsTap tree root x × (x.to.port < 0)) PortBefore (λ x h. let lt = h.1 in absurd (omega arith))
+  taps_none =
+      shown_none (λ x. IsTap tree root x × (x.to.port < 0)) PortBefore (λ x h. let lt = h.1 in absurd (omega arith))
 
-  lower_or : (port : ℕ) (x : Ends) → x.to.path ≡ [] → x.to.port < port + 1 → (x.to.port ≡ port) ⊎ ((x.to.port < port) ⊎ (port < x.to.port))
+  lower_or : (port : ℕ) (x : Ends) → x.to.path ≡ [] → x.to.port < port + 1
+      → (x.to.port ≡ port) ⊎ ((x.to.port < port) ⊎ (port < x.to.port))
       → (x.to.port < port) ⊎ (x.to ≡ record { path = []; port = port })
   lower_or port x e lt (inl same) =
-      inr (ap (λ (q : List ℕ). record { path = q; port = x.to.port }) e ∙ ap (λ (k : ℕ). record { path = []; port = k }) same)
+      inr (ap (λ (q : List ℕ). record { path = q; port = x.to.port }) e
+      ∙ ap (λ (k : ℕ). record { path = []; port = k }) same)
   lower_or port x e lt (inr (inl less)) = inl less
   lower_or port x e lt (inr (inr more)) = absurd (omega arith)
 
   module _ (port : ℕ) where
-    pub taps_skip : (taps : List Chain) → ((x : Ends) → IsTap tree root x → x.to ≡ record { path = []; port = port } → ⊥)
+    pub taps_skip : (taps : List Chain)
+        → ((x : Ends) → IsTap tree root x → x.to ≡ record { path = []; port = port } → ⊥)
         → AreTapsTo tree root paths port taps → AreTapsTo tree root paths (port + 1) taps
     taps_skip taps none s =
-        shown_same (λ x. IsTap tree root x × (x.to.port < port)) (λ x. IsTap tree root x × (x.to.port < port + 1)) PortBefore taps
-        (λ x h. let lt = h.1 in (h.0, omega arith)) (λ x h. (h.0, by x h.0 (lower_or port x h.0.3 h.1 (cases_order x.to.port port)))) s
+        shown_same (λ x. IsTap tree root x × (x.to.port < port)) (λ x. IsTap tree root x × (x.to.port < port + 1))
+        PortBefore taps
+        (λ x h. let lt = h.1 in (h.0, omega arith))
+        (λ x h. (h.0, by x h.0 (lower_or port x h.0.3 h.1 (cases_order x.to.port port)))) s
       where
-        by : (x : Ends) → IsTap tree root x → (x.to.port < port) ⊎ (x.to ≡ record { path = []; port = port }) → x.to.port < port
+        by : (x : Ends) → IsTap tree root x → (x.to.port < port) ⊎ (x.to ≡ record { path = []; port = port })
+            → x.to.port < port
         by x t (inl less) = less
         by x t (inr e) = absurd (none x t e)
 
     pub taps_more : (taps : List Chain) (one : Ends) → IsTap tree root one → one.to ≡ record { path = []; port = port }
         → ((x : Ends) → IsTap tree root x → x.to ≡ record { path = []; port = port } → x ≡ one)
-        → AreTapsTo tree root paths port taps → AreTapsTo tree root paths (port + 1) (taps ++ chain_in tree root paths one ∷ [])
+        → AreTapsTo tree root paths port taps
+        → AreTapsTo tree root paths (port + 1) (taps ++ chain_in tree root paths one ∷ [])
     taps_more taps one is there only s =
-        shown_more (λ x. IsTap tree root x × (x.to.port < port)) (λ x. IsTap tree root x × (x.to.port < port + 1)) PortBefore taps one
-        (λ x h. let lt = h.1 in (h.0, omega arith)) (is, here) (λ x h. by x h.0 (lower_or port x h.0.3 h.1 (cases_order x.to.port port)))
+        shown_more (λ x. IsTap tree root x × (x.to.port < port)) (λ x. IsTap tree root x × (x.to.port < port + 1))
+        PortBefore taps one
+        (λ x h. let lt = h.1 in (h.0, omega arith)) (is, here)
+        (λ x h. by x h.0 (lower_or port x h.0.3 h.1 (cases_order x.to.port port)))
         (λ x h. less x h.1) s
       where
         at : one.to.port ≡ port
@@ -287,10 +356,12 @@ module _ (tree : PackageTree ℕ) (root : ℕ) (paths : List (List ℕ)) where
         by x t (inl lt) = inl (t, lt)
         by x t (inr e) = inr (sym (only x t e))
 
-    pub taps_whole : (taps : List Chain) → length (ports_at tree (implementation_at tree root)) ≤ port → AreTapsTo tree root paths port taps
+    pub taps_whole : (taps : List Chain) → length (ports_at tree (implementation_at tree root)) ≤ port
+        → AreTapsTo tree root paths port taps
         → AreShown tree root paths (IsTap tree root) PortBefore taps
     taps_whole taps all s =
-        shown_same (λ x. IsTap tree root x × (x.to.port < port)) (IsTap tree root) PortBefore taps (λ x h. h.0) (λ x t. (t, within x t)) s
+        shown_same (λ x. IsTap tree root x × (x.to.port < port)) (IsTap tree root) PortBefore taps (λ x h. h.0)
+        (λ x t. (t, within x t)) s
       where
         within : (x : Ends) → IsTap tree root x → x.to.port < port
         within x t =

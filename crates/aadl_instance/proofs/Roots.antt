@@ -24,7 +24,8 @@ system_of name (implementation x) e = (x, refl, left (is_system x.category) _ e)
     left true b e = refl
     left false b e = e
 
-pub is_root_at : (tree : PackageTree ℕ) (name : List ℕ) (root : ℕ) → root_number tree name ≡ Some root → IsRoot tree root
+pub is_root_at : (tree : PackageTree ℕ) (name : List ℕ) (root : ℕ) → root_number tree name ≡ Some root
+    → IsRoot tree root
 is_root_at tree name root e =
     let f = first_at (is_root name) tree.declarations 0 root e in
     let is = f.is in
@@ -62,14 +63,16 @@ no_system false b e = refl
 
 module _ {X : Type 0} (test : X → Bool) (xs : List X) (i : ℕ) where
   here_or_next : (x : X) → i < length xs
-      → position_from test i (drop i xs) ≡ cond (test (get_or xs i x)) (Some i) (position_from test (i + 1) (drop (i + 1) xs))
+      → position_from test i (drop i xs)
+      ≡ cond (test (get_or xs i x)) (Some i) (position_from test (i + 1) (drop (i + 1) xs))
   here_or_next x lt = ap (position_from test i) (drop-cons xs i x lt)
       ∙ ap (λ n. cond (test (get_or xs i x)) (Some i) (position_from test (i + 1) (drop n xs))) (sym (add-one i))
 
   pub first_here : (x : X) → i < length xs → test (get_or xs i x) ≡ true → position_from test i (drop i xs) ≡ Some i
   first_here x lt e = here_or_next x lt ∙ ap (λ b. cond b (Some i) (position_from test (i + 1) (drop (i + 1) xs))) e
 
-  pub first_next : (x : X) → i < length xs → test (get_or xs i x) ≡ false → position_from test i (drop i xs) ≡ position_from test (i + 1) (drop (i + 1) xs)
+  pub first_next : (x : X) → i < length xs → test (get_or xs i x) ≡ false
+      → position_from test i (drop i xs) ≡ position_from test (i + 1) (drop (i + 1) xs)
   first_next x lt e = here_or_next x lt ∙ ap (λ b. cond b (Some i) (position_from test (i + 1) (drop (i + 1) xs))) e
 
   pub first_none : length xs ≤ i → position_from test i (drop i xs) ≡ None
@@ -78,7 +81,8 @@ module _ {X : Type 0} (test : X → Bool) (xs : List X) (i : ℕ) where
       drop_all : (xs : List X) (i : ℕ) → length xs ≤ i → drop i xs ≡ []
       drop_all xs i past = grind (arith, common_steps)
 
-module _ {X Y : Type 0} (f : X → Y) (test : Y → Bool) (xs : List X) (i : ℕ) (x : X) (lt : i < length xs) (is : x ≡ get_or xs i x) where
+module _ {X Y : Type 0} (f : X → Y) (test : Y → Bool) (xs : List X) (i : ℕ) (x : X) (lt : i < length xs)
+    (is : x ≡ get_or xs i x) where
   read : get_or (map f xs) i (f x) ≡ f x
   read = get_or-map f xs i x (f x) lt ∙ ap f (sym is)
 
@@ -88,8 +92,10 @@ module _ {X Y : Type 0} (f : X → Y) (test : Y → Bool) (xs : List X) (i : ℕ
   pub mapped_here : test (f x) ≡ true → position_from test i (drop i (map f xs)) ≡ Some i
   mapped_here e = first_here test (map f xs) i (f x) within (ap test read ∙ e)
 
-  pub mapped_next : test (f x) ≡ false → position_from test i (drop i (map f xs)) ≡ position_from test (i + 1) (drop (i + 1) (map f xs))
+  pub mapped_next : test (f x) ≡ false
+      → position_from test i (drop i (map f xs)) ≡ position_from test (i + 1) (drop (i + 1) (map f xs))
   mapped_next e = first_next test (map f xs) i (f x) within (ap test read ∙ e)
 
-pub mapped_none : {X Y : Type 0} (f : X → Y) (test : Y → Bool) (xs : List X) (i : ℕ) → length xs ≤ i → position_from test i (drop i (map f xs)) ≡ None
+pub mapped_none : {X Y : Type 0} (f : X → Y) (test : Y → Bool) (xs : List X) (i : ℕ) → length xs ≤ i
+    → position_from test i (drop i (map f xs)) ≡ None
 mapped_none f test xs i past = first_none test (map f xs) i (let size = length-map xs f in omega arith)

@@ -26,15 +26,18 @@ use Rattle.aadl_instance.proofs.PortByPort.{thread_listed}
 use Rattle.aadl_instance.proofs.Shown.{path_got, stands}
 
 -- ---- paths
-paths_same : (threads : List (Vec ℕ Global)) (paths : List (List ℕ)) → map (λ path. path.items) threads ≡ paths → map reverse paths ≡ paths_of threads
+paths_same : (threads : List (Vec ℕ Global)) (paths : List (List ℕ)) → map (λ path. path.items) threads ≡ paths
+    → map reverse paths ≡ paths_of threads
 paths_same threads paths e = ap (map reverse) (sym e) ∙ by threads
   where
     by : (l : List (Vec ℕ Global)) → map reverse (map (λ path. path.items) l) ≡ paths_of l
     by [] = refl
     by (x ∷ l) = ap (λ p. reverse x.items ∷ p) (by l)
 
-pub all_listed : (tree : PackageTree ℕ) (root : ℕ) (threads : List (Vec ℕ Global)) (paths : List (List ℕ)) → map (λ path. path.items) threads ≡ paths
-    → Lists (IsThreadAt tree root) PathBefore (map reverse paths) → Lists (IsThreadAt tree root) PathBefore (paths_of threads)
+pub all_listed : (tree : PackageTree ℕ) (root : ℕ) (threads : List (Vec ℕ Global)) (paths : List (List ℕ))
+    → map (λ path. path.items) threads ≡ paths
+    → Lists (IsThreadAt tree root) PathBefore (map reverse paths)
+    → Lists (IsThreadAt tree root) PathBefore (paths_of threads)
 all_listed tree root threads paths e l = subst (Lists (IsThreadAt tree root) PathBefore) (paths_same threads paths e) l
 
 pub threads_same : (tree : PackageTree ℕ) (root : ℕ) (threads : List (Vec ℕ Global))
@@ -71,11 +74,14 @@ module _ (tree : PackageTree ℕ) (checked : Checked) (is : IsChecked tree check
       no_thread = root_no_thread tree checked.root is.ordered.is_root;
       threads = threads;
       few = few (cases_lt COMPONENTS (length paths));
-      few_ports = λ more. is.silent 7 (TooMany (codes "ports")) (inr (inr (inr (codes "ports", inr (inr (inl (refl, refl, more))), refl))));
+      few_ports =
+          λ more. is.silent 7 (TooMany (codes "ports"))
+          (inr (inr (inr (codes "ports", inr (inr (inl (refl, refl, more))), refl))));
     }
 
     -- ---- the instance
-    pub instance_is : (name : List ℕ) (shown : List ThreadAt) (links feeds taps : List Chain) → root_number tree name ≡ Some checked.root
+    pub instance_is : (name : List ℕ) (shown : List ThreadAt) (links feeds taps : List Chain)
+        → root_number tree name ≡ Some checked.root
         → shown ≡ map (thread_at tree checked.root) paths
         → AreShown tree checked.root paths (IsLink tree checked.root) TargetBefore links
         → AreShown tree checked.root paths (IsFeed tree checked.root) TargetBefore feeds
@@ -103,7 +109,8 @@ module _ (tree : PackageTree ℕ) (checked : Checked) (is : IsChecked tree check
     )
 
 -- each path leads somewhere
-pub all_stand : (tree : PackageTree ℕ) (root : ℕ) (threads : List (Vec ℕ Global)) → Lists (IsThreadAt tree root) PathBefore (paths_of threads)
+pub all_stand : (tree : PackageTree ℕ) (root : ℕ) (threads : List (Vec ℕ Global))
+    → Lists (IsThreadAt tree root) PathBefore (paths_of threads)
     → All (λ path. IsSome (standing tree root (reverse path.items))) threads
 all_stand tree root threads l k d lt =
     let at = path_got threads k (get_or threads k d) (slice_get-get_or threads k d lt) in

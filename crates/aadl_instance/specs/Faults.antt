@@ -22,7 +22,8 @@ IsOver tree root line what =
     ⊎ ((line ≡ 7) × (what ≡ codes "ports") × ThreadWith tree root (λ x path. PORTS < length (ports_of tree x)))
     ⊎ ((line ≡ 8) × (what ≡ codes "variables") × ThreadWith tree root (λ x path. VARIABLES < variable_count x))
     ⊎ ((line ≡ 9) × (what ≡ codes "states") × ThreadWith tree root (λ x path. STATES < state_count x))
-    ⊎ ((line ≡ 10) × (what ≡ codes "path") × ThreadWith tree root (λ x path. PATH_BYTES < length (spelled_path tree root path)))
+    ⊎ ((line ≡ 10) × (what ≡ codes "path")
+    × ThreadWith tree root (λ x path. PATH_BYTES < length (spelled_path tree root path)))
 
 abbrev pub FoundIn : PackageTree ℕ → ℕ → ℕ → PackageFault → Type 0
 FoundIn tree root line fault =

@@ -62,7 +62,8 @@ abbrev pub chain_at : PackageTree ℕ → Parts → Ends → Chain
 chain_at tree parts = chain_in tree parts.root parts.threads
 
 -- the instance of a flattened design of the package
-pub record IsInstance (tree : PackageTree ℕ) (root : ℕ) (threads : List ThreadAt) (links feeds taps : List Chain) : Type 0 where
+pub record IsInstance (tree : PackageTree ℕ) (root : ℕ) (threads : List ThreadAt)
+    (links feeds taps : List Chain) : Type 0 where
   pub name : List ℕ
   pub parts : Parts
   pub flat : IsFlat tree name parts

@@ -8,7 +8,7 @@ ghost use Rattle.aadl_instance.specs.proof.Passed.{HasPort, IsBegin};
 
 use crate::ends::{ChainMap, ThreadNode, begin_end, node_end, root_end};
 use crate::parts::{Chain, ChainEnd, ConnAt};
-use aadl_chains::{ChainStart, ChainRoute, trace_back, trace_tap};
+use aadl_chains::{ChainRoute, ChainStart, trace_back, trace_tap};
 use aadl_uses::standing;
 use pals_base::{Items, NodeNo};
 use std::alloc::{AllocError, Global};

@@ -14,7 +14,7 @@ ghost use Rattle.aadl_instance.specs.proof.Silence.{IsOrdered, IsChecked, FindsF
 use crate::limits::first_limit;
 use crate::root::root_number;
 use aadl_chains::first_end_fault;
-use aadl_names::{PackageFault, Names};
+use aadl_names::{Names, PackageFault};
 use aadl_tree::PackageTree;
 use aadl_uses::{Uses, Wires, first_recursive};
 use indexmap::IndexSet;
@@ -85,7 +85,11 @@ pub fn check_package<'t>(
 }
 
 // Looks for what is wrong with names, and then further.
-fn check_names<'t>(alloc: Global, wires: Wires<'t>, root: usize) -> Result<Checked<'t>, PackageFault>
+fn check_names<'t>(
+    alloc: Global,
+    wires: Wires<'t>,
+    root: usize,
+) -> Result<Checked<'t>, PackageFault>
     requires { IsRoot (placed wires.uses.names.tree.now) root }
     ensures { MatchResult result
         (λ checked. (checked.root ≡ root) × (checked.wires.uses.names.tree.now ≡ wires.entry.uses.names.tree.now)
@@ -118,7 +122,11 @@ fn check_recursion<'t>(
 }
 
 // Looks for what is wrong with connections, and then further.
-fn check_wires<'t>(alloc: Global, wires: Wires<'t>, root: usize) -> Result<Checked<'t>, PackageFault>
+fn check_wires<'t>(
+    alloc: Global,
+    wires: Wires<'t>,
+    root: usize,
+) -> Result<Checked<'t>, PackageFault>
     requires root { IsRoot (placed wires.uses.names.tree.now) root }
     requires names { package_faults (placed wires.uses.names.tree.now) root ≡ [] }
     requires recursion { (fault : PackageFault) → ¬ IsRecursive (placed wires.uses.names.tree.now) fault }
@@ -142,7 +150,10 @@ fn check_wires<'t>(alloc: Global, wires: Wires<'t>, root: usize) -> Result<Check
 }
 
 // The first fault of connections or limits.
-fn connection_fault(alloc: Global, checked: &Checked<'_>) -> Result<Option<PackageFault>, AllocError>
+fn connection_fault(
+    alloc: Global,
+    checked: &Checked<'_>,
+) -> Result<Option<PackageFault>, AllocError>
     requires { IsOrdered (placed checked.now.wires.uses.names.tree.now) checked.now }
     ensures { IfOk result (FindsFault (placed checked.now.wires.uses.names.tree.now) checked.now) }
 {

@@ -14,7 +14,8 @@ none_parts true x y e = absurd cc
 none_parts false x y e = (refl, e)
 
 -- where a `**}` begins hangs on three bytes
-starts_take : (c : ℕ) (s : List ℕ) (i : ℕ) → starts_with nat_eq (c ∷ s) (codes "**}") ≡ false → starts_with nat_eq (c ∷ take i s) (codes "**}") ≡ false
+starts_take : (c : ℕ) (s : List ℕ) (i : ℕ) → starts_with nat_eq (c ∷ s) (codes "**}") ≡ false
+    → starts_with nat_eq (c ∷ take i s) (codes "**}") ≡ false
 starts_take c s zero e = and-false (42 == c)
 starts_take c [] (suc i) e = e
 starts_take c (d ∷ s) (suc zero) e = ap (λ b. (42 == c) && b) (and-false (42 == d)) ∙ and-false (42 == c)
@@ -32,7 +33,8 @@ none_any (c ∷ s) n m e =
     none_by (starts_with nat_eq (c ∷ s) (codes "**}")) m (close_from (m + 1) s) p.0 (none_any s (n + 1) (m + 1) p.1)
 
 none_step : (c : ℕ) (s : List ℕ) (n m : ℕ) → close_from n (c ∷ s) ≡ None → close_from m s ≡ None
-none_step c s n m e = none_any s (n + 1) m (none_parts (starts_with nat_eq (c ∷ s) (codes "**}")) n (close_from (n + 1) s) e).1
+none_step c s n m e =
+    none_any s (n + 1) m (none_parts (starts_with nat_eq (c ∷ s) (codes "**}")) n (close_from (n + 1) s) e).1
 
 pub none_drop : (s : List ℕ) (i n : ℕ) → close_from n s ≡ None → close_from n (drop i s) ≡ None
 none_drop s zero n e = e
@@ -44,14 +46,17 @@ none_take s zero n e = refl
 none_take [] (suc i) n e = e
 none_take (c ∷ s) (suc i) n e =
     let p = none_parts (starts_with nat_eq (c ∷ s) (codes "**}")) n (close_from (n + 1) s) e in
-    none_by (starts_with nat_eq (c ∷ take i s) (codes "**}")) n (close_from (n + 1) (take i s)) (starts_take c s i p.0) (none_take s i (n + 1) p.1)
+    none_by (starts_with nat_eq (c ∷ take i s) (codes "**}")) n (close_from (n + 1) (take i s)) (starts_take c s i p.0)
+    (none_take s i (n + 1) p.1)
 
 -- the first `**}` is behind n bytes
 pub data Closes : List ℕ → ℕ → Type 0 where
   here : (s : List ℕ) → Closes (42 ∷ 42 ∷ 125 ∷ s) 0
-  later : (c : ℕ) (s : List ℕ) (n : ℕ) → starts_with nat_eq (c ∷ s) (codes "**}") ≡ false → Closes s n → Closes (c ∷ s) (suc n)
+  later : (c : ℕ) (s : List ℕ) (n : ℕ) → starts_with nat_eq (c ∷ s) (codes "**}") ≡ false → Closes s n
+      → Closes (c ∷ s) (suc n)
 
-pub starts_exact : (x y z : ℕ) (s : List ℕ) → starts_with nat_eq s (x ∷ (y ∷ (z ∷ []))) ≡ true → (t : List ℕ) × (s ≡ x ∷ y ∷ z ∷ t)
+pub starts_exact : (x y z : ℕ) (s : List ℕ) → starts_with nat_eq s (x ∷ (y ∷ (z ∷ []))) ≡ true
+    → (t : List ℕ) × (s ≡ x ∷ y ∷ z ∷ t)
 starts_exact x y z [] e = absurd cc
 starts_exact x y z (c ∷ []) e = absurd (let f = second_so (x == c) false e in cc)
 starts_exact x y z (c ∷ (d ∷ [])) e = absurd (let f = second_so (y == d) false (second_so (x == c) _ e) in cc)
@@ -67,7 +72,9 @@ record Found (s : List ℕ) (j k : ℕ) : Type 0 where
   is : k ≡ j + size
   closes : Closes s size
 
-found_by : (c : ℕ) (s : List ℕ) (j k : ℕ) (b : Bool) → starts_with nat_eq (c ∷ s) (codes "**}") ≡ b → (close_from (j + 1) s ≡ Some k → Found s (j + 1) k) → cond b (Some j) (close_from (j + 1) s) ≡ Some k → Found (c ∷ s) j k
+found_by : (c : ℕ) (s : List ℕ) (j k : ℕ) (b : Bool) → starts_with nat_eq (c ∷ s) (codes "**}") ≡ b
+    → (close_from (j + 1) s ≡ Some k → Found s (j + 1) k) → cond b (Some j) (close_from (j + 1) s) ≡ Some k
+    → Found (c ∷ s) j k
 found_by c s j k true h go e =
     let exact = starts_exact 42 42 125 (c ∷ s) h in
     let same = same_Some j k e in
@@ -81,11 +88,14 @@ found [] j k e = absurd cc
 found (c ∷ s) j k e = found_by c s j k (starts_with nat_eq (c ∷ s) (codes "**}")) refl (λ f. found s (j + 1) k f) e
 
 pub closes_of : (s : List ℕ) (n : ℕ) → close_from 0 s ≡ Some n → Closes s n
-closes_of s n e = let f = found s 0 n e in let is = f.is in subst (λ (m : ℕ). Closes s m) (let g : f.size ≡ n = omega arith in g) f.closes
+closes_of s n e = let f = found s 0 n e in let is = f.is in
+    subst (λ (m : ℕ). Closes s m) (let g : f.size ≡ n = omega arith in g) f.closes
 
 closed_from : (s : List ℕ) (j n : ℕ) → Closes s n → close_from j s ≡ Some (j + n)
 closed_from _ j _ (here s) = ap Some (let e : j ≡ j + 0 = omega arith in e)
-closed_from _ j _ (later c s n h more) = ap (λ b. cond b (Some j) (close_from (j + 1) s)) h ∙ closed_from s (j + 1) n more ∙ ap Some (let e : j + 1 + n ≡ j + suc n = omega arith in e)
+closed_from _ j _ (later c s n h more) =
+    ap (λ b. cond b (Some j) (close_from (j + 1) s)) h ∙ closed_from s (j + 1) n more
+    ∙ ap Some (let e : j + 1 + n ≡ j + suc n = omega arith in e)
 
 pub close_at : (s : List ℕ) (n : ℕ) → Closes s n → close_from 0 s ≡ Some n
 close_at s n h = closed_from s 0 n h ∙ ap Some (let g : 0 + n ≡ n = omega arith in g)
@@ -110,31 +120,40 @@ closes_front _ _ (later c s n h more) = take_three n (c ∷ s) ∙ ap (λ l. c �
 closes_before : (s : List ℕ) (j n : ℕ) → Closes s n → close_from j (take n s) ≡ None
 closes_before _ j _ (here s) = refl
 closes_before _ j _ (later c s n h more) =
-    none_by (starts_with nat_eq (c ∷ take n s) (codes "**}")) j (close_from (j + 1) (take n s)) (starts_take c s n h) (closes_before s (j + 1) n more)
+    none_by (starts_with nat_eq (c ∷ take n s) (codes "**}")) j (close_from (j + 1) (take n s)) (starts_take c s n h)
+    (closes_before s (j + 1) n more)
 
 pub none_before : (s : List ℕ) (n : ℕ) → close_from 0 s ≡ Some n → close_from 0 (take n s) ≡ None
 none_before s n e = closes_before s 0 n (closes_of s n e)
 
 -- The first `**}` is where it is, whatever is behind it.
 
-starts_kept : (c : ℕ) (s rest : List ℕ) (n : ℕ) → Closes s n → starts_with nat_eq (c ∷ s) (codes "**}") ≡ false → starts_with nat_eq (c ∷ (s ++ rest)) (codes "**}") ≡ false
+starts_kept : (c : ℕ) (s rest : List ℕ) (n : ℕ) → Closes s n → starts_with nat_eq (c ∷ s) (codes "**}") ≡ false
+    → starts_with nat_eq (c ∷ (s ++ rest)) (codes "**}") ≡ false
 starts_kept c _ rest _ (here s) e = e
 starts_kept c _ rest _ (later d _ _ h (here s)) e = e
 starts_kept c _ rest _ (later d _ _ h (later f s n g more)) e = e
 
 closes_kept : (s rest : List ℕ) (n : ℕ) → Closes s n → Closes (s ++ rest) n
 closes_kept _ rest _ (here s) = here (s ++ rest)
-closes_kept _ rest _ (later c s n h more) = later c (s ++ rest) n (starts_kept c s rest n more h) (closes_kept s rest n more)
+closes_kept _ rest _ (later c s n h more) =
+    later c (s ++ rest) n (starts_kept c s rest n more h) (closes_kept s rest n more)
 
-starts_cut : (c : ℕ) (s : List ℕ) (n : ℕ) → Closes s n → starts_with nat_eq (c ∷ s) (codes "**}") ≡ false → starts_with nat_eq (c ∷ (take n s ++ codes "**}")) (codes "**}") ≡ false
+starts_cut : (c : ℕ) (s : List ℕ) (n : ℕ) → Closes s n → starts_with nat_eq (c ∷ s) (codes "**}") ≡ false
+    → starts_with nat_eq (c ∷ (take n s ++ codes "**}")) (codes "**}") ≡ false
 starts_cut c _ _ (here s) e = e
 starts_cut c _ _ (later d _ _ h (here s)) e = e
 starts_cut c _ _ (later d _ _ h (later f s n g more)) e = e
 
 pub closes_cut : (s : List ℕ) (n : ℕ) → Closes s n → Closes (take n s ++ codes "**}") n
 closes_cut _ _ (here s) = here []
-closes_cut _ _ (later c s n h more) = later c (take n s ++ codes "**}") n (starts_cut c s n more h) (closes_cut s n more)
+closes_cut _ _ (later c s n h more) =
+    later c (take n s ++ codes "**}") n (starts_cut c s n more h) (closes_cut s n more)
 
 -- an annex that is not read ends where it ends, whatever is behind it
-pub unread_ends : (b rest : List ℕ) (h : IsUnread b) → close_from 0 ((h.inner ++ codes "**}") ++ rest) ≡ Some (length h.inner)
-unread_ends b rest h = close_at ((h.inner ++ codes "**}") ++ rest) (length h.inner) (closes_kept (h.inner ++ codes "**}") rest (length h.inner) (closes_of (h.inner ++ codes "**}") (length h.inner) h.ends))
+pub unread_ends : (b rest : List ℕ) (h : IsUnread b)
+    → close_from 0 ((h.inner ++ codes "**}") ++ rest) ≡ Some (length h.inner)
+unread_ends b rest h =
+    close_at ((h.inner ++ codes "**}") ++ rest) (length h.inner)
+    (closes_kept (h.inner ++ codes "**}") rest (length h.inner)
+    (closes_of (h.inner ++ codes "**}") (length h.inner) h.ends))

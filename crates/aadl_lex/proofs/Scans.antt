@@ -6,11 +6,14 @@ use Rattle.std.specs.Char.{is_ascii_digit}
 use Rattle.aadl_lex.specs.Rules.{whole_len, close_from, decimal_from, decimal, most}
 
 pub whole_step : (s : List ℕ) (i : ℕ) → i < length s →
-    whole_len (drop i s) ≡ cond (is_ascii_digit (get_or s i 0) || (get_or s i 0 == 95 && is_ascii_digit (get_or (drop (i + 1) s) 0 0))) (1 + whole_len (drop (i + 1) s)) 0
+    whole_len (drop i s) ≡ cond
+    (is_ascii_digit (get_or s i 0) || (get_or s i 0 == 95 && is_ascii_digit (get_or (drop (i + 1) s) 0 0)))
+    (1 + whole_len (drop (i + 1) s)) 0
 whole_step s i h = rw (drop-cons s i 0, add-one) refl
 
 pub close_step : (s : List ℕ) (i : ℕ) → i < length s →
-    close_from i (drop i s) ≡ cond (starts_with nat_eq (drop i s) (codes "**}")) (Some i) (close_from (i + 1) (drop (i + 1) s))
+    close_from i (drop i s) ≡ cond (starts_with nat_eq (drop i s) (codes "**}")) (Some i)
+    (close_from (i + 1) (drop (i + 1) s))
 close_step s i h = rw (drop-cons s i 0, add-one) refl
 
 -- what a digit, or a byte that is none, makes of the number before it
@@ -46,7 +49,8 @@ over n true e h = absurd (let g = leb-true n most e in omega arith)
 over n false e h = refl
 
 -- a digit that makes the number too great, however the bytes go on
-pub decimal_over : (s : List ℕ) (i n d : ℕ) → i < length s → decimal_from n (drop i s) ≡ decimal s → is_ascii_digit (get_or s i 0) ≡ true
+pub decimal_over : (s : List ℕ) (i n d : ℕ) → i < length s → decimal_from n (drop i s) ≡ decimal s
+    → is_ascii_digit (get_or s i 0) ≡ true
     → d ≡ get_or s i 0 - 48 → most < 10 * n + d → None ≡ cond (nat_le (decimal s) most) (Some (pos (decimal s))) None
 decimal_over s i n d h e t g o =
     let step = decimal_step s i n h in

@@ -22,8 +22,11 @@ use Rattle.aadl_lex.proofs.Closes.{none_drop, none_before, closes_of, closes_byt
 use Rattle.aadl_lex.proofs.Shapes.{Shape, first_shape, taken_spelled}
 
 -- the shape of what stands at a place
-shape_at : (r : Reading) (text : List ℕ) (at : ℕ) (x : First) → at < length text → first r at (drop at text) ≡ x → Shape r (drop at text) x
-shape_at r text at x within e = subst (λ (y : First). Shape r (drop at text) y) e (first_shape r at (drop at text) (let l = length-drop at text in omega arith))
+shape_at : (r : Reading) (text : List ℕ) (at : ℕ) (x : First) → at < length text → first r at (drop at text) ≡ x
+    → Shape r (drop at text) x
+shape_at r text at x within e =
+    subst (λ (y : First). Shape r (drop at text) y) e
+    (first_shape r at (drop at text) (let l = length-drop at text in omega arith))
 
 named : (b : Bool) → can_open (if b then AfterName else Outside) ≡ true
 named true = refl
@@ -47,12 +50,15 @@ record IsFront (text full : List ℕ) : Type 0 where
   is : text ≡ take (length text) full
   within : length text ≤ length full
 
-front_bytes : (text full : List ℕ) (kind : TokenKind) (at n : ℕ) → IsFront text full → at + n ≤ length text → bytes_of full (token kind at n) ≡ take n (drop at text)
+front_bytes : (text full : List ℕ) (kind : TokenKind) (at n : ℕ) → IsFront text full → at + n ≤ length text
+    → bytes_of full (token kind at n) ≡ take n (drop at text)
 front_bytes text full kind at n f within =
     let left = length text - at in
     let whole : at + left ≡ length text = omega arith in
-    let here : drop at text ≡ take left (drop at full) = ap (drop at) (f.is ∙ ap (λ m. take m full) (sym whole)) ∙ drop-take at left full in
-    ap (λ m. take m (drop at full)) (let g : at + n - at ≡ n = omega arith in g) ∙ sym (ap (take n) here ∙ take-take n left (drop at full) (omega arith))
+    let here : drop at text ≡ take left (drop at full) = ap (drop at) (f.is ∙ ap (λ m. take m full) (sym whole))
+    ∙ drop-take at left full in
+    ap (λ m. take m (drop at full)) (let g : at + n - at ≡ n = omega arith in g)
+    ∙ sym (ap (take n) here ∙ take-take n left (drop at full) (omega arith))
 
 front_cut : (text full : List ℕ) (m : ℕ) → IsFront text full → m ≤ length text → IsFront (take m text) full
 front_cut text full m f within =
@@ -67,16 +73,21 @@ front_cut text full m f within =
 open_bytes : (s : List ℕ) → starts_with nat_eq s (codes "{**") ≡ true → take 3 s ≡ codes "{**"
 open_bytes s e = let exact = starts_exact 123 42 42 s e in ap (take 3) exact.1
 
-close_bytes : (at n : ℕ) (text : List ℕ) → close_from 0 (drop at text) ≡ Some n → take 3 (drop (at + n) text) ≡ codes "**}"
-close_bytes at n text e = ap (take 3) (drop_add at n text) ∙ closes_bytes (drop at text) n (closes_of (drop at text) n e)
+close_bytes : (at n : ℕ) (text : List ℕ) → close_from 0 (drop at text) ≡ Some n
+    → take 3 (drop (at + n) text) ≡ codes "**}"
+close_bytes at n text e =
+    ap (take 3) (drop_add at n text) ∙ closes_bytes (drop at text) n (closes_of (drop at text) n e)
 
-spelled_lexes : (full : List ℕ) (r : Reading) (text : List ℕ) (at : ℕ) (ts : List Token) → IsFront text full → at ≤ length text → (r ≡ Inside → close_from 0 (drop at text) ≡ None)
-    → Lexes r text at ts → (more : List Token) → ((s : Reading) → can_open s ≡ can_open r → AreSpelled full s more) → AreSpelled full r (ts ++ more)
+spelled_lexes : (full : List ℕ) (r : Reading) (text : List ℕ) (at : ℕ) (ts : List Token) → IsFront text full
+    → at ≤ length text → (r ≡ Inside → close_from 0 (drop at text) ≡ None)
+    → Lexes r text at ts → (more : List Token) → ((s : Reading) → can_open s ≡ can_open r → AreSpelled full s more)
+    → AreSpelled full r (ts ++ more)
 spelled_lexes full _ _ _ _ front le clear (ended r text at g) more rest = rest r refl
 spelled_lexes full _ _ _ _ front le clear (skips r text at n ts g e l) more rest =
     let w = stands_within r text at (Skipped n) g e in
     let size = length-drop at text in
-    spelled_lexes full r text (at + n) ts front (omega (arith, w.1)) (λ i. ap (close_from 0) (drop_add at n text) ∙ none_drop (drop at text) n 0 (clear i)) l more rest
+    spelled_lexes full r text (at + n) ts front (omega (arith, w.1))
+    (λ i. ap (close_from 0) (drop_add at n text) ∙ none_drop (drop at text) n 0 (clear i)) l more rest
 spelled_lexes full _ _ _ _ front le clear (takes r text at kind n ts g e l) more rest =
     let w = stands_within r text at (Taken kind n) g e in
     let size = length-drop at text in
@@ -85,10 +96,12 @@ spelled_lexes full _ _ _ _ front le clear (takes r text at kind n ts g e l) more
     let s = after r kind b in
     let same : can_open s ≡ can_open r = after_opens r kind b in
     let clear_on : s ≡ Inside → close_from 0 (drop (at + n) text) ≡ None =
-    λ (i : s ≡ Inside). ap (close_from 0) (drop_add at n text) ∙ none_drop (drop at text) n 0 (clear (inside_is r (sym same ∙ ap can_open i))) in
+    λ (i : s ≡ Inside). ap (close_from 0) (drop_add at n text)
+    ∙ none_drop (drop at text) n 0 (clear (inside_is r (sym same ∙ ap can_open i))) in
     let p = taken_spelled r (drop at text) kind n (shape_at r text at (Taken kind n) g e) clear in
     let on = spelled_lexes full s text (at + n) ts front within clear_on l more (λ q i. rest q (i ∙ same)) in
-    subst (λ (x : List ℕ). IsSpelled r kind x × AreSpelled full (behind r kind x) (ts ++ more)) (sym (front_bytes text full kind at n front within))
+    subst (λ (x : List ℕ). IsSpelled r kind x × AreSpelled full (behind r kind x) (ts ++ more))
+    (sym (front_bytes text full kind at n front within))
     (p.0, subst (λ (q : Reading). AreSpelled full q (ts ++ more)) (sym (p.1 b)) on)
 spelled_lexes full _ _ _ _ front le clear (reads r text at n body ts g e b l) more rest =
     let shape = shape_at r text at (Body n) g e in
@@ -98,13 +111,16 @@ spelled_lexes full _ _ _ _ front le clear (reads r text at n body ts g e b l) mo
     let within : stop + 3 ≤ length text = omega arith in
     let cut = length-take-le stop text (omega arith) in
     let found : close_from 0 (drop (at + 3) text) ≡ Some n = ap (close_from 0) (drop_add at 3 text) ∙ shape.2 in
-    let none : close_from 0 (drop (at + 3) (take stop text)) ≡ None = ap (close_from 0) (drop-take (at + 3) n text) ∙ none_before (drop (at + 3) text) n found in
+    let none : close_from 0 (drop (at + 3) (take stop text)) ≡ None = ap (close_from 0) (drop-take (at + 3) n text)
+    ∙ none_before (drop (at + 3) text) n found in
     let close = token AnnexClose stop 3 in
     let tail : AreSpelled full Outside (ts ++ more) =
-    spelled_lexes full Outside text (stop + 3) ts front within (λ i. absurd (let f = ap can_open i in cc)) l more (λ q i. rest q (i ∙ sym (ap can_open shape.0))) in
+    spelled_lexes full Outside text (stop + 3) ts front within (λ i. absurd (let f = ap can_open i in cc)) l more
+    (λ q i. rest q (i ∙ sym (ap can_open shape.0))) in
     let closed : take 3 (drop stop text) ≡ codes "**}" = close_bytes (at + 3) n text found in
     let whole : AreSpelled full Inside (body ++ close ∷ (ts ++ more)) =
-    spelled_lexes full Inside (take stop text) (at + 3) body (front_cut text full stop front (omega arith)) (omega arith) (λ _. none) b (close ∷ (ts ++ more))
+    spelled_lexes full Inside (take stop text) (at + 3) body (front_cut text full stop front (omega arith))
+    (omega arith) (λ _. none) b (close ∷ (ts ++ more))
     (λ q i. ((inside_is q i, front_bytes text full AnnexClose stop 3 front within ∙ closed), tail)) in (
       (shape.0, front_bytes text full AnnexOpen at 3 front (omega arith) ∙ open_bytes (drop at text) shape.1),
       subst (AreSpelled full Inside) (sym (append_assoc body (close ∷ ts) more)) whole,
@@ -112,10 +128,12 @@ spelled_lexes full _ _ _ _ front le clear (reads r text at n body ts g e b l) mo
 
 pub spelled_tokens : (text : List ℕ) (ts : List Token) → AreTokensOf text ts → AreSpelled text Outside ts
 spelled_tokens text ts h =
-    let front : IsFront text text = record { is = sym (take_all (length text) text (omega arith)); within = omega arith } in
+    let front : IsFront text text =
+    record { is = sym (take_all (length text) text (omega arith)); within = omega arith } in
     let never : Outside ≡ Inside → ⊥ = λ i. let f = ap can_open i in cc in
     subst (AreSpelled text Outside) (append-nil ts)
-    (spelled_lexes text Outside text 0 ts front (omega arith) (λ i. absurd (never i)) h.lexed [] (λ q i e. let f = ap can_open e in cc))
+    (spelled_lexes text Outside text 0 ts front (omega arith) (λ i. absurd (never i)) h.lexed []
+    (λ q i e. let f = ap can_open e in cc))
 
 -- words among them
 
@@ -132,7 +150,8 @@ word_of r Unread b h e = absurd cc
 words_each : (text : List ℕ) (r : Reading) (ts : List Token) → AreSpelled text r ts → All (IsWordAt text) ts
 words_each text r [] h k d less = absurd (omega arith)
 words_each text r (t ∷ ts) h zero d less = word_of r t.kind (bytes_of text t) h.0
-words_each text r (t ∷ ts) h (suc k) d less = words_each text (behind r t.kind (bytes_of text t)) ts h.1 k d (omega arith)
+words_each text r (t ∷ ts) h (suc k) d less =
+    words_each text (behind r t.kind (bytes_of text t)) ts h.1 k d (omega arith)
 
 pub words_of : (text : List ℕ) (ts : List Token) → AreTokensOf text ts → All (IsWordAt text) ts
 words_of text ts h = words_each text Outside ts (spelled_tokens text ts h)
@@ -140,5 +159,8 @@ words_of text ts h = words_each text Outside ts (spelled_tokens text ts h)
 pub words_among : (text : List ℕ) (ts : List Token) → AreAmongTokensOf text ts → All (IsWordAt text) ts
 words_among text ts h =
     let all = words_of text (h.before ++ (ts ++ h.behind)) h.lexed in
-    let back = subst (All (IsWordAt text)) (drop-append_seam h.before (ts ++ h.behind)) (All-drop (IsWordAt text) (length h.before) (h.before ++ (ts ++ h.behind)) all) in
-    subst (All (IsWordAt text)) (take-append_seam ts h.behind) (All-take (IsWordAt text) (length ts) (ts ++ h.behind) back)
+    let back =
+    subst (All (IsWordAt text)) (drop-append_seam h.before (ts ++ h.behind))
+    (All-drop (IsWordAt text) (length h.before) (h.before ++ (ts ++ h.behind)) all) in
+    subst (All (IsWordAt text)) (take-append_seam ts h.behind)
+    (All-take (IsWordAt text) (length ts) (ts ++ h.behind) back)

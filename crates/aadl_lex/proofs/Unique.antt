@@ -27,7 +27,8 @@ same_body a m n e f = cc
 same_refused : (a : First) (f g : LexFault) → a ≡ Refused f → a ≡ Refused g → f ≡ g
 same_refused a f g e h = cc
 
-pub lexes_one : (r : Reading) (text : List ℕ) (at : ℕ) (ts us : List Token) → Lexes r text at ts → Lexes r text at us → ts ≡ us
+pub lexes_one : (r : Reading) (text : List ℕ) (at : ℕ) (ts us : List Token) → Lexes r text at ts
+    → Lexes r text at us → ts ≡ us
 lexes_one _ _ _ _ _ (ended r text at g) (ended _ _ _ _) = refl
 lexes_one _ _ _ _ _ (ended r text at g) (skips _ _ _ m us h f k) = absurd (omega arith)
 lexes_one _ _ _ _ _ (ended r text at g) (takes _ _ _ kind m us h f k) = absurd (omega arith)
@@ -53,13 +54,18 @@ lexes_one _ _ _ _ _ (reads r text at n body ts g e b l) (skips _ _ _ m us h f k)
 lexes_one _ _ _ _ _ (reads r text at n body ts g e b l) (takes _ _ _ kind m us h f k) = absurd cc
 lexes_one _ _ _ _ _ (reads r text at n body ts g e b l) (reads _ _ _ m other us h f o k) =
     let len = same_body (first r at (drop at text)) n m e f in
-    let inner = lexes_one Inside (take (at + 3 + n) text) (at + 3) body other b (subst (λ (x : ℕ). Lexes Inside (take (at + 3 + x) text) (at + 3) other) (sym len) o) in
-    let rest = lexes_one Outside text (at + 3 + n + 3) ts us l (subst (λ (x : ℕ). Lexes Outside text (at + 3 + x + 3) us) (sym len) k) in
+    let inner =
+    lexes_one Inside (take (at + 3 + n) text) (at + 3) body other b
+    (subst (λ (x : ℕ). Lexes Inside (take (at + 3 + x) text) (at + 3) other) (sym len) o) in
+    let rest =
+    lexes_one Outside text (at + 3 + n + 3) ts us l
+    (subst (λ (x : ℕ). Lexes Outside text (at + 3 + x + 3) us) (sym len) k) in
     ap (λ (x : List Token). token AnnexOpen at 3 ∷ x ++ token AnnexClose (at + 3 + n) 3 ∷ ts) inner
     ∙ ap (λ (x : List Token). token AnnexOpen at 3 ∷ other ++ token AnnexClose (at + 3 + n) 3 ∷ x) rest
     ∙ ap (λ (x : ℕ). token AnnexOpen at 3 ∷ other ++ token AnnexClose (at + 3 + x) 3 ∷ us) len
 
-pub lexes_or_faults : (r : Reading) (text : List ℕ) (at : ℕ) (ts : List Token) (f : LexFault) → Lexes r text at ts → Faults r text at f → ⊥
+pub lexes_or_faults : (r : Reading) (text : List ℕ) (at : ℕ) (ts : List Token) (f : LexFault) → Lexes r text at ts
+    → Faults r text at f → ⊥
 lexes_or_faults _ _ _ _ _ (ended r text at g) (refused _ _ _ y i f) = omega arith
 lexes_or_faults _ _ _ _ _ (ended r text at g) (past_skipped _ _ _ m y i f k) = omega arith
 lexes_or_faults _ _ _ _ _ (ended r text at g) (past_token _ _ _ kind m y i f k) = omega arith
@@ -86,12 +92,15 @@ lexes_or_faults _ _ _ _ _ (reads r text at n body ts g e b l) (past_skipped _ _ 
 lexes_or_faults _ _ _ _ _ (reads r text at n body ts g e b l) (past_token _ _ _ kind m y i f k) = cc
 lexes_or_faults _ _ _ _ _ (reads r text at n body ts g e b l) (in_body _ _ _ m y i f k) =
     let len = same_body (first r at (drop at text)) n m e f in
-    lexes_or_faults Inside (take (at + 3 + n) text) (at + 3) body y b (subst (λ (z : ℕ). Faults Inside (take (at + 3 + z) text) (at + 3) y) (sym len) k)
+    lexes_or_faults Inside (take (at + 3 + n) text) (at + 3) body y b
+    (subst (λ (z : ℕ). Faults Inside (take (at + 3 + z) text) (at + 3) y) (sym len) k)
 lexes_or_faults _ _ _ _ _ (reads r text at n body ts g e b l) (past_body _ _ _ m other y i f o k) =
     let len = same_body (first r at (drop at text)) n m e f in
-    lexes_or_faults Outside text (at + 3 + n + 3) ts y l (subst (λ (z : ℕ). Faults Outside text (at + 3 + z + 3) y) (sym len) k)
+    lexes_or_faults Outside text (at + 3 + n + 3) ts y l
+    (subst (λ (z : ℕ). Faults Outside text (at + 3 + z + 3) y) (sym len) k)
 
-pub faults_one : (r : Reading) (text : List ℕ) (at : ℕ) (f g : LexFault) → Faults r text at f → Faults r text at g → f ≡ g
+pub faults_one : (r : Reading) (text : List ℕ) (at : ℕ) (f g : LexFault) → Faults r text at f
+    → Faults r text at g → f ≡ g
 faults_one _ _ _ _ _ (refused r text at x h e) (refused _ _ _ y i f) = same_refused (first r at (drop at text)) x y e f
 faults_one _ _ _ _ _ (refused r text at x h e) (past_skipped _ _ _ m y i f k) = absurd cc
 faults_one _ _ _ _ _ (refused r text at x h e) (past_token _ _ _ kind m y i f k) = absurd cc
@@ -118,19 +127,23 @@ faults_one _ _ _ _ _ (in_body r text at n x h e l) (past_skipped _ _ _ m y i f k
 faults_one _ _ _ _ _ (in_body r text at n x h e l) (past_token _ _ _ kind m y i f k) = absurd cc
 faults_one _ _ _ _ _ (in_body r text at n x h e l) (in_body _ _ _ m y i f k) =
     let len = same_body (first r at (drop at text)) n m e f in
-    faults_one Inside (take (at + 3 + n) text) (at + 3) x y l (subst (λ (z : ℕ). Faults Inside (take (at + 3 + z) text) (at + 3) y) (sym len) k)
+    faults_one Inside (take (at + 3 + n) text) (at + 3) x y l
+    (subst (λ (z : ℕ). Faults Inside (take (at + 3 + z) text) (at + 3) y) (sym len) k)
 faults_one _ _ _ _ _ (in_body r text at n x h e l) (past_body _ _ _ m body y i f o k) =
     let len = same_body (first r at (drop at text)) n m e f in
-    absurd (lexes_or_faults Inside (take (at + 3 + n) text) (at + 3) body x (subst (λ (z : ℕ). Lexes Inside (take (at + 3 + z) text) (at + 3) body) (sym len) o) l)
+    absurd (lexes_or_faults Inside (take (at + 3 + n) text) (at + 3) body x
+    (subst (λ (z : ℕ). Lexes Inside (take (at + 3 + z) text) (at + 3) body) (sym len) o) l)
 faults_one _ _ _ _ _ (past_body r text at n body x h e b l) (refused _ _ _ y i f) = absurd cc
 faults_one _ _ _ _ _ (past_body r text at n body x h e b l) (past_skipped _ _ _ m y i f k) = absurd cc
 faults_one _ _ _ _ _ (past_body r text at n body x h e b l) (past_token _ _ _ kind m y i f k) = absurd cc
 faults_one _ _ _ _ _ (past_body r text at n body x h e b l) (in_body _ _ _ m y i f k) =
     let len = same_body (first r at (drop at text)) n m e f in
-    absurd (lexes_or_faults Inside (take (at + 3 + n) text) (at + 3) body y b (subst (λ (z : ℕ). Faults Inside (take (at + 3 + z) text) (at + 3) y) (sym len) k))
+    absurd (lexes_or_faults Inside (take (at + 3 + n) text) (at + 3) body y b
+    (subst (λ (z : ℕ). Faults Inside (take (at + 3 + z) text) (at + 3) y) (sym len) k))
 faults_one _ _ _ _ _ (past_body r text at n body x h e b l) (past_body _ _ _ m other y i f o k) =
     let len = same_body (first r at (drop at text)) n m e f in
-    faults_one Outside text (at + 3 + n + 3) x y l (subst (λ (z : ℕ). Faults Outside text (at + 3 + z + 3) y) (sym len) k)
+    faults_one Outside text (at + 3 + n + 3) x y l
+    (subst (λ (z : ℕ). Faults Outside text (at + 3 + z + 3) y) (sym len) k)
 
 pub one_list : (text : List ℕ) (ts us : List Token) → AreTokensOf text ts → AreTokensOf text us → ts ≡ us
 one_list text ts us l k = lexes_one Outside text 0 ts us l.lexed k.lexed

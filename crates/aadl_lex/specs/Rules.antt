@@ -57,7 +57,9 @@ abbrev pub most : ℕ
 most = 9223372036854775807
 
 abbrev pub whole_first : ℕ → List ℕ → First
-whole_first at digits = if nat_le (decimal digits) most then Taken (Whole (pos (decimal digits))) (length digits) else Refused (BigNumber at)
+whole_first at digits =
+    if nat_le (decimal digits) most then Taken (Whole (pos (decimal digits))) (length digits) else Refused
+    (BigNumber at)
 
 -- A real is digits, a point and digits; it goes before a whole number.
 abbrev pub real_len : List ℕ → Option ℕ
@@ -107,7 +109,9 @@ abbrev pub symbols_of_three : List (List ℕ)
 symbols_of_three = codes "+=>" ∷ codes "]->" ∷ []
 
 abbrev pub symbols_of_two : List (List ℕ)
-symbols_of_two = codes ".." ∷ codes "::" ∷ codes "=>" ∷ codes "->" ∷ codes "-[" ∷ codes "!=" ∷ codes "<=" ∷ codes ">=" ∷ codes ":=" ∷ []
+symbols_of_two =
+    codes ".." ∷ codes "::" ∷ codes "=>" ∷ codes "->" ∷ codes "-[" ∷ codes "!=" ∷ codes "<=" ∷ codes ">="
+    ∷ codes ":=" ∷ []
 
 abbrev pub symbols_of_one : List ℕ
 symbols_of_one = codes ";:,.{}()[]+-*/=<>!'"
@@ -136,7 +140,8 @@ first reading at s =
 -- how the text is read behind a token of this class and these bytes
 abbrev pub after : Reading → TokenKind → List ℕ → Reading
 after Inside kind token = Inside
-after reading Word token = if str_eq_ignore_ascii_case token (codes "behavior_specification") then AfterName else Outside
+after reading Word token =
+    if str_eq_ignore_ascii_case token (codes "behavior_specification") then AfterName else Outside
 after reading kind token = Outside
 
 -- it takes a byte at least, and no more than there are

@@ -24,13 +24,16 @@ bytes_of text t = take (t.end - t.start) (drop t.start text)
 pub data Lexes : Reading → List ℕ → ℕ → List Token → Type 0 where
   ended : (r : Reading) (text : List ℕ) (at : ℕ) → length text ≤ at → Lexes r text at []
   -- blanks and comments are passed over
-  skips : (r : Reading) (text : List ℕ) (at n : ℕ) (ts : List Token) → at < length text → first r at (drop at text) ≡ Skipped n
+  skips : (r : Reading) (text : List ℕ) (at n : ℕ) (ts : List Token) → at < length text
+      → first r at (drop at text) ≡ Skipped n
       → Lexes r text (at + n) ts → Lexes r text at ts
   -- a token stands there, and the others behind it
-  takes : (r : Reading) (text : List ℕ) (at : ℕ) (kind : TokenKind) (n : ℕ) (ts : List Token) → at < length text → first r at (drop at text) ≡ Taken kind n
+  takes : (r : Reading) (text : List ℕ) (at : ℕ) (kind : TokenKind) (n : ℕ) (ts : List Token) → at < length text
+      → first r at (drop at text) ≡ Taken kind n
       → Lexes (after r kind (take n (drop at text))) text (at + n) ts → Lexes r text at (token kind at n ∷ ts)
   -- `{**` with the n bytes of a body stands there: the body's tokens are those of the text that ends with it
-  reads : (r : Reading) (text : List ℕ) (at n : ℕ) (body ts : List Token) → at < length text → first r at (drop at text) ≡ Body n
+  reads : (r : Reading) (text : List ℕ) (at n : ℕ) (body ts : List Token) → at < length text
+      → first r at (drop at text) ≡ Body n
       → Lexes Inside (take (at + 3 + n) text) (at + 3) body → Lexes Outside text (at + 3 + n + 3) ts
       → Lexes r text at (token AnnexOpen at 3 ∷ body ++ token AnnexClose (at + 3 + n) 3 ∷ ts)
 
@@ -42,15 +45,21 @@ pub record Adds (r : Reading) (text : List ℕ) (at : ℕ) (before after : List 
 
 -- From the byte `at` on, this is the first fault of the text.
 pub data Faults : Reading → List ℕ → ℕ → LexFault → Type 0 where
-  refused : (r : Reading) (text : List ℕ) (at : ℕ) (fault : LexFault) → at < length text → first r at (drop at text) ≡ Refused fault → Faults r text at fault
-  past_skipped : (r : Reading) (text : List ℕ) (at n : ℕ) (fault : LexFault) → at < length text → first r at (drop at text) ≡ Skipped n
+  refused : (r : Reading) (text : List ℕ) (at : ℕ) (fault : LexFault) → at < length text
+      → first r at (drop at text) ≡ Refused fault → Faults r text at fault
+  past_skipped : (r : Reading) (text : List ℕ) (at n : ℕ) (fault : LexFault) → at < length text
+      → first r at (drop at text) ≡ Skipped n
       → Faults r text (at + n) fault → Faults r text at fault
-  past_token : (r : Reading) (text : List ℕ) (at : ℕ) (kind : TokenKind) (n : ℕ) (fault : LexFault) → at < length text → first r at (drop at text) ≡ Taken kind n
+  past_token : (r : Reading) (text : List ℕ) (at : ℕ) (kind : TokenKind) (n : ℕ) (fault : LexFault) → at < length text
+      → first r at (drop at text) ≡ Taken kind n
       → Faults (after r kind (take n (drop at text))) text (at + n) fault → Faults r text at fault
-  in_body : (r : Reading) (text : List ℕ) (at n : ℕ) (fault : LexFault) → at < length text → first r at (drop at text) ≡ Body n
+  in_body : (r : Reading) (text : List ℕ) (at n : ℕ) (fault : LexFault) → at < length text
+      → first r at (drop at text) ≡ Body n
       → Faults Inside (take (at + 3 + n) text) (at + 3) fault → Faults r text at fault
-  past_body : (r : Reading) (text : List ℕ) (at n : ℕ) (body : List Token) (fault : LexFault) → at < length text → first r at (drop at text) ≡ Body n
-      → Lexes Inside (take (at + 3 + n) text) (at + 3) body → Faults Outside text (at + 3 + n + 3) fault → Faults r text at fault
+  past_body : (r : Reading) (text : List ℕ) (at n : ℕ) (body : List Token) (fault : LexFault) → at < length text
+      → first r at (drop at text) ≡ Body n
+      → Lexes Inside (take (at + 3 + n) text) (at + 3) body → Faults Outside text (at + 3 + n + 3) fault
+      → Faults r text at fault
 
 -- These are the tokens of the text.
 pub record AreTokensOf (text : List ℕ) (tokens : List Token) : Type 0 where

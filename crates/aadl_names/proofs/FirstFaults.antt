@@ -19,22 +19,27 @@ use Rattle.aadl_names.proofs.DeclaredTwiceBeside.{beside_covers}
 behaviour_covers : (tree : PackageTree ℕ) (x : Implementation ℕ) (annex : AnnexTree ℕ)
     → Covers (beside_in_behaviour tree x annex) (twice_in_behaviour tree x annex)
 behaviour_covers tree x annex =
-    covers_append (beside (port_entries (ports_of tree x)) (variable_entries annex)) (twice (port_entries (ports_of tree x) ++ variable_entries annex))
-    (twice (state_entries annex)) (twice (state_entries annex)) (beside_covers (port_entries (ports_of tree x)) (variable_entries annex))
+    covers_append (beside (port_entries (ports_of tree x)) (variable_entries annex))
+    (twice (port_entries (ports_of tree x) ++ variable_entries annex))
+    (twice (state_entries annex)) (twice (state_entries annex))
+    (beside_covers (port_entries (ports_of tree x)) (variable_entries annex))
     (covers_itself (twice (state_entries annex)))
 
-first_covers : (tree : PackageTree ℕ) (x : Implementation ℕ) (bs : List (ℕ × AnnexTree ℕ)) → Covers (beside_in_first tree x bs) (twice_in_first tree x bs)
+first_covers : (tree : PackageTree ℕ) (x : Implementation ℕ) (bs : List (ℕ × AnnexTree ℕ))
+    → Covers (beside_in_first tree x bs) (twice_in_first tree x bs)
 first_covers tree x [] = covers_itself []
 first_covers tree x (b ∷ bs) = by (is_thread x.category)
   where
-    by : (c : Bool) → Covers (if c then beside_in_behaviour tree x b.1 else []) (if c then twice_in_behaviour tree x b.1 else [])
+    by : (c : Bool) → Covers (if c then beside_in_behaviour tree x b.1 else [])
+        (if c then twice_in_behaviour tree x b.1 else [])
     by true = behaviour_covers tree x b.1
     by false = covers_itself []
 
 in_covers : (tree : PackageTree ℕ) (d : Declaration ℕ) → Covers (beside_in tree d) (twice_in tree d)
 in_covers tree (type x) = covers_itself []
 in_covers tree (implementation x) =
-    covers_append (beside (port_entries (ports_of tree x)) (member_entries x)) (twice (port_entries (ports_of tree x) ++ member_entries x))
+    covers_append (beside (port_entries (ports_of tree x)) (member_entries x))
+    (twice (port_entries (ports_of tree x) ++ member_entries x))
     (beside_in_first tree x (behaviours x.annexes)) (twice_in_first tree x (behaviours x.annexes))
     (beside_covers (port_entries (ports_of tree x)) (member_entries x)) (first_covers tree x (behaviours x.annexes))
 
@@ -45,12 +50,16 @@ names_cover tree =
     let implementations = twice (filter_map implementation_entry tree.declarations) in
     covers_append (types ++ implementations) (types ++ implementations) (flat_map (beside_in tree) tree.declarations)
     (flat_map (twice_in tree) tree.declarations)
-    (covers_itself (types ++ implementations)) (covers_all (beside_in tree) (twice_in tree) (in_covers tree) tree.declarations)
+    (covers_itself (types ++ implementations))
+    (covers_all (beside_in tree) (twice_in tree) (in_covers tree) tree.declarations)
 
-pub first_fault : (tree : PackageTree ℕ) (root : ℕ) (first : Option PackageFault) → first ≡ found None (wrong_names tree root ++ beside_names tree)
+pub first_fault : (tree : PackageTree ℕ) (root : ℕ) (first : Option PackageFault)
+    → first ≡ found None (wrong_names tree root ++ beside_names tree)
     → FirstOf (package_faults tree root) first
 first_fault tree root first is =
     subst (FirstOf (package_faults tree root)) (sym is)
     (first_of_more (wrong_names tree root ++ beside_names tree) (package_faults tree root)
-    (covers_append (wrong_names tree root) (wrong_names tree root) (beside_names tree) _ (covers_itself (wrong_names tree root)) (names_cover tree))
-    (found None (wrong_names tree root ++ beside_names tree)) (found_is_first (wrong_names tree root ++ beside_names tree)))
+    (covers_append (wrong_names tree root) (wrong_names tree root) (beside_names tree) _
+    (covers_itself (wrong_names tree root)) (names_cover tree))
+    (found None (wrong_names tree root ++ beside_names tree))
+    (found_is_first (wrong_names tree root ++ beside_names tree)))

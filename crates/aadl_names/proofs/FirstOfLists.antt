@@ -16,14 +16,17 @@ position-push : {X : Type 0} (p : X → Bool) (n : ℕ) (xs : List X) (x : X)
 position-push p n [] x = ap (λ m. cond (p x) (Some m) None) (sym (add-zero n))
 position-push p n (y ∷ ys) x =
     option_or-cond (p y) n (position_from p (n + 1) ys) _ (cond (p x) (Some (n + length (y ∷ ys))) None)
-    (position-push p (n + 1) ys x ∙ ap (λ m. option_or (position_from p (n + 1) ys) (cond (p x) (Some m) None)) (omega arith))
+    (position-push p (n + 1) ys x
+    ∙ ap (λ m. option_or (position_from p (n + 1) ys) (cond (p x) (Some m) None)) (omega arith))
 
 first-push : {X : Type 0} (p : X → Bool) (xs : List X) (x : X) (n : ℕ) → n ≡ length xs
     → first_number p (xs ++ x ∷ []) ≡ option_or (first_number p xs) (cond (p x) (Some n) None)
-first-push p xs x n e = position-push p 0 xs x ∙ ap (λ m. option_or (first_number p xs) (cond (p x) (Some m) None)) (omega arith)
+first-push p xs x n e =
+    position-push p 0 xs x ∙ ap (λ m. option_or (first_number p xs) (cond (p x) (Some m) None)) (omega arith)
 
 -- one turn of a loop over a list: the first that passes, up to here
-pub next_first : {A X : Type 0} (view : A → X) (p : X → Bool) (items : List A) (i : ℕ) (x : A) (old new : Option ℕ) → i < length items → x ≡ get_or items i x
+pub next_first : {A X : Type 0} (view : A → X) (p : X → Bool) (items : List A) (i : ℕ) (x : A) (old new : Option ℕ)
+    → i < length items → x ≡ get_or items i x
     → old ≡ first_number p (map view (take i items)) → new ≡ option_or old (cond (p (view x)) (Some i) None)
     → new ≡ first_number p (map view (take (i + 1) items))
 next_first view p items i x old new within is so_far more =
@@ -33,12 +36,14 @@ next_first view p items i x old new within is so_far more =
     more ∙ (ap (λ o. option_or o (cond (p (view x)) (Some i) None)) so_far
     ∙ (sym (first-push p (map view (take i items)) (view x) i (sym size)) ∙ ap (first_number p) (sym grown)))
 
-pub last_first : {A X : Type 0} (view : A → X) (p : X → Bool) (items : List A) (i : ℕ) (now : Option ℕ) → length items ≤ i
+pub last_first : {A X : Type 0} (view : A → X) (p : X → Bool) (items : List A) (i : ℕ) (now : Option ℕ)
+    → length items ≤ i
     → now ≡ first_number p (map view (take i items)) → now ≡ first_number p (map view items)
 last_first view p items i now past so_far = so_far ∙ ap (λ xs. first_number p (map view xs)) (take_all i items past)
 
 -- ---- one more table of members
-pub members-push : (ms : List (List (List ℕ × ℕ))) (m : List (List ℕ × ℕ)) (ds : List (Declaration ℕ)) (d : Declaration ℕ) → length ms ≡ length ds
+pub members-push : (ms : List (List (List ℕ × ℕ))) (m : List (List ℕ × ℕ)) (ds : List (Declaration ℕ))
+    (d : Declaration ℕ) → length ms ≡ length ds
     → ((n : ℕ) (name : List ℕ) → value_of (get_or ms n []) name ≡ member_of (slice_get ds n) name)
     → ((name : List ℕ) → value_of m name ≡ member_of (Some d) name)
     → (n : ℕ) (name : List ℕ) → value_of (get_or (ms ++ m ∷ []) n []) name ≡ member_of (slice_get (ds ++ d ∷ []) n) name
@@ -47,13 +52,16 @@ members-push [] m [] d e old here (suc n) name = refl
 members-push [] m (c ∷ ds) d e old here n name = absurd (omega arith)
 members-push (k ∷ ms) m [] d e old here n name = absurd (omega arith)
 members-push (k ∷ ms) m (c ∷ ds) d e old here zero name = old zero name
-members-push (k ∷ ms) m (c ∷ ds) d e old here (suc n) name = members-push ms m ds d (omega arith) (λ n name. old (suc n) name) here n name
+members-push (k ∷ ms) m (c ∷ ds) d e old here (suc n) name =
+    members-push ms m ds d (omega arith) (λ n name. old (suc n) name) here n name
 
-pub pushed_count : {X : Type 0} (xs : List X) (x : X) (new : List X) (n : ℕ) → new ≡ xs ++ x ∷ [] → length xs ≡ n → length new ≡ n + 1
+pub pushed_count : {X : Type 0} (xs : List X) (x : X) (new : List X) (n : ℕ) → new ≡ xs ++ x ∷ [] → length xs ≡ n
+    → length new ≡ n + 1
 pushed_count xs x new n e h = ap length e ∙ (length-append xs (x ∷ []) ∙ ap (λ m. m + 1) h)
 
 -- one turn of the loop over declarations
-pub next_members : {A : Type 0} (view : A → Declaration ℕ) (items : List A) (i : ℕ) (x : A) (old new : List (List (List ℕ × ℕ))) (m : List (List ℕ × ℕ))
+pub next_members : {A : Type 0} (view : A → Declaration ℕ) (items : List A) (i : ℕ) (x : A)
+    (old new : List (List (List ℕ × ℕ))) (m : List (List ℕ × ℕ))
     → i < length items → x ≡ get_or items i x
     → length old ≡ i → new ≡ old ++ m ∷ [] → ((n : ℕ) (name : List ℕ)
     → value_of (get_or old n []) name ≡ member_of (slice_get (map view (take i items)) n) name)

@@ -12,10 +12,12 @@ pub too_short : (word more text : List ℕ) → length text < length word → sa
 too_short [] more text short = absurd (omega arith)
 too_short (w ∷ word) more [] short = refl
 too_short (w ∷ word) more (t ∷ text) short =
-    ap (λ b. nat_eq (to_ascii_lowercase w) (to_ascii_lowercase t) && b) (too_short word more text (omega arith)) ∙ and-false (nat_eq (to_ascii_lowercase w) (to_ascii_lowercase t))
+    ap (λ b. nat_eq (to_ascii_lowercase w) (to_ascii_lowercase t) && b) (too_short word more text (omega arith))
+    ∙ and-false (nat_eq (to_ascii_lowercase w) (to_ascii_lowercase t))
 
 -- a text of two parts, the first as long as a word
-parted : (word front more rest : List ℕ) → length front ≡ length word → same_name (word ++ more) (front ++ rest) ≡ (same_name word front && same_name more rest)
+parted : (word front more rest : List ℕ) → length front ≡ length word
+    → same_name (word ++ more) (front ++ rest) ≡ (same_name word front && same_name more rest)
 parted [] [] more rest long = refl
 parted [] (f ∷ front) more rest long = absurd (omega arith)
 parted (w ∷ word) [] more rest long = absurd (omega arith)
@@ -23,17 +25,22 @@ parted (w ∷ word) (f ∷ front) more rest long =
     ap (λ b. nat_eq (to_ascii_lowercase w) (to_ascii_lowercase f) && b) (parted word front more rest (omega arith))
     ∙ and_assoc_left (nat_eq (to_ascii_lowercase w) (to_ascii_lowercase f)) (same_name word front) (same_name more rest)
 
-pub cut_behind : (word front more rest text : List ℕ) → text ≡ front ++ rest → length front ≡ length word → map to_ascii_lowercase front ≡ map to_ascii_lowercase word
+pub cut_behind : (word front more rest text : List ℕ) → text ≡ front ++ rest → length front ≡ length word
+    → map to_ascii_lowercase front ≡ map to_ascii_lowercase word
     → same_name (word ++ more) text ≡ same_name more rest
 cut_behind word front more rest text is long same =
     ap (same_name (word ++ more)) is ∙ parted word front more rest long
-    ∙ ap (λ b. b && same_name more rest) ((bytes_eq-Decides (str_to_ascii_lowercase word) (str_to_ascii_lowercase front)).1 (sym same))
+    ∙ ap (λ b. b && same_name more rest)
+    ((bytes_eq-Decides (str_to_ascii_lowercase word) (str_to_ascii_lowercase front)).1 (sym same))
 
-differ : (word front : List ℕ) (b : Bool) → b ≡ same_name word front → (map to_ascii_lowercase front ≡ map to_ascii_lowercase word → ⊥) → b ≡ false
-differ word front true is other = absurd (other (sym ((bytes_eq-Decides (str_to_ascii_lowercase word) (str_to_ascii_lowercase front)).0 (sym is))))
+differ : (word front : List ℕ) (b : Bool) → b ≡ same_name word front
+    → (map to_ascii_lowercase front ≡ map to_ascii_lowercase word → ⊥) → b ≡ false
+differ word front true is other =
+    absurd (other (sym ((bytes_eq-Decides (str_to_ascii_lowercase word) (str_to_ascii_lowercase front)).0 (sym is))))
 differ word front false is other = refl
 
-pub cut_elsewhere : (word front more rest text : List ℕ) → text ≡ front ++ rest → length front ≡ length word → (map to_ascii_lowercase front ≡ map to_ascii_lowercase word → ⊥)
+pub cut_elsewhere : (word front more rest text : List ℕ) → text ≡ front ++ rest → length front ≡ length word
+    → (map to_ascii_lowercase front ≡ map to_ascii_lowercase word → ⊥)
     → same_name (word ++ more) text ≡ false
 cut_elsewhere word front more rest text is long other =
     ap (same_name (word ++ more)) is ∙ parted word front more rest long

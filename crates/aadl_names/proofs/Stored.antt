@@ -14,7 +14,8 @@ use Rattle.aadl_names.specs.proof.Members.{member_of}
 use Rattle.aadl_names.specs.Resolving.{type_in, type_numbered, features_of, port_named}
 
 -- the declaration of a number
-pub declaration_there : (tree : source_package.PackageTree) (n : ℕ) (ds : List source_declaration.Declaration) (d : Option source_declaration.Declaration)
+pub declaration_there : (tree : source_package.PackageTree) (n : ℕ) (ds : List source_declaration.Declaration)
+    (d : Option source_declaration.Declaration)
     → ds ≡ tree.declarations.items → slice_get ds n ≡ d
     → slice_get (placed tree).declarations n ≡ option_map (declaration_view kept_place) d
 declaration_there tree n ds d stored is =
@@ -26,18 +27,22 @@ lent : {A : Type 0} (xs : List A) (i : ℕ) (r : Option (Bor A)) → IsItemAt xs
 lent xs i None h = sym (slice_get_past xs i h.3)
 lent xs i (Some x) h = sym (slice_get_read xs _ i x.now refl h.3.0 h.1)
 
-pub view_lent : {A B : Type 0} (view : A → B) (items stored : List A) (i : ℕ) (r : Option (Bor A)) → stored ≡ items → IsItemAt stored i r
+pub view_lent : {A B : Type 0} (view : A → B) (items stored : List A) (i : ℕ) (r : Option (Bor A)) → stored ≡ items
+    → IsItemAt stored i r
     → option_map view (option_copied r) ≡ slice_get (map view items) i
 view_lent view items stored i r same h =
     ap (option_map view) (lent stored i r h ∙ ap (λ l. slice_get l i) same) ∙ sym (slice_get-map view items i)
 
 -- ---- the ports of a type
-typed : (d : Option (Declaration ℕ)) (x : TypeDeclaration ℕ) (name : List ℕ) → Some x ≡ type_in d → member_of d name ≡ port_named (features_of (type_in d)) name
+typed : (d : Option (Declaration ℕ)) (x : TypeDeclaration ℕ) (name : List ℕ) → Some x ≡ type_in d
+    → member_of d name ≡ port_named (features_of (type_in d)) name
 typed None x name e = absurd (none-some x (sym e))
 typed (Some (type t)) x name e = refl
 typed (Some (implementation t)) x name e = absurd (none-some x (sym e))
 
-pub members_there : (tree : PackageTree ℕ) (of_type : Option ℕ) (n : ℕ) (x : TypeDeclaration ℕ) (name : List ℕ) → of_type ≡ Some n → Some x ≡ type_in (slice_get tree.declarations n)
+pub members_there : (tree : PackageTree ℕ) (of_type : Option ℕ) (n : ℕ) (x : TypeDeclaration ℕ) (name : List ℕ)
+    → of_type ≡ Some n → Some x ≡ type_in (slice_get tree.declarations n)
     → member_of (slice_get tree.declarations n) name ≡ port_named (features_of (type_numbered tree of_type)) name
 members_there tree of_type n x name some is =
-    typed (slice_get tree.declarations n) x name is ∙ ap (λ o. port_named (features_of (type_numbered tree o)) name) (sym some)
+    typed (slice_get tree.declarations n) x name is
+    ∙ ap (λ o. port_named (features_of (type_numbered tree o)) name) (sym some)

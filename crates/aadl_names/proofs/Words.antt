@@ -16,5 +16,6 @@ words_differ [] [] d = absurd (d refl)
 words_differ [] (y ∷ b) d = refl
 words_differ (x ∷ a) [] d = refl
 words_differ (x ∷ a) (y ∷ b) d =
-    ap (λ c. same_name (identifier_view kept_place x).spelling (identifier_view kept_place y).spelling && c) (words_differ a b (λ e. d (ap suc e)))
+    ap (λ c. same_name (identifier_view kept_place x).spelling (identifier_view kept_place y).spelling && c)
+    (words_differ a b (λ e. d (ap suc e)))
     ∙ and-false (same_name (identifier_view kept_place x).spelling (identifier_view kept_place y).spelling)

@@ -117,7 +117,8 @@ abbrev mutual
   pub action_uses : Known → Action ℕ → List PackageFault
   action_uses known (assign x e) = uses known Set x ++ expression_uses known e
   action_uses known (send x e) = uses known Send x ++ expression_uses known e
-  action_uses known (choose test a es o) = expression_uses known test ++ actions_uses known a ++ elsifs_uses known es ++ otherwise_uses known o
+  action_uses known (choose test a es o) =
+      expression_uses known test ++ actions_uses known a ++ elsifs_uses known es ++ otherwise_uses known o
   action_uses known (loop at x type low high body) = loop_again known x ++ block_uses (with_loop known x) body
 
   pub actions_uses : Known → Actions ℕ → List PackageFault

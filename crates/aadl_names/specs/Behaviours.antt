@@ -6,7 +6,8 @@ use Rattle.aadl_tree.specs.Annexes.{VariableDeclaration, AnnexTree, foreign, beh
 
 -- a behaviour with the place of its annex
 abbrev pub behaviour_in : Annex ℕ → Option (ℕ × AnnexTree ℕ)
-behaviour_in x = elim x.content as (λ _. Option (ℕ × AnnexTree ℕ)) [ foreign bytes ↦ None | behaviour tree ↦ Some (x.at, tree) ]
+behaviour_in x =
+    elim x.content as (λ _. Option (ℕ × AnnexTree ℕ)) [ foreign bytes ↦ None | behaviour tree ↦ Some (x.at, tree) ]
 
 abbrev pub behaviours : List (Annex ℕ) → List (ℕ × AnnexTree ℕ)
 behaviours xs = filter_map behaviour_in xs
@@ -19,7 +20,9 @@ states_of tree = flat_map (λ s. identifiers s.names) (listed_in tree.states)
 
 -- the declarations of variables in an annex
 abbrev pub variables_in : Annex ℕ → List (VariableDeclaration ℕ)
-variables_in x = elim x.content as (λ _. List (VariableDeclaration ℕ)) [ foreign bytes ↦ [] | behaviour tree ↦ listed_in tree.variables ]
+variables_in x =
+    elim x.content as (λ _. List (VariableDeclaration ℕ))
+    [ foreign bytes ↦ [] | behaviour tree ↦ listed_in tree.variables ]
 
 abbrev pub first_behaviour : List (ℕ × AnnexTree ℕ) → Option (AnnexTree ℕ)
 first_behaviour [] = None

@@ -26,7 +26,8 @@ place_of (TooMany what) = 0
 place_of Memory = 0
 
 abbrev pub precedes : PackageFault → PackageFault → Bool
-precedes a b = nat_lt (place_of a) (place_of b) || (nat_eq (place_of a) (place_of b) && nat_lt (number_of a) (number_of b))
+precedes a b =
+    nat_lt (place_of a) (place_of b) || (nat_eq (place_of a) (place_of b) && nat_lt (number_of a) (number_of b))
 
 -- it is found, and nothing that is found precedes it
 pub record IsFirst (Found : PackageFault → Type 0) (fault : PackageFault) : Type 0 where

@@ -50,7 +50,8 @@ abbrev pub in_order : Bool → Known → Known → Known
 in_order first a b = if first then either a b else either b a
 
 abbrev pub known_in : PackageTree ℕ → Implementation ℕ → AnnexTree ℕ → Known
-known_in tree x annex = in_order (comes_first (type_of tree x) x) (port_roles (ports_of tree x)) (variable_roles (variables_of annex))
+known_in tree x annex =
+    in_order (comes_first (type_of tree x) x) (port_roles (ports_of tree x)) (variable_roles (variables_of annex))
 
 abbrev pub state_uses : (List ℕ → Bool) → Identifier ℕ → List PackageFault
 state_uses is_state x = if is_state x.spelling then [] else Unknown x.spelling x.at ∷ []
@@ -67,7 +68,8 @@ effect_uses known (Some x) = block_uses known x
 
 abbrev pub transition_uses : (List ℕ → Bool) → Known → Transition ℕ → List PackageFault
 transition_uses is_state known x =
-    state_uses is_state x.source ++ state_uses is_state x.target ++ guard_uses known x.guard ++ effect_uses known x.effect
+    state_uses is_state x.source ++ state_uses is_state x.target ++ guard_uses known x.guard
+    ++ effect_uses known x.effect
 
 unfoldable pub behaviour_faults : PackageTree ℕ → Implementation ℕ → AnnexTree ℕ → List PackageFault
 behaviour_faults tree x annex =
@@ -89,7 +91,8 @@ variables_faults x = flat_map variable_faults (variables_in x)
 
 -- a behaviour where none may stand
 abbrev pub stray_faults : Annex ℕ → List PackageFault
-stray_faults x = elim x.content as (λ _. List PackageFault) [ foreign bytes ↦ [] | behaviour tree ↦ WrongKind x.at ∷ [] ]
+stray_faults x =
+    elim x.content as (λ _. List PackageFault) [ foreign bytes ↦ [] | behaviour tree ↦ WrongKind x.at ∷ [] ]
 
 -- ---- subcomponents
 abbrev pub may_contain : Category → Category → Bool
@@ -145,7 +148,8 @@ may_enter port = not (may_leave port)
 abbrev pub unknown_end : ConnectionEnd ℕ → List PackageFault
 unknown_end end = Unknown (spelled_end end) end.first.at ∷ []
 
-abbrev pub end_faults : (PortPlace × Option Direction → Bool) → ConnectionEnd ℕ → ℕ → Option (PortPlace × Option Direction) → List PackageFault
+abbrev pub end_faults : (PortPlace × Option Direction → Bool) → ConnectionEnd ℕ → ℕ
+    → Option (PortPlace × Option Direction) → List PackageFault
 end_faults may end at None = unknown_end end
 end_faults may end at (Some port) = wrong_if (not (may port)) at
 
@@ -154,7 +158,8 @@ abbrev pub sited : PackageTree ℕ → Implementation ℕ → ConnectionEnd ℕ 
 sited tree x end = option_map (with_direction tree x) (site tree x end)
 
 -- of a connection that joins these ports
-abbrev pub joined_faults : Connection ℕ → Option (PortPlace × Option Direction) → Option (PortPlace × Option Direction) → List PackageFault
+abbrev pub joined_faults : Connection ℕ → Option (PortPlace × Option Direction) → Option (PortPlace × Option Direction)
+    → List PackageFault
 joined_faults c source target =
     end_faults may_leave c.source c.name.at source
     ++ end_faults may_enter c.target c.name.at target
@@ -172,7 +177,8 @@ has_type category (Some t) = same_category t.category category
 -- the name at the end, and the type
 abbrev pub heading_faults : PackageTree ℕ → Implementation ℕ → List PackageFault
 heading_faults tree x =
-    wrong_if (not (same_name (spelled_implementation x.end_name) (spelled_implementation x.name))) x.end_name.component_type.at
+    wrong_if (not (same_name (spelled_implementation x.end_name) (spelled_implementation x.name)))
+    x.end_name.component_type.at
     ++ wrong_if (not (has_type x.category (type_of tree x))) x.at
 
 -- all but what a behaviour does with names
@@ -208,7 +214,8 @@ root_type tree None = None
 root_type tree (Some x) = type_number tree x
 
 abbrev pub declaration_faults : PackageTree ℕ → ℕ → ℕ × Declaration ℕ → List PackageFault
-declaration_faults tree root (n, type x) = type_faults (is_same_number (root_type tree (implementation_in (slice_get tree.declarations root))) n) x
+declaration_faults tree root (n, type x) =
+    type_faults (is_same_number (root_type tree (implementation_in (slice_get tree.declarations root))) n) x
 declaration_faults tree root (n, implementation x) = implementation_faults tree (nat_eq root n) x
 
 -- what is wrong, with the number of the root's implementation

@@ -119,7 +119,8 @@ is_number (c ∷ cs) = whole_len (c ∷ cs) == length (c ∷ cs) && not (c == 95
 
 abbrev pub is_initial : List ℕ → Bool
 is_initial bytes =
-    bytes_eq bytes (codes "true") || bytes_eq bytes (codes "false") || is_number bytes || (starts_with nat_eq bytes (codes "-") && is_number (drop 1 bytes))
+    bytes_eq bytes (codes "true") || bytes_eq bytes (codes "false") || is_number bytes
+    || (starts_with nat_eq bytes (codes "-") && is_number (drop 1 bytes))
 
 -- ---- the properties that mean something
 abbrev pub name_of : PropertyName → List ℕ
@@ -159,7 +160,8 @@ recognised (holders.Declaration category false) = timed category
 recognised (holders.Declaration category true) = timed category ++ Skew ∷ Execution ∷ Network ∷ []
 
 abbrev pub misshapen : PropertyHolder → Association ℕ → Bool
-misshapen holder x = list_any (λ p. is_named (name_of p) x && not (has_shape p (association_value x))) (recognised holder)
+misshapen holder x =
+    list_any (λ p. is_named (name_of p) x && not (has_shape p (association_value x))) (recognised holder)
 
 abbrev pub association_entry : Association ℕ → SpelledName
 association_entry x = record { name = association_name x; at = association_at x }

@@ -110,7 +110,8 @@ is_of tree x = is_empty x.qualifiers || same_words x.qualifiers (tree.name.first
 abbrev pub named_by : PackageTree ℕ → Reference ℕ → Option (Identifier ℕ) → Option ℕ
 named_by tree x None = None
 named_by tree x (Some i) =
-    if is_of tree x then first_number (is_implementation (x.type_name.spelling ++ codes "." ++ i.spelling)) tree.declarations else None
+    if is_of tree x then first_number (is_implementation (x.type_name.spelling ++ codes "." ++ i.spelling))
+    tree.declarations else None
 
 -- the number of the implementation that a reference names
 unfoldable pub referred : PackageTree ℕ → Reference ℕ → Option ℕ
@@ -135,7 +136,8 @@ inner_site tree x port s = option_map (Inner s) (port_named (inner_ports tree x 
 
 abbrev pub site_by : PackageTree ℕ → Implementation ℕ → Identifier ℕ → Option (Identifier ℕ) → Option PortPlace
 site_by tree x first None = option_map Own (port_named (ports_of tree x) first.spelling)
-site_by tree x first (Some port) = option_and_then (inner_site tree x port.spelling) (sub_named x.subcomponents first.spelling)
+site_by tree x first (Some port) =
+    option_and_then (inner_site tree x port.spelling) (sub_named x.subcomponents first.spelling)
 
 -- the port that an end names, if it is declared
 unfoldable pub site : PackageTree ℕ → Implementation ℕ → ConnectionEnd ℕ → Option PortPlace

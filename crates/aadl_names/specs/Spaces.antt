@@ -22,7 +22,8 @@ abbrev pub state_entries : AnnexTree ℕ → List SpelledName
 state_entries annex = map entry_of (states_of annex)
 
 abbrev pub twice_in_behaviour : PackageTree ℕ → Implementation ℕ → AnnexTree ℕ → List PackageFault
-twice_in_behaviour tree x annex = twice (port_entries (ports_of tree x) ++ variable_entries annex) ++ twice (state_entries annex)
+twice_in_behaviour tree x annex =
+    twice (port_entries (ports_of tree x) ++ variable_entries annex) ++ twice (state_entries annex)
 
 -- of a thread's implementation the first behaviour counts
 abbrev pub twice_in_first : PackageTree ℕ → Implementation ℕ → List (ℕ × AnnexTree ℕ) → List PackageFault
@@ -35,7 +36,8 @@ member_entries x = map (λ s. entry_of s.name) x.subcomponents ++ map (λ c. ent
 
 abbrev pub twice_in : PackageTree ℕ → Declaration ℕ → List PackageFault
 twice_in tree (type x) = []
-twice_in tree (implementation x) = twice (port_entries (ports_of tree x) ++ member_entries x) ++ twice_in_first tree x (behaviours x.annexes)
+twice_in tree (implementation x) =
+    twice (port_entries (ports_of tree x) ++ member_entries x) ++ twice_in_first tree x (behaviours x.annexes)
 
 -- ---- two types, or two implementations, of one name
 abbrev pub type_entry : Declaration ℕ → Option SpelledName
@@ -48,4 +50,5 @@ implementation_entry (implementation x) = Some (record { name = spelled_implemen
 
 unfoldable pub twice_names : PackageTree ℕ → List PackageFault
 twice_names tree =
-    twice (filter_map type_entry tree.declarations) ++ twice (filter_map implementation_entry tree.declarations) ++ flat_map (twice_in tree) tree.declarations
+    twice (filter_map type_entry tree.declarations) ++ twice (filter_map implementation_entry tree.declarations)
+    ++ flat_map (twice_in tree) tree.declarations

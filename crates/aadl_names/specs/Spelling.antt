@@ -21,7 +21,8 @@ dotted front None = front
 dotted front (Some x) = front ++ codes "." ++ x.spelling
 
 abbrev pub spelled_reference : Reference ℕ → List ℕ
-spelled_reference x = flat_map (λ y. y.spelling ++ codes "::") x.qualifiers ++ dotted x.type_name.spelling x.implementation
+spelled_reference x =
+    flat_map (λ y. y.spelling ++ codes "::") x.qualifiers ++ dotted x.type_name.spelling x.implementation
 
 abbrev pub spelled_implementation : ImplementationName ℕ → List ℕ
 spelled_implementation x = dotted x.component_type.spelling (Some x.implementation)

@@ -10,7 +10,10 @@ use crate::table::NameTable;
 use std::alloc::{AllocError, Global};
 
 /// The earliest of the declarations of each name.
-pub fn earliest_of(alloc: Global, entries: &[SpelledName]) -> Result<NameTable<NumberedPlace>, AllocError>
+pub fn earliest_of(
+    alloc: Global,
+    entries: &[SpelledName],
+) -> Result<NameTable<NumberedPlace>, AllocError>
     ensures { IfOk result (λ table. (name : List ℕ) → value_of table name ≡ spec.earliest name 0 entries.now) }
 {
     let mut table = NameTable::new(alloc);

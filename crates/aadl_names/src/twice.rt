@@ -26,7 +26,11 @@ pub fn check_twice(finder: &mut Finder, entries: &[SpelledName]) -> Result<(), A
 }
 
 // Finds that an entry stands behind the earliest one of its name.
-fn check_entry(finder: &mut Finder, table: &NameTable<NumberedPlace>, entry: &SpelledName) -> Result<(), AllocError>
+fn check_entry(
+    finder: &mut Finder,
+    table: &NameTable<NumberedPlace>,
+    entry: &SpelledName,
+) -> Result<(), AllocError>
     ensures { OnOk result (finder.new ≡ found finder.old (again_by (value_of table.now entry.now.name) entry.now)) }
 {
     let earliest = table.value(finder.alloc(), entry.name.as_str())?;

@@ -16,16 +16,20 @@ use Rattle.aadl_grammar.specs.proof.Machine.{takes, move}
 use Rattle.aadl_grammar.specs.proof.Reading.{Reads}
 use Rattle.aadl_grammar.proofs.Written.{begun}
 
-pub feature_begun : (x : Feature) {ss rest : List Spot} → Reads (feature_parts (feature_view kept_place x)) ss rest → length rest < length ss
+pub feature_begun : (x : Feature) {ss rest : List Spot} → Reads (feature_parts (feature_view kept_place x)) ss rest
+    → length rest < length ss
 feature_begun x a = begun a
 
-pub subcomponent_begun : (x : Subcomponent) {ss rest : List Spot} → Reads (subcomponent_parts (subcomponent_view kept_place x)) ss rest → length rest < length ss
+pub subcomponent_begun : (x : Subcomponent) {ss rest : List Spot}
+    → Reads (subcomponent_parts (subcomponent_view kept_place x)) ss rest → length rest < length ss
 subcomponent_begun x a = begun a
 
-pub connection_begun : (x : Connection) {ss rest : List Spot} → Reads (connection_parts (connection_view kept_place x)) ss rest → length rest < length ss
+pub connection_begun : (x : Connection) {ss rest : List Spot}
+    → Reads (connection_parts (connection_view kept_place x)) ss rest → length rest < length ss
 connection_begun x a = begun a
 
-pub annex_begun : (x : Annex) {ss rest : List Spot} → Reads (annex_parts (annex_view kept_place x)) ss rest → length rest < length ss
+pub annex_begun : (x : Annex) {ss rest : List Spot} → Reads (annex_parts (annex_view kept_place x)) ss rest
+    → length rest < length ss
 annex_begun x a = begun a
 
 -- a category of what may be declared, and one that has to come
@@ -35,7 +39,8 @@ category_moves categories.System = refl
 category_moves categories.Process = refl
 category_moves categories.Thread = refl
 
-pub declaration_moves : (x : Category) → move s.declarations (mark (category_mark x)) ≡ takes (s.after_category ∷ s.declarations ∷ [])
+pub declaration_moves : (x : Category)
+    → move s.declarations (mark (category_mark x)) ≡ takes (s.after_category ∷ s.declarations ∷ [])
 unfolding move
 declaration_moves categories.System = refl
 declaration_moves categories.Process = refl

@@ -5,7 +5,8 @@ use Rattle.aadl_lex.specs.declared.token.Token.{Token}
 use Rattle.aadl_lex.specs.Tokens.{AreTokensOf}
 use Rattle.aadl_lex.specs.proof.Spelled.{AreAmongTokensOf}
 
-pub all_among : (text : List ℕ) (tokens slice : List Token) → slice ≡ tokens → AreTokensOf text tokens → AreAmongTokensOf text slice
+pub all_among : (text : List ℕ) (tokens slice : List Token) → slice ≡ tokens → AreTokensOf text tokens
+    → AreAmongTokensOf text slice
 all_among text tokens slice same lexed = record {
   before = [];
   behind = [];

@@ -1,5 +1,5 @@
 //! The first subcomponent that leads back to where it stands, and what is in use.
-use aadl_names::{PackageFault, Names};
+use aadl_names::{Names, PackageFault};
 use aadl_tree::PackageTree;
 use aadl_uses::{Uses, first_recursive};
 use indexmap::IndexSet;

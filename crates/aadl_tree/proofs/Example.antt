@@ -10,10 +10,154 @@ use Rattle.aadl_tree.specs.Canon.{canonical}
 use Rattle.aadl_tree.specs.proof.Example.{counting, counting_kinds, counting_text}
 
 pub counting_plain : Spells (transition_parts counting) (counting_kinds []) []
-counting_plain = (_, refl, (_, refl, (_, refl, (_, refl, (_, refl, (_, refl, (_, refl, (_, refl, (_, refl, (_, refl, (_, refl, (_, refl, (_, refl, (_, refl, (_, refl, (_, refl, (_, refl, (_, refl, (_, refl, (_, refl, inl (_, refl, (_, refl, refl))))))))))))))))))))))
+counting_plain = (
+  _,
+  refl,
+  (
+    _,
+    refl,
+    (
+      _,
+      refl,
+      (
+        _,
+        refl,
+        (
+          _,
+          refl,
+          (
+            _,
+            refl,
+            (
+              _,
+              refl,
+              (
+                _,
+                refl,
+                (
+                  _,
+                  refl,
+                  (
+                    _,
+                    refl,
+                    (
+                      _,
+                      refl,
+                      (
+                        _,
+                        refl,
+                        (
+                          _,
+                          refl,
+                          (
+                            _,
+                            refl,
+                            (
+                              _,
+                              refl,
+                              (
+                                _,
+                                refl,
+                                (
+                                  _,
+                                  refl,
+                                  (
+                                    _,
+                                    refl,
+                                    (_, refl, (_, refl, inl (_, refl, (_, refl, refl)))),
+                                  ),
+                                ),
+                              ),
+                            ),
+                          ),
+                        ),
+                      ),
+                    ),
+                  ),
+                ),
+              ),
+            ),
+          ),
+        ),
+      ),
+    ),
+  ),
+)
 
 pub counting_ended : Spells (transition_parts counting) (counting_kinds (mark k.Semicolon ∷ [])) []
-counting_ended = (_, refl, (_, refl, (_, refl, (_, refl, (_, refl, (_, refl, (_, refl, (_, refl, (_, refl, (_, refl, (_, refl, (_, refl, (_, refl, (_, refl, (_, refl, (_, refl, (_, refl, (_, refl, (_, refl, (_, refl, inr (_, refl, (_, refl, (_, refl, refl)))))))))))))))))))))))
+counting_ended = (
+  _,
+  refl,
+  (
+    _,
+    refl,
+    (
+      _,
+      refl,
+      (
+        _,
+        refl,
+        (
+          _,
+          refl,
+          (
+            _,
+            refl,
+            (
+              _,
+              refl,
+              (
+                _,
+                refl,
+                (
+                  _,
+                  refl,
+                  (
+                    _,
+                    refl,
+                    (
+                      _,
+                      refl,
+                      (
+                        _,
+                        refl,
+                        (
+                          _,
+                          refl,
+                          (
+                            _,
+                            refl,
+                            (
+                              _,
+                              refl,
+                              (
+                                _,
+                                refl,
+                                (
+                                  _,
+                                  refl,
+                                  (
+                                    _,
+                                    refl,
+                                    (_, refl, (_, refl, inr (_, refl, (_, refl, (_, refl, refl))))),
+                                  ),
+                                ),
+                              ),
+                            ),
+                          ),
+                        ),
+                      ),
+                    ),
+                  ),
+                ),
+              ),
+            ),
+          ),
+        ),
+      ),
+    ),
+  ),
+)
 
 pub counting_canonical : canonical (kept (transition_parts counting)) ≡ counting_text
 unfolding digits

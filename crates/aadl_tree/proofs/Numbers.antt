@@ -8,12 +8,18 @@ use Rattle.aadl_tree.specs.proof.Marks.{mark_number}
 
 marks : List Mark
 marks =
-    k.Package ∷ k.Public ∷ k.With ∷ k.End ∷ k.System ∷ k.Process ∷ k.Thread ∷ k.Features ∷ k.Properties ∷ k.Implementation ∷ k.Subcomponents ∷
-    k.Connections ∷ k.Nothing ∷ k.In ∷ k.Out ∷ k.Data ∷ k.Port ∷ k.Annex ∷ k.Constant ∷ k.Applies ∷ k.To ∷ k.Reference ∷ k.Classifier ∷ k.Variables ∷
-    k.States ∷ k.Transitions ∷ k.Initial ∷ k.Complete ∷ k.State ∷ k.On ∷ k.Dispatch ∷ k.Otherwise ∷ k.If ∷ k.Elsif ∷ k.Else ∷ k.For ∷ k.And ∷ k.Or ∷ k.Xor
-    ∷ k.Then ∷ k.Mod ∷ k.Rem ∷ k.Abs ∷ k.Not ∷ k.True ∷ k.False ∷ k.Fresh ∷ k.Semicolon ∷ k.Colon ∷ k.Comma ∷ k.Dot ∷ k.Range ∷ k.Scope ∷ k.Becomes ∷
-    k.Appends ∷ k.Arrow ∷ k.GuardOpen ∷ k.GuardClose ∷ k.BraceOpen ∷ k.BraceClose ∷ k.ParenOpen ∷ k.ParenClose ∷ k.BracketOpen ∷ k.BracketClose ∷ k.Plus ∷
-    k.Minus ∷ k.Star ∷ k.Slash ∷ k.Equal ∷ k.NotEqual ∷ k.Less ∷ k.LessOrEqual ∷ k.Greater ∷ k.GreaterOrEqual ∷ k.Assign ∷ k.Bang ∷ k.Tick ∷ k.AnnexOpen ∷
+    k.Package ∷ k.Public ∷ k.With ∷ k.End ∷ k.System ∷ k.Process ∷ k.Thread ∷ k.Features ∷ k.Properties
+    ∷ k.Implementation ∷ k.Subcomponents ∷
+    k.Connections ∷ k.Nothing ∷ k.In ∷ k.Out ∷ k.Data ∷ k.Port ∷ k.Annex ∷ k.Constant ∷ k.Applies ∷ k.To ∷ k.Reference
+    ∷ k.Classifier ∷ k.Variables ∷
+    k.States ∷ k.Transitions ∷ k.Initial ∷ k.Complete ∷ k.State ∷ k.On ∷ k.Dispatch ∷ k.Otherwise ∷ k.If ∷ k.Elsif
+    ∷ k.Else ∷ k.For ∷ k.And ∷ k.Or ∷ k.Xor
+    ∷ k.Then ∷ k.Mod ∷ k.Rem ∷ k.Abs ∷ k.Not ∷ k.True ∷ k.False ∷ k.Fresh ∷ k.Semicolon ∷ k.Colon ∷ k.Comma ∷ k.Dot
+    ∷ k.Range ∷ k.Scope ∷ k.Becomes ∷
+    k.Appends ∷ k.Arrow ∷ k.GuardOpen ∷ k.GuardClose ∷ k.BraceOpen ∷ k.BraceClose ∷ k.ParenOpen ∷ k.ParenClose
+    ∷ k.BracketOpen ∷ k.BracketClose ∷ k.Plus ∷
+    k.Minus ∷ k.Star ∷ k.Slash ∷ k.Equal ∷ k.NotEqual ∷ k.Less ∷ k.LessOrEqual ∷ k.Greater ∷ k.GreaterOrEqual ∷ k.Assign
+    ∷ k.Bang ∷ k.Tick ∷ k.AnnexOpen ∷
     k.AnnexClose ∷ []
 
 mark_of : ℕ → Mark

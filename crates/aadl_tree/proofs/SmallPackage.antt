@@ -31,13 +31,28 @@ lexes =
     (takes Outside package_text 18 Word 6 _ (omega arith) refl (skips Outside package_text 24 1 _ (omega arith) refl
     (takes Outside package_text 25 Word 3 _ (omega arith) refl (skips Outside package_text 28 1 _ (omega arith) refl
     (takes Outside package_text 29 Word 1 _ (omega arith) refl
-    (takes Outside package_text 30 Symbol 1 _ (omega arith) refl (ended Outside package_text 31 (omega arith)))))))))))))
+    (takes Outside package_text 30 Symbol 1 _ (omega arith) refl
+    (ended Outside package_text 31 (omega arith)))))))))))))
 
 pub lexed : AreTokensOf package_text package_tokens
 lexed = record { utf8 = IsUtf8-from_ascii package_text (low_ascii package_text refl); lexed = lexes }
 
 written : Written (package_parts small_package) (spots package_text package_tokens) []
-written = (_, _, refl, refl, tt, (_, _, refl, refl, (refl, tt), (_, _, refl, refl, tt, (_, _, refl, refl, tt, (_, _, refl, refl, (refl, tt), (_, _, refl, refl, tt, refl))))))
+written = (
+  _,
+  _,
+  refl,
+  refl,
+  tt,
+  (
+    _,
+    _,
+    refl,
+    refl,
+    (refl, tt),
+    (_, _, refl, refl, tt, (_, _, refl, refl, tt, (_, _, refl, refl, (refl, tt), (_, _, refl, refl, tt, refl)))),
+  ),
+)
 
 -- terminals that open nothing
 abbrev Flat : List Kind → Type 0
@@ -46,14 +61,21 @@ Flat (kind ∷ ks) = ((after : Bool) → opened 0 after kind ≡ 0) × Flat ks
 
 flat_front : (front back : List Kind) (after : Bool) → Flat (front ++ back) → nesting_from 0 after front ≡ 0
 flat_front [] back after h = refl
-flat_front (kind ∷ front) back after (h, hs) = ap (λ n. nesting_from n (is_end kind) front) (h after) ∙ flat_front front back (is_end kind) hs
+flat_front (kind ∷ front) back after (h, hs) =
+    ap (λ n. nesting_from n (is_end kind) front) (h after) ∙ flat_front front back (is_end kind) hs
 
 by_flag : (p : Bool → ℕ) → p true ≡ 0 → p false ≡ 0 → (b : Bool) → p b ≡ 0
 by_flag p e h true = e
 by_flag p e h false = h
 
 flat : Flat (kinds_of (spots package_text package_tokens))
-flat = (by_flag _ refl refl, (by_flag _ refl refl, (by_flag _ refl refl, (by_flag _ refl refl, (by_flag _ refl refl, (by_flag _ refl refl, tt))))))
+flat = (
+  by_flag _ refl refl,
+  (
+    by_flag _ refl refl,
+    (by_flag _ refl refl, (by_flag _ refl refl, (by_flag _ refl refl, (by_flag _ refl refl, tt)))),
+  ),
+)
 
 shallow : IsShallow 0 (kinds_of (spots package_text package_tokens))
 shallow front back e = let n = flat_front front back false (subst Flat e flat) in omega arith

@@ -23,14 +23,19 @@ view x = value_view no_place x
 abbrev IsList : Value → Type 0
 IsList x = (vs : Vec Value Global) × (x ≡ ListOf vs)
 
-list_layer : (x : Value) (layer : Layer) (y : plain.Values (Unit {0})) → x ≡ roll-Value layer → view x ≡ list y → IsList x
+list_layer : (x : Value) (layer : Layer) (y : plain.Values (Unit {0})) → x ≡ roll-Value layer
+    → view x ≡ list y → IsList x
 list_layer x (Value-F.List vs) y is e = (vs, is ∙ rolls-List vs)
 list_layer x (Value-F.Record xs) y is e = let f = ap view (is ∙ rolls-Record xs) ∙ view-Record no_place xs in absurd cc
-list_layer x (Value-F.Text bytes) y is e = let f = ap view (is ∙ rolls-Text bytes) ∙ view-Text no_place bytes in absurd cc
-list_layer x (Value-F.Reference z) y is e = let f = ap view (is ∙ rolls-Reference z) ∙ view-Reference no_place z in absurd cc
-list_layer x (Value-F.Classifier z) y is e = let f = ap view (is ∙ rolls-Classifier z) ∙ view-Classifier no_place z in absurd cc
+list_layer x (Value-F.Text bytes) y is e = let f = ap view (is ∙ rolls-Text bytes)
+    ∙ view-Text no_place bytes in absurd cc
+list_layer x (Value-F.Reference z) y is e = let f = ap view (is ∙ rolls-Reference z)
+    ∙ view-Reference no_place z in absurd cc
+list_layer x (Value-F.Classifier z) y is e = let f = ap view (is ∙ rolls-Classifier z)
+    ∙ view-Classifier no_place z in absurd cc
 list_layer x (Value-F.Named z) y is e = let f = ap view (is ∙ rolls-Named z) ∙ view-Named no_place z in absurd cc
-list_layer x (Value-F.Number low high) y is e = let f = ap view (is ∙ rolls-Number low high) ∙ view-Number no_place low high in absurd cc
+list_layer x (Value-F.Number low high) y is e = let f = ap view (is ∙ rolls-Number low high)
+    ∙ view-Number no_place low high in absurd cc
 
 pub only_list : (x : Value) (y : plain.Values (Unit {0})) → view x ≡ list y → IsList x
 only_list x y e = list_layer x (out-Value x) y (sym (roll-out-Value x)) e
@@ -38,14 +43,19 @@ only_list x y e = list_layer x (out-Value x) y (sym (roll-out-Value x)) e
 abbrev IsRecord : Value → Type 0
 IsRecord x = (xs : Vec Association Global) × (x ≡ Record xs)
 
-record_layer : (x : Value) (layer : Layer) (y : plain.Associations (Unit {0})) → x ≡ roll-Value layer → view x ≡ fields y → IsRecord x
+record_layer : (x : Value) (layer : Layer) (y : plain.Associations (Unit {0})) → x ≡ roll-Value layer
+    → view x ≡ fields y → IsRecord x
 record_layer x (Value-F.List vs) y is e = let f = ap view (is ∙ rolls-List vs) ∙ view-List no_place vs in absurd cc
 record_layer x (Value-F.Record xs) y is e = (xs, is ∙ rolls-Record xs)
-record_layer x (Value-F.Text bytes) y is e = let f = ap view (is ∙ rolls-Text bytes) ∙ view-Text no_place bytes in absurd cc
-record_layer x (Value-F.Reference z) y is e = let f = ap view (is ∙ rolls-Reference z) ∙ view-Reference no_place z in absurd cc
-record_layer x (Value-F.Classifier z) y is e = let f = ap view (is ∙ rolls-Classifier z) ∙ view-Classifier no_place z in absurd cc
+record_layer x (Value-F.Text bytes) y is e = let f = ap view (is ∙ rolls-Text bytes)
+    ∙ view-Text no_place bytes in absurd cc
+record_layer x (Value-F.Reference z) y is e = let f = ap view (is ∙ rolls-Reference z)
+    ∙ view-Reference no_place z in absurd cc
+record_layer x (Value-F.Classifier z) y is e = let f = ap view (is ∙ rolls-Classifier z)
+    ∙ view-Classifier no_place z in absurd cc
 record_layer x (Value-F.Named z) y is e = let f = ap view (is ∙ rolls-Named z) ∙ view-Named no_place z in absurd cc
-record_layer x (Value-F.Number low high) y is e = let f = ap view (is ∙ rolls-Number low high) ∙ view-Number no_place low high in absurd cc
+record_layer x (Value-F.Number low high) y is e = let f = ap view (is ∙ rolls-Number low high)
+    ∙ view-Number no_place low high in absurd cc
 
 pub only_record : (x : Value) (y : plain.Associations (Unit {0})) → view x ≡ fields y → IsRecord x
 only_record x y e = record_layer x (out-Value x) y (sym (roll-out-Value x)) e
@@ -57,10 +67,13 @@ text_layer : (x : Value) (layer : Layer) (y : List ℕ) → x ≡ roll-Value lay
 text_layer x (Value-F.List vs) y is e = let f = ap view (is ∙ rolls-List vs) ∙ view-List no_place vs in absurd cc
 text_layer x (Value-F.Record xs) y is e = let f = ap view (is ∙ rolls-Record xs) ∙ view-Record no_place xs in absurd cc
 text_layer x (Value-F.Text bytes) y is e = (bytes, is ∙ rolls-Text bytes)
-text_layer x (Value-F.Reference z) y is e = let f = ap view (is ∙ rolls-Reference z) ∙ view-Reference no_place z in absurd cc
-text_layer x (Value-F.Classifier z) y is e = let f = ap view (is ∙ rolls-Classifier z) ∙ view-Classifier no_place z in absurd cc
+text_layer x (Value-F.Reference z) y is e = let f = ap view (is ∙ rolls-Reference z)
+    ∙ view-Reference no_place z in absurd cc
+text_layer x (Value-F.Classifier z) y is e = let f = ap view (is ∙ rolls-Classifier z)
+    ∙ view-Classifier no_place z in absurd cc
 text_layer x (Value-F.Named z) y is e = let f = ap view (is ∙ rolls-Named z) ∙ view-Named no_place z in absurd cc
-text_layer x (Value-F.Number low high) y is e = let f = ap view (is ∙ rolls-Number low high) ∙ view-Number no_place low high in absurd cc
+text_layer x (Value-F.Number low high) y is e = let f = ap view (is ∙ rolls-Number low high)
+    ∙ view-Number no_place low high in absurd cc
 
 pub only_text : (x : Value) (y : List ℕ) → view x ≡ text y → IsText x
 only_text x y e = text_layer x (out-Value x) y (sym (roll-out-Value x)) e
@@ -68,14 +81,19 @@ only_text x y e = text_layer x (out-Value x) y (sym (roll-out-Value x)) e
 abbrev IsReference : Value → Type 0
 IsReference x = (z : Path) × (x ≡ ReferenceTo z)
 
-reference_layer : (x : Value) (layer : Layer) (y : plain_names.Path (Unit {0})) → x ≡ roll-Value layer → view x ≡ reference y → IsReference x
+reference_layer : (x : Value) (layer : Layer) (y : plain_names.Path (Unit {0})) → x ≡ roll-Value layer
+    → view x ≡ reference y → IsReference x
 reference_layer x (Value-F.List vs) y is e = let f = ap view (is ∙ rolls-List vs) ∙ view-List no_place vs in absurd cc
-reference_layer x (Value-F.Record xs) y is e = let f = ap view (is ∙ rolls-Record xs) ∙ view-Record no_place xs in absurd cc
-reference_layer x (Value-F.Text bytes) y is e = let f = ap view (is ∙ rolls-Text bytes) ∙ view-Text no_place bytes in absurd cc
+reference_layer x (Value-F.Record xs) y is e = let f = ap view (is ∙ rolls-Record xs)
+    ∙ view-Record no_place xs in absurd cc
+reference_layer x (Value-F.Text bytes) y is e = let f = ap view (is ∙ rolls-Text bytes)
+    ∙ view-Text no_place bytes in absurd cc
 reference_layer x (Value-F.Reference z) y is e = (z, is ∙ rolls-Reference z)
-reference_layer x (Value-F.Classifier z) y is e = let f = ap view (is ∙ rolls-Classifier z) ∙ view-Classifier no_place z in absurd cc
+reference_layer x (Value-F.Classifier z) y is e = let f = ap view (is ∙ rolls-Classifier z)
+    ∙ view-Classifier no_place z in absurd cc
 reference_layer x (Value-F.Named z) y is e = let f = ap view (is ∙ rolls-Named z) ∙ view-Named no_place z in absurd cc
-reference_layer x (Value-F.Number low high) y is e = let f = ap view (is ∙ rolls-Number low high) ∙ view-Number no_place low high in absurd cc
+reference_layer x (Value-F.Number low high) y is e = let f = ap view (is ∙ rolls-Number low high)
+    ∙ view-Number no_place low high in absurd cc
 
 pub only_reference : (x : Value) (y : plain_names.Path (Unit {0})) → view x ≡ reference y → IsReference x
 only_reference x y e = reference_layer x (out-Value x) y (sym (roll-out-Value x)) e
@@ -83,14 +101,19 @@ only_reference x y e = reference_layer x (out-Value x) y (sym (roll-out-Value x)
 abbrev IsClassifier : Value → Type 0
 IsClassifier x = (z : Reference) × (x ≡ Classifier z)
 
-classifier_layer : (x : Value) (layer : Layer) (y : plain_names.Reference (Unit {0})) → x ≡ roll-Value layer → view x ≡ classifier y → IsClassifier x
+classifier_layer : (x : Value) (layer : Layer) (y : plain_names.Reference (Unit {0})) → x ≡ roll-Value layer
+    → view x ≡ classifier y → IsClassifier x
 classifier_layer x (Value-F.List vs) y is e = let f = ap view (is ∙ rolls-List vs) ∙ view-List no_place vs in absurd cc
-classifier_layer x (Value-F.Record xs) y is e = let f = ap view (is ∙ rolls-Record xs) ∙ view-Record no_place xs in absurd cc
-classifier_layer x (Value-F.Text bytes) y is e = let f = ap view (is ∙ rolls-Text bytes) ∙ view-Text no_place bytes in absurd cc
-classifier_layer x (Value-F.Reference z) y is e = let f = ap view (is ∙ rolls-Reference z) ∙ view-Reference no_place z in absurd cc
+classifier_layer x (Value-F.Record xs) y is e = let f = ap view (is ∙ rolls-Record xs)
+    ∙ view-Record no_place xs in absurd cc
+classifier_layer x (Value-F.Text bytes) y is e = let f = ap view (is ∙ rolls-Text bytes)
+    ∙ view-Text no_place bytes in absurd cc
+classifier_layer x (Value-F.Reference z) y is e = let f = ap view (is ∙ rolls-Reference z)
+    ∙ view-Reference no_place z in absurd cc
 classifier_layer x (Value-F.Classifier z) y is e = (z, is ∙ rolls-Classifier z)
 classifier_layer x (Value-F.Named z) y is e = let f = ap view (is ∙ rolls-Named z) ∙ view-Named no_place z in absurd cc
-classifier_layer x (Value-F.Number low high) y is e = let f = ap view (is ∙ rolls-Number low high) ∙ view-Number no_place low high in absurd cc
+classifier_layer x (Value-F.Number low high) y is e = let f = ap view (is ∙ rolls-Number low high)
+    ∙ view-Number no_place low high in absurd cc
 
 pub only_classifier : (x : Value) (y : plain_names.Reference (Unit {0})) → view x ≡ classifier y → IsClassifier x
 only_classifier x y e = classifier_layer x (out-Value x) y (sym (roll-out-Value x)) e
@@ -98,14 +121,19 @@ only_classifier x y e = classifier_layer x (out-Value x) y (sym (roll-out-Value 
 abbrev IsName : Value → Type 0
 IsName x = (z : Reference) × (x ≡ Named z)
 
-name_layer : (x : Value) (layer : Layer) (y : plain_names.Reference (Unit {0})) → x ≡ roll-Value layer → view x ≡ named y → IsName x
+name_layer : (x : Value) (layer : Layer) (y : plain_names.Reference (Unit {0})) → x ≡ roll-Value layer
+    → view x ≡ named y → IsName x
 name_layer x (Value-F.List vs) y is e = let f = ap view (is ∙ rolls-List vs) ∙ view-List no_place vs in absurd cc
 name_layer x (Value-F.Record xs) y is e = let f = ap view (is ∙ rolls-Record xs) ∙ view-Record no_place xs in absurd cc
-name_layer x (Value-F.Text bytes) y is e = let f = ap view (is ∙ rolls-Text bytes) ∙ view-Text no_place bytes in absurd cc
-name_layer x (Value-F.Reference z) y is e = let f = ap view (is ∙ rolls-Reference z) ∙ view-Reference no_place z in absurd cc
-name_layer x (Value-F.Classifier z) y is e = let f = ap view (is ∙ rolls-Classifier z) ∙ view-Classifier no_place z in absurd cc
+name_layer x (Value-F.Text bytes) y is e = let f = ap view (is ∙ rolls-Text bytes)
+    ∙ view-Text no_place bytes in absurd cc
+name_layer x (Value-F.Reference z) y is e = let f = ap view (is ∙ rolls-Reference z)
+    ∙ view-Reference no_place z in absurd cc
+name_layer x (Value-F.Classifier z) y is e = let f = ap view (is ∙ rolls-Classifier z)
+    ∙ view-Classifier no_place z in absurd cc
 name_layer x (Value-F.Named z) y is e = (z, is ∙ rolls-Named z)
-name_layer x (Value-F.Number low high) y is e = let f = ap view (is ∙ rolls-Number low high) ∙ view-Number no_place low high in absurd cc
+name_layer x (Value-F.Number low high) y is e = let f = ap view (is ∙ rolls-Number low high)
+    ∙ view-Number no_place low high in absurd cc
 
 pub only_name : (x : Value) (y : plain_names.Reference (Unit {0})) → view x ≡ named y → IsName x
 only_name x y e = name_layer x (out-Value x) y (sym (roll-out-Value x)) e
@@ -113,14 +141,20 @@ only_name x y e = name_layer x (out-Value x) y (sym (roll-out-Value x)) e
 abbrev IsNumber : Value → Type 0
 IsNumber x = (low : Quantity) × (high : Option Quantity) × (x ≡ Number low high)
 
-number_layer : (x : Value) (layer : Layer) (y : plain.Quantity (Unit {0})) (w : Option (plain.Quantity (Unit {0}))) → x ≡ roll-Value layer → view x ≡ number y w → IsNumber x
+number_layer : (x : Value) (layer : Layer) (y : plain.Quantity (Unit {0})) (w : Option (plain.Quantity (Unit {0})))
+    → x ≡ roll-Value layer → view x ≡ number y w → IsNumber x
 number_layer x (Value-F.List vs) y w is e = let f = ap view (is ∙ rolls-List vs) ∙ view-List no_place vs in absurd cc
-number_layer x (Value-F.Record xs) y w is e = let f = ap view (is ∙ rolls-Record xs) ∙ view-Record no_place xs in absurd cc
-number_layer x (Value-F.Text bytes) y w is e = let f = ap view (is ∙ rolls-Text bytes) ∙ view-Text no_place bytes in absurd cc
-number_layer x (Value-F.Reference z) y w is e = let f = ap view (is ∙ rolls-Reference z) ∙ view-Reference no_place z in absurd cc
-number_layer x (Value-F.Classifier z) y w is e = let f = ap view (is ∙ rolls-Classifier z) ∙ view-Classifier no_place z in absurd cc
+number_layer x (Value-F.Record xs) y w is e = let f = ap view (is ∙ rolls-Record xs)
+    ∙ view-Record no_place xs in absurd cc
+number_layer x (Value-F.Text bytes) y w is e = let f = ap view (is ∙ rolls-Text bytes)
+    ∙ view-Text no_place bytes in absurd cc
+number_layer x (Value-F.Reference z) y w is e = let f = ap view (is ∙ rolls-Reference z)
+    ∙ view-Reference no_place z in absurd cc
+number_layer x (Value-F.Classifier z) y w is e = let f = ap view (is ∙ rolls-Classifier z)
+    ∙ view-Classifier no_place z in absurd cc
 number_layer x (Value-F.Named z) y w is e = let f = ap view (is ∙ rolls-Named z) ∙ view-Named no_place z in absurd cc
 number_layer x (Value-F.Number low high) y w is e = (low, high, is ∙ rolls-Number low high)
 
-pub only_number : (x : Value) (y : plain.Quantity (Unit {0})) (w : Option (plain.Quantity (Unit {0}))) → view x ≡ number y w → IsNumber x
+pub only_number : (x : Value) (y : plain.Quantity (Unit {0})) (w : Option (plain.Quantity (Unit {0})))
+    → view x ≡ number y w → IsNumber x
 only_number x y w e = number_layer x (out-Value x) y w (sym (roll-out-Value x)) e

@@ -12,28 +12,43 @@ use Rattle.aadl_tree.specs.Values.{list, fields, text, reference, classifier, na
 use Rattle.aadl_tree.specs.proof.NameViews.{name_view, path_view, reference_view}
 use Rattle.aadl_tree.specs.proof.ValueViews.{quantity_view, value_view, association_view, values_view, associations_view}
 
-pub view-List : {P : Type 0} (place : ℕ → P) (vs : Vec Value Global) → value_view place (ListOf vs) ≡ list (values_view place vs.items)
+pub view-List : {P : Type 0} (place : ℕ → P) (vs : Vec Value Global)
+    → value_view place (ListOf vs) ≡ list (values_view place vs.items)
 view-List place vs = search (rules, the_lemmas)
 
-pub view-Record : {P : Type 0} (place : ℕ → P) (xs : Vec Association Global) → value_view place (Record xs) ≡ fields (associations_view place xs.items)
+pub view-Record : {P : Type 0} (place : ℕ → P) (xs : Vec Association Global)
+    → value_view place (Record xs) ≡ fields (associations_view place xs.items)
 view-Record place xs = search (rules, the_lemmas)
 
 pub view-Text : {P : Type 0} (place : ℕ → P) (bytes : Vec ℕ Global) → value_view place (Text bytes) ≡ text bytes.items
 view-Text place bytes = search (rules, the_lemmas)
 
-pub view-Reference : {P : Type 0} (place : ℕ → P) (x : Path) → value_view place (ReferenceTo x) ≡ reference (path_view place x)
+pub view-Reference : {P : Type 0} (place : ℕ → P) (x : Path)
+    → value_view place (ReferenceTo x) ≡ reference (path_view place x)
 view-Reference place x = search (rules, the_lemmas)
 
-pub view-Classifier : {P : Type 0} (place : ℕ → P) (x : Reference) → value_view place (Classifier x) ≡ classifier (reference_view place x)
+pub view-Classifier : {P : Type 0} (place : ℕ → P) (x : Reference)
+    → value_view place (Classifier x) ≡ classifier (reference_view place x)
 view-Classifier place x = search (rules, the_lemmas)
 
-pub view-Named : {P : Type 0} (place : ℕ → P) (x : Reference) → value_view place (Named x) ≡ named (reference_view place x)
+pub view-Named : {P : Type 0} (place : ℕ → P) (x : Reference)
+    → value_view place (Named x) ≡ named (reference_view place x)
 view-Named place x = search (rules, the_lemmas)
 
-pub view-Number : {P : Type 0} (place : ℕ → P) (low : Quantity) (high : Option Quantity) → value_view place (Number low high) ≡ number (quantity_view place low) (option_map (quantity_view place) high)
+pub view-Number : {P : Type 0} (place : ℕ → P) (low : Quantity) (high : Option Quantity)
+    → value_view place (Number low high) ≡ number (quantity_view place low) (option_map (quantity_view place) high)
 view-Number place low high = search (rules, the_lemmas)
 
-pub view-association : {P : Type 0} (place : ℕ → P) (name : Name) (operator : AssociationOperator) (constant : Bool) (value : Value) (applies_to : Vec Path Global)
-    → association_view place (roll-Association (record { name = name; operator = operator; constant = constant; value = value; applies_to = applies_to }))
-    ≡ association (name_view place name) operator constant (value_view place value) (map (path_view place) applies_to.items)
+pub view-association : {P : Type 0} (place : ℕ → P) (name : Name) (operator : AssociationOperator) (constant : Bool)
+    (value : Value) (applies_to : Vec Path Global)
+    → association_view place
+    (roll-Association (record {
+      name = name;
+      operator = operator;
+      constant = constant;
+      value = value;
+      applies_to = applies_to;
+    }))
+    ≡ association (name_view place name) operator constant (value_view place value)
+    (map (path_view place) applies_to.items)
 view-association place name operator constant value applies_to = search (rules, the_lemmas)

@@ -47,9 +47,11 @@ abbrev mutual
   action_parts (assign x e) = identifier_parts x ++ (plain k.Assign ∷ expression_parts e)
   action_parts (send x e) = identifier_parts x ++ (plain k.Bang ∷ test_parts e)
   action_parts (choose test a es o) =
-      plain k.If ∷ (test_parts test ++ (actions_parts a ++ (elsifs_parts es ++ (otherwise_parts o ++ (plain k.End ∷ (plain k.If ∷ []))))))
+      plain k.If ∷ (test_parts test
+      ++ (actions_parts a ++ (elsifs_parts es ++ (otherwise_parts o ++ (plain k.End ∷ (plain k.If ∷ []))))))
   action_parts (loop at x type low high body) =
-      token (mark k.For) (at ∷ []) ∷ (plain k.ParenOpen ∷ (identifier_parts x ++ (plain k.Colon ∷ (reference_parts type ++ (plain k.In
+      token (mark k.For) (at ∷ [])
+      ∷ (plain k.ParenOpen ∷ (identifier_parts x ++ (plain k.Colon ∷ (reference_parts type ++ (plain k.In
       ∷ (bound_parts low ++ (plain k.Range ∷ (bound_parts high ++ (plain k.ParenClose ∷ block_parts body)))))))))
 
   -- A `;` behind the last action means nothing.

@@ -47,12 +47,16 @@ pub record Annex (P : Type 0) : Type 0 where
 
 -- id { "," id } ":" reference [ properties ] ";"
 abbrev pub variable_parts : {P : Type 0} → VariableDeclaration P → List (Part P)
-variable_parts x = identifiers_parts x.names ++ (plain k.Colon ∷ (reference_parts x.data_type ++ (properties_parts x.properties ++ plain k.Semicolon ∷ [])))
+variable_parts x =
+    identifiers_parts x.names
+    ++ (plain k.Colon ∷ (reference_parts x.data_type ++ (properties_parts x.properties ++ plain k.Semicolon ∷ [])))
 
 -- id { "," id } ":" [ "initial" ] [ "complete" ] "state" ";"
 abbrev pub state_parts : {P : Type 0} → StateDeclaration P → List (Part P)
 state_parts x =
-    identifiers_parts x.names ++ (plain k.Colon ∷ (marked_if k.Initial x.initial ++ (marked_if k.Complete x.complete ++ (plain k.State ∷ (plain k.Semicolon ∷ [])))))
+    identifiers_parts x.names
+    ++ (plain k.Colon ∷ (marked_if k.Initial x.initial
+    ++ (marked_if k.Complete x.complete ++ (plain k.State ∷ (plain k.Semicolon ∷ [])))))
 
 abbrev pub guard_parts : {P : Type 0} → Guard P → List (Part P)
 guard_parts dispatch = plain k.On ∷ (plain k.Dispatch ∷ [])
@@ -66,7 +70,8 @@ label_parts x = identifier_parts x ++ plain k.Colon ∷ []
 -- [ id ":" ] id "-[" [ guard ] "]->" id [ block ] ";"
 abbrev pub transition_parts : {P : Type 0} → Transition P → List (Part P)
 transition_parts x =
-    parts_if label_parts x.label ++ (identifier_parts x.source ++ (plain k.GuardOpen ∷ (parts_if guard_parts x.guard ++ (plain k.GuardClose
+    parts_if label_parts x.label
+    ++ (identifier_parts x.source ++ (plain k.GuardOpen ∷ (parts_if guard_parts x.guard ++ (plain k.GuardClose
     ∷ (identifier_parts x.target ++ (parts_if block_parts x.effect ++ plain k.Semicolon ∷ []))))))
 
 -- a word of the annex, and what is declared behind it
@@ -77,7 +82,8 @@ declared_parts m parts xs = plain m ∷ flat_map parts xs
 abbrev pub annex_tree_parts : {P : Type 0} → AnnexTree P → List (Part P)
 annex_tree_parts x =
     parts_if (declared_parts k.Variables variable_parts) x.variables
-    ++ (parts_if (declared_parts k.States state_parts) x.states ++ parts_if (declared_parts k.Transitions transition_parts) x.transitions)
+    ++ (parts_if (declared_parts k.States state_parts) x.states
+    ++ parts_if (declared_parts k.Transitions transition_parts) x.transitions)
 
 abbrev pub content_parts : {P : Type 0} → AnnexContent P → List (Part P)
 content_parts (foreign bytes) = token (unread bytes) [] ∷ []
@@ -85,4 +91,6 @@ content_parts (behaviour x) = plain k.AnnexOpen ∷ (annex_tree_parts x ++ plain
 
 -- "annex" id ( unread | "{**" behaviour "**}" ) ";"
 abbrev pub annex_parts : {P : Type 0} → Annex P → List (Part P)
-annex_parts x = token (mark k.Annex) (x.at ∷ []) ∷ (identifier_parts x.language ++ (content_parts x.content ++ plain k.Semicolon ∷ []))
+annex_parts x =
+    token (mark k.Annex) (x.at ∷ [])
+    ∷ (identifier_parts x.language ++ (content_parts x.content ++ plain k.Semicolon ∷ []))

@@ -94,7 +94,9 @@ feature_parts x =
 -- id ":" category reference [ properties ] ";"
 abbrev pub subcomponent_parts : {P : Type 0} → Subcomponent P → List (Part P)
 subcomponent_parts x =
-    identifier_parts x.name ++ (plain k.Colon ∷ (plain (category_mark x.category) ∷ (reference_parts x.classifier ++ (properties_parts x.properties ++ plain k.Semicolon ∷ []))))
+    identifier_parts x.name ++ (plain k.Colon
+    ∷ (plain (category_mark x.category)
+    ∷ (reference_parts x.classifier ++ (properties_parts x.properties ++ plain k.Semicolon ∷ []))))
 
 -- id [ "." id ]
 abbrev pub end_parts : {P : Type 0} → ConnectionEnd P → List (Part P)
@@ -103,7 +105,9 @@ end_parts x = identifier_parts x.first ++ parts_if (behind k.Dot identifier_part
 -- id ":" "port" end "->" end [ properties ] ";"
 abbrev pub connection_parts : {P : Type 0} → Connection P → List (Part P)
 connection_parts x =
-    identifier_parts x.name ++ (plain k.Colon ∷ (plain k.Port ∷ (end_parts x.source ++ (plain k.Arrow ∷ (end_parts x.target ++ (properties_parts x.properties ++ plain k.Semicolon ∷ []))))))
+    identifier_parts x.name ++ (plain k.Colon
+    ∷ (plain k.Port ∷ (end_parts x.source
+    ++ (plain k.Arrow ∷ (end_parts x.target ++ (properties_parts x.properties ++ plain k.Semicolon ∷ []))))))
 
 -- "end" id ";"
 abbrev pub ending_parts : {P : Type 0} → List (Part P) → List (Part P)
@@ -112,8 +116,10 @@ ending_parts name = plain k.End ∷ (name ++ plain k.Semicolon ∷ [])
 -- category id [ features ] [ properties ] { annex } "end" id ";"
 abbrev pub type_parts : {P : Type 0} → TypeDeclaration P → List (Part P)
 type_parts x =
-    token (mark (category_mark x.category)) (x.at ∷ []) ∷ (identifier_parts x.name ++ (section_parts feature_section (flat_map feature_parts x.features)
-    ++ (section_parts property_section (associations_parts x.properties) ++ (flat_map annex_parts x.annexes ++ ending_parts (identifier_parts x.end_name)))))
+    token (mark (category_mark x.category)) (x.at ∷ [])
+    ∷ (identifier_parts x.name ++ (section_parts feature_section (flat_map feature_parts x.features)
+    ++ (section_parts property_section (associations_parts x.properties)
+    ++ (flat_map annex_parts x.annexes ++ ending_parts (identifier_parts x.end_name)))))
 
 -- id "." id
 abbrev pub implementation_name_parts : {P : Type 0} → ImplementationName P → List (Part P)
@@ -123,8 +129,10 @@ implementation_name_parts x = identifier_parts x.component_type ++ (plain k.Dot 
 abbrev pub implementation_parts : {P : Type 0} → Implementation P → List (Part P)
 implementation_parts x =
     token (mark (category_mark x.category)) (x.at ∷ []) ∷ (plain k.Implementation ∷ (implementation_name_parts x.name
-    ++ (section_parts subcomponent_section (flat_map subcomponent_parts x.subcomponents) ++ (section_parts connection_section (flat_map connection_parts x.connections)
-    ++ (section_parts property_section (associations_parts x.properties) ++ (flat_map annex_parts x.annexes ++ ending_parts (implementation_name_parts x.end_name)))))))
+    ++ (section_parts subcomponent_section (flat_map subcomponent_parts x.subcomponents)
+    ++ (section_parts connection_section (flat_map connection_parts x.connections)
+    ++ (section_parts property_section (associations_parts x.properties)
+    ++ (flat_map annex_parts x.annexes ++ ending_parts (implementation_name_parts x.end_name)))))))
 
 abbrev pub declaration_parts : {P : Type 0} → Declaration P → List (Part P)
 declaration_parts (type x) = type_parts x
@@ -137,4 +145,6 @@ with_parts x = plain k.With ∷ (chained k.Comma name_parts x.first x.rest ++ pl
 -- "package" name "public" { with } { declaration } "end" name ";"
 abbrev pub package_parts : {P : Type 0} → PackageTree P → List (Part P)
 package_parts x =
-    plain k.Package ∷ (name_parts x.name ++ (plain k.Public ∷ (flat_map with_parts x.withs ++ (flat_map declaration_parts x.declarations ++ ending_parts (name_parts x.end_name)))))
+    plain k.Package ∷ (name_parts x.name
+    ++ (plain k.Public ∷ (flat_map with_parts x.withs
+    ++ (flat_map declaration_parts x.declarations ++ ending_parts (name_parts x.end_name)))))

@@ -59,7 +59,8 @@ pub record Spot : Type 0 where
 -- the terminals of tokens in their places, from inside or outside on
 abbrev pub spots_from : Bool → List ℕ → List Token → List Spot
 spots_from inside text [] = []
-spots_from inside text (t ∷ ts) = record { kind = kind_of inside text t; at = t.start } ∷ spots_from (inside_behind inside t.kind) text ts
+spots_from inside text (t ∷ ts) =
+    record { kind = kind_of inside text t; at = t.start } ∷ spots_from (inside_behind inside t.kind) text ts
 
 -- the terminals of a whole text
 abbrev pub spots : List ℕ → List Token → List Spot

@@ -47,7 +47,9 @@ qualifier_parts x = identifier_parts x ++ plain k.Scope ∷ []
 
 -- { id "::" } id [ "." id ]
 abbrev pub reference_parts : {P : Type 0} → Reference P → List (Part P)
-reference_parts x = flat_map qualifier_parts x.qualifiers ++ (identifier_parts x.type_name ++ parts_if (behind k.Dot identifier_parts) x.implementation)
+reference_parts x =
+    flat_map qualifier_parts x.qualifiers
+    ++ (identifier_parts x.type_name ++ parts_if (behind k.Dot identifier_parts) x.implementation)
 
 -- names are compared without regard to case
 abbrev pub same_name : List ℕ → List ℕ → Bool

@@ -59,7 +59,8 @@ chained m parts first rest = parts first ++ flat_map (behind m parts) rest
 abbrev pub Spells : {P : Type 0} → List (Part P) → List Kind → List Kind → Type 0
 Spells [] ks rest = ks ≡ rest
 Spells (token kind places ∷ ps) ks rest = (more : List Kind) × (ks ≡ kind ∷ more) × Spells ps more rest
-Spells (may extra ∷ ps) ks rest = Spells ps ks rest ⊎ ((more : List Kind) × (ks ≡ extra_kinds extra ++ more) × Spells ps more rest)
+Spells (may extra ∷ ps) ks rest =
+    Spells ps ks rest ⊎ ((more : List Kind) × (ks ≡ extra_kinds extra ++ more) × Spells ps more rest)
 
 -- each of the places is this one
 abbrev pub AreAt : List ℕ → ℕ → Type 0
@@ -69,13 +70,16 @@ AreAt (p ∷ ps) at = (p ≡ at) × AreAt ps at
 -- the terminals without their places are these
 abbrev pub HaveKinds : List Kind → List Spot → List Spot → Type 0
 HaveKinds [] ss rest = ss ≡ rest
-HaveKinds (kind ∷ ks) ss rest = (s : Spot) × (more : List Spot) × (ss ≡ s ∷ more) × (s.kind ≡ kind) × HaveKinds ks more rest
+HaveKinds (kind ∷ ks) ss rest =
+    (s : Spot) × (more : List Spot) × (ss ≡ s ∷ more) × (s.kind ≡ kind) × HaveKinds ks more rest
 
 -- The terminals up to the rest spell the parts, and stand in their places.
 abbrev pub Written : List (Part ℕ) → List Spot → List Spot → Type 0
 Written [] ss rest = ss ≡ rest
-Written (token kind places ∷ ps) ss rest = (s : Spot) × (more : List Spot) × (ss ≡ s ∷ more) × (s.kind ≡ kind) × AreAt places s.at × Written ps more rest
-Written (may extra ∷ ps) ss rest = Written ps ss rest ⊎ ((more : List Spot) × HaveKinds (extra_kinds extra) ss more × Written ps more rest)
+Written (token kind places ∷ ps) ss rest =
+    (s : Spot) × (more : List Spot) × (ss ≡ s ∷ more) × (s.kind ≡ kind) × AreAt places s.at × Written ps more rest
+Written (may extra ∷ ps) ss rest =
+    Written ps ss rest ⊎ ((more : List Spot) × HaveKinds (extra_kinds extra) ss more × Written ps more rest)
 
 -- the terminals of the canonical text: all but those that mean nothing
 abbrev pub kept : {P : Type 0} → List (Part P) → List Kind

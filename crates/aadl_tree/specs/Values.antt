@@ -95,7 +95,8 @@ abbrev mutual
   -- name ( "=>" | "+=>" ) [ "constant" ] value [ applies ] ";"
   pub association_parts : {P : Type 0} → Association P → List (Part P)
   association_parts (association name operator constant v paths) =
-      name_parts name ++ (plain (association_mark operator) ∷ (marked_if k.Constant constant ++ (value_parts v ++ (applies_parts paths ++ plain k.Semicolon ∷ []))))
+      name_parts name ++ (plain (association_mark operator)
+      ∷ (marked_if k.Constant constant ++ (value_parts v ++ (applies_parts paths ++ plain k.Semicolon ∷ []))))
 
   pub associations_parts : {P : Type 0} → Associations P → List (Part P)
   associations_parts no_associations = []

@@ -37,16 +37,20 @@ of_site a o e = ap (is_site a) e ∙ itself a
 
 -- ---- one more number in a table
 pub number-added : (table new : List (PortPlace × ℕ)) (target : PortPlace) (n : ℕ) → new ≡ table ++ (target, n) ∷ []
-    → (other : PortPlace) → number_of new other ≡ option_or (number_of table other) (cond (is_site other (Some target)) (Some n) None)
-number-added table new target n more other = ap (λ t. number_of t other) more ∙ lookup-push (same_site other) table (target, n)
+    → (other : PortPlace) → number_of new other
+    ≡ option_or (number_of table other) (cond (is_site other (Some target)) (Some n) None)
+number-added table new target n more other =
+    ap (λ t. number_of t other) more ∙ lookup-push (same_site other) table (target, n)
 
-kept_by : (a : Option ℕ) (b : Bool) (n : ℕ) → (b ≡ true → (m : ℕ) × (a ≡ Some m)) → a ≡ option_or a (cond b (Some n) None)
+kept_by : (a : Option ℕ) (b : Bool) (n : ℕ) → (b ≡ true → (m : ℕ) × (a ≡ Some m))
+    → a ≡ option_or a (cond b (Some n) None)
 kept_by (Some m) b n h = refl
 kept_by None true n h = let e = (h refl).1 in absurd (cc e)
 kept_by None false n h = refl
 
 pub number-kept : (table : List (PortPlace × ℕ)) (target : PortPlace) (n m : ℕ) → number_of table target ≡ Some m
-    → (other : PortPlace) → number_of table other ≡ option_or (number_of table other) (cond (is_site other (Some target)) (Some n) None)
+    → (other : PortPlace) → number_of table other
+    ≡ option_or (number_of table other) (cond (is_site other (Some target)) (Some n) None)
 number-kept table target n m there other = kept_by (number_of table other) (same_site other target) n
     (λ s. (m, ap (number_of table) (same_site-true other target s) ∙ there))
 
@@ -55,16 +59,21 @@ none_more None = refl
 none_more (Some n) = refl
 
 -- ---- the loop over connections
-or_assoc : (o : Option ℕ) (b : Bool) (n : ℕ) (more : Option ℕ) → option_or (option_or o (cond b (Some n) None)) more ≡ option_or o (cond b (Some n) more)
+or_assoc : (o : Option ℕ) (b : Bool) (n : ℕ) (more : Option ℕ)
+    → option_or (option_or o (cond b (Some n) None)) more ≡ option_or o (cond b (Some n) more)
 or_assoc None true n more = refl
 or_assoc None false n more = refl
 or_assoc (Some m) b n more = refl
 
-left_at : (wires : List Wire) (i : ℕ) (other : Wire) → i < length wires → drop i wires ≡ get_or wires i other ∷ drop (i + 1) wires
-left_at wires i other within = drop-cons wires i other within ∙ ap (λ n. get_or wires i other ∷ drop n wires) (sym (add-one i))
+left_at : (wires : List Wire) (i : ℕ) (other : Wire) → i < length wires
+    → drop i wires ≡ get_or wires i other ∷ drop (i + 1) wires
+left_at wires i other within =
+    drop-cons wires i other within ∙ ap (λ n. get_or wires i other ∷ drop n wires) (sym (add-one i))
 
-pub next_first : (wires : List Wire) (i : ℕ) (other : Wire) (old new whole : Option ℕ) (test : Wire → Bool) → i < length wires
-    → new ≡ option_or old (cond (test (get_or wires i other)) (Some i) None) → option_or old (position_from test i (drop i wires)) ≡ whole
+pub next_first : (wires : List Wire) (i : ℕ) (other : Wire) (old new whole : Option ℕ) (test : Wire → Bool)
+    → i < length wires
+    → new ≡ option_or old (cond (test (get_or wires i other)) (Some i) None)
+    → option_or old (position_from test i (drop i wires)) ≡ whole
     → option_or new (position_from test (i + 1) (drop (i + 1) wires)) ≡ whole
 next_first wires i other old new whole test within more so_far =
     ap (λ (o : Option ℕ). option_or o (position_from test (i + 1) (drop (i + 1) wires))) more
@@ -89,16 +98,22 @@ pub record FirstAt (wires : List Wire) (target : PortPlace) (k n : ℕ) : Type 0
 first_by : (w : Wire) (ws : List Wire) (target : PortPlace) (k n : ℕ) (b : Bool) → is_site target w.target ≡ b
     → (position_from (λ x. is_site target x.target) (k + 1) ws ≡ Some n → FirstAt ws target (k + 1) n)
     → cond b (Some k) (position_from (λ x. is_site target x.target) (k + 1) ws) ≡ Some n → FirstAt (w ∷ ws) target k n
-first_by w ws target k n true e rest f = let s = same_Some k n f in record { index = 0; is = omega arith; passes = is_site-true target w.target e }
-first_by w ws target k n false e rest f = let r = rest f in let s = r.is in record { index = suc r.index; is = omega arith; passes = r.passes }
+first_by w ws target k n true e rest f = let s = same_Some k n f in
+    record { index = 0; is = omega arith; passes = is_site-true target w.target e }
+first_by w ws target k n false e rest f = let r = rest f in let s = r.is in
+    record { index = suc r.index; is = omega arith; passes = r.passes }
 
-first_at : (ws : List Wire) (target : PortPlace) (k n : ℕ) → position_from (λ x. is_site target x.target) k ws ≡ Some n → FirstAt ws target k n
+first_at : (ws : List Wire) (target : PortPlace) (k n : ℕ) → position_from (λ x. is_site target x.target) k ws ≡ Some n
+    → FirstAt ws target k n
 first_at [] target k n e = absurd (none-some n e)
-first_at (w ∷ ws) target k n e = first_by w ws target k n (is_site target w.target) refl (first_at ws target (k + 1) n) e
+first_at (w ∷ ws) target k n e =
+    first_by w ws target k n (is_site target w.target) refl (first_at ws target (k + 1) n) e
 
 -- where one passes, the first stands there or before it
-before_by : (w : Wire) (ws : List Wire) (target : PortPlace) (k j : ℕ) (b : Bool) → is_site target w.target ≡ b → target_in (w ∷ ws) j ≡ Some target
-    → ((i : ℕ) → target_in ws i ≡ Some target → (n : ℕ) × (position_from (λ x. is_site target x.target) (k + 1) ws ≡ Some n) × (n ≤ k + 1 + i))
+before_by : (w : Wire) (ws : List Wire) (target : PortPlace) (k j : ℕ) (b : Bool) → is_site target w.target ≡ b
+    → target_in (w ∷ ws) j ≡ Some target
+    → ((i : ℕ) → target_in ws i ≡ Some target
+    → (n : ℕ) × (position_from (λ x. is_site target x.target) (k + 1) ws ≡ Some n) × (n ≤ k + 1 + i))
     → (n : ℕ) × (cond b (Some k) (position_from (λ x. is_site target x.target) (k + 1) ws) ≡ Some n) × (n ≤ k + j)
 before_by w ws target k j true e h rest = (k, refl, omega arith)
 before_by w ws target k zero false e h rest = absurd (true≢false (sym (of_site target w.target h) ∙ e))
@@ -111,11 +126,13 @@ none_past (suc j) target h = none-some target h
 first_before : (ws : List Wire) (target : PortPlace) (k j : ℕ) → target_in ws j ≡ Some target
     → (n : ℕ) × (position_from (λ x. is_site target x.target) k ws ≡ Some n) × (n ≤ k + j)
 first_before [] target k j h = absurd (none_past j target h)
-first_before (w ∷ ws) target k j h = before_by w ws target k j (is_site target w.target) refl h (λ i g. first_before ws target (k + 1) i g)
+first_before (w ∷ ws) target k j h =
+    before_by w ws target k j (is_site target w.target) refl h (λ i g. first_before ws target (k + 1) i g)
 
 -- ---- second ones
 
-second_to : (wires : List Wire) (number : ℕ) (target : PortPlace) → target_in wires number ≡ Some target → (o : Option ℕ) → first_into wires target ≡ o
+second_to : (wires : List Wire) (number : ℕ) (target : PortPlace) → target_in wires number ≡ Some target
+    → (o : Option ℕ) → first_into wires target ≡ o
     → is_before o number ≡ true → IsSecond wires number
 second_to wires number target h None e t = absurd (true≢false (sym t))
 second_to wires number target h (Some n) e t =
@@ -124,7 +141,8 @@ second_to wires number target h (Some n) e t =
     let is = f.is in
     record { first = f.index; target = target; in_order = omega arith; earlier = f.passes; here = h }
 
-pub second_from : (wires : List Wire) (number : ℕ) (target : PortPlace) → target_in wires number ≡ Some target → IsSecond wires number
+pub second_from : (wires : List Wire) (number : ℕ) (target : PortPlace) → target_in wires number ≡ Some target
+    → IsSecond wires number
     → is_before (first_into wires target) number ≡ true
 second_from wires number target h s =
     let same : s.target ≡ target = same_Some s.target target (sym s.here ∙ h) in
@@ -133,10 +151,13 @@ second_from wires number target h s =
     let less = s.in_order in
     ap (λ o. is_before o number) r.1 ∙ lt-ltb r.0 number (omega arith)
 
-pub is_second-tells : (wires : List Wire) (number : ℕ) (target : PortPlace) (b : Bool) → target_in wires number ≡ Some target
+pub is_second-tells : (wires : List Wire) (number : ℕ) (target : PortPlace) (b : Bool)
+    → target_in wires number ≡ Some target
     → b ≡ is_before (first_into wires target) number → IsTrue b ↔ IsSecond wires number
-is_second-tells wires number target b h is =
-    (λ t. second_to wires number target h (first_into wires target) refl (sym is ∙ t), λ s. is ∙ second_from wires number target h s)
+is_second-tells wires number target b h is = (
+  λ t. second_to wires number target h (first_into wires target) refl (sym is ∙ t),
+  λ s. is ∙ second_from wires number target h s,
+)
 
 pub no_second : (wires : List Wire) (number : ℕ) → target_in wires number ≡ None → IsTrue false ↔ IsSecond wires number
 no_second wires number h = (λ t. absurd (true≢false (sym t)), λ s. absurd (none-some s.target (sym h ∙ s.here)))

@@ -18,7 +18,8 @@ name_at (Some sub) = sub.name.spelling ∷ []
 
 abbrev pub names_along : PackageTree ℕ → ℕ → List ℕ → List (List ℕ)
 names_along tree root [] = []
-names_along tree root (s ∷ path) = name_at (option_and_then (λ n. sub_at tree n s) (standing tree root path)) ++ names_along tree root path
+names_along tree root (s ∷ path) =
+    name_at (option_and_then (λ n. sub_at tree n s) (standing tree root path)) ++ names_along tree root path
 
 abbrev pub dotted_names : List (List ℕ) → List ℕ
 dotted_names [] = []

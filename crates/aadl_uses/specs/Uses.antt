@@ -33,4 +33,5 @@ pub record ClosesCycle (tree : PackageTree ℕ) (sub : Subcomponent ℕ) : Type 
   pub returns : standing tree within (path ++ number ∷ []) ≡ Some within
 
 abbrev pub IsRecursive : PackageTree ℕ → PackageFault → Type 0
-IsRecursive tree fault = (sub : Subcomponent ℕ) × ClosesCycle tree sub × (fault ≡ Recursive sub.name.spelling sub.name.at)
+IsRecursive tree fault =
+    (sub : Subcomponent ℕ) × ClosesCycle tree sub × (fault ≡ Recursive sub.name.spelling sub.name.at)

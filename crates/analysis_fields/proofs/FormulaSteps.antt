@@ -12,7 +12,8 @@ shallow_at zero d above = absurd (omega arith)
 shallow_at (suc n) d above = ap (λ k. list_all (is_shallow k) (parts_of d)) (omega arith)
 
 -- the parts of a value, one level lower
-pub shallow_by : (n : ℕ) (d : Data) (parts : List Value) → 0 < n → map view parts ≡ parts_of d → list_all (is_shallow (n - 1)) (map view parts) ≡ is_shallow n d
+pub shallow_by : (n : ℕ) (d : Data) (parts : List Value) → 0 < n → map view parts ≡ parts_of d
+    → list_all (is_shallow (n - 1)) (map view parts) ≡ is_shallow n d
 shallow_by n d parts above same = ap (list_all (is_shallow (n - 1))) same ∙ shallow_at n d above
 
 never_shallow : (d : Data) → false ≡ is_shallow 0 d

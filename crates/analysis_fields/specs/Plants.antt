@@ -45,7 +45,8 @@ is_between p link =
 
 -- two components of one rate
 abbrev pub are_equals : DesignParts → Pair → Bool
-are_equals design p = nat_eq (rate_of design p.plant.0) (rate_of design p.controller.0) && not (nat_eq p.plant.0 p.controller.0)
+are_equals design p =
+    nat_eq (rate_of design p.plant.0) (rate_of design p.controller.0) && not (nat_eq p.plant.0 p.controller.0)
 
 -- no entry but its own names one of these components
 abbrev pub is_alone : List NamedPair → Pair → Bool

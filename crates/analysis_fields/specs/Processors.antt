@@ -30,7 +30,8 @@ with_members design place number owners ds = through (with_member design place n
 
 -- the components of a processor, in rising order
 abbrev pub nodes_of : List ℕ → ℕ → List NodeNo
-nodes_of owners number = map (λ numbered. node_no numbered.0) (filter (λ numbered. nat_eq numbered.1 number) (enumerate_from 0 owners))
+nodes_of owners number =
+    map (λ numbered. node_no numbered.0) (filter (λ numbered. nat_eq numbered.1 number) (enumerate_from 0 owners))
 
 abbrev pub is_text : Data → Bool
 is_text d = is_some (as_str d)
@@ -39,8 +40,10 @@ is_text d = is_some (as_str d)
 unfoldable pub processor_parts : List ℕ → Data → Result (Data × List Data) ScenarioFault
 processor_parts place d =
     entries place d >>= λ es. only_if (nat_eq (length es) 2) (WrongKind place)
-    (given (WrongKind place) (get (codes "nanos") d) >>= λ nanos. given (WrongKind place) (get (codes "components") d) >>= λ components.
-    elements place components >>= λ ds. only_if (is_whole nanos && list_all is_text ds) (WrongKind place) (Ok (nanos, ds)))
+    (given (WrongKind place) (get (codes "nanos") d) >>= λ nanos.
+    given (WrongKind place) (get (codes "components") d) >>= λ components.
+    elements place components >>= λ ds.
+    only_if (is_whole nanos && list_all is_text ds) (WrongKind place) (Ok (nanos, ds)))
 
 -- the processor of a number, and the owners with its components
 unfoldable pub processor_in : DesignParts → List ℕ → ℕ → List ℕ × Data → Result (List ℕ × Processor) ScenarioFault
@@ -52,8 +55,10 @@ processor_in design owners number entry =
     Ok (placed, record { name = entry.0; nanos = nanos; components = nodes_of placed number })))
 
 -- one more processor
-abbrev pub with_processor : DesignParts → List ℕ × List Processor → List ℕ × Data → Result (List ℕ × List Processor) ScenarioFault
-with_processor design before entry = processor_in design before.0 (length before.1 + 1) entry >>= λ p. Ok (p.0, before.1 ++ p.1 ∷ [])
+abbrev pub with_processor : DesignParts → List ℕ × List Processor → List ℕ × Data
+    → Result (List ℕ × List Processor) ScenarioFault
+with_processor design before entry =
+    processor_in design before.0 (length before.1 + 1) entry >>= λ p. Ok (p.0, before.1 ++ p.1 ∷ [])
 
 -- no component is left without a processor
 abbrev pub all_placed : DesignParts → List Processor → Option ℕ → Result (List Processor) ScenarioFault

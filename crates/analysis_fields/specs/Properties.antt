@@ -25,8 +25,10 @@ use Rattle.analysis_fields.specs.declared.formulas.FormulaWord.TheVariants as ro
 abbrev pub role_of : List ℕ → Option FormulaWord
 role_of word =
     if bytes_eq word (codes "var") then Some role.Var else if bytes_eq word (codes "halted") then Some role.Halted
-    else if bytes_eq word (codes "not") then Some role.Not else if bytes_eq word (codes "previous") then Some role.Previous
-    else if bytes_eq word (codes "once") then Some role.Once else if bytes_eq word (codes "historically") then Some role.Historically
+    else if bytes_eq word (codes "not") then Some role.Not else if bytes_eq word (codes "previous") then Some
+    role.Previous
+    else if bytes_eq word (codes "once") then Some role.Once else if bytes_eq word (codes "historically") then Some
+    role.Historically
     else if bytes_eq word (codes "and") then Some role.And else if bytes_eq word (codes "or") then Some role.Or
     else if bytes_eq word (codes "since") then Some role.Since else None
 
@@ -79,11 +81,13 @@ vars_in (Some c) = c.behaviour.vars
 
 unfoldable pub variable_at : List ℕ → DesignParts → ℕ → List ℕ → Result ℕ ScenarioFault
 variable_at place design node name =
-    given (Unknown place) (position (λ (v : VarDecl). bytes_eq name v.name) (vars_in (slice_get design.components node)))
+    given (Unknown place) (position (λ (v : VarDecl). bytes_eq name v.name)
+    (vars_in (slice_get design.components node)))
 
 unfoldable pub var_form : DesignParts → List ℕ → List Data → Result Formula ScenarioFault
 var_form design place (path ∷ name ∷ op ∷ value ∷ []) =
-    text place path >>= λ p. text place name >>= λ n. given (WrongKind place) (option_and_then compare_of (as_str op)) >>= λ compare.
+    text place path >>= λ p. text place name >>= λ n.
+    given (WrongKind place) (option_and_then compare_of (as_str op)) >>= λ compare.
     only_if (is_whole value) (WrongKind place)
     (node_at place design p >>= λ node. variable_at place design node n >>= λ variable. number place value >>= λ z.
     Ok (Var node variable compare z))
@@ -105,16 +109,19 @@ of_two role.Or f g = Or f g
 of_two role.Since f g = Since f g
 of_two r f g = And f g
 
-abbrev pub one_part : (Data → Result Formula ScenarioFault) → List ℕ → FormulaWord → List Data → Result Formula ScenarioFault
+abbrev pub one_part : (Data → Result Formula ScenarioFault) → List ℕ → FormulaWord → List Data
+    → Result Formula ScenarioFault
 one_part read place r (d ∷ []) = read d >>= λ f. Ok (of_one r f)
 one_part read place r ds = Err (WrongKind place)
 
-abbrev pub two_parts : (Data → Result Formula ScenarioFault) → List ℕ → FormulaWord → List Data → Result Formula ScenarioFault
+abbrev pub two_parts : (Data → Result Formula ScenarioFault) → List ℕ → FormulaWord → List Data
+    → Result Formula ScenarioFault
 two_parts read place r (d ∷ e ∷ []) = read d >>= λ f. read e >>= λ g. Ok (of_two r f g)
 two_parts read place r ds = Err (WrongKind place)
 
 -- the formula of a word and of what follows it
-abbrev pub form_of : (Data → Result Formula ScenarioFault) → DesignParts → List ℕ → FormulaWord → List Data → Result Formula ScenarioFault
+abbrev pub form_of : (Data → Result Formula ScenarioFault) → DesignParts → List ℕ → FormulaWord → List Data
+    → Result Formula ScenarioFault
 form_of read design place role.Var ds = var_form design place ds
 form_of read design place role.Halted ds = halted_form design place ds
 form_of read design place role.And ds = two_parts read place role.And ds
@@ -126,7 +133,8 @@ form_of read design place r ds = one_part read place r ds
 unfoldable pub formula_in : ℕ → DesignParts → List ℕ → Data → Result Formula ScenarioFault
 formula_in zero design place d = Err (OutOfRange place)
 formula_in (suc n) design place d =
-    elements place d >>= λ ds. given (WrongKind place) (role_in ds) >>= λ r. form_of (formula_in n design place) design place r (rest_of ds)
+    elements place d >>= λ ds. given (WrongKind place) (role_in ds) >>= λ r.
+    form_of (formula_in n design place) design place r (rest_of ds)
 
 -- ---- properties
 -- the size of a property is looked at before all else
@@ -136,7 +144,8 @@ is_small d = is_shallow LEVELS d && nat_le (forms_in LEVELS d) FORMS
 unfoldable pub property_in : DesignParts → List ℕ × Data → Result PropertyValue ScenarioFault
 property_in design entry =
     let place = inside (codes "properties") entry.0 in
-    only_if (is_small entry.1) (OutOfRange place) (formula_in LEVELS design place entry.1 >>= λ f. Ok (record { name = entry.0; form = f }))
+    only_if (is_small entry.1) (OutOfRange place)
+    (formula_in LEVELS design place entry.1 >>= λ f. Ok (record { name = entry.0; form = f }))
 
 abbrev pub with_property : DesignParts → List PropertyValue → List ℕ × Data → Result (List PropertyValue) ScenarioFault
 with_property design properties entry = property_in design entry >>= λ p. Ok (properties ++ p ∷ [])
@@ -147,4 +156,5 @@ are_named es = nat_le 1 (length es) && nat_le (length es) PROPERTIES && list_all
 
 unfoldable pub properties_in : DesignParts → Data → Result (List PropertyValue) ScenarioFault
 properties_in design d =
-    entries (codes "properties") d >>= λ es. only_if (are_named es) (OutOfRange (codes "properties")) (through (with_property design) [] es)
+    entries (codes "properties") d >>= λ es.
+    only_if (are_named es) (OutOfRange (codes "properties")) (through (with_property design) [] es)

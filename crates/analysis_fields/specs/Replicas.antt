@@ -77,26 +77,41 @@ replica_at design replicas place path =
 -- a link that goes out from a component
 unfoldable pub link_from : DesignParts → List ℕ → NodeNo → List ℕ → Result LinkNo ScenarioFault
 link_from design place source name =
-    link_at place design name >>= λ link. only_if (nat_eq (source_in (slice_get design.links link)) source.0) (Unknown place) (Ok (link_no link))
+    link_at place design name >>= λ link.
+    only_if (nat_eq (source_in (slice_get design.links link)) source.0) (Unknown place) (Ok (link_no link))
 
 -- the replica that sends, and the link on which it sends
 unfoldable pub ends_of : DesignParts → List NodeNo → List ℕ → List ℕ → List ℕ → Data → Result FaultEnds ScenarioFault
 ends_of design replicas place path name replica =
-    replica_at design replicas place path >>= λ source. whole place 1 REPLICAS replica >>= λ r. link_from design place source name >>= λ link.
+    replica_at design replicas place path >>= λ source. whole place 1 REPLICAS replica >>= λ r.
+    link_from design place source name >>= λ link.
     Ok (record { source = source; replica = r; link = link })
 
 -- the replica of the target, the round and the values, behind the ends
-unfoldable pub fault_behind : DesignParts → List NodeNo → List ℕ → FaultEnds → Data → Data → List Data → Result RoundFault ScenarioFault
+unfoldable pub fault_behind : DesignParts → List NodeNo → List ℕ → FaultEnds → Data → Data → List Data
+    → Result RoundFault ScenarioFault
 fault_behind design replicas place ends target round values =
     whole place 1 (copies_at design replicas ends.link.0) target >>= λ t. whole place 0 ROUNDS round >>= λ n.
     only_if (nat_eq (length values) (rate_of design ends.source.0)) (OutOfRange place)
     (fault_values (kind_at design ends.link.0) place values >>= λ tuple.
-    Ok (record { round = n; fault = record { source = ends.source; replica = ends.replica; link = ends.link; target_replica = t; values = tuple } }))
+    Ok (record {
+      round = n;
+      fault =
+          record {
+            source = ends.source;
+            replica = ends.replica;
+            link = ends.link;
+            target_replica = t;
+            values = tuple;
+          };
+    }))
 
 -- a fault whose parts have the kinds that they should
-unfoldable pub fault_of : DesignParts → List NodeNo → List ℕ → List ℕ → List ℕ → Data → Data → Data → List Data → Result RoundFault ScenarioFault
+unfoldable pub fault_of : DesignParts → List NodeNo → List ℕ → List ℕ → List ℕ → Data → Data → Data → List Data
+    → Result RoundFault ScenarioFault
 fault_of design replicas place path name replica target round values =
-    ends_of design replicas place path name replica >>= λ ends. fault_behind design replicas place ends target round values
+    ends_of design replicas place path name replica >>= λ ends.
+    fault_behind design replicas place ends target round values
 
 -- the form of a fault is looked at first
 unfoldable pub fault_from : DesignParts → List NodeNo → List ℕ → List Data → Result RoundFault ScenarioFault
@@ -111,7 +126,13 @@ fault_in design replicas place d = elements place d >>= λ ds. fault_from design
 
 -- where a fault stands
 abbrev pub place_of : RoundFault → FaultPlace
-place_of f = record { round = f.round; replica = f.fault.replica; link = f.fault.link.0; target_replica = f.fault.target_replica }
+place_of f =
+    record {
+      round = f.round;
+      replica = f.fault.replica;
+      link = f.fault.link.0;
+      target_replica = f.fault.target_replica;
+    }
 
 -- the same replica, link, replica of the target, and round
 abbrev pub is_same_place : RoundFault → RoundFault → Bool

@@ -363,8 +363,22 @@ pub fn formula_in(
         FormulaWord::Or => two_parts(alloc, names, place, FormulaWord::Or, levels - 1, parts),
         FormulaWord::Since => two_parts(alloc, names, place, FormulaWord::Since, levels - 1, parts),
         FormulaWord::Not => one_part(alloc, names, place, FormulaWord::Not, levels - 1, parts),
-        FormulaWord::Previous => one_part(alloc, names, place, FormulaWord::Previous, levels - 1, parts),
+        FormulaWord::Previous => one_part(
+            alloc,
+            names,
+            place,
+            FormulaWord::Previous,
+            levels - 1,
+            parts,
+        ),
         FormulaWord::Once => one_part(alloc, names, place, FormulaWord::Once, levels - 1, parts),
-        FormulaWord::Historically => one_part(alloc, names, place, FormulaWord::Historically, levels - 1, parts),
+        FormulaWord::Historically => one_part(
+            alloc,
+            names,
+            place,
+            FormulaWord::Historically,
+            levels - 1,
+            parts,
+        ),
     }
 }

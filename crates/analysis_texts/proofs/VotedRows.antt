@@ -30,7 +30,8 @@ pub copies_few : (replicated : List Bool) (node : ℕ) → copies_of replicated 
 copies_few replicated node = few_of (is_replicated replicated node)
 
 -- ---- a row from its parts
-pub row_of_parts : (design : DesignParts) (replicated : List Bool) (frame : ℕ → ℕ → Frame) (shown : Tap → List PortValue)
+pub row_of_parts : (design : DesignParts) (replicated : List Bool) (frame : ℕ → ℕ → Frame)
+    (shown : Tap → List PortValue)
     (round : ℕ) (t0 t1 t2 t3 : List ℕ)
     → t1 ≡ t0 ++ round_line round ++ line_end → t2 ≡ t1 ++ text_of (all_lines replicated frame 0 design.components)
     → t3 ≡ t2 ++ text_of (map (shown_line design shown) design.taps)

@@ -15,7 +15,7 @@ use analysis_fields::Property;
 use pals_base::{NoMemory, PortValue};
 use pals_model::{Design, Env};
 use pals_report::{LineWord, add_line, add_round};
-use run_monitor::{Monitors, FalseProperty};
+use run_monitor::{FalseProperty, Monitors};
 use std::alloc::Global;
 use std::sync::Arc;
 use sync_product::Product;

@@ -14,8 +14,11 @@ upwards_at from (suc n) zero within = ap Some (omega arith)
 upwards_at from (suc n) (suc k) within = upwards_at (suc from) n k (omega (arith, within)) ∙ ap Some (omega arith)
 
 pub mapped_at : {A : Type 0} (f : ℕ → A) (n k : ℕ) → k < n → slice_get (map f (upwards 0 n)) k ≡ Some (f k)
-mapped_at f n k within = slice_get-map f (upwards 0 n) k ∙ ap (option_map f) (upwards_at 0 n k within ∙ ap Some (omega arith))
+mapped_at f n k within =
+    slice_get-map f (upwards 0 n) k ∙ ap (option_map f) (upwards_at 0 n k within ∙ ap Some (omega arith))
 
-pub cell_of_table : (k : ℕ) (b : BehaviourParts) (s t : ℕ) → s < length b.states → t < length b.states → cell (table_of k b) s t ≡ reaches k b s t
+pub cell_of_table : (k : ℕ) (b : BehaviourParts) (s t : ℕ) → s < length b.states → t < length b.states
+    → cell (table_of k b) s t ≡ reaches k b s t
 cell_of_table k b s t source target =
-    ap (λ row. cell_in row t) (mapped_at (row_of k b) (length b.states) s source) ∙ ap (λ o. unwrap_or o false) (mapped_at (reaches k b s) (length b.states) t target)
+    ap (λ row. cell_in row t) (mapped_at (row_of k b) (length b.states) s source)
+    ∙ ap (λ o. unwrap_or o false) (mapped_at (reaches k b s) (length b.states) t target)

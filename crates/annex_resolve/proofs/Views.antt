@@ -14,11 +14,15 @@ use Rattle.aadl_tree.specs.proof.ExpressionViews.{factor_view, factors_view, ter
 use Rattle.aadl_tree.specs.proof.ActionViews.{action_view, actions_view, block_view, mores_view, block_of}
 use Rattle.aadl_tree.proofs.ActionViews.{view-block}
 
-pub view-out-term : {P : Type 0} (place : ℕ → P) (x : Term) → term_view place x ≡ term (factor_view place (out-Term x).first) (factors_view place (out-Term x).rest.items)
+pub view-out-term : {P : Type 0} (place : ℕ → P) (x : Term)
+    → term_view place x ≡ term (factor_view place (out-Term x).first) (factors_view place (out-Term x).rest.items)
 view-out-term place x = search (rules, expression_lemmas)
 
-pub view-out-actions : {P : Type 0} (place : ℕ → P) (x : Actions) → actions_view place x ≡ actions (action_view place (out-Actions x).first) (mores_view place (out-Actions x).rest.items)
+pub view-out-actions : {P : Type 0} (place : ℕ → P) (x : Actions)
+    → actions_view place x ≡ actions (action_view place (out-Actions x).first)
+    (mores_view place (out-Actions x).rest.items)
 view-out-actions place x = search (rules, action_lemmas)
 
-pub view-out-block : {P : Type 0} (place : ℕ → P) (x : Block) → block_view place x ≡ block_of (option_map (λ b. actions_view place b.value) (out-Block x).actions)
+pub view-out-block : {P : Type 0} (place : ℕ → P) (x : Block)
+    → block_view place x ≡ block_of (option_map (λ b. actions_view place b.value) (out-Block x).actions)
 view-out-block place x = ap (block_view place) (sym (roll-out-Block x)) ∙ view-block place (out-Block x).actions

@@ -35,7 +35,8 @@ is_integer (Some k) = not (is_boolean k)
 -- ---- a name that is set or sent, and the value for it
 abbrev pub given_types : Scope → (Option DeclaredName → Bool) → Identifier ℕ → Expression ℕ → List Violation
 given_types scope may x e =
-    found_if (not (may (entry_named scope x.spelling))) x.at BAD_TYPE [] ++ whole_types scope (kind_of (entry_named scope x.spelling)) e
+    found_if (not (may (entry_named scope x.spelling))) x.at BAD_TYPE []
+    ++ whole_types scope (kind_of (entry_named scope x.spelling)) e
 
 -- what is wrong with actions, within loops that make `around` turns
 unfoldable mutual
@@ -43,13 +44,16 @@ unfoldable mutual
   action_findings scope around (assign x e) = given_types scope may_set x e
   action_findings scope around (send x e) = given_types scope may_send x e
   action_findings scope around (choose test a es o) =
-      (whole_types scope (Some Boolean) test ++ actions_findings scope around a) ++ elsifs_findings scope around es ++ otherwise_findings scope around o
+      (whole_types scope (Some Boolean) test ++ actions_findings scope around a) ++ elsifs_findings scope around es
+      ++ otherwise_findings scope around o
   action_findings scope around (loop at x type low high body) =
-      found_if (not (is_integer (kind_named type))) at BAD_TYPE [] ++ found_if (is_too_long around (turns low high)) at LOOP_TOO_LONG []
+      found_if (not (is_integer (kind_named type))) at BAD_TYPE []
+      ++ found_if (is_too_long around (turns low high)) at LOOP_TOO_LONG []
       ++ block_findings (with_loop scope x) (together around (turns low high)) body
 
   pub actions_findings : Scope → ℕ → Actions ℕ → List Violation
-  actions_findings scope around (actions first rest) = action_findings scope around first ++ mores_findings scope around rest
+  actions_findings scope around (actions first rest) =
+      action_findings scope around first ++ mores_findings scope around rest
 
   pub mores_findings : Scope → ℕ → Mores ℕ → List Violation
   mores_findings scope around no_mores = []

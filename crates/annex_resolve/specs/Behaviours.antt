@@ -98,11 +98,13 @@ parts_by values states edges = record {
 }
 
 abbrev pub behaviour_of : DeclaredValues → Scope → AnnexTree ℕ → BehaviourParts
-behaviour_of values scope annex = parts_by values (states_of annex) (map (edge_of scope (states_of annex)) (transitions_of annex))
+behaviour_of values scope annex =
+    parts_by values (states_of annex) (map (edge_of scope (states_of annex)) (transitions_of annex))
 
 -- ---- exactly one state is initial, and it is complete
 abbrev pub has_initial : List StateAt → Bool
-has_initial states = (length (filter (λ s. s.initial) states) == 1) && list_all (λ s. s.complete) (filter (λ s. s.initial) states)
+has_initial states =
+    (length (filter (λ s. s.initial) states) == 1) && list_all (λ s. s.complete) (filter (λ s. s.initial) states)
 
 -- ---- one transition at the dispatch leaves each complete state, and none another
 abbrev pub breaks_dispatch : BehaviourParts → ℕ → Bool
@@ -149,7 +151,8 @@ abbrev pub state_rules : BehaviourParts → List Departure → List Bool → ℕ
 state_rules b legs cyclic (n, s) =
     found_if (breaks_dispatch b n) s.at DISPATCH_COUNT s.name
     ++ (if s.complete then []
-    else found_if (lacks_otherwise (ways_from n legs)) s.at NO_OTHERWISE s.name ++ found_if (unwrap_or (slice_get cyclic n) false) s.at CYCLE_WITHOUT_COMPLETE s.name)
+    else found_if (lacks_otherwise (ways_from n legs)) s.at NO_OTHERWISE s.name
+    ++ found_if (unwrap_or (slice_get cyclic n) false) s.at CYCLE_WITHOUT_COMPLETE s.name)
 
 -- the marks of all states
 abbrev pub cycles_of : BehaviourParts → List Bool
@@ -158,8 +161,10 @@ cycles_of b = map (is_on_cycle b) (upwards 0 (length b.states))
 -- what is wrong with states, in an annex that begins at a place
 abbrev pub rule_findings : ℕ → BehaviourParts → List StateAt → List (Transition ℕ) → List Violation
 rule_findings at b states ts =
-    found_if (not (has_initial states)) at NO_INITIAL [] ++ flat_map (state_rules b (map (leg_of states) ts) (cycles_of b)) (enumerate_from 0 states)
+    found_if (not (has_initial states)) at NO_INITIAL []
+    ++ flat_map (state_rules b (map (leg_of states) ts) (cycles_of b)) (enumerate_from 0 states)
 
 abbrev pub annex_findings : DeclaredValues → Scope → ℕ → AnnexTree ℕ → List Violation
 annex_findings values scope at annex =
-    flat_map (transition_findings scope) (transitions_of annex) ++ rule_findings at (behaviour_of values scope annex) (states_of annex) (transitions_of annex)
+    flat_map (transition_findings scope) (transitions_of annex)
+    ++ rule_findings at (behaviour_of values scope annex) (states_of annex) (transitions_of annex)

@@ -76,7 +76,8 @@ unfoldable mutual
 
   pub factors_of : Scope → Factors ℕ → plain.Operands
   factors_of scope no_factors = plain.NoMore
-  factors_of scope (factor operator x rest) = plain.Then (multiply_op operator) (factor_of scope x) (factors_of scope rest)
+  factors_of scope (factor operator x rest) =
+      plain.Then (multiply_op operator) (factor_of scope x) (factors_of scope rest)
 
   pub sum_of : Scope → Sum ℕ → plain.Expression
   sum_of scope (total sign first rest) = chained (signed_by sign (term_of scope first)) (terms_of scope rest)
@@ -87,14 +88,16 @@ unfoldable mutual
 
   pub relation_of : Scope → Relation ℕ → plain.Expression
   relation_of scope (single x) = sum_of scope x
-  relation_of scope (compared x operator y) = plain.Chain (sum_of scope x) (plain.Then (relation_op operator) (sum_of scope y) plain.NoMore)
+  relation_of scope (compared x operator y) =
+      plain.Chain (sum_of scope x) (plain.Then (relation_op operator) (sum_of scope y) plain.NoMore)
 
   pub expression_of : Scope → Expression ℕ → plain.Expression
   expression_of scope (expression first rest) = chained (relation_of scope first) (relations_of scope rest)
 
   pub relations_of : Scope → Relations ℕ → plain.Operands
   relations_of scope no_relations = plain.NoMore
-  relations_of scope (join operator x rest) = plain.Then (logic_op operator) (relation_of scope x) (relations_of scope rest)
+  relations_of scope (join operator x rest) =
+      plain.Then (logic_op operator) (relation_of scope x) (relations_of scope rest)
 
 -- ---- actions
 abbrev pub signed : Bound → ℤ
@@ -104,8 +107,10 @@ unfoldable mutual
   pub action_of : Scope → Action ℕ → plain.Action
   action_of scope (assign x e) = given_to (expression_of scope e) (entry_named scope x.spelling)
   action_of scope (send x e) = given_to (expression_of scope e) (entry_named scope x.spelling)
-  action_of scope (choose test a es o) = plain.If (plain.Where (expression_of scope test) (actions_of scope a) (elsifs_of scope es)) (otherwise_of scope o)
-  action_of scope (loop at x type low high body) = plain.For (signed low) (signed high) (block_of (with_loop scope x) body)
+  action_of scope (choose test a es o) =
+      plain.If (plain.Where (expression_of scope test) (actions_of scope a) (elsifs_of scope es)) (otherwise_of scope o)
+  action_of scope (loop at x type low high body) =
+      plain.For (signed low) (signed high) (block_of (with_loop scope x) body)
 
   pub actions_of : Scope → Actions ℕ → plain.Actions
   actions_of scope (actions first rest) = plain.Do (action_of scope first) (mores_of scope rest)
@@ -116,7 +121,8 @@ unfoldable mutual
 
   pub elsifs_of : Scope → Elsifs ℕ → plain.Branches
   elsifs_of scope no_elsifs = plain.NoBranch
-  elsifs_of scope (elsif test a rest) = plain.Where (expression_of scope test) (actions_of scope a) (elsifs_of scope rest)
+  elsifs_of scope (elsif test a rest) =
+      plain.Where (expression_of scope test) (actions_of scope a) (elsifs_of scope rest)
 
   pub otherwise_of : Scope → Otherwise ℕ → plain.Actions
   otherwise_of scope no_otherwise = plain.Nothing

@@ -30,7 +30,8 @@ kind_of (Some e) = e.kind
 abbrev pub with_loop : Scope → Identifier ℕ → Scope
 with_loop scope x =
     record {
-      entries = scope.entries ++ record { name = x.spelling; kind = Some Integer; meaning = LoopVariable scope.next } ∷ [];
+      entries =
+          scope.entries ++ record { name = x.spelling; kind = Some Integer; meaning = LoopVariable scope.next } ∷ [];
       next = scope.next + 1;
     }
 

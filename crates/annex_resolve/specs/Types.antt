@@ -20,7 +20,8 @@ is_base_types (x ∷ []) = same_name x.spelling (codes "Base_Types")
 is_base_types _ = false
 
 abbrev pub is_base_type : List ℕ → Reference ℕ → Bool
-is_base_type name x = is_base_types x.qualifiers && same_name x.type_name.spelling name && not (is_some x.implementation)
+is_base_type name x =
+    is_base_types x.qualifiers && same_name x.type_name.spelling name && not (is_some x.implementation)
 
 -- `Base_Types::Integer` and `Base_Types::Boolean`
 abbrev pub kind_named : Reference ℕ → Option Kind
@@ -80,7 +81,8 @@ sum_misfit (Some sign) rest at first = misfit at (Some Integer) first
 -- both sides of a comparison: for equality the right has the type of the left, else both are numbers
 abbrev pub sides_misfit : RelationOperator → ℕ → ℕ → Option Kind → Option Kind → List Violation
 sides_misfit operator at to left right =
-    if is_equality operator then misfit to left right else misfit at (Some Integer) left ++ misfit to (Some Integer) right
+    if is_equality operator then misfit to left right else misfit at (Some Integer) left
+    ++ misfit to (Some Integer) right
 
 -- ---- an expression's own type
 unfoldable mutual
@@ -119,39 +121,49 @@ unfoldable mutual
   primary_types scope (group at e) = expression_types scope e
 
   pub factor_types : Scope → Factor ℕ → List Violation
-  factor_types scope (absolute at x) = primary_types scope x ++ misfit (primary_at x) (Some Integer) (primary_kind scope x)
-  factor_types scope (negated at x) = primary_types scope x ++ misfit (primary_at x) (Some Boolean) (primary_kind scope x)
+  factor_types scope (absolute at x) =
+      primary_types scope x ++ misfit (primary_at x) (Some Integer) (primary_kind scope x)
+  factor_types scope (negated at x) =
+      primary_types scope x ++ misfit (primary_at x) (Some Boolean) (primary_kind scope x)
   factor_types scope (bare x) = primary_types scope x
 
   pub term_types : Scope → Term ℕ → List Violation
   term_types scope (term first no_factors) = factor_types scope first
   term_types scope (term first (factor operator x rest)) =
-      factor_types scope first ++ misfit (factor_at first) (Some Integer) (factor_kind scope first) ++ factors_types scope (factor operator x rest)
+      factor_types scope first ++ misfit (factor_at first) (Some Integer) (factor_kind scope first)
+      ++ factors_types scope (factor operator x rest)
 
   pub factors_types : Scope → Factors ℕ → List Violation
   factors_types scope no_factors = []
-  factors_types scope (factor operator x rest) = (factor_types scope x ++ misfit (factor_at x) (Some Integer) (factor_kind scope x)) ++ factors_types scope rest
+  factors_types scope (factor operator x rest) =
+      (factor_types scope x ++ misfit (factor_at x) (Some Integer) (factor_kind scope x)) ++ factors_types scope rest
 
   pub sum_types : Scope → Sum ℕ → List Violation
-  sum_types scope (total sign first rest) = term_types scope first ++ sum_misfit sign rest (term_at first) (term_kind scope first) ++ terms_types scope rest
+  sum_types scope (total sign first rest) =
+      term_types scope first ++ sum_misfit sign rest (term_at first) (term_kind scope first) ++ terms_types scope rest
 
   pub terms_types : Scope → Terms ℕ → List Violation
   terms_types scope no_terms = []
-  terms_types scope (add sign x rest) = (term_types scope x ++ misfit (term_at x) (Some Integer) (term_kind scope x)) ++ terms_types scope rest
+  terms_types scope (add sign x rest) =
+      (term_types scope x ++ misfit (term_at x) (Some Integer) (term_kind scope x)) ++ terms_types scope rest
 
   pub relation_types : Scope → Relation ℕ → List Violation
   relation_types scope (single x) = sum_types scope x
   relation_types scope (compared x operator y) =
-      sum_types scope x ++ sum_types scope y ++ sides_misfit operator (sum_at x) (sum_at y) (total_kind scope x) (total_kind scope y)
+      sum_types scope x ++ sum_types scope y
+      ++ sides_misfit operator (sum_at x) (sum_at y) (total_kind scope x) (total_kind scope y)
 
   pub expression_types : Scope → Expression ℕ → List Violation
   expression_types scope (expression first no_relations) = relation_types scope first
   expression_types scope (expression first (join operator x rest)) =
-      relation_types scope first ++ misfit (relation_at first) (Some Boolean) (relation_kind scope first) ++ relations_types scope (join operator x rest)
+      relation_types scope first ++ misfit (relation_at first) (Some Boolean) (relation_kind scope first)
+      ++ relations_types scope (join operator x rest)
 
   pub relations_types : Scope → Relations ℕ → List Violation
   relations_types scope no_relations = []
-  relations_types scope (join operator x rest) = (relation_types scope x ++ misfit (relation_at x) (Some Boolean) (relation_kind scope x)) ++ relations_types scope rest
+  relations_types scope (join operator x rest) =
+      (relation_types scope x ++ misfit (relation_at x) (Some Boolean) (relation_kind scope x))
+      ++ relations_types scope rest
 
 -- a whole expression at a place that takes a type
 abbrev pub whole_types : Scope → Option Kind → Expression ℕ → List Violation

@@ -30,7 +30,8 @@ abbrev pub RoundFaultFits : DesignParts → RoundFault → Type 0
 RoundFaultFits design f = FaultFits design f.fault
 
 -- ---- values
-more_fit : (kind : Kind) (place : List ℕ) (values : List PortValue) (d : Data) (more : List PortValue) → TupleFits kind values
+more_fit : (kind : Kind) (place : List ℕ) (values : List PortValue) (d : Data) (more : List PortValue)
+    → TupleFits kind values
     → with_fault_value kind place values d ≡ Ok more → TupleFits kind more
 more_fit kind place values d more fits e =
     let v = ok_bind (port_value kind place d) (λ x. Ok (values ++ x ∷ [])) more e in
@@ -38,7 +39,8 @@ more_fit kind place values d more fits e =
     (All-append (PortFits kind) values (v.0 ∷ []) fits
     (All-cons (PortFits kind) v.0 [] (value_fits kind place d v.0 v.1) (All-nil (PortFits kind))))
 
-values_fit : (kind : Kind) (place : List ℕ) (ds : List Data) (tuple : List PortValue) → fault_values kind place ds ≡ Ok tuple
+values_fit : (kind : Kind) (place : List ℕ) (ds : List Data) (tuple : List PortValue)
+    → fault_values kind place ds ≡ Ok tuple
     → TupleFits kind tuple
 values_fit kind place ds tuple e =
     through_keeps (TupleFits kind) (with_fault_value kind place)

@@ -62,15 +62,18 @@ module _ (d : Data) (design : DesignParts) (command : Command) where
       → List PropertyValue → List NodeNo → List RoundFault → List Pair → Result Scenario ScenarioFault
   from_processors n i v c l t p r f pl = processors_field design command d >>= λ pr. Ok (made n i v c l t p r f pl pr)
 
-  abbrev from_plants : ℕ → List (List PortValue) → List Event → Clocks → List (List ℕ) → List (List ℕ) → List PropertyValue
+  abbrev from_plants : ℕ → List (List PortValue) → List Event → Clocks → List (List ℕ) → List (List ℕ)
+      → List PropertyValue
       → List NodeNo → List RoundFault → Result Scenario ScenarioFault
   from_plants n i v c l t p r f = plants_field design d >>= λ pl. from_processors n i v c l t p r f pl
 
-  abbrev from_faults : ℕ → List (List PortValue) → List Event → Clocks → List (List ℕ) → List (List ℕ) → List PropertyValue
+  abbrev from_faults : ℕ → List (List PortValue) → List Event → Clocks → List (List ℕ) → List (List ℕ)
+      → List PropertyValue
       → List NodeNo → Result Scenario ScenarioFault
   from_faults n i v c l t p r = faults_field design r d >>= λ f. from_plants n i v c l t p r f
 
-  abbrev from_replicas : ℕ → List (List PortValue) → List Event → Clocks → List (List ℕ) → List (List ℕ) → List PropertyValue
+  abbrev from_replicas : ℕ → List (List PortValue) → List Event → Clocks → List (List ℕ) → List (List ℕ)
+      → List PropertyValue
       → Result Scenario ScenarioFault
   from_replicas n i v c l t p = replicas_field design d >>= λ r. from_faults n i v c l t p r
 

@@ -43,11 +43,13 @@ value_by : (kind : Kind) (place : List ℕ) (d : Data) (v : PortValue) (none : B
 value_by kind place d v true e = subst (PortFits kind) (ok_same Absent v e) tt
 value_by kind place d v false e = present_fits kind place d v e
 
-pub value_fits : (kind : Kind) (place : List ℕ) (d : Data) (v : PortValue) → port_value kind place d ≡ Ok v → PortFits kind v
+pub value_fits : (kind : Kind) (place : List ℕ) (d : Data) (v : PortValue) → port_value kind place d ≡ Ok v
+    → PortFits kind v
 unfolding port_value
 value_fits kind place d v e = value_by kind place d v (is_some (as_null d)) e
 
-more_fit : (kind : Kind) (place : List ℕ) (values : List PortValue) (d : Data) (more : List PortValue) → TupleFits kind values
+more_fit : (kind : Kind) (place : List ℕ) (values : List PortValue) (d : Data) (more : List PortValue)
+    → TupleFits kind values
     → with_value kind place values d ≡ Ok more → TupleFits kind more
 more_fit kind place values d more fits e =
     let v = ok_bind (port_value kind (inside place (decimal (length values))) d) (λ x. Ok (values ++ x ∷ [])) more e in
@@ -80,7 +82,8 @@ root_is place design name root e =
     (ok_given (Unknown place) (position (bytes_eq name) (root_inputs design)) root e) in
     at.1 ∙ ap Some (sym ((bytes_eq-Decides name at.0).0 at.2))
 
-input_fits : (design : DesignParts) (lists : List (List PortValue)) (entry : List ℕ × Data) (more : List (List PortValue))
+input_fits : (design : DesignParts) (lists : List (List PortValue)) (entry : List ℕ × Data)
+    (more : List (List PortValue))
     → ListsFit design lists → with_input design lists entry ≡ Ok more → ListsFit design more
 unfolding with_input
 input_fits design lists entry more fit e =

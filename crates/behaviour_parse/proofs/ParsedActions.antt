@@ -32,76 +32,129 @@ use Rattle.behaviour_parse.specs.declared.actions.LoopHead.{LoopHead}
 use Rattle.behaviour_parse.specs.proof.Choosing.{head_parts, choice_parts}
 
 -- a choice behind its `if`
-pub choice_reads : (x : Choice) {ss mid rest : List Spot} → AtMark k.If ss mid → Reads (choice_parts x) mid rest → Reads (a.action_parts (choice_view kept_place x)) ss rest
+pub choice_reads : (x : Choice) {ss mid rest : List Spot} → AtMark k.If ss mid → Reads (choice_parts x) mid rest
+    → Reads (a.action_parts (choice_view kept_place x)) ss rest
 choice_reads x l b = respelled (ap a.action_parts (sym (view-out-choice kept_place x))) (marked l b)
 
 -- a choice that is made of its parts
-pub choice_made : (test : Expression) (x : Actions) (es : Vec Elsif Global) (o : Option (Box Actions Global)) {ss rest : List Spot}
-    → Reads (a.test_parts (expression_view kept_place test) ++ (a.actions_parts (actions_view kept_place x) ++ (a.elsifs_parts (elsifs_view kept_place es.items)
-    ++ (a.otherwise_parts (otherwise_of (option_map (λ b. actions_view kept_place b.value) o)) ++ (plain k.End ∷ (plain k.If ∷ [])))))) ss rest
+pub choice_made : (test : Expression) (x : Actions) (es : Vec Elsif Global) (o : Option (Box Actions Global))
+    {ss rest : List Spot}
+    → Reads (a.test_parts (expression_view kept_place test)
+    ++ (a.actions_parts (actions_view kept_place x) ++ (a.elsifs_parts (elsifs_view kept_place es.items)
+    ++ (a.otherwise_parts (otherwise_of (option_map (λ b. actions_view kept_place b.value) o))
+    ++ (plain k.End ∷ (plain k.If ∷ [])))))) ss rest
     → Reads (choice_parts (roll-Choice (record { test = test; actions = x; elsifs = es; otherwise = o }))) ss rest
-choice_made test x es o b = respelled (ap layer_parts (sym (out-roll-Choice (record { test = test; actions = x; elsifs = es; otherwise = o })))) b where
-  layer_parts : Choice-F Action Actions Block Choice Elsif Loop → List (Part ℕ)
-  layer_parts c =
-      a.test_parts (expression_view kept_place c.test) ++ (a.actions_parts (actions_view kept_place c.actions) ++ (a.elsifs_parts (elsifs_view kept_place c.elsifs.items)
-      ++ (a.otherwise_parts (otherwise_of (option_map (λ b. actions_view kept_place b.value) c.otherwise)) ++ (plain k.End ∷ (plain k.If ∷ [])))))
+choice_made test x es o b =
+    respelled (ap layer_parts
+    (sym (out-roll-Choice (record { test = test; actions = x; elsifs = es; otherwise = o })))) b where
+      layer_parts : Choice-F Action Actions Block Choice Elsif Loop → List (Part ℕ)
+      layer_parts c =
+          a.test_parts (expression_view kept_place c.test)
+          ++ (a.actions_parts (actions_view kept_place c.actions)
+          ++ (a.elsifs_parts (elsifs_view kept_place c.elsifs.items)
+          ++ (a.otherwise_parts (otherwise_of (option_map (λ b. actions_view kept_place b.value) c.otherwise))
+          ++ (plain k.End ∷ (plain k.If ∷ [])))))
 
-pub begins_by : {x : Symbol} {kind : Kind} {ss rest : List Spot} {f : List Symbol} → At kind ss rest → move x kind ≡ takes f → Begins x ss
+pub begins_by : {x : Symbol} {kind : Kind} {ss rest : List Spot} {f : List Symbol} → At kind ss rest
+    → move x kind ≡ takes f → Begins x ss
 begins_by {x} {kind} {ss} {rest} {f} l m = record { kind = kind; rest = rest; wanted = f; first = l; moves = m }
 
 -- an end of a loop's range
-pub bound_runs : (b : Bool) (outer end : ℕ) (below : Stack) {n : ℤ} (ss : List Spot) {mid rest : List Spot} → outer + depth below ≤ GREATEST_NESTING → IsMarked k.Minus b ss mid → At (whole n) mid rest
+pub bound_runs : (b : Bool) (outer end : ℕ) (below : Stack) {n : ℤ} (ss : List Spot) {mid rest : List Spot}
+    → outer + depth below ≤ GREATEST_NESTING → IsMarked k.Minus b ss mid → At (whole n) mid rest
     → fate outer end (s.bound ∷ below) ss ≡ fate outer end below rest
 unfolding move depth
-bound_runs true outer end below ss h l m = takes_row outer end s.bound below l refl (omega arith) ∙ takes_row outer end s.whole_number below m refl h
-bound_runs false outer end below ss h (l, e) m = ap (fate outer end (s.bound ∷ below)) (sym e) ∙ takes_row outer end s.bound below m refl h
+bound_runs true outer end below ss h l m =
+    takes_row outer end s.bound below l refl (omega arith) ∙ takes_row outer end s.whole_number below m refl h
+bound_runs false outer end below ss h (l, e) m =
+    ap (fate outer end (s.bound ∷ below)) (sym e) ∙ takes_row outer end s.bound below m refl h
 
-pub bound_refuses : (b : Bool) (outer end : ℕ) (below : Stack) (ss mid : List Spot) → outer + depth below ≤ GREATEST_NESTING → IsMarked k.Minus b ss mid → Misses a_whole mid
+pub bound_refuses : (b : Bool) (outer end : ℕ) (below : Stack) (ss mid : List Spot)
+    → outer + depth below ≤ GREATEST_NESTING → IsMarked k.Minus b ss mid → Misses a_whole mid
     → fate outer end (s.bound ∷ below) ss ≡ syntax_at (place end mid)
 unfolding move depth
-bound_refuses true outer end below ss mid h l m = takes_row outer end s.bound below l refl (omega arith) ∙ refuses_unless outer end s.whole_number below mid refl (m, tt)
+bound_refuses true outer end below ss mid h l m =
+    takes_row outer end s.bound below l refl (omega arith)
+    ∙ refuses_unless outer end s.whole_number below mid refl (m, tt)
 bound_refuses false outer end below ss mid h (l, e) m =
-    ap (fate outer end (s.bound ∷ below)) (sym e) ∙ refuses_unless outer end s.bound below mid refl (m, (subst (λ (x : List Spot). Misses (the k.Minus) x) (sym e) l, tt))
+    ap (fate outer end (s.bound ∷ below)) (sym e)
+    ∙ refuses_unless outer end s.bound below mid refl
+    (m, (subst (λ (x : List Spot). Misses (the k.Minus) x) (sym e) l, tt))
 
 -- the parentheses of a loop and its body
 pub loop_reads : (x : LoopHead) (body : List (Part ℕ)) {ss rest : List Spot} → Reads (head_parts x ++ body) ss rest
-    → Reads (plain k.ParenOpen ∷ (identifier_parts (identifier_view kept_place x.variable) ++ (plain k.Colon ∷ (reference_parts (reference_view kept_place x.data_type) ++ (plain k.In
+    → Reads (plain k.ParenOpen
+    ∷ (identifier_parts (identifier_view kept_place x.variable)
+    ++ (plain k.Colon ∷ (reference_parts (reference_view kept_place x.data_type) ++ (plain k.In
     ∷ (a.bound_parts x.low ++ (plain k.Range ∷ (a.bound_parts x.high ++ (plain k.ParenClose ∷ body))))))))) ss rest
-loop_reads x body b = respelled (same (identifier_parts (identifier_view kept_place x.variable)) (reference_parts (reference_view kept_place x.data_type)) (a.bound_parts x.low) (a.bound_parts x.high) body) b where
-  same : (i r l h b : List (Part ℕ)) → (plain k.ParenOpen ∷ (i ++ (plain k.Colon ∷ (r ++ (plain k.In ∷ (l ++ (plain k.Range ∷ (h ++ plain k.ParenClose ∷ [])))))))) ++ b
-      ≡ plain k.ParenOpen ∷ (i ++ (plain k.Colon ∷ (r ++ (plain k.In ∷ (l ++ (plain k.Range ∷ (h ++ (plain k.ParenClose ∷ b))))))))
-  same i r l h b = simp append_assoc
+loop_reads x body b =
+    respelled (same (identifier_parts (identifier_view kept_place x.variable))
+    (reference_parts (reference_view kept_place x.data_type)) (a.bound_parts x.low) (a.bound_parts x.high)
+    body) b where
+      same : (i r l h b : List (Part ℕ))
+          → (plain k.ParenOpen ∷ (i
+          ++ (plain k.Colon ∷ (r ++ (plain k.In ∷ (l ++ (plain k.Range ∷ (h ++ plain k.ParenClose ∷ [])))))))) ++ b
+          ≡ plain k.ParenOpen ∷ (i
+          ++ (plain k.Colon ∷ (r ++ (plain k.In ∷ (l ++ (plain k.Range ∷ (h ++ (plain k.ParenClose ∷ b))))))))
+      same i r l h b = simp append_assoc
 
 elsifs_listed : (xs : List Elsif) (e : Expression) (x : Actions)
-    → a.elsifs_parts (elsifs_view kept_place (xs ++ roll-Elsif (record { test = e; actions = x }) ∷ [])) ≡ a.elsifs_parts (elsifs_view kept_place xs) ++ (plain k.Elsif ∷ (a.test_parts (expression_view kept_place e) ++ a.actions_parts (actions_view kept_place x)))
-elsifs_listed [] e x = ap (λ l. plain k.Elsif ∷ (a.test_parts (expression_view kept_place e) ++ l)) (append-nil (a.actions_parts (actions_view kept_place x)))
+    → a.elsifs_parts (elsifs_view kept_place (xs ++ roll-Elsif (record { test = e; actions = x }) ∷ []))
+    ≡ a.elsifs_parts (elsifs_view kept_place xs)
+    ++ (plain k.Elsif ∷ (a.test_parts (expression_view kept_place e)
+    ++ a.actions_parts (actions_view kept_place x)))
+elsifs_listed [] e x =
+    ap (λ l. plain k.Elsif ∷ (a.test_parts (expression_view kept_place e) ++ l))
+    (append-nil (a.actions_parts (actions_view kept_place x)))
 elsifs_listed (y ∷ xs) e x =
-    ap (λ l. plain k.Elsif ∷ (a.test_parts (expression_view kept_place y.test) ++ (a.actions_parts (actions_view kept_place y.actions) ++ l))) (elsifs_listed xs e x)
-    ∙ grouped (a.test_parts (expression_view kept_place y.test)) (a.actions_parts (actions_view kept_place y.actions)) (a.elsifs_parts (elsifs_view kept_place xs)) (plain k.Elsif ∷ (a.test_parts (expression_view kept_place e) ++ a.actions_parts (actions_view kept_place x))) where
-      grouped : (t u v w : List (Part ℕ)) → plain k.Elsif ∷ (t ++ (u ++ (v ++ w))) ≡ (plain k.Elsif ∷ (t ++ (u ++ v))) ++ w
+    ap (λ l. plain k.Elsif ∷ (a.test_parts (expression_view kept_place y.test)
+    ++ (a.actions_parts (actions_view kept_place y.actions) ++ l))) (elsifs_listed xs e x)
+    ∙ grouped (a.test_parts (expression_view kept_place y.test)) (a.actions_parts (actions_view kept_place y.actions))
+    (a.elsifs_parts (elsifs_view kept_place xs))
+    (plain k.Elsif ∷ (a.test_parts (expression_view kept_place e)
+    ++ a.actions_parts (actions_view kept_place x))) where
+      grouped : (t u v w : List (Part ℕ))
+          → plain k.Elsif ∷ (t ++ (u ++ (v ++ w))) ≡ (plain k.Elsif ∷ (t ++ (u ++ v))) ++ w
       grouped t u v w = simp append_assoc
 
-pub elsifs_push : (xs ys : List Elsif) (e : Expression) (x : Actions) {ss mid rest : List Spot} → ys ≡ xs ++ roll-Elsif (record { test = e; actions = x }) ∷ [] → Reads (a.elsifs_parts (elsifs_view kept_place xs)) ss mid
-    → Reads (plain k.Elsif ∷ (a.test_parts (expression_view kept_place e) ++ a.actions_parts (actions_view kept_place x))) mid rest → Reads (a.elsifs_parts (elsifs_view kept_place ys)) ss rest
-elsifs_push xs ys e x q p b = respelled (sym (ap (λ l. a.elsifs_parts (elsifs_view kept_place l)) q ∙ elsifs_listed xs e x)) (then p b)
+pub elsifs_push : (xs ys : List Elsif) (e : Expression) (x : Actions) {ss mid rest : List Spot}
+    → ys ≡ xs ++ roll-Elsif (record { test = e; actions = x }) ∷ []
+    → Reads (a.elsifs_parts (elsifs_view kept_place xs)) ss mid
+    → Reads (plain k.Elsif ∷ (a.test_parts (expression_view kept_place e)
+    ++ a.actions_parts (actions_view kept_place x))) mid rest
+    → Reads (a.elsifs_parts (elsifs_view kept_place ys)) ss rest
+elsifs_push xs ys e x q p b =
+    respelled (sym (ap (λ l. a.elsifs_parts (elsifs_view kept_place l)) q ∙ elsifs_listed xs e x)) (then p b)
 
-mores_listed : (xs : List Action) (x : Action) → a.mores_parts (mores_view kept_place (xs ++ x ∷ [])) ≡ a.mores_parts (mores_view kept_place xs) ++ (plain k.Semicolon ∷ a.action_parts (action_view kept_place x))
+mores_listed : (xs : List Action) (x : Action)
+    → a.mores_parts (mores_view kept_place (xs ++ x ∷ []))
+    ≡ a.mores_parts (mores_view kept_place xs) ++ (plain k.Semicolon ∷ a.action_parts (action_view kept_place x))
 mores_listed [] x = ap (λ l. plain k.Semicolon ∷ l) (append-nil (a.action_parts (action_view kept_place x)))
 mores_listed (y ∷ xs) x =
     ap (λ l. plain k.Semicolon ∷ (a.action_parts (action_view kept_place y) ++ l)) (mores_listed xs x)
-    ∙ ap (λ l. plain k.Semicolon ∷ l) (sym (append_assoc (a.action_parts (action_view kept_place y)) (a.mores_parts (mores_view kept_place xs)) (plain k.Semicolon ∷ a.action_parts (action_view kept_place x))))
+    ∙ ap (λ l. plain k.Semicolon ∷ l)
+    (sym (append_assoc (a.action_parts (action_view kept_place y)) (a.mores_parts (mores_view kept_place xs))
+    (plain k.Semicolon ∷ a.action_parts (action_view kept_place x))))
 
-pub mores_push : (ps : List (Part ℕ)) (xs ys : List Action) (x : Action) {ss mid rest : List Spot} → ys ≡ xs ++ x ∷ [] → Reads (ps ++ a.mores_parts (mores_view kept_place xs)) ss mid → Reads (plain k.Semicolon ∷ a.action_parts (action_view kept_place x)) mid rest
+pub mores_push : (ps : List (Part ℕ)) (xs ys : List Action) (x : Action) {ss mid rest : List Spot} → ys ≡ xs ++ x ∷ []
+    → Reads (ps ++ a.mores_parts (mores_view kept_place xs)) ss mid
+    → Reads (plain k.Semicolon ∷ a.action_parts (action_view kept_place x)) mid rest
     → Reads (ps ++ a.mores_parts (mores_view kept_place ys)) ss rest
-mores_push ps xs ys x q p b = respelled (ap (λ l. ps ++ l) (sym (ap (λ l. a.mores_parts (mores_view kept_place l)) q ∙ mores_listed xs x))) (regroup ps (a.mores_parts (mores_view kept_place xs)) p b)
+mores_push ps xs ys x q p b =
+    respelled (ap (λ l. ps ++ l) (sym (ap (λ l. a.mores_parts (mores_view kept_place l)) q ∙ mores_listed xs x)))
+    (regroup ps (a.mores_parts (mores_view kept_place xs)) p b)
 
 -- no `;` behind the last action, or one
-pub not_ended : (ps qs : List (Part ℕ)) {ss rest : List Spot} → Reads (ps ++ qs) ss rest → Reads (ps ++ (qs ++ may last_semicolon ∷ [])) ss rest
+pub not_ended : (ps qs : List (Part ℕ)) {ss rest : List Spot} → Reads (ps ++ qs) ss rest
+    → Reads (ps ++ (qs ++ may last_semicolon ∷ [])) ss rest
 not_ended ps qs {ss} {rest} p = regroup ps qs p (record { written = inl refl })
 
-pub ended : (ps qs : List (Part ℕ)) {ss mid rest : List Spot} → Reads (ps ++ qs) ss mid → AtMark k.Semicolon mid rest → Reads (ps ++ (qs ++ may last_semicolon ∷ [])) ss rest
-ended ps qs {ss} {mid} {rest} p l = regroup ps qs p (record { written = inr (rest, (_, rest, l.whole, refl, refl), refl) })
+pub ended : (ps qs : List (Part ℕ)) {ss mid rest : List Spot} → Reads (ps ++ qs) ss mid → AtMark k.Semicolon mid rest
+    → Reads (ps ++ (qs ++ may last_semicolon ∷ [])) ss rest
+ended ps qs {ss} {mid} {rest} p l =
+    regroup ps qs p (record { written = inr (rest, (_, rest, l.whole, refl, refl), refl) })
 
 -- behind a `;` further actions
-pub begins_from : (outer end : ℕ) (below : Stack) {ss : List Spot} → Begins s.actions ss → fate outer end (s.after_semicolon ∷ below) ss ≡ fate outer end (s.actions ∷ below) ss
+pub begins_from : (outer end : ℕ) (below : Stack) {ss : List Spot} → Begins s.actions ss
+    → fate outer end (s.after_semicolon ∷ below) ss ≡ fate outer end (s.actions ∷ below) ss
 begins_from outer end below b = enters_as outer end s.after_semicolon s.actions [] below refl refl b.first b.moves

@@ -29,7 +29,12 @@ pub fn run_all(
 
 // Does one action.
 #[cycle(run)]
-fn run(action: &Act, vars: &mut Vec<i64>, outs: &mut [PortValue], inputs: StepInputs) -> Result<(), EarlyEnd>
+fn run(
+    action: &Act,
+    vars: &mut Vec<i64>,
+    outs: &mut [PortValue],
+    inputs: StepInputs,
+) -> Result<(), EarlyEnd>
     ensures runs { Runs result (act (action_of action.now)) inputs.entry (vars.old, outs.old) (vars.new, outs.new) }
     ensures len { length vars.new.items ≡ length vars.old.items }
 {

@@ -21,7 +21,8 @@ divisor_from_rest a b d found = record {
 
 pub divisor_of_0 : (a b : ℕ) → b ≡ 0 → IsGreatestDivisor a b a
 divisor_of_0 a b none =
-    subst (λ x. IsGreatestDivisor a x a) (sym none) (record { left = dvd_refl a; right = dvd-zero a; greatest = λ n m of_a of_0. of_a })
+    subst (λ x. IsGreatestDivisor a x a) (sym none)
+    (record { left = dvd_refl a; right = dvd-zero a; greatest = λ n m of_a of_0. of_a })
 
 pub some_divisor : (a b d : ℕ) → 0 < a → IsGreatestDivisor a b d → 0 < d
 some_divisor a b d some found = pos_of_dvd_of_pos found.left some
@@ -37,7 +38,8 @@ pub multiple_from_divisor : (a b d : ℕ) → 0 < a → IsGreatestDivisor a b d 
 multiple_from_divisor a b d some found =
     let whole_a : a / d * d ≡ a = div-mul_cancel d found.left in
     let whole_b : d * (b / d) ≡ b = mul-div_cancel' d found.right in
-    let in_a : a * (b / d) ≡ a / d * b = ap (λ x. x * (b / d)) (sym whole_a) ∙ omega arith ∙ ap (λ x. a / d * x) whole_b in
+    let in_a : a * (b / d) ≡ a / d * b = ap (λ x. x * (b / d)) (sym whole_a) ∙ omega arith
+    ∙ ap (λ x. a / d * x) whole_b in
     let in_both : a * b ≡ a / d * b * d = ap (λ x. x * b) (sym whole_a) ∙ omega arith in
     record {
       left = subst (λ x. a ∣ x) in_a (dvd-mul_right a (b / d));

@@ -38,7 +38,8 @@ multiples_of_none = record {
   to_all = λ t within multiple. All-nil _;
 }
 
-pub multiples_of_more : (rates : List ℕ) (rate common next : ℕ) → HasMultiplesOf rates common → 0 < next → IsLeastCommon common rate next
+pub multiples_of_more : (rates : List ℕ) (rate common next : ℕ) → HasMultiplesOf rates common → 0 < next
+    → IsLeastCommon common rate next
     → HasMultiplesOf (rates ++ rate ∷ []) (min next (HOUR + 1))
 multiples_of_more rates rate common next so_far some least = record {
   some_time = omega arith;
@@ -70,7 +71,8 @@ greatest_from : (rates : List ℕ) (k : ℕ) → IsRate k → All IsRate rates �
 greatest_from [] k first all = first
 greatest_from (x ∷ rates) k first all =
     let rate : IsRate x = All-head IsRate x rates all in
-    greatest_from rates (max k x) (record { some_step = omega arith; at_most = omega arith }) (All-tail IsRate x rates all)
+    greatest_from rates (max k x) (record { some_step = omega arith; at_most = omega arith })
+    (All-tail IsRate x rates all)
 
 pub greatest-IsRate : (rates : List ℕ) → All IsRate rates → IsRate (greatest_rate rates)
 greatest-IsRate rates all = greatest_from rates 1 (record { some_step = omega arith; at_most = omega arith }) all
@@ -83,11 +85,14 @@ pub record IsFirst (g : Gamma) (rates : List ℕ) (common t : ℕ) : Type 0 wher
   pub near : t < least_period g (greatest_rate rates) + common
   pub multiple : t % common ≡ 0
 
-le_from_first : (g : Gamma) (rates : List ℕ) (common t s : ℕ) → IsFirst g rates common t → s ≤ HOUR → IsSuited g rates s → t ≤ s
+le_from_first : (g : Gamma) (rates : List ℕ) (common t s : ℕ) → IsFirst g rates common t → s ≤ HOUR
+    → IsSuited g rates s → t ≤ s
 le_from_first g rates common t s first within suited =
-    first_multiple common s t _ first.multiples.some_time (first.multiples.from_all s within suited.multiple) first.multiple suited.meets first.near
+    first_multiple common s t _ first.multiples.some_time (first.multiples.from_all s within suited.multiple)
+    first.multiple suited.meets first.near
 
-pub is_least_multiple : (g : Gamma) (rates : List ℕ) (common t : ℕ) → IsFirst g rates common t → t ≤ HOUR → IsLeastMultiple g rates t
+pub is_least_multiple : (g : Gamma) (rates : List ℕ) (common t : ℕ) → IsFirst g rates common t → t ≤ HOUR
+    → IsLeastMultiple g rates t
 is_least_multiple g rates common t first within = record {
   suited = record { meets = first.meets; multiple = first.multiples.to_all t within first.multiple };
   within = within;
@@ -97,12 +102,14 @@ is_least_multiple g rates common t first within = record {
   ];
 }
 
-pub has_no_multiple : (g : Gamma) (rates : List ℕ) (common t : ℕ) → IsFirst g rates common t → HOUR < t → HasNoMultiple g rates
+pub has_no_multiple : (g : Gamma) (rates : List ℕ) (common t : ℕ) → IsFirst g rates common t → HOUR < t
+    → HasNoMultiple g rates
 has_no_multiple g rates common t first long s within suited =
     let no_longer : t ≤ s = le_from_first g rates common t s first within suited in
     omega arith
 
-pub first_of_call : (g : Gamma) (rates : List ℕ) (rate least common t : ℕ) → HasMultiplesOf rates common → rate ≡ greatest_rate rates → least ≡ least_period g rate
+pub first_of_call : (g : Gamma) (rates : List ℕ) (rate least common t : ℕ) → HasMultiplesOf rates common
+    → rate ≡ greatest_rate rates → least ≡ least_period g rate
     → least ≤ t → t < least + common → t % common ≡ 0 → IsFirst g rates common t
 first_of_call g rates rate least common t multiples greatest is meets near multiple =
     let e : least ≡ least_period g (greatest_rate rates) = is ∙ ap (λ k. least_period g k) greatest in
@@ -114,7 +121,8 @@ first_of_call g rates rate least common t multiples greatest is meets near multi
     }
 
 -- ---- nothing leaves 64 bits
-pub next_multiple-fits : (g : Gamma) (rate least common : ℕ) → IsWithinHour g → rate ≤ 64 → least ≡ least_period g rate → 1 ≤ common → common ≤ HOUR + 1
+pub next_multiple-fits : (g : Gamma) (rate least common : ℕ) → IsWithinHour g → rate ≤ 64 → least ≡ least_period g rate
+    → 1 ≤ common → common ≤ HOUR + 1
     → next_multiple_of least common < 2 ^ 64
 next_multiple-fits g rate least common within few is some at_most =
     let steps : rate * g.alpha_max ≤ 64 * HOUR = mul-le rate g.alpha_max 64 HOUR few within.execution in

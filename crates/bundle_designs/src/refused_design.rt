@@ -13,7 +13,11 @@ use std::alloc::{AllocError, Global};
 
 /// The text of a package with this fault. That there is not enough memory is no fault of a package,
 /// and is passed on.
-pub fn refused_package(alloc: Global, text: &[u8], fault: &PackageFault) -> Result<Vec<u8>, NoMemory>
+pub fn refused_package(
+    alloc: Global,
+    text: &[u8],
+    fault: &PackageFault,
+) -> Result<Vec<u8>, NoMemory>
     ensures text { IfOk result (λ line. line.items ≡ flat_fault_line text.now fault.now ++ line_end) }
     ensures named { OnOk result (fault.now ≢ PackageFault.Memory) }
 {

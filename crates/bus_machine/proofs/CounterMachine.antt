@@ -16,12 +16,15 @@ AreSteps run s [] = Unit {0}
 AreSteps run s (e ∷ es) = (s.stop ≡ None) × (is_allowed run s e ≡ true) × AreSteps run (after run s e) es
 
 -- a journal that replays goes on by allowed events
-extends : (run : Run) (journal : List JournalEntry) (s : BusState) (es : List BusEvent) → Replays run journal s → AreSteps run s es
+extends : (run : Run) (journal : List JournalEntry) (s : BusState) (es : List BusEvent) → Replays run journal s
+    → AreSteps run s es
     → Replays run (journal ++ journal_from run s es) (state_from run s es)
 extends run journal s [] replays steps = subst (λ j. Replays run j s) (sym (append-nil journal)) replays
 extends run journal s (e ∷ es) replays steps =
-    let next : Replays run (journal ++ entries run s e) (after run s e) = goes_on e replays (record { going = steps.0; allowed = steps.1; state = refl }) in
-    subst (λ j. Replays run j (state_from run (after run s e) es)) (append_assoc journal (entries run s e) (journal_from run (after run s e) es))
+    let next : Replays run (journal ++ entries run s e) (after run s e) =
+    goes_on e replays (record { going = steps.0; allowed = steps.1; state = refl }) in
+    subst (λ j. Replays run j (state_from run (after run s e) es))
+    (append_assoc journal (entries run s e) (journal_from run (after run s e) es))
     (extends run (journal ++ entries run s e) (after run s e) es next steps.2)
 
 is_run : (run : Run) (es : List BusEvent) → AreSteps run (opening run) es → IsRun run es
@@ -37,7 +40,31 @@ early_row = record { replays = is_run (counters 1) early_arrival early_steps; li
 
 lost_steps : AreSteps (counters 2) (opening (counters 2)) lost_message
 unfolding digits fire
-lost_steps = (refl, refl, (refl, refl, (refl, refl, (refl, refl, (refl, refl, (refl, refl, (refl, refl, (refl, refl, (refl, refl, (refl, refl, (refl, refl, (refl, refl, tt))))))))))))
+lost_steps = (
+  refl,
+  refl,
+  (
+    refl,
+    refl,
+    (
+      refl,
+      refl,
+      (
+        refl,
+        refl,
+        (
+          refl,
+          refl,
+          (
+            refl,
+            refl,
+            (refl, refl, (refl, refl, (refl, refl, (refl, refl, (refl, refl, (refl, refl, tt)))))),
+          ),
+        ),
+      ),
+    ),
+  ),
+)
 
 pub lost_row : Tells (counters 2) lost_message lost_lines
 unfolding digits fire

@@ -80,5 +80,6 @@ pub record LinkAgrees (run : Run) (s : BusState) (number : ℕ) (link : Link) : 
 pub record Agrees (run : Run) (s : BusState) : Type 0 where
   pub node_count : length s.nodes ≡ length run.design.components
   pub flight_count : length s.flights ≡ length run.design.links
-  pub nodes : (node : ℕ) (c : Component) → slice_get run.design.components node ≡ Some c → NodeAgrees run node c (node_at s node)
+  pub nodes : (node : ℕ) (c : Component) → slice_get run.design.components node ≡ Some c
+      → NodeAgrees run node c (node_at s node)
   pub links : (number : ℕ) (link : Link) → slice_get run.design.links number ≡ Some link → LinkAgrees run s number link

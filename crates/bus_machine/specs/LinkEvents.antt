@@ -6,7 +6,8 @@ use Rattle.pals_model.specs.Flights.{oldest}
 
 -- a message that is sent at a reading is due when the link's delay is over; without a reading it is never due
 abbrev pub sent_copy : ℕ → Option ℕ → ℕ → List PortValue → FlightCopy
-sent_copy round reading delay tuple = record { round = round; due = option_map (λ sent. sent + delay) reading; tuple = tuple }
+sent_copy round reading delay tuple =
+    record { round = round; due = option_map (λ sent. sent + delay) reading; tuple = tuple }
 
 -- whether a copy of this round is in flight
 abbrev pub is_in_flight : ℕ → List FlightCopy → Bool

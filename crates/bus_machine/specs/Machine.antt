@@ -48,7 +48,8 @@ missed_stop run s node reading link =
 
 abbrev pub after_start : Run → BusState → NodeNo → Option ℕ → Option ℕ → BusState
 after_start run s node reading None =
-    with_node s node.0 (started (plan_of run.design node.0) (values_at run.env (node_at s node.0).count) (node_at s node.0))
+    with_node s node.0 (started (plan_of run.design node.0) (values_at run.env (node_at s node.0).count)
+    (node_at s node.0))
 after_start run s node reading (Some link) = record s { stop = Some (missed_stop run s node reading link) }
 
 -- what is done where a step is there
@@ -61,17 +62,22 @@ abbrev pub flight_after_send : Run → BusState → NodeNo → Option ℕ → �
 flight_after_send run s node reading number link =
     let n = node_at s node.0 in
     if nat_eq link.source.0 node.0
-    then flight_at s number ++ sent_copy (round_of n) reading (delay_of run.delays number (round_of n)) (message_from (plan_of run.design node.0) n link.out_port) ∷ []
+    then flight_at s number ++ sent_copy (round_of n) reading (delay_of run.delays number (round_of n))
+    (message_from (plan_of run.design node.0) n link.out_port) ∷ []
     else flight_at s number
 
 abbrev pub after_send : Run → BusState → NodeNo → Option ℕ → BusState
 after_send run s node reading =
     let sent = with_node s node.0 (sent_from run.rounds (node_at s node.0)) in
-    record sent { flights = map (λ numbered. flight_after_send run s node reading numbered.0 numbered.1) (enumerate_from 0 run.design.links) }
+    record sent {
+      flights = map (λ numbered. flight_after_send run s node reading numbered.0 numbered.1)
+          (enumerate_from 0 run.design.links);
+    }
 
 -- a message that arrives leaves the flight, and goes into its slot, is not used, or comes too early, and then the run stops
 abbrev pub arrival : Run → BusState → LinkNo → ℕ → Arrived
-arrival run s link round = arrived (node_at s (link_at run.design link.0).target.0) (link_at run.design link.0).in_port round
+arrival run s link round =
+    arrived (node_at s (link_at run.design link.0).target.0) (link_at run.design link.0).in_port round
 
 abbrev pub early_stop : LinkNo → ℕ → Option ℕ → Arrived → Option Stop
 early_stop link round reading Kept = None
@@ -88,7 +94,8 @@ after_arrive run s link round reading =
 
 abbrev pub after : Run → BusState → BusEvent → BusState
 after run s (Start node reading) = after_start run s node reading (missing_link run s node.0)
-after run s (Step node reading) = on_step (next_step (node_at s node.0).phase) s (λ step. with_node s node.0 (stepped step (node_at s node.0)))
+after run s (Step node reading) =
+    on_step (next_step (node_at s node.0).phase) s (λ step. with_node s node.0 (stepped step (node_at s node.0)))
 after run s (Finish node) =
     on_step (running_step (node_at s node.0).phase) s
     (λ step. with_node s node.0 (finished (plan_of run.design node.0) run.rounds step (node_at s node.0)))

@@ -77,10 +77,16 @@ abbrev pub finished_with : Plan → ℕ → ℕ → NodeState → Fired → List
 finished_with plan rounds step n result outs =
     if nat_lt (step + 1) plan.rate
     then record n { frame = result.frame; outs = outs; phase = Between (step + 1) }
-    else record n { frame = result.frame; outs = outs; phase = after_round rounds n; parts = n.parts ++ part_left plan result outs ∷ [] }
+    else record n {
+      frame = result.frame;
+      outs = outs;
+      phase = after_round rounds n;
+      parts = n.parts ++ part_left plan result outs ∷ [];
+    }
 
 abbrev pub finished : Plan → ℕ → ℕ → NodeState → NodeState
-finished plan rounds step n = finished_with plan rounds step n (fired plan step n) (with_places step (fired plan step n).outs n.outs)
+finished plan rounds step n =
+    finished_with plan rounds step n (fired plan step n) (with_places step (fired plan step n).outs n.outs)
 
 -- ---- Send: once enough steps are finished, a round that is not sent goes out on each link from the node
 abbrev pub may_send : Plan → NodeState → Bool

@@ -57,7 +57,14 @@ pub record Work : Type 0 where
   pub inputs : List PortValue
 
 abbrev pub job_of : Plan → NodeState → ℕ → Work
-job_of plan n step = record { node = plan.node; round = round_of n; step = step; frame = n.frame; inputs = slice_index_or n.vectors step [] }
+job_of plan n step =
+    record {
+      node = plan.node;
+      round = round_of n;
+      step = step;
+      frame = n.frame;
+      inputs = slice_index_or n.vectors step [];
+    }
 
 -- the job that is out
 abbrev pub job_in : Plan → NodeState → Phase → Option Work

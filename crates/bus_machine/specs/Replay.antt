@@ -23,15 +23,18 @@ start_entry run s node reading (Some link) = entry.Stopped (missed_stop run s no
 -- the entries of an event, with the result that its step gives; an early arrival tells its stop too
 abbrev pub entries : Run → BusState → BusEvent → List JournalEntry
 entries run s (Start node reading) = start_entry run s node reading (missing_link run s node.0) ∷ []
-entries run s (Step node reading) = entry.Step node (round_of (node_at s node.0)) (unwrap_or (next_step (node_at s node.0).phase) 0) reading ∷ []
+entries run s (Step node reading) =
+    entry.Step node (round_of (node_at s node.0)) (unwrap_or (next_step (node_at s node.0).phase) 0) reading ∷ []
 entries run s (Finish node) = entry.Finish node (round_of (node_at s node.0)) ∷ []
 entries run s (Send node reading) = entry.Send node (round_of (node_at s node.0)) reading ∷ []
 entries run s (Arrive link round reading) =
-    entry.Arrive link round reading (arrival run s link round) ∷ stop_entry (early_stop link round reading (arrival run s link round))
+    entry.Arrive link round reading (arrival run s link round)
+    ∷ stop_entry (early_stop link round reading (arrival run s link round))
 entries run s (Drop link round) = entry.Drop link round ∷ []
 entries run s (Repeat link round) = entry.Repeat link round ∷ []
 
 -- the steps of a journal lead from the opening state to this one
 pub data Replays (run : Run) : List JournalEntry → BusState → Type 0 where
   opens : Replays run [] (opening run)
-  goes_on : {journal : List JournalEntry} {s t : BusState} (e : BusEvent) → Replays run journal s → IsStep run s e t → Replays run (journal ++ entries run s e) t
+  goes_on : {journal : List JournalEntry} {s t : BusState} (e : BusEvent) → Replays run journal s → IsStep run s e t
+      → Replays run (journal ++ entries run s e) t

@@ -35,7 +35,8 @@ opening run = record {
 -- ---- what stands where
 -- a node that is not there has nothing to do
 abbrev pub no_node : NodeState
-no_node = record { count = 0; phase = Done; frame = no_frame; slots = []; vectors = []; outs = []; sent = true; parts = [] }
+no_node =
+    record { count = 0; phase = Done; frame = no_frame; slots = []; vectors = []; outs = []; sent = true; parts = [] }
 
 abbrev pub node_at : BusState → ℕ → NodeState
 node_at s node = slice_index_or s.nodes node no_node

@@ -24,7 +24,8 @@ pub record Progress : Type 0 where
 -- the send comes next once enough steps are finished, and all are or its target is no later than that of the next step
 abbrev pub send_is_next : Plan → Progress → Bool
 send_is_next plan p =
-    not p.sent && nat_le plan.sent_steps p.steps && (nat_eq p.steps plan.rate || nat_le plan.release_offset (p.steps * plan.step_period))
+    not p.sent && nat_le plan.sent_steps p.steps
+    && (nat_eq p.steps plan.rate || nat_le plan.release_offset (p.steps * plan.step_period))
 
 -- the send, else the next step, else the next round
 abbrev pub next_action : Plan → Progress → NodeAction
@@ -41,11 +42,13 @@ progress_after p (action.Send round) = record p { sent = true }
 -- n actions, from `action` on
 abbrev pub actions_from : Plan → ℕ → Progress → NodeAction → List NodeAction
 actions_from plan zero p action = []
-actions_from plan (suc n) p action = action ∷ actions_from plan n (progress_after p action) (next_action plan (progress_after p action))
+actions_from plan (suc n) p action =
+    action ∷ actions_from plan n (progress_after p action) (next_action plan (progress_after p action))
 
 -- all actions of a run: in each round its steps, and a send
 abbrev pub actions : Plan → ℕ → List NodeAction
-actions plan rounds = actions_from plan (rounds * (plan.rate + 1)) (record { round = 0; steps = 0; sent = false }) (action.Start 0)
+actions plan rounds =
+    actions_from plan (rounds * (plan.rate + 1)) (record { round = 0; steps = 0; sent = false }) (action.Start 0)
 
 -- the targets of a node
 abbrev pub targets : Plan → ℕ → List ℕ
@@ -55,7 +58,8 @@ targets plan rounds = map (target plan) (actions plan rounds)
 -- what it does, or does next; none where it is done
 abbrev pub action_in : Plan → NodeState → Phase → Option NodeAction
 action_in plan n Waiting = Some (action.Start n.count)
-action_in plan n (Running step) = Some (if nat_eq step 0 then action.Start (round_of n) else action.Step (round_of n) step)
+action_in plan n (Running step) =
+    Some (if nat_eq step 0 then action.Start (round_of n) else action.Step (round_of n) step)
 action_in plan n (Between steps) = Some (next_action plan (record { round = round_of n; steps = steps; sent = n.sent }))
 action_in plan n Holding = Some (action.Send (round_of n))
 action_in plan n Done = None

@@ -40,7 +40,8 @@ abbrev pub finished_by : DesignParts → List Event → ℕ → ℕ
 finished_by design events node = count_by (is_finish node) events / rate_of design node
 
 abbrev pub part_shown : DesignParts → Env → List Event → ℕ → ℕ → Option Part
-part_shown design env events round node = if nat_lt round (finished_by design events node) then Some (part design env node round) else None
+part_shown design env events round node =
+    if nat_lt round (finished_by design events node) then Some (part design env node round) else None
 
 -- the rounds that some component has finished
 abbrev pub rounds_shown : DesignParts → List Event → ℕ
@@ -48,13 +49,16 @@ rounds_shown design events = fold max 0 (map (finished_by design events) (upward
 
 -- each with those components that have finished it
 abbrev pub world_rows : DesignParts → Env → List Event → List (List ℕ)
-world_rows design env events = flat_map (λ round. row_lines design (part_shown design env events round) round) (upwards 0 (rounds_shown design events))
+world_rows design env events =
+    flat_map (λ round. row_lines design (part_shown design env events round) round)
+    (upwards 0 (rounds_shown design events))
 
 -- ---- messages
 abbrev pub sent_line : DesignParts → Env → ℕ → ℕ → List ℕ
 sent_line design env link round =
     let l = link_at design link in
-    spaced (codes "sent" ∷ link_word design link ∷ decimal round ∷ tuple_text (out_kind (slice_get design.components l.source.0) l.out_port) (msg design env link round) ∷ [])
+    spaced (codes "sent" ∷ link_word design link ∷ decimal round
+    ∷ tuple_text (out_kind (slice_get design.components l.source.0) l.out_port) (msg design env link round) ∷ [])
 
 -- how many of these sends are of a node
 abbrev pub sends_of : ℕ → List ℕ → ℕ
@@ -64,11 +68,13 @@ sends_of node senders = count_by (nat_eq node) senders
 abbrev pub sent_lines_in : DesignParts → Env → List ℕ → List Event → Option ℕ → (List ℕ → List (List ℕ)) → List (List ℕ)
 sent_lines_in design env before events None later = later before
 sent_lines_in design env before events (Some node) later =
-    map (λ link. sent_line design env link (sends_of node before)) (links_from design node) ++ later (before ++ node ∷ [])
+    map (λ link. sent_line design env link (sends_of node before)) (links_from design node)
+    ++ later (before ++ node ∷ [])
 
 abbrev pub sent_lines : DesignParts → Env → List Event → List ℕ → List (List ℕ)
 sent_lines design env [] before = []
-sent_lines design env (e ∷ events) before = sent_lines_in design env before events (sender e) (sent_lines design env events)
+sent_lines design env (e ∷ events) before =
+    sent_lines_in design env before events (sender e) (sent_lines design env events)
 
 -- ---- the whole
 abbrev pub world_lines : DesignParts → Env → List Event → List (List ℕ)

@@ -6,5 +6,5 @@ pub mod action;
 pub mod laws;
 pub mod plan;
 
-pub use action::{NodeAction, Next};
+pub use action::{Next, NodeAction};
 pub use plan::{Input, Plan};

@@ -115,7 +115,12 @@ fn assert_used(rt: &impl Abort, node: &mut Node, job: Job, step: u32) -> Result<
     Ok(())
 }
 
-fn assert_sent(rt: &impl Abort, node: &mut Node, at: Nanos, message: &[PortValue]) -> Result<(), Fail> {
+fn assert_sent(
+    rt: &impl Abort,
+    node: &mut Node,
+    at: Nanos,
+    message: &[PortValue],
+) -> Result<(), Fail> {
     let sent = node.send(Some(at))?;
     assert_eq!(rt; sent.len(), 1);
     assert_eq!(rt; sent[0].as_slice(), message);
@@ -163,7 +168,12 @@ const MISSED_START: [NodeRow; 4] = [
 ];
 
 // A fresh node, of the run of a node, does what rows say.
-fn assert_fresh_rows(rt: &impl Abort, alloc: Global, node: &Node, rows: &[NodeRow]) -> Result<(), Fail>
+fn assert_fresh_rows(
+    rt: &impl Abort,
+    alloc: Global,
+    node: &Node,
+    rows: &[NodeRow],
+) -> Result<(), Fail>
     requires { 1 ≤ node.now.rounds }
 {
     let mut fresh = node.fresh(alloc)?;

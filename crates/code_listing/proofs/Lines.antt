@@ -76,7 +76,8 @@ pub blocks_turn : {X : Type 0} (f : X → List (List ℕ)) (xs : List X) (i : �
     → new ≡ old ++ text_of (flat_map f (take (i + 1) xs))
 blocks_turn f xs i x old out new within is before added =
     let begun : Adds old (flat_map f (take i xs)) out = record { is = before } in
-    (lines_behind new (f x) begun added).is ∙ ap (λ lines. old ++ text_of lines) (sym (flat_map-take_more f xs i x within is))
+    (lines_behind new (f x) begun added).is
+    ∙ ap (λ lines. old ++ text_of lines) (sym (flat_map-take_more f xs i x within is))
 
 pub blocks_all : {X : Type 0} (f : X → List (List ℕ)) (xs : List X) (i : ℕ) (old out : List ℕ) → length xs ≤ i
     → out ≡ old ++ text_of (flat_map f (take i xs)) → out ≡ old ++ text_of (flat_map f xs)

@@ -39,7 +39,8 @@ get_behind (z ∷ xs) ys k x is =
     ap (slice_get (z ∷ xs ++ ys)) same ∙ get_behind xs ys k x is
 
 front_once : (xs ys : List (List ℕ)) → StandOnce (xs ++ ys) → StandOnce xs
-front_once xs ys once i j name at_i at_j = once i j name (slice_get-append_left xs ys i name at_i) (slice_get-append_left xs ys j name at_j)
+front_once xs ys once i j name at_i at_j =
+    once i j name (slice_get-append_left xs ys i name at_i) (slice_get-append_left xs ys j name at_j)
 
 rest_once : (xs ys : List (List ℕ)) → StandOnce (xs ++ ys) → StandOnce ys
 rest_once xs ys once i j name at_i at_j =
@@ -76,7 +77,8 @@ named_or_not : (o : Option PortDecl) → port_name o ≡ name_in (option_map (λ
 named_or_not None = refl
 named_or_not (Some p) = refl
 
-named : (ports : List PortDecl) (port : ℕ) → port_name (slice_get ports port) ≡ name_in (slice_get (names_of ports) port)
+named : (ports : List PortDecl) (port : ℕ)
+    → port_name (slice_get ports port) ≡ name_in (slice_get (names_of ports) port)
 named ports port =
     named_or_not (slice_get ports port) ∙ ap name_in (sym (slice_get-map (λ (p : PortDecl). p.name) ports port))
 

@@ -40,7 +40,8 @@ pub kind_plain : (kind : Kind) → is_plain (kind_word kind) ≡ true
 kind_plain Integer = refl
 kind_plain Boolean = refl
 
-pub port_told : (word : List ℕ) → is_plain word ≡ true → (p q : PortDecl) → is_plain p.name ≡ true → is_plain q.name ≡ true
+pub port_told : (word : List ℕ) → is_plain word ≡ true → (p q : PortDecl) → is_plain p.name ≡ true
+    → is_plain q.name ≡ true
     → port_line word p ≡ port_line word q → p ≡ q
 port_told word plain p q plain_p plain_q same =
     let words = same_words [] [] (word ∷ p.name ∷ kind_word p.kind ∷ []) (word ∷ q.name ∷ kind_word q.kind ∷ [])

@@ -8,7 +8,7 @@ ghost use Rattle.code_listing.specs.Numbers.{NumberFits, FirstFits, EntryFits, E
 
 use crate::instr::add_instrs;
 use crate::names::state_word;
-use pals_base::{BehaviourParts, Kind, PortDecl, NoMemory, StateDecl, VarDecl};
+use pals_base::{BehaviourParts, Kind, NoMemory, PortDecl, StateDecl, VarDecl};
 use pals_model::{Component, DesignParts};
 use pals_report::{LineWord, add_line};
 use step_code::{Code, most};
@@ -83,7 +83,10 @@ fn add_number(out: &mut Vec<u8>, word: &[u8], number: u128) -> Result<(), NoMemo
     ensures err { OnErr result (out.new.items ≡ out.old.items) }
 {
     let indent = LineWord::Bytes(b"");
-    add_line(out, &[indent, LineWord::Bytes(word), LineWord::Wide(number)])
+    add_line(
+        out,
+        &[indent, LineWord::Bytes(word), LineWord::Wide(number)],
+    )
 }
 
 // The line of a code's slots for loops.
@@ -168,7 +171,10 @@ fn add_state(out: &mut Vec<u8>, state: &StateDecl, entry: Option<u32>) -> Result
         None => add_line(out, &[indent, first, name, LineWord::Bytes(b"passing")]),
         Some(place) => {
             let place = LineWord::Number(u64::from(place));
-            add_line(out, &[indent, first, name, LineWord::Bytes(b"entry"), place])
+            add_line(
+                out,
+                &[indent, first, name, LineWord::Bytes(b"entry"), place],
+            )
         }
     }
 }

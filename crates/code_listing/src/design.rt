@@ -15,8 +15,14 @@ pub fn add_bounds(out: &mut Vec<u8>, design: &DesignParts) -> Result<(), NoMemor
 {
     let gamma = &design.gamma;
     add_line(out, &[LineWord::Bytes(b"pals-code"), LineWord::Number(1)])?;
-    add_line(out, &[LineWord::Bytes(b"period"), LineWord::Number(design.period)])?;
-    add_line(out, &[LineWord::Bytes(b"skew"), LineWord::Number(gamma.eps)])?;
+    add_line(
+        out,
+        &[LineWord::Bytes(b"period"), LineWord::Number(design.period)],
+    )?;
+    add_line(
+        out,
+        &[LineWord::Bytes(b"skew"), LineWord::Number(gamma.eps)],
+    )?;
     add_range(out, b"execution", gamma.alpha_min, gamma.alpha_max)?;
     add_range(out, b"network", gamma.mu_min, gamma.mu_max)
 }
@@ -29,6 +35,10 @@ fn add_range(out: &mut Vec<u8>, word: &[u8], least: Nanos, most: Nanos) -> Resul
 {
     add_line(
         out,
-        &[LineWord::Bytes(word), LineWord::Number(least), LineWord::Number(most)],
+        &[
+            LineWord::Bytes(word),
+            LineWord::Number(least),
+            LineWord::Number(most),
+        ],
     )
 }

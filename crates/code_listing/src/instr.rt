@@ -64,7 +64,10 @@ fn add_instr(
     let place = LineWord::Number(place as u64);
     let name = LineWord::Bytes(mnemonic(instr));
     match instr {
-        Instr::Push(number) => add_line(out, &[indent, indent, place, name, LineWord::Signed(number)]),
+        Instr::Push(number) => add_line(
+            out,
+            &[indent, indent, place, name, LineWord::Signed(number)],
+        ),
         Instr::Load(slot) | Instr::Store(slot) => {
             let word = slot_word(behaviour.vars.as_slice(), slot);
             add_numbered(out, place, name, slot, word)

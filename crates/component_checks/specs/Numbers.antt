@@ -28,7 +28,8 @@ abbrev pub gamma_by : Option ℕ → Option (ℕ × ℕ) → Option (ℕ × ℕ)
 gamma_by None execution network = None
 gamma_by (Some eps) None network = None
 gamma_by (Some eps) (Some alpha) None = None
-gamma_by (Some eps) (Some alpha) (Some mu) = Some (record { eps = eps; alpha_min = alpha.0; alpha_max = alpha.1; mu_min = mu.0; mu_max = mu.1 })
+gamma_by (Some eps) (Some alpha) (Some mu) =
+    Some (record { eps = eps; alpha_min = alpha.0; alpha_max = alpha.1; mu_min = mu.0; mu_max = mu.1 })
 
 -- ---- rates: a component's period divides that of the root, 1 to 64 times
 abbrev pub divides : ℕ → ℕ → Bool

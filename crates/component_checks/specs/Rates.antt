@@ -69,7 +69,8 @@ is_right (Some a) kind p q = is_allowed (Some a) p q && kind_suits (Some a) kind
 -- ---- the rates at both ends of a link or a feed, its name and its adaptor: none is given, or a text, which may name no adaptor
 abbrev pub adaptor_findings : ℕ → List ℕ → Option (Option Adaptor) → Option Kind → ℕ → ℕ → List Violation
 adaptor_findings at name None kind p q = finding at NO_ADAPTOR name ∷ []
-adaptor_findings at name (Some adaptor) kind p q = found_if (not (is_right adaptor kind p q)) at ADAPTOR_OUT_OF_RANGE name
+adaptor_findings at name (Some adaptor) kind p q =
+    found_if (not (is_right adaptor kind p q)) at ADAPTOR_OUT_OF_RANGE name
 
 abbrev pub pair_findings : ℕ → List ℕ → Option (Option Adaptor) → Option Kind → ℕ → ℕ → List Violation
 pair_findings at name given kind p q =
@@ -81,4 +82,5 @@ pair_findings at name given kind p q =
 abbrev pub bound_findings : ℕ → Option ℕ → Option Gamma → ℕ → List Violation
 bound_findings at None g rate = []
 bound_findings at (Some t) None rate = []
-bound_findings at (Some t) (Some g) rate = found_if (nat_lt t (least_period g rate)) at PERIOD_TOO_SHORT (name_and_number (decimal t) (least_period g rate))
+bound_findings at (Some t) (Some g) rate =
+    found_if (nat_lt t (least_period g rate)) at PERIOD_TOO_SHORT (name_and_number (decimal t) (least_period g rate))

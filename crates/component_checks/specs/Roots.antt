@@ -40,7 +40,8 @@ abbrev pub root_place : PackageTree ℕ → ℕ → ℕ
 root_place tree root = name_place (implementation_at tree root)
 
 abbrev pub missing : PackageTree ℕ → ℕ → ℕ → List ℕ → PropertyName → List Violation
-missing tree root number details p = found_if (not (is_some (at_root tree root p))) (root_place tree root) number details
+missing tree root number details p =
+    found_if (not (is_some (at_root tree root p))) (root_place tree root) number details
 
 abbrev pub missing_bound : PackageTree ℕ → ℕ → PropertyName → List Violation
 missing_bound tree root p = missing tree root GAMMA_MISSING (shown p) p
@@ -62,16 +63,19 @@ abbrev pub zero_skew : Option (Association ℕ) → List Violation
 zero_skew x = found_if (is_zero (option_and_then within_hour (time_at x))) (place_of x) GAMMA_ORDER (shown Skew)
 
 abbrev pub reversed_range : PropertyName → Option (Association ℕ) → List Violation
-reversed_range p x = found_if (is_reversed (option_and_then range_within (range_at x))) (place_of x) GAMMA_ORDER (shown p)
+reversed_range p x =
+    found_if (is_reversed (option_and_then range_within (range_at x))) (place_of x) GAMMA_ORDER (shown p)
 
 -- ---- all, with the greatest rate of the components
 abbrev pub missing_findings : PackageTree ℕ → ℕ → List Violation
 missing_findings tree root =
-    missing tree root NO_PERIOD [] Period ++ missing_bound tree root Skew ++ missing_bound tree root Execution ++ missing_bound tree root Network
+    missing tree root NO_PERIOD [] Period ++ missing_bound tree root Skew ++ missing_bound tree root Execution
+    ++ missing_bound tree root Network
 
 abbrev pub order_findings : PackageTree ℕ → ℕ → List Violation
 order_findings tree root =
-    zero_skew (at_root tree root Skew) ++ reversed_range Execution (at_root tree root Execution) ++ reversed_range Network (at_root tree root Network)
+    zero_skew (at_root tree root Skew) ++ reversed_range Execution (at_root tree root Execution)
+    ++ reversed_range Network (at_root tree root Network)
 
 abbrev pub root_findings : PackageTree ℕ → ℕ → ℕ → List Violation
 root_findings tree root rate =

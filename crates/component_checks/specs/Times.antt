@@ -47,7 +47,8 @@ shown Initial = codes "Initial_Value"
 
 -- ---- each association of a list at a kind of place
 abbrev pub big_as : Association ℕ → PropertyName → List Violation
-big_as x p = found_if (is_named (name_of p) x && is_too_big p (association_value x)) (association_at x) NUMBER_TOO_BIG (shown p)
+big_as x p =
+    found_if (is_named (name_of p) x && is_too_big p (association_value x)) (association_at x) NUMBER_TOO_BIG (shown p)
 
 abbrev pub association_big : PropertyHolder → Association ℕ → List Violation
 association_big holder x = flat_map (big_as x) (recognised holder)

@@ -45,7 +45,11 @@ pub fn property_in(list: &[Association], property: PropertyName) -> Option<&Asso
 }
 
 // A property of the type of an implementation, by the implementation's number.
-fn type_property<'t>(uses: &Uses<'t>, number: usize, property: PropertyName) -> Option<&'t Association>
+fn type_property<'t>(
+    uses: &Uses<'t>,
+    number: usize,
+    property: PropertyName,
+) -> Option<&'t Association>
     ensures { option_map (association_view kept_place) (option_copied result)
         ≡ spec.first_in property (spec.type_lists (type_numbered (placed uses.now.names.tree.now) (type_number_at (placed uses.now.names.tree.now) number))) }
 {

@@ -102,7 +102,15 @@ fn add_missing_findings(
 ) -> Result<(), NoMemory>
     ensures { OnOk result (found.new ≡ found.old ++ spec.missing_findings (placed uses.now.names.tree.now) root) }
 {
-    add_missing(alloc, uses, root, NO_PERIOD, "", PropertyName::Period, found)?;
+    add_missing(
+        alloc,
+        uses,
+        root,
+        NO_PERIOD,
+        "",
+        PropertyName::Period,
+        found,
+    )?;
     add_missing_bound(alloc, uses, root, PropertyName::Skew, found)?;
     add_missing_bound(alloc, uses, root, PropertyName::Execution, found)?;
     add_missing_bound(alloc, uses, root, PropertyName::Network, found)

@@ -156,7 +156,10 @@ pub fn is_too_big(property: PropertyName, value: &Value) -> bool
             Some((low, high)) => is_above(low) || is_above(high),
             None => false,
         },
-        PropertyName::Dispatch | PropertyName::Timing | PropertyName::Adaptor | PropertyName::Initial => false,
+        PropertyName::Dispatch
+        | PropertyName::Timing
+        | PropertyName::Adaptor
+        | PropertyName::Initial => false,
     }
 }
 

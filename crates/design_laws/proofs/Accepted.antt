@@ -29,15 +29,18 @@ use Rattle.design_laws.specs.PackageDesigns.{IsDesignIn}
 use Rattle.design_laws.proofs.Words.{has_words}
 
 -- ---- the names of a package that some text has
-pub given_names : ((tree : PackageTree ℕ) (root n : ℕ) (x : Implementation ℕ) → IsGiven tree → package_faults tree root ≡ []
-    → slice_get tree.declarations n ≡ Some (implementation x) → NamesDiffer tree x) → (tree : PackageTree ℕ) → IsGiven tree → AreNamed tree
+pub given_names : ((tree : PackageTree ℕ) (root n : ℕ) (x : Implementation ℕ) → IsGiven tree
+    → package_faults tree root ≡ []
+    → slice_get tree.declarations n ≡ Some (implementation x) → NamesDiffer tree x) → (tree : PackageTree ℕ)
+    → IsGiven tree → AreNamed tree
 given_names differ tree given = record {
   words = has_words given.0 tree given.1;
   differ = λ root n x none is. differ tree root n x given none is;
 }
 
 -- ---- rules, and that there is a design
-shown_is : (tree : PackageTree ℕ) (root : List ℕ) (parts : Parts) → IsFlat tree root parts → IsShown tree (shown_by tree parts)
+shown_is : (tree : PackageTree ℕ) (root : List ℕ) (parts : Parts) → IsFlat tree root parts
+    → IsShown tree (shown_by tree parts)
 shown_is tree root parts flat = record {
   name = root;
   parts = parts;
@@ -49,18 +52,25 @@ shown_is tree root parts flat = record {
   taps_are = refl;
 }
 
-pub keeps_rules : ((tree : PackageTree ℕ) (s : Shown) → AreNamed tree → ∥ IsShown tree s ∥₁ → NothingFound tree s → (design : DesignParts)
+pub keeps_rules : ((tree : PackageTree ℕ) (s : Shown) → AreNamed tree → ∥ IsShown tree s ∥₁ → NothingFound tree s
+    → (design : DesignParts)
     → IsDesignOf tree s design → IsDesign design)
-    → (tree : PackageTree ℕ) (root : List ℕ) (design : DesignParts) → AreNamed tree → IsDesignIn tree root design → IsDesign design
+    → (tree : PackageTree ℕ) (root : List ℕ) (design : DesignParts) → AreNamed tree → IsDesignIn tree root design
+    → IsDesign design
 keeps_rules law tree root design named d =
-    law tree (shown_by tree d.parts) named ∣ shown_is tree root d.parts d.flat ∣₁ (nothing_found tree (shown_by tree d.parts) d.nothing_wrong)
+    law tree (shown_by tree d.parts) named ∣ shown_is tree root d.parts d.flat ∣₁
+    (nothing_found tree (shown_by tree d.parts) d.nothing_wrong)
     design d.design_of
 
-pub is_there : ((tree : PackageTree ℕ) (s : Shown) → AreNamed tree → IsShown tree s → NothingFound tree s → HasDesign tree s)
-    → (tree : PackageTree ℕ) (root : List ℕ) (parts : Parts) → AreNamed tree → IsFlat tree root parts → AreViolations tree (shown_by tree parts) []
+pub is_there : ((tree : PackageTree ℕ) (s : Shown) → AreNamed tree → IsShown tree s → NothingFound tree s
+    → HasDesign tree s)
+    → (tree : PackageTree ℕ) (root : List ℕ) (parts : Parts) → AreNamed tree → IsFlat tree root parts
+    → AreViolations tree (shown_by tree parts) []
     → (design : DesignParts) × IsDesignIn tree root design
 is_there law tree root parts named flat nothing =
-    let there = law tree (shown_by tree parts) named (shown_is tree root parts flat) (nothing_found tree (shown_by tree parts) nothing) in
+    let there =
+    law tree (shown_by tree parts) named (shown_is tree root parts flat)
+    (nothing_found tree (shown_by tree parts) nothing) in
     (there.0, record { parts = parts; flat = flat; nothing_wrong = nothing; design_of = there.1 })
 
 -- ---- the first of what is all there
@@ -74,25 +84,29 @@ record Firsts {X : Type 0} (o : Option X) (os : Option (List X)) (xs : List X) :
 first_of : {X : Type 0} (o : Option X) (os : Option (List X)) (xs : List X) → put_first o os ≡ Some xs → Firsts o os xs
 first_of None os xs is = absurd (cc is)
 first_of (Some x) None xs is = absurd (cc is)
-first_of (Some x) (Some ys) xs is = record { first = x; rest = ys; is_first = refl; is_rest = refl; both = same_Some (x ∷ ys) xs is }
+first_of (Some x) (Some ys) xs is =
+    record { first = x; rest = ys; is_first = refl; is_rest = refl; both = same_Some (x ∷ ys) xs is }
 
 -- ---- the greatest rate of the components is that of the threads
 module _ (tree : PackageTree ℕ) (root : ℕ) where
   -- a component, and those behind it
-  rate_by : (path : List ℕ) (rate : Option ℕ) (b : Option BehaviourParts) (c : Component) → component_by path rate b ≡ Some c → rate ≡ Some c.rate
+  rate_by : (path : List ℕ) (rate : Option ℕ) (b : Option BehaviourParts) (c : Component)
+      → component_by path rate b ≡ Some c → rate ≡ Some c.rate
   rate_by path None b c is = absurd (cc is)
   rate_by path (Some rate) None c is = absurd (cc is)
   rate_by path (Some rate) (Some b) c is =
       ap (λ (x : Component). Some x.rate) (same_Some (record { path = path; rate = rate; behaviour = b }) c is)
 
-  rates_by : (k : ℕ) (threads : List ThreadAt) (cs : List Component) → all_of (map (component_in tree root) threads) ≡ Some cs
+  rates_by : (k : ℕ) (threads : List ThreadAt) (cs : List Component)
+      → all_of (map (component_in tree root) threads) ≡ Some cs
       → fold greater_rate k (map (thread_rate tree root) threads) ≡ fold (λ n (c : Component). max n c.rate) k cs
   rates_by k [] cs is = ap (λ l. fold (λ n (c : Component). max n c.rate) k l) (same_Some [] cs is)
   rates_by k (t ∷ threads) cs is =
       let a = first_of (component_in tree root t) (all_of (map (component_in tree root) threads)) cs is in
       let rate = rate_by t.path (thread_rate tree root t) (thread_behaviour tree t) a.first a.is_first in
       ap (λ o. fold greater_rate (greater_rate k o) (map (thread_rate tree root) threads)) rate
-      ∙ (rates_by (max k a.first.rate) threads a.rest a.is_rest ∙ ap (λ l. fold (λ n (c : Component). max n c.rate) k l) a.both)
+      ∙ (rates_by (max k a.first.rate) threads a.rest a.is_rest
+      ∙ ap (λ l. fold (λ n (c : Component). max n c.rate) k l) a.both)
 
 -- ---- the bound
 pub within_bound : (tree : PackageTree ℕ) (root : List ℕ) (design : DesignParts) → IsDesignIn tree root design
@@ -107,5 +121,6 @@ within_bound tree root design d =
     (bound_findings place (root_period tree s.root) (root_gamma tree s.root) rate) clean in
     let timed = subst (λ o. bound_findings place o (root_gamma tree s.root) rate ≡ []) d.design_of.period here in
     let bounded = subst (λ o. bound_findings place (Some design.period) o rate ≡ []) d.design_of.gamma timed in
-    subst (λ k. least_period design.gamma k ≤ design.period) (rates_by tree s.root 1 s.threads design.components d.design_of.components)
+    subst (λ k. least_period design.gamma k ≤ design.period)
+    (rates_by tree s.root 1 s.threads design.components d.design_of.components)
     (leaves_time place design.period design.gamma rate bounded)

@@ -33,23 +33,28 @@ use Rattle.design_laws.proofs.Showing.{of_shown, to_shown}
 
 -- ---- the design
 module _ {tree : PackageTree ℕ} {name : List ℕ} {parts : Parts} (flat : IsFlat tree name parts) (used : ℕ → Bool)
-    (is_use : IsUse tree parts.root used) (found : NoFindings tree (shown_by tree parts) used) (named : AreNamed tree) (law : ThreadLaw) where
+    (is_use : IsUse tree parts.root used) (found : NoFindings tree (shown_by tree parts) used) (named : AreNamed tree)
+    (law : ThreadLaw) where
   abbrev rate : ℕ
   rate = greatest_rate (rates_of tree (shown_by tree parts))
 
   abbrev parted : Made (λ path. component_in tree parts.root (thread_at tree parts.root path))
       (composing.IsOf flat used is_use found.declarations (greatest_rate
       (rates_of tree (shown_by tree parts))) found.root found.threads named law) parts.threads
-  parted = components flat used is_use found.declarations (greatest_rate (rates_of tree (shown_by tree parts))) found.root found.threads named law
+  parted =
+      components flat used is_use found.declarations (greatest_rate (rates_of tree (shown_by tree parts))) found.root
+      found.threads named law
 
   sits_by : (path : List ℕ) (c : Component) → composing.IsOf flat used is_use found.declarations
-      (greatest_rate (rates_of tree (shown_by tree parts))) found.root found.threads named law path c → Sits tree parts.root path c
+      (greatest_rate (rates_of tree (shown_by tree parts))) found.root found.threads named law path c
+      → Sits tree parts.root path c
   sits_by path c h = record {
     thread = h.thread;
     rate_seen = h.rate_seen;
     seen = h.seen;
     small = (is_small flat path h.thread.component (thread_of flat used is_use found.declarations
-        (greatest_rate (rates_of tree (shown_by tree parts))) found.root found.threads named law path h.thread) c.behaviour h.seen).ports;
+        (greatest_rate (rates_of tree (shown_by tree parts))) found.root found.threads named law path h.thread)
+        c.behaviour h.seen).ports;
   }
 
   sits : Zipped (Sits tree parts.root) parts.threads parted.all
@@ -58,25 +63,34 @@ module _ {tree : PackageTree ℕ} {name : List ℕ} {parts : Parts} (flat : IsFl
       (Sits tree parts.root) sits_by parts.threads parted.all parted.each
 
   abbrev period : ℕ
-  period = (root_time flat used is_use found.declarations (greatest_rate (rates_of tree (shown_by tree parts))) found.root).0
+  period =
+      (root_time flat used is_use found.declarations (greatest_rate (rates_of tree (shown_by tree parts))) found.root).0
 
   abbrev gamma : Gamma
-  gamma = (root_bounds flat used is_use found.declarations (greatest_rate (rates_of tree (shown_by tree parts))) found.root).0
+  gamma =
+      (root_bounds flat used is_use found.declarations (greatest_rate (rates_of tree (shown_by tree parts)))
+      found.root).0
 
   abbrev design : DesignParts
-  design = whole flat used is_use found.declarations named found.links found.feeds period gamma (ignored_names tree parts.root) parted.all sits
+  design =
+      whole flat used is_use found.declarations named found.links found.feeds period gamma
+      (ignored_names tree parts.root) parted.all sits
 
   is_design_of : IsDesignOf tree (shown_by tree parts) design
   is_design_of = record {
     period = (root_time flat used is_use found.declarations rate found.root).1.is;
     gamma = (root_bounds flat used is_use found.declarations rate found.root).1;
-    components = ap all_of (made_twice (component_in tree parts.root) (thread_at tree parts.root) parts.threads) ∙ parted.are;
+    components =
+        ap all_of (made_twice (component_in tree parts.root) (thread_at tree parts.root) parts.threads) ∙ parted.are;
     links = ap all_of (made_twice (link_in tree) (chain_at tree parts) parts.links)
-        ∙ (links flat used is_use found.declarations named found.links found.feeds period gamma (ignored_names tree parts.root) parted.all sits).are;
+        ∙ (links flat used is_use found.declarations named found.links found.feeds period gamma
+        (ignored_names tree parts.root) parted.all sits).are;
     feeds = ap all_of (made_twice (feed_in tree) (chain_at tree parts) parts.feeds)
-        ∙ (feeds flat used is_use found.declarations named found.links found.feeds period gamma (ignored_names tree parts.root) parted.all sits).are;
+        ∙ (feeds flat used is_use found.declarations named found.links found.feeds period gamma
+        (ignored_names tree parts.root) parted.all sits).are;
     taps = ap all_of (made_twice tap_in (chain_at tree parts) parts.taps)
-        ∙ (taps flat used is_use found.declarations named found.links found.feeds period gamma (ignored_names tree parts.root) parted.all sits).are;
+        ∙ (taps flat used is_use found.declarations named found.links found.feeds period gamma
+        (ignored_names tree parts.root) parted.all sits).are;
     ignored = refl;
   }
 
@@ -86,30 +100,42 @@ module _ {tree : PackageTree ℕ} {name : List ℕ} {parts : Parts} (flat : IsFl
 
   keeps : IsDesign design
   keeps = record {
-    period = (some_time flat used is_use found.declarations rate found.root, (root_time flat used is_use found.declarations rate found.root).1.short);
+    period = (
+      some_time flat used is_use found.declarations rate found.root,
+      (root_time flat used is_use found.declarations rate found.root).1.short,
+    );
     gamma = bounds_keep flat used is_use found.declarations rate found.root;
     components = record {
       each = components_keep flat used is_use found.declarations rate found.root found.threads named law;
       count = components_few flat used is_use found.declarations rate found.root found.threads named law;
       paths_differ = components_differ flat used is_use found.declarations rate found.root found.threads named law;
     };
-    links = links_keep flat used is_use found.declarations named found.links found.feeds period gamma (ignored_names tree parts.root) parted.all sits;
-    feeds = feeds_keep flat used is_use found.declarations named found.links found.feeds period gamma (ignored_names tree parts.root) parted.all sits;
-    taps = taps_keep flat used is_use found.declarations named found.links found.feeds period gamma (ignored_names tree parts.root) parted.all sits;
-    bound = subst (λ k. least_period gamma k ≤ period) rate_is (enough flat used is_use found.declarations rate found.root);
+    links =
+        links_keep flat used is_use found.declarations named found.links found.feeds period gamma
+        (ignored_names tree parts.root) parted.all sits;
+    feeds =
+        feeds_keep flat used is_use found.declarations named found.links found.feeds period gamma
+        (ignored_names tree parts.root) parted.all sits;
+    taps =
+        taps_keep flat used is_use found.declarations named found.links found.feeds period gamma
+        (ignored_names tree parts.root) parted.all sits;
+    bound =
+        subst (λ k. least_period gamma k ≤ period) rate_is (enough flat used is_use found.declarations rate found.root);
   }
 
   pub accepted : HasDesign tree (shown_by tree parts)
   accepted = (design, is_design_of, keeps)
 
-pub has_design : ThreadLaw → (tree : PackageTree ℕ) (s : Shown) → AreNamed tree → IsShown tree s → NothingFound tree s → HasDesign tree s
+pub has_design : ThreadLaw → (tree : PackageTree ℕ) (s : Shown) → AreNamed tree → IsShown tree s → NothingFound tree s
+    → HasDesign tree s
 has_design law tree s named i nothing =
     let there = to_shown (NothingFound tree) tree s i nothing in
     let found = all_parts tree (shown_by tree i.parts) there.used there.none in
     of_shown (HasDesign tree) tree s i (accepted i.flat there.used there.is_use found named law)
 
 -- ---- there is one
-same_design : (a b : DesignParts) → a.period ≡ b.period → a.gamma ≡ b.gamma → a.components ≡ b.components → a.links ≡ b.links
+same_design : (a b : DesignParts) → a.period ≡ b.period → a.gamma ≡ b.gamma → a.components ≡ b.components
+    → a.links ≡ b.links
     → a.feeds ≡ b.feeds → a.taps ≡ b.taps → a.ignored ≡ b.ignored → a ≡ b
 same_design a b p g c l f t i =
     let step_period = ap (λ (v : ℕ). let d : DesignParts = record {
@@ -130,12 +156,33 @@ same_design a b p g c l f t i =
       taps = a.taps;
       ignored = a.ignored;
     } in d) g in
-    let step_components = ap (λ (v : List Component). let d : DesignParts = record
-    { period = b.period; gamma = b.gamma; components = v; links = a.links; feeds = a.feeds; taps = a.taps; ignored = a.ignored } in d) c in
-    let step_links = ap (λ (v : List Link). let d : DesignParts = record
-    { period = b.period; gamma = b.gamma; components = b.components; links = v; feeds = a.feeds; taps = a.taps; ignored = a.ignored } in d) l in
-    let step_feeds = ap (λ (v : List Feed). let d : DesignParts = record
-    { period = b.period; gamma = b.gamma; components = b.components; links = b.links; feeds = v; taps = a.taps; ignored = a.ignored } in d) f in
+    let step_components = ap (λ (v : List Component). let d : DesignParts = record {
+      period = b.period;
+      gamma = b.gamma;
+      components = v;
+      links = a.links;
+      feeds = a.feeds;
+      taps = a.taps;
+      ignored = a.ignored;
+    } in d) c in
+    let step_links = ap (λ (v : List Link). let d : DesignParts = record {
+      period = b.period;
+      gamma = b.gamma;
+      components = b.components;
+      links = v;
+      feeds = a.feeds;
+      taps = a.taps;
+      ignored = a.ignored;
+    } in d) l in
+    let step_feeds = ap (λ (v : List Feed). let d : DesignParts = record {
+      period = b.period;
+      gamma = b.gamma;
+      components = b.components;
+      links = b.links;
+      feeds = v;
+      taps = a.taps;
+      ignored = a.ignored;
+    } in d) f in
     let step_taps = ap (λ (v : List Tap). let d : DesignParts = record {
       period = b.period;
       gamma = b.gamma;
@@ -146,13 +193,22 @@ same_design a b p g c l f t i =
       taps = v;
       ignored = a.ignored;
     } in d) t in
-    let step_ignored = ap (λ (v : List (List ℕ)). let d : DesignParts = record
-    { period = b.period; gamma = b.gamma; components = b.components; links = b.links; feeds = b.feeds; taps = b.taps; ignored = v } in d) i in
+    let step_ignored = ap (λ (v : List (List ℕ)). let d : DesignParts = record {
+      period = b.period;
+      gamma = b.gamma;
+      components = b.components;
+      links = b.links;
+      feeds = b.feeds;
+      taps = b.taps;
+      ignored = v;
+    } in d) i in
     step_period ∙ (step_gamma ∙ (step_components ∙ (step_links ∙ (step_feeds ∙ (step_taps ∙ (step_ignored))))))
 
-pub one_design : (tree : PackageTree ℕ) (s : Shown) (a b : DesignParts) → IsDesignOf tree s a → IsDesignOf tree s b → a ≡ b
+pub one_design : (tree : PackageTree ℕ) (s : Shown) (a b : DesignParts) → IsDesignOf tree s a
+    → IsDesignOf tree s b → a ≡ b
 one_design tree s a b x y =
-    same_design a b (same_Some a.period b.period (sym x.period ∙ y.period)) (same_Some a.gamma b.gamma (sym x.gamma ∙ y.gamma))
+    same_design a b (same_Some a.period b.period (sym x.period ∙ y.period))
+    (same_Some a.gamma b.gamma (sym x.gamma ∙ y.gamma))
     (same_Some a.components b.components (sym x.components ∙ y.components))
     (same_Some a.links b.links (sym x.links ∙ y.links)) (same_Some a.feeds b.feeds (sym x.feeds ∙ y.feeds))
     (same_Some a.taps b.taps (sym x.taps ∙ y.taps)) (x.ignored ∙ sym y.ignored)

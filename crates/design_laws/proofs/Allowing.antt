@@ -31,23 +31,28 @@ none_suits None = refl
 none_suits (Some k) = refl
 
 -- ---- an adaptor that is right
-right_fits : (a : Option Adaptor) (kind : Option Kind) (p q : ℕ) → is_right a kind p q ≡ true → (is_allowed a p q ≡ true) × (kind_suits a kind ≡ true)
+right_fits : (a : Option Adaptor) (kind : Option Kind) (p q : ℕ) → is_right a kind p q ≡ true
+    → (is_allowed a p q ≡ true) × (kind_suits a kind ≡ true)
 right_fits None kind p q h = absurd (false≢true h)
 right_fits (Some a) kind p q h = and_parts (is_allowed (Some a) p q) (kind_suits (Some a) kind) h
 
 -- ---- all cases
-fits_by : (at : ℕ) (name : List ℕ) (text : Option (List ℕ)) (kind : Option Kind) (p q : ℕ) (same one : Bool) → nat_eq p q ≡ same
+fits_by : (at : ℕ) (name : List ℕ) (text : Option (List ℕ)) (kind : Option Kind) (p q : ℕ) (same one : Bool)
+    → nat_eq p q ≡ same
     → divides_or_divided p q ≡ one
     → cond same (found_if (is_some (option_map adaptor_named text)) at STRAY_ADAPTOR name)
     (cond one (adaptor_findings at name (option_map adaptor_named text) kind p q)
     (finding at RATES_DONT_DIVIDE (name_and_number (name_and_number name p) q) ∷ [])) ≡ []
     → Fits text kind p q
-fits_by at name None kind p q true one h d none = record { divides = same_divides p q h; allowed = h; suits = none_suits kind }
+fits_by at name None kind p q true one h d none =
+    record { divides = same_divides p q h; allowed = h; suits = none_suits kind }
 fits_by at name None kind p q false true h d none = absurd (cc none)
 fits_by at name None kind p q false false h d none = absurd (cc none)
 fits_by at name (Some bytes) kind p q true one h d none = absurd (cc none)
 fits_by at name (Some bytes) kind p q false true h d none =
-    let f = right_fits (adaptor_named bytes) kind p q (tests.is_right (is_right (adaptor_named bytes) kind p q) at ADAPTOR_OUT_OF_RANGE name none) in
+    let f =
+    right_fits (adaptor_named bytes) kind p q
+    (tests.is_right (is_right (adaptor_named bytes) kind p q) at ADAPTOR_OUT_OF_RANGE name none) in
     record { divides = d; allowed = f.0; suits = f.1 }
 fits_by at name (Some bytes) kind p q false false h d none = absurd (cc none)
 

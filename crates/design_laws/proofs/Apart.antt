@@ -48,9 +48,11 @@ record Entered (parts : List (Part ℕ)) (xs : List SpelledName) : Type 0 where
   rising : Pairs Earlier xs
   inside : AllByRecursion (Within parts) xs
 
-module _ (R : Identifier ℕ → Identifier ℕ → Type 0) (S : SpelledName → SpelledName → Type 0) (f : (x y : Identifier ℕ) → R x y
+module _ (R : Identifier ℕ → Identifier ℕ → Type 0) (S : SpelledName → SpelledName → Type 0)
+    (f : (x y : Identifier ℕ) → R x y
     → S (entry_of x) (entry_of y)) where
-  all_entries : (x : Identifier ℕ) (ys : List (Identifier ℕ)) → AllByRecursion (R x) ys → AllByRecursion (S (entry_of x)) (map entry_of ys)
+  all_entries : (x : Identifier ℕ) (ys : List (Identifier ℕ)) → AllByRecursion (R x) ys
+      → AllByRecursion (S (entry_of x)) (map entry_of ys)
   all_entries x [] h = tt
   all_entries x (y ∷ ys) h = (f x y h.0, all_entries x ys h.1)
 
@@ -58,7 +60,8 @@ module _ (R : Identifier ℕ → Identifier ℕ → Type 0) (S : SpelledName →
   pairs_entries [] h = tt
   pairs_entries (x ∷ xs) h = (all_entries x xs h.0, pairs_entries xs h.1)
 
-inside_entries : (parts : List (Part ℕ)) (xs : List (Identifier ℕ)) → AllByRecursion (IsIn parts) xs → AllByRecursion (Within parts) (map entry_of xs)
+inside_entries : (parts : List (Part ℕ)) (xs : List (Identifier ℕ)) → AllByRecursion (IsIn parts) xs
+    → AllByRecursion (Within parts) (map entry_of xs)
 inside_entries parts [] h = tt
 inside_entries parts (x ∷ xs) h = (h.0, inside_entries parts xs h.1)
 
@@ -69,7 +72,8 @@ entered parts xs h = record {
   inside = inside_entries parts xs h.inside;
 }
 
-entries_of : {A : Type 0} (n : A → Identifier ℕ) (xs : List A) → map entry_of (flat_map (λ x. n x ∷ []) xs) ≡ map (λ x. entry_of (n x)) xs
+entries_of : {A : Type 0} (n : A → Identifier ℕ) (xs : List A)
+    → map entry_of (flat_map (λ x. n x ∷ []) xs) ≡ map (λ x. entry_of (n x)) xs
 entries_of n [] = refl
 entries_of n (x ∷ xs) = ap (λ l. entry_of (n x) ∷ l) (entries_of n xs)
 
@@ -77,11 +81,14 @@ entries_of n (x ∷ xs) = ap (λ l. entry_of (n x) ∷ l) (entries_of n xs)
 in_one : (ds : List (Declaration ℕ)) (n : ℕ) (d : Declaration ℕ) (q : ℕ) → slice_get ds n ≡ Some d
     → Contains (places_of (declaration_parts d)) q → Contains (places_of (flat_map declaration_parts ds)) q
 in_one [] n d q is h = absurd (cc is)
-in_one (c ∷ ds) zero d q is h = let e : d ≡ c = cc is in in_front (declaration_parts c) (flat_map declaration_parts ds) q
+in_one (c ∷ ds) zero d q is h = let e : d ≡ c = cc is in
+    in_front (declaration_parts c) (flat_map declaration_parts ds) q
     (subst (λ x. Contains (places_of (declaration_parts x)) q) e h)
-in_one (c ∷ ds) (suc n) d q is h = in_back (declaration_parts c) (flat_map declaration_parts ds) q (in_one ds n d q is h)
+in_one (c ∷ ds) (suc n) d q is h =
+    in_back (declaration_parts c) (flat_map declaration_parts ds) q (in_one ds n d q is h)
 
-before : (ds : List (Declaration ℕ)) (m n : ℕ) (c d : Declaration ℕ) (p q : ℕ) → Rise (flat_map declaration_parts ds) → m < n
+before : (ds : List (Declaration ℕ)) (m n : ℕ) (c d : Declaration ℕ) (p q : ℕ)
+    → Rise (flat_map declaration_parts ds) → m < n
     → slice_get ds m ≡ Some c → slice_get ds n ≡ Some d
     → Contains (places_of (declaration_parts c)) p → Contains (places_of (declaration_parts d)) q → p < q
 before [] m n c d p q r lt first second here there = absurd (cc first)
@@ -96,44 +103,54 @@ before (e ∷ ds) zero (suc n) c d p q r lt first second here there =
       second = in_one ds n d q second there;
     })
 before (e ∷ ds) (suc m) (suc n) c d p q r lt first second here there =
-    before ds m n c d p q (rise_back (declaration_parts e) (flat_map declaration_parts ds) r) (omega arith) first second here there
+    before ds m n c d p q (rise_back (declaration_parts e) (flat_map declaration_parts ds) r) (omega arith) first
+    second here there
 
 more_apart : (p q : ℕ) → q < p → p ≢ q
 more_apart p q lt = λ e. absurd (omega (arith, lt, e))
 
 module _ (ds : List (Declaration ℕ)) (r : Rise (flat_map declaration_parts ds)) where
-  places_apart : (m n : ℕ) (c d : Declaration ℕ) (p q : ℕ) → (m ≡ n) ⊎ ((m < n) ⊎ (n < m)) → m ≢ n → slice_get ds m ≡ Some c → slice_get ds n ≡ Some d
+  places_apart : (m n : ℕ) (c d : Declaration ℕ) (p q : ℕ) → (m ≡ n) ⊎ ((m < n) ⊎ (n < m)) → m ≢ n
+      → slice_get ds m ≡ Some c → slice_get ds n ≡ Some d
       → Contains (places_of (declaration_parts c)) p → Contains (places_of (declaration_parts d)) q → p ≢ q
   places_apart m n c d p q (inl e) other first second here there = absurd (other e)
-  places_apart m n c d p q (inr (inl lt)) other first second here there = ne_from_lt p q (before ds m n c d p q r lt first second here there)
-  places_apart m n c d p q (inr (inr lt)) other first second here there = more_apart p q (before ds n m d c q p r lt second first there here)
+  places_apart m n c d p q (inr (inl lt)) other first second here there =
+      ne_from_lt p q (before ds m n c d p q r lt first second here there)
+  places_apart m n c d p q (inr (inr lt)) other first second here there =
+      more_apart p q (before ds n m d c q p r lt second first there here)
 
-  both_apart : (m n : ℕ) (c d : Declaration ℕ) (xs ys : List SpelledName) → m ≢ n → slice_get ds m ≡ Some c → slice_get ds n ≡ Some d
+  both_apart : (m n : ℕ) (c d : Declaration ℕ) (xs ys : List SpelledName) → m ≢ n → slice_get ds m ≡ Some c
+      → slice_get ds n ≡ Some d
       → Entered (declaration_parts c) xs → Entered (declaration_parts d) ys → Pairs Apart (xs ++ ys)
   both_apart m n c d xs ys other first second a b =
       pairs_append Apart xs ys (pairs_weaker Earlier Apart (λ x y. ne_from_lt x.at y.at) xs a.rising)
       (pairs_weaker Earlier Apart (λ x y. ne_from_lt x.at y.at) ys b.rising)
       (AllByRecursion-weaker (Within (declaration_parts c)) (λ x. AllByRecursion (Apart x) ys)
-      (λ x here. AllByRecursion-weaker (Within (declaration_parts d)) (Apart x) (λ y there. places_apart m n c d x.at y.at
+      (λ x here. AllByRecursion-weaker (Within (declaration_parts d)) (Apart x)
+      (λ y there. places_apart m n c d x.at y.at
       (cases_order m n) other first second here there) ys b.inside) xs a.inside)
 
-  types_entered : (x : TypeDeclaration ℕ) → Rise (declaration_parts (type x)) → Entered (declaration_parts (type x)) (port_entries x.features)
+  types_entered : (x : TypeDeclaration ℕ) → Rise (declaration_parts (type x))
+      → Entered (declaration_parts (type x)) (port_entries x.features)
   types_entered x rise =
       subst (Entered (declaration_parts (type x))) (entries_of (λ (f : Feature ℕ). f.name) x.features)
       (entered (declaration_parts (type x)) (flat_map (λ (f : Feature ℕ). f.name ∷ []) x.features) (type_names x rise))
 
   other_kind : (m n : ℕ) (t : TypeDeclaration ℕ) (x : Implementation ℕ) → slice_get ds m ≡ Some (type t)
       → slice_get ds n ≡ Some (implementation x) → m ≢ n
-  other_kind m n t x first second e = let same : slice_get ds m ≡ Some (implementation x) = ap (slice_get ds) e ∙ second in absurd (cc (first, same))
+  other_kind m n t x first second e = let same : slice_get ds m ≡ Some (implementation x) = ap (slice_get ds) e
+      ∙ second in absurd (cc (first, same))
 
   -- the ports of a type, and what an implementation declares
   ports_by : (m n : ℕ) (d : Option (Declaration ℕ)) (x : Implementation ℕ) (ys : List SpelledName) → slice_get ds m ≡ d
       → slice_get ds n ≡ Some (implementation x)
       → Entered (declaration_parts (implementation x)) ys → Pairs Apart (port_entries (features_of (type_in d)) ++ ys)
   ports_by m n None x ys first second b = pairs_weaker Earlier Apart (λ y z. ne_from_lt y.at z.at) ys b.rising
-  ports_by m n (Some (implementation y)) x ys first second b = pairs_weaker Earlier Apart (λ y z. ne_from_lt y.at z.at) ys b.rising
+  ports_by m n (Some (implementation y)) x ys first second b =
+      pairs_weaker Earlier Apart (λ y z. ne_from_lt y.at z.at) ys b.rising
   ports_by m n (Some (type t)) x ys first second b =
-      both_apart m n (type t) (implementation x) (port_entries t.features) ys (other_kind m n t x first second) first second
+      both_apart m n (type t) (implementation x) (port_entries t.features) ys (other_kind m n t x first second)
+      first second
       (types_entered t (rise_one ds m (type t) first r)) b
 
 module _ (tree : PackageTree ℕ) (rise : Rise (package_parts tree)) (n : ℕ) (x : Implementation ℕ)
@@ -144,7 +161,8 @@ module _ (tree : PackageTree ℕ) (rise : Rise (package_parts tree)) (n : ℕ) (
   ports_with : (number : Option ℕ) (ys : List SpelledName) → Entered (declaration_parts (implementation x)) ys
       → Pairs Apart (port_entries (features_of (type_numbered tree number)) ++ ys)
   ports_with None ys b = pairs_weaker Earlier Apart (λ y z. ne_from_lt y.at z.at) ys b.rising
-  ports_with (Some m) ys b = ports_by tree.declarations (rise_declarations tree rise) m n (slice_get tree.declarations m) x ys refl is b
+  ports_with (Some m) ys b =
+      ports_by tree.declarations (rise_declarations tree rise) m n (slice_get tree.declarations m) x ys refl is b
 
   members_entered : Entered (declaration_parts (implementation x)) (member_entries x)
   members_entered =
@@ -153,13 +171,16 @@ module _ (tree : PackageTree ℕ) (rise : Rise (package_parts tree)) (n : ℕ) (
       let same : map entry_of (subs ++ connections) ≡ member_entries x =
       map-append entry_of subs connections
       ∙ (ap (λ l. l ++ map entry_of connections) (entries_of (λ (s : Subcomponent ℕ). s.name) x.subcomponents)
-      ∙ ap (λ l. map (λ (s : Subcomponent ℕ). entry_of s.name) x.subcomponents ++ l) (entries_of (λ (c : Connection ℕ). c.name) x.connections)) in
-      subst (Entered (declaration_parts (implementation x))) same (entered (declaration_parts (implementation x)) (subs ++ connections)
+      ∙ ap (λ l. map (λ (s : Subcomponent ℕ). entry_of s.name) x.subcomponents ++ l)
+      (entries_of (λ (c : Connection ℕ). c.name) x.connections)) in
+      subst (Entered (declaration_parts (implementation x))) same
+      (entered (declaration_parts (implementation x)) (subs ++ connections)
       (member_names x inner))
 
   variables_entered : (b : ℕ × AnnexTree ℕ) → slice_get (behaviours x.annexes) 0 ≡ Some b
       → Entered (declaration_parts (implementation x)) (variable_entries b.1)
-  variables_entered b first = entered (declaration_parts (implementation x)) (variables_of b.1) (first_variables x b first inner)
+  variables_entered b first =
+      entered (declaration_parts (implementation x)) (variables_of b.1) (first_variables x b first inner)
 
   states_entered : (b : ℕ × AnnexTree ℕ) → slice_get (behaviours x.annexes) 0 ≡ Some b
       → Entered (declaration_parts (implementation x)) (state_entries b.1)
@@ -167,13 +188,16 @@ module _ (tree : PackageTree ℕ) (rise : Rise (package_parts tree)) (n : ℕ) (
 
 -- ---- nothing is declared twice
 
-none_twice : (tree : PackageTree ℕ) (root : ℕ) → package_faults tree root ≡ [] → flat_map (twice_in tree) tree.declarations ≡ []
+none_twice : (tree : PackageTree ℕ) (root : ℕ) → package_faults tree root ≡ []
+    → flat_map (twice_in tree) tree.declarations ≡ []
 unfolding twice_names
 none_twice tree root none =
-    append_is_nil_right (twice (filter_map type_entry tree.declarations) ++ twice (filter_map implementation_entry tree.declarations))
+    append_is_nil_right (twice (filter_map type_entry tree.declarations)
+    ++ twice (filter_map implementation_entry tree.declarations))
     (flat_map (twice_in tree) tree.declarations) (append_is_nil_right (wrong_names tree root) (twice_names tree) none)
 
-first_twice : (tree : PackageTree ℕ) (x : Implementation ℕ) (bs : List (ℕ × AnnexTree ℕ)) (b : ℕ × AnnexTree ℕ) → slice_get bs 0 ≡ Some b
+first_twice : (tree : PackageTree ℕ) (x : Implementation ℕ) (bs : List (ℕ × AnnexTree ℕ)) (b : ℕ × AnnexTree ℕ)
+    → slice_get bs 0 ≡ Some b
     → is_thread x.category ≡ true → twice_in_first tree x bs ≡ []
     → twice_in_behaviour tree x b.1 ≡ []
 first_twice tree x [] b is thread none = absurd (cc is)
@@ -182,27 +206,40 @@ first_twice tree x (c ∷ bs) b is thread none =
     subst (λ (d : ℕ × AnnexTree ℕ). twice_in_behaviour tree x d.1 ≡ []) same
     (where_true (is_thread x.category) (twice_in_behaviour tree x c.1) thread none)
 
-pub differ : (tree : PackageTree ℕ) (root n : ℕ) (x : Implementation ℕ) → Rise (package_parts tree) → package_faults tree root ≡ []
+pub differ : (tree : PackageTree ℕ) (root n : ℕ) (x : Implementation ℕ) → Rise (package_parts tree)
+    → package_faults tree root ≡ []
     → slice_get tree.declarations n ≡ Some (implementation x) → NamesDiffer tree x
 differ tree root n x rise none is =
     let here = flat_map-nil_at (twice_in tree) tree.declarations n (implementation x) (none_twice tree root none) is in
-    let members = append_is_nil_left (twice (port_entries (ports_of tree x) ++ member_entries x)) (twice_in_first tree x (behaviours x.annexes)) here in
-    let first = append_is_nil_right (twice (port_entries (ports_of tree x) ++ member_entries x)) (twice_in_first tree x (behaviours x.annexes)) here in
+    let members =
+    append_is_nil_left (twice (port_entries (ports_of tree x) ++ member_entries x))
+    (twice_in_first tree x (behaviours x.annexes)) here in
+    let first =
+    append_is_nil_right (twice (port_entries (ports_of tree x) ++ member_entries x))
+    (twice_in_first tree x (behaviours x.annexes)) here in
     record {
-      members = pairs_all Differs _ (names_differ _ members (ports_with tree rise n x is (type_number tree x) (member_entries x)
+      members =
+          pairs_all Differs _ (names_differ _ members
+          (ports_with tree rise n x is (type_number tree x) (member_entries x)
           (members_entered tree rise n x is)));
       values = λ b first_is thread.
           let both = first_twice tree x (behaviours x.annexes) b first_is thread first in
-          pairs_all Differs _ (names_differ _ (append_is_nil_left (twice (port_entries (ports_of tree x) ++ variable_entries b.1))
+          pairs_all Differs _ (names_differ _
+          (append_is_nil_left (twice (port_entries (ports_of tree x) ++ variable_entries b.1))
           (twice (state_entries b.1)) both)
-          (ports_with tree rise n x is (type_number tree x) (variable_entries b.1) (variables_entered tree rise n x is b first_is)));
+          (ports_with tree rise n x is (type_number tree x) (variable_entries b.1)
+          (variables_entered tree rise n x is b first_is)));
       states = λ b first_is thread.
           let both = first_twice tree x (behaviours x.annexes) b first_is thread first in
-          pairs_all Differs _ (names_differ _ (append_is_nil_right (twice (port_entries (ports_of tree x) ++ variable_entries b.1))
+          pairs_all Differs _ (names_differ _
+          (append_is_nil_right (twice (port_entries (ports_of tree x) ++ variable_entries b.1))
           (twice (state_entries b.1)) both)
-          (pairs_weaker Earlier Apart (λ y z. ne_from_lt y.at z.at) (state_entries b.1) (states_entered tree rise n x is b first_is).rising));
+          (pairs_weaker Earlier Apart (λ y z. ne_from_lt y.at z.at) (state_entries b.1)
+          (states_entered tree rise n x is b first_is).rising));
     }
 
-pub differ_given : (tree : PackageTree ℕ) (root n : ℕ) (x : Implementation ℕ) → IsGiven tree → package_faults tree root ≡ []
+pub differ_given : (tree : PackageTree ℕ) (root n : ℕ) (x : Implementation ℕ) → IsGiven tree
+    → package_faults tree root ≡ []
     → slice_get tree.declarations n ≡ Some (implementation x) → NamesDiffer tree x
-differ_given tree root n x given none is = differ tree root n x (record { each = λ p q s. places_rise given.0 tree given.1 p q s }) none is
+differ_given tree root n x given none is =
+    differ tree root n x (record { each = λ p q s. places_rise given.0 tree given.1 p q s }) none is

@@ -50,7 +50,8 @@ pub record NoFindings (tree : PackageTree ℕ) (s : Shown) (used : ℕ → Bool)
   pub taps : flat_map (tap_findings tree s.threads) s.taps ≡ []
   pub declarations : used_findings tree s used ≡ []
 
-pub all_parts : (tree : PackageTree ℕ) (s : Shown) (used : ℕ → Bool) → findings tree s used ≡ [] → NoFindings tree s used
+pub all_parts : (tree : PackageTree ℕ) (s : Shown) (used : ℕ → Bool) → findings tree s used ≡ []
+    → NoFindings tree s used
 unfolding findings
 all_parts tree s used none =
     let root = root_findings tree s.root (greatest_rate (rates_of tree s)) in
@@ -73,7 +74,8 @@ all_parts tree s used none =
     }
 
 -- ---- what is in use
-pub there : (o : Option (Declaration ℕ)) (x : Implementation ℕ) → implementation_in o ≡ Some x → o ≡ Some (implementation x)
+pub there : (o : Option (Declaration ℕ)) (x : Implementation ℕ) → implementation_in o ≡ Some x
+    → o ≡ Some (implementation x)
 there None x e = absurd (cc e)
 there (Some (type y)) x e = absurd (cc e)
 there (Some (implementation y)) x e = ap (λ z. Some (implementation z)) (same_Some y x e)
@@ -82,7 +84,8 @@ pub declared_at : (tree : PackageTree ℕ) (n : ℕ) (x : Implementation ℕ) �
     → slice_get tree.declarations n ≡ Some (implementation x)
 declared_at tree n x is = there (slice_get tree.declarations n) x is
 
-any_numbered : {X : Type 0} (p : ℕ × X → Bool) (from : ℕ) (xs : List X) (n : ℕ) (x : X) → slice_get xs n ≡ Some x → p (from + n, x) ≡ true
+any_numbered : {X : Type 0} (p : ℕ × X → Bool) (from : ℕ) (xs : List X) (n : ℕ) (x : X) → slice_get xs n ≡ Some x
+    → p (from + n, x) ≡ true
     → list_any p (enumerate_from from xs) ≡ true
 any_numbered p from [] n x is passes = absurd (cc is)
 any_numbered p from (y ∷ xs) zero x is passes =
@@ -91,24 +94,31 @@ any_numbered p from (y ∷ xs) zero x is passes =
     ∙ (ap (λ k. p (k, x)) (sym zero') ∙ passes))
 any_numbered p from (y ∷ xs) (suc n) x is passes =
     let next : (from + 1) + n ≡ from + suc n = omega arith in
-    or_right (p (from, y)) (list_any p (enumerate_from (from + 1) xs)) (any_numbered p (from + 1) xs n x is (ap (λ k. p (k, x)) next ∙ passes))
+    or_right (p (from, y)) (list_any p (enumerate_from (from + 1) xs))
+    (any_numbered p (from + 1) xs n x is (ap (λ k. p (k, x)) next ∙ passes))
 
 module _ (tree : PackageTree ℕ) (s : Shown) (used : ℕ → Bool) (none : used_findings tree s used ≡ []) where
-  pub implementation_clean : (n : ℕ) (x : Implementation ℕ) → used n ≡ true → slice_get tree.declarations n ≡ Some (implementation x)
+  pub implementation_clean : (n : ℕ) (x : Implementation ℕ) → used n ≡ true
+      → slice_get tree.declarations n ≡ Some (implementation x)
       → implementation_findings tree s.root (carries (carriers_of s)) n x ≡ []
   implementation_clean n x in_use is =
       let zero' : 0 + n ≡ n = omega arith in
-      let here = none_at (declaration_findings tree s.root used (type_used tree used) (carries (carriers_of s))) 0 tree.declarations none n
+      let here =
+      none_at (declaration_findings tree s.root used (type_used tree used) (carries (carriers_of s))) 0
+      tree.declarations none n
       (implementation x) is in
       where_true (used n) (implementation_findings tree s.root (carries (carriers_of s)) n x) in_use
-      (subst (λ k. declaration_findings tree s.root used (type_used tree used) (carries (carriers_of s)) (k, implementation x) ≡ []) zero' here)
+      (subst (λ k. declaration_findings tree s.root used (type_used tree used) (carries (carriers_of s))
+      (k, implementation x) ≡ []) zero' here)
 
-  pub type_is_used : (n m : ℕ) (x : Implementation ℕ) → used n ≡ true → slice_get tree.declarations n ≡ Some (implementation x)
+  pub type_is_used : (n m : ℕ) (x : Implementation ℕ) → used n ≡ true
+      → slice_get tree.declarations n ≡ Some (implementation x)
       → type_number tree x ≡ Some m → type_used tree used m ≡ true
   type_is_used n m x in_use is number =
       let zero' : 0 + n ≡ n = omega arith in
       any_numbered (uses_type tree used m) 0 tree.declarations n (implementation x) is
-      (ap (λ k. uses_type tree used m (k, implementation x)) zero' ∙ both (used n) (is_number m (type_number tree x)) in_use
+      (ap (λ k. uses_type tree used m (k, implementation x)) zero'
+      ∙ both (used n) (is_number m (type_number tree x)) in_use
       (ap (is_number m) number ∙ nat_eq-self m))
 
   pub type_clean : (n m : ℕ) (x : Implementation ℕ) (t : TypeDeclaration ℕ) → used n ≡ true
@@ -116,10 +126,14 @@ module _ (tree : PackageTree ℕ) (s : Shown) (used : ℕ → Bool) (none : used
       → slice_get tree.declarations m ≡ Some (type t) → type_findings (is_root_type tree s.root m) t ≡ []
   type_clean n m x t in_use is number type_is =
       let zero' : 0 + m ≡ m = omega arith in
-      let here = none_at (declaration_findings tree s.root used (type_used tree used) (carries (carriers_of s))) 0 tree.declarations none m
+      let here =
+      none_at (declaration_findings tree s.root used (type_used tree used) (carries (carriers_of s))) 0
+      tree.declarations none m
       (type t) type_is in
-      where_true (type_used tree used m) (type_findings (is_root_type tree s.root m) t) (type_is_used n m x in_use is number)
-      (subst (λ k. declaration_findings tree s.root used (type_used tree used) (carries (carriers_of s)) (k, type t) ≡ []) zero' here)
+      where_true (type_used tree used m) (type_findings (is_root_type tree s.root m) t)
+      (type_is_used n m x in_use is number)
+      (subst (λ k. declaration_findings tree s.root used (type_used tree used) (carries (carriers_of s)) (k, type t)
+      ≡ []) zero' here)
 
 -- ---- what stands at a path
 pub record StandsAt (tree : PackageTree ℕ) (root : ℕ) (path : List ℕ) (x : Implementation ℕ) : Type 0 where
@@ -127,7 +141,8 @@ pub record StandsAt (tree : PackageTree ℕ) (root : ℕ) (path : List ℕ) (x :
   pub stands : standing tree root path ≡ Some number
   pub is : implementation_at tree number ≡ Some x
 
-pub stands_at : (tree : PackageTree ℕ) (root : ℕ) (path : List ℕ) (x : Implementation ℕ) → component_at tree root path ≡ Some x
+pub stands_at : (tree : PackageTree ℕ) (root : ℕ) (path : List ℕ) (x : Implementation ℕ)
+    → component_at tree root path ≡ Some x
     → StandsAt tree root path x
 stands_at tree root path x e = option_and_then_some (implementation_at tree) (standing tree root path) x e
     (λ n stands is. record { number = n; stands = stands; is = is })

@@ -76,12 +76,14 @@ states_counted : (o : Option (List (StateDeclaration ℕ))) → length (flat_map
 states_counted None = refl
 states_counted (Some ss) = states_by ss
 
-first_counted : {X : Type 0} (of : AnnexTree ℕ → List X) (bs : List (ℕ × AnnexTree ℕ)) (b : ℕ × AnnexTree ℕ) → slice_get bs 0 ≡ Some b
+first_counted : {X : Type 0} (of : AnnexTree ℕ → List X) (bs : List (ℕ × AnnexTree ℕ)) (b : ℕ × AnnexTree ℕ)
+    → slice_get bs 0 ≡ Some b
     → count_in of (first_behaviour bs) ≡ length (of b.1)
 first_counted of [] b is = absurd (cc is)
 first_counted of (c ∷ bs) b is = ap (λ (d : ℕ × AnnexTree ℕ). length (of d.1)) (same_Some c b is)
 
-module _ {tree : PackageTree ℕ} {name : List ℕ} {parts : Parts} (flat : IsFlat tree name parts) (path : List ℕ) (x : Implementation ℕ)
+module _ {tree : PackageTree ℕ} {name : List ℕ} {parts : Parts} (flat : IsFlat tree name parts) (path : List ℕ)
+    (x : Implementation ℕ)
     (thread : IsThreadOf tree parts.root path x) where
   few_ports : length (ports_of tree x) ≤ PORTS
   few_ports = le_from_not_lt PORTS (length (ports_of tree x)) (λ more. not_over flat 7 (codes "ports")
@@ -99,7 +101,8 @@ module _ {tree : PackageTree ℕ} {name : List ℕ} {parts : Parts} (flat : IsFl
   short_path = le_from_not_lt PATH_BYTES (length (spelled_path tree parts.root path))
       (λ more. not_over flat 10 (codes "path") (inr (inr (inr (inr (inr (refl, refl, (path, x, thread, more))))))))
 
-  small_by : (b : ℕ × AnnexTree ℕ) → first_annex x ≡ Some b → model.IsSmall (behaviour_of (values_of tree x b.1) (scope_of tree x b.1) b.1)
+  small_by : (b : ℕ × AnnexTree ℕ) → first_annex x ≡ Some b
+      → model.IsSmall (behaviour_of (values_of tree x b.1) (scope_of tree x b.1) b.1)
   small_by b first = record {
     ports =
         let ins = length-map (ins_in (ports_of tree x)) named_of in
@@ -121,9 +124,11 @@ module _ {tree : PackageTree ℕ} {name : List ℕ} {parts : Parts} (flat : IsFl
         omega (arith, states, same, count, few);
   }
 
-  small_of : (o : Option (ℕ × AnnexTree ℕ)) (b : BehaviourParts) → first_annex x ≡ o → behaviour_by tree x o ≡ Some b → model.IsSmall b
+  small_of : (o : Option (ℕ × AnnexTree ℕ)) (b : BehaviourParts) → first_annex x ≡ o → behaviour_by tree x o ≡ Some b
+      → model.IsSmall b
   small_of None b first is = absurd (cc is)
-  small_of (Some a) b first is = subst model.IsSmall (same_Some (behaviour_of (values_of tree x a.1) (scope_of tree x a.1) a.1) b is)
+  small_of (Some a) b first is =
+      subst model.IsSmall (same_Some (behaviour_of (values_of tree x a.1) (scope_of tree x a.1) a.1) b is)
       (small_by a first)
 
   pub is_small : (b : BehaviourParts) → behaviour_in tree x ≡ Some b → model.IsSmall b
@@ -144,7 +149,8 @@ module _ {tree : PackageTree ℕ} {name : List ℕ} {parts : Parts} (flat : IsFl
     pub seen : behaviour_in tree thread.component ≡ Some c.behaviour
     pub keeps : IsBehaviour c.behaviour
 
-  component_at_path : (path : List ℕ) → IsThreadAt tree parts.root path → thread_findings tree parts.root (thread_at tree parts.root path) ≡ []
+  component_at_path : (path : List ℕ) → IsThreadAt tree parts.root path
+      → thread_findings tree parts.root (thread_at tree parts.root path) ≡ []
       → (c : Component) × (component_in tree parts.root (thread_at tree parts.root path) ≡ Some c) × IsOf path c
   component_at_path path at found =
       let t = thread_is flat path at in
@@ -159,7 +165,8 @@ module _ {tree : PackageTree ℕ} {name : List ℕ} {parts : Parts} (flat : IsFl
 
   each_there : (paths : List (List ℕ)) → AllByRecursion (IsThreadAt tree parts.root) paths
       → AllByRecursion (λ path. thread_findings tree parts.root (thread_at tree parts.root path) ≡ []) paths
-      → AllByRecursion (λ path. (c : Component) × (component_in tree parts.root (thread_at tree parts.root path) ≡ Some c) × IsOf path c) paths
+      → AllByRecursion (λ path. (c : Component)
+      × (component_in tree parts.root (thread_at tree parts.root path) ≡ Some c) × IsOf path c) paths
   each_there [] at found = tt
   each_there (path ∷ paths) at found = (component_at_path path at.0 found.0, each_there paths at.1 found.1)
 
@@ -177,10 +184,13 @@ module _ {tree : PackageTree ℕ} {name : List ℕ} {parts : Parts} (flat : IsFl
   path_by [] t = absurd (root_no_thread flat t)
   path_by (s ∷ path) t = path_is tree named.words parts.root s path t.number t.stands
 
-  component_keeps : (path : List ℕ) (c : Component) → IsOf path c → model.IsComponent (root_time flat used is_use none rate clean).0 c
+  component_keeps : (path : List ℕ) (c : Component) → IsOf path c
+      → model.IsComponent (root_time flat used is_use none rate clean).0 c
   component_keeps path c is = record {
     path = subst (λ p. IsTrue (is_path p)) (sym is.path_is) (path_by path is.thread);
-    path_size = subst (λ p. length p ≤ PATH_BYTES) (sym is.path_is) (short_path flat path is.thread.component (thread_of path is.thread));
+    path_size =
+        subst (λ p. length p ≤ PATH_BYTES) (sym is.path_is)
+        (short_path flat path is.thread.component (thread_of path is.thread));
     rate = (is.rate_fits.low, is.rate_fits.high);
     divides = is.rate_fits.divides;
     small = is_small flat path is.thread.component (thread_of path is.thread) c.behaviour is.seen;
@@ -191,10 +201,20 @@ module _ {tree : PackageTree ℕ} {name : List ℕ} {parts : Parts} (flat : IsFl
   few_components =
       let same = zipped_length IsOf parts.threads components.all components.each in
       let few = le_from_not_lt COMPONENTS (length parts.threads) (λ more. not_over flat 5 (codes "components")
-      (inl (refl, refl, record { some = parts.threads; each = flat.threads.each; in_order = flat.threads.in_order; many = more }))) in
+      (inl (
+        refl,
+        refl,
+        record {
+          some = parts.threads;
+          each = flat.threads.each;
+          in_order = flat.threads.in_order;
+          many = more;
+        },
+      ))) in
       omega (arith, same, few)
 
-  differ_by : (p q : List ℕ) (m n : ℕ) → standing tree parts.root p ≡ Some m → standing tree parts.root q ≡ Some n → ThreadIs tree parts.root p
+  differ_by : (p q : List ℕ) (m n : ℕ) → standing tree parts.root p ≡ Some m → standing tree parts.root q ≡ Some n
+      → ThreadIs tree parts.root p
       → ThreadIs tree parts.root q
       → spelled_path tree parts.root p ≡ spelled_path tree parts.root q → p ≡ q
   differ_by [] q m n first second a b same = absurd (root_no_thread flat a)
@@ -205,11 +225,13 @@ module _ {tree : PackageTree ℕ} {name : List ℕ} {parts : Parts} (flat : IsFl
 
   other_paths : (p q : List ℕ) (a b : Component) → PathBefore p q → IsOf p a → IsOf q b → a.path ≢ b.path
   other_paths p q a b before x y same =
-      absurd (before_other p q before (differ_by p q x.thread.number y.thread.number x.thread.stands y.thread.stands x.thread y.thread
+      absurd (before_other p q before
+      (differ_by p q x.thread.number y.thread.number x.thread.stands y.thread.stands x.thread y.thread
       (sym x.path_is ∙ (same ∙ y.path_is))))
 
   pub components_keep : All (model.IsComponent (root_time flat used is_use none rate clean).0) components.all
-  components_keep = all_zipped IsOf (model.IsComponent (root_time flat used is_use none rate clean).0) component_keeps parts.threads
+  components_keep =
+      all_zipped IsOf (model.IsComponent (root_time flat used is_use none rate clean).0) component_keeps parts.threads
       components.all components.each
 
   pub components_few : length components.all ≤ COMPONENTS
@@ -228,9 +250,11 @@ module _ {tree : PackageTree ℕ} {name : List ℕ} {parts : Parts} (flat : IsFl
   rates_by k [] (c ∷ cs) h = absurd h
   rates_by k (path ∷ paths) [] h = absurd h
   rates_by k (path ∷ paths) (c ∷ cs) h =
-      ap (λ o. fold greater_rate (greater_rate k o) (map (λ p. thread_rate tree parts.root (thread_at tree parts.root p)) paths)) h.0.rate_seen
+      ap (λ o. fold greater_rate (greater_rate k o)
+      (map (λ p. thread_rate tree parts.root (thread_at tree parts.root p)) paths)) h.0.rate_seen
       ∙ rates_by (max k c.rate) paths cs h.1
 
-  pub greatest_is : greatest_rate (map (λ path. thread_rate tree parts.root (thread_at tree parts.root path)) parts.threads) ≡
+  pub greatest_is : greatest_rate
+      (map (λ path. thread_rate tree parts.root (thread_at tree parts.root path)) parts.threads) ≡
       model.greatest_rate components.all
   greatest_is = rates_by 1 parts.threads components.all components.each

@@ -30,12 +30,14 @@ use Rattle.design_laws.proofs.Inside.{inside}
 use Rattle.design_laws.proofs.Outside.{is_used, outside}
 
 -- a connection is wired
-wire_if : (tree : PackageTree ℕ) (o : Option (Implementation ℕ)) (k : ℕ) (link : Connection ℕ) → slice_get (connections_of o) k ≡ Some link
+wire_if : (tree : PackageTree ℕ) (o : Option (Implementation ℕ)) (k : ℕ) (link : Connection ℕ)
+    → slice_get (connections_of o) k ≡ Some link
     → (wire : Wire) × (slice_get (wires_of tree o) k ≡ Some wire)
 wire_if tree None k link e = absurd (Contains-nil link (Contains-from_slice_get [] k link e))
 wire_if tree (Some x) k link e = by x.connections k e
   where
-    by : (cs : List (Connection ℕ)) (k : ℕ) → slice_get cs k ≡ Some link → (wire : Wire) × (slice_get (map (wire_of tree x) cs) k ≡ Some wire)
+    by : (cs : List (Connection ℕ)) (k : ℕ) → slice_get cs k ≡ Some link
+        → (wire : Wire) × (slice_get (map (wire_of tree x) cs) k ≡ Some wire)
     by [] k e = absurd (Contains-nil link (Contains-from_slice_get [] k link e))
     by (c ∷ cs) zero e = (wire_of tree x c, refl)
     by (c ∷ cs) (suc k) e = by cs k e
@@ -47,9 +49,13 @@ record Told (P : Type 0) : Type 0 where
 second_by : (wires : List Wire) (k : ℕ) (o : Option PortPlace) → target_in wires k ≡ o → Told (IsSecond wires k)
 second_by wires k None e = record { answer = false; tells = no_second wires k e }
 second_by wires k (Some target) e =
-    record { answer = is_before (first_into wires target) k; tells = is_second-tells wires k target (is_before (first_into wires target) k) e refl }
+    record {
+      answer = is_before (first_into wires target) k;
+      tells = is_second-tells wires k target (is_before (first_into wires target) k) e refl;
+    }
 
-module _ (tree : PackageTree ℕ) (root : ℕ) (sound : AreDeclared tree) (keys : List ℕ) (order : IsOrder (containment tree) keys)
+module _ (tree : PackageTree ℕ) (root : ℕ) (sound : AreDeclared tree) (keys : List ℕ)
+    (order : IsOrder (containment tree) keys)
     (used : List ℕ) (tells : (n : ℕ) → Contains used n ↔ IsInUse tree root n) where
   -- connections lead from the end to a thread or the root
   leads : (d : Direction) (n : ℕ) (site : PortPlace) → Told (LeadsFrom tree root d n site)
@@ -58,22 +64,30 @@ module _ (tree : PackageTree ℕ) (root : ℕ) (sound : AreDeclared tree) (keys 
       let o = outside tree root d i.0 i.1 keys order (is_used tree root used tells) in
       record {
         answer = leads_from o.0 i.0 tree root d n (Some site);
-        tells = (λ e. leads_to tree root d i.0 i.1 o.0 n site o.1.sound e, λ l. leads_found tree root d i.0 i.1 o.0 n site (o.1.complete n) l);
+        tells = (
+          λ e. leads_to tree root d i.0 i.1 o.0 n site o.1.sound e,
+          λ l. leads_found tree root d i.0 i.1 o.0 n site (o.1.complete n) l,
+        );
       }
 
-  by_target : (n : ℕ) (wire : Wire) (s : PortPlace) (o : Option PortPlace) → wire.source ≡ Some s → wire.target ≡ o → Told (IsOnWay tree root n wire)
+  by_target : (n : ℕ) (wire : Wire) (s : PortPlace) (o : Option PortPlace) → wire.source ≡ Some s → wire.target ≡ o
+      → Told (IsOnWay tree root n wire)
   by_target n wire s None e f = record { answer = false; tells = no_target tree root n wire f }
   by_target n wire s (Some t) e f =
       let a = leads directions.In n s in
       let b = leads directions.Out n t in
-      record { answer = a.answer && b.answer; tells = ways_tell tree root n wire s t a.answer b.answer e f a.tells b.tells }
+      record {
+        answer = a.answer && b.answer;
+        tells = ways_tell tree root n wire s t a.answer b.answer e f a.tells b.tells;
+      }
 
   by_source : (n : ℕ) (wire : Wire) (o : Option PortPlace) → wire.source ≡ o → Told (IsOnWay tree root n wire)
   by_source n wire None e = record { answer = false; tells = no_source tree root n wire e }
   by_source n wire (Some s) e = by_target n wire s wire.target e refl
 
   -- ---- a connection
-  by_link : (n k : ℕ) (old : Option PackageFault) (o : Option (Connection ℕ)) → slice_get (connections_of (implementation_at tree n)) k ≡ o → Finds (IsFoundAt tree root n k) old
+  by_link : (n k : ℕ) (old : Option PackageFault) (o : Option (Connection ℕ))
+      → slice_get (connections_of (implementation_at tree n)) k ≡ o → Finds (IsFoundAt tree root n k) old
   by_link n k old None e = record { new = old; all = nothing_at tree root n k old e }
   by_link n k old (Some link) e =
       let w = wire_if tree (implementation_at tree n) k link e in
@@ -81,7 +95,9 @@ module _ (tree : PackageTree ℕ) (root : ℕ) (sound : AreDeclared tree) (keys 
       let c = second_by (wires_at tree n) k (target_in (wires_at tree n) k) refl in
       record {
         new = found (found old (dead_end b.answer link)) (second c.answer link);
-        all = both_found tree root n k link w.0 e w.1 b.answer c.answer old (found (found old (dead_end b.answer link)) (second c.answer link)) b.tells c.tells refl;
+        all =
+            both_found tree root n k link w.0 e w.1 b.answer c.answer old
+            (found (found old (dead_end b.answer link)) (second c.answer link)) b.tells c.tells refl;
       }
 
   at_link : (n k : ℕ) (old : Option PackageFault) → Finds (IsFoundAt tree root n k) old
@@ -90,7 +106,8 @@ module _ (tree : PackageTree ℕ) (root : ℕ) (sound : AreDeclared tree) (keys 
   -- ---- the connections of a declaration
   in_declaration : (n : ℕ) (old : Option PackageFault) → Finds (IsFoundIn tree root n) old
   in_declaration n old =
-      alike_found (Below (IsFoundAt tree root n) (length (connections_of (implementation_at tree n)))) (IsFoundIn tree root n) old (λ f h. (h.0, h.2))
+      alike_found (Below (IsFoundAt tree root n) (length (connections_of (implementation_at tree n))))
+      (IsFoundIn tree root n) old (λ f h. (h.0, h.2))
       (λ f h. (h.0, slice_get_within (connections_of (implementation_at tree n)) h.0 h.1.link h.1.is_connection, h.1))
       (found_below (IsFoundAt tree root n) (at_link n) (length (connections_of (implementation_at tree n))) old)
 
@@ -101,7 +118,8 @@ module _ (tree : PackageTree ℕ) (root : ℕ) (sound : AreDeclared tree) (keys 
   by_key : (i : ℕ) (old : Option PackageFault) (o : Option ℕ) → slice_get used i ≡ o → Finds (FoundAt i) old
   by_key i old None e = none_found (FoundAt i) old (λ f h. none-some h.0 (sym e ∙ h.1))
   by_key i old (Some n) e =
-      alike_found (IsFoundIn tree root n) (FoundAt i) old (λ f h. (n, e, h)) (λ f h. other f h.0 h.1 h.2) (in_declaration n old)
+      alike_found (IsFoundIn tree root n) (FoundAt i) old (λ f h. (n, e, h)) (λ f h. other f h.0 h.1 h.2)
+      (in_declaration n old)
     where
       other : (f : PackageFault) (m : ℕ) → slice_get used i ≡ Some m → IsFoundIn tree root m f → IsFoundIn tree root n f
       other f m g h = subst (λ (x : ℕ). IsFoundIn tree root x f) (same_Some m n (sym g ∙ e)) h
@@ -121,4 +139,5 @@ module _ (tree : PackageTree ℕ) (root : ℕ) (sound : AreDeclared tree) (keys 
   pub first_end : (o : Option PackageFault) × FirstIn (IsEndFault tree root) o
   first_end =
       first_in (IsEndFault tree root)
-      (alike_found (Below FoundAt (length used)) (IsEndFault tree root) None to_end from_end (found_below FoundAt at_key (length used) None))
+      (alike_found (Below FoundAt (length used)) (IsEndFault tree root) None to_end from_end
+      (found_below FoundAt at_key (length used) None))

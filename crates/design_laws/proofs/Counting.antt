@@ -35,7 +35,8 @@ some_skew n eps is short =
     above_zero : (n eps : ℕ) → nat_eq n 0 ≡ false → n ≡ eps → 1 ≤ eps
     above_zero n eps h e = grind (arith, nat_tests)
 
-within_skew : (n : ℕ) (eps : ℕ) (b : Bool) → nat_le n HOUR ≡ b → option_and_then not_zero (cond b (Some n) None) ≡ Some eps → IsSkew eps
+within_skew : (n : ℕ) (eps : ℕ) (b : Bool) → nat_le n HOUR ≡ b
+    → option_and_then not_zero (cond b (Some n) None) ≡ Some eps → IsSkew eps
 within_skew n eps true h is = some_skew n eps is (leb-true n HOUR h)
 within_skew n eps false h is = absurd (cc is)
 
@@ -53,7 +54,8 @@ some_range r q is short =
     let p = cond_some (nat_le r.0 r.1) r q is in
     subst IsRange p.1 (record { in_order = leb-true r.0 r.1 p.0; short = short })
 
-within_range : (r q : ℕ × ℕ) (b : Bool) → (nat_le r.0 HOUR && nat_le r.1 HOUR) ≡ b → option_and_then in_order (cond b (Some r) None) ≡ Some q
+within_range : (r q : ℕ × ℕ) (b : Bool) → (nat_le r.0 HOUR && nat_le r.1 HOUR) ≡ b
+    → option_and_then in_order (cond b (Some r) None) ≡ Some q
     → IsRange q
 within_range r q true h is = some_range r q is (leb-true r.1 HOUR (and_parts (nat_le r.0 HOUR) (nat_le r.1 HOUR) h).1)
 within_range r q false h is = absurd (cc is)
@@ -73,7 +75,8 @@ gamma_from eps alpha mu skew execution network = record {
   network = (network.in_order, network.short);
 }
 
-gamma_of : (skew : Option ℕ) (execution network : Option (ℕ × ℕ)) (g : Gamma) → ((eps : ℕ) → skew ≡ Some eps → IsSkew eps)
+gamma_of : (skew : Option ℕ) (execution network : Option (ℕ × ℕ)) (g : Gamma)
+    → ((eps : ℕ) → skew ≡ Some eps → IsSkew eps)
     → ((r : ℕ × ℕ) → execution ≡ Some r → IsRange r)
     → ((r : ℕ × ℕ) → network ≡ Some r → IsRange r) → gamma_by skew execution network ≡ Some g → IsGamma g
 gamma_of None execution network g a b c is = absurd (cc is)
@@ -85,7 +88,8 @@ gamma_of (Some eps) (Some alpha) (Some mu) g a b c is =
 
 pub gamma_counts : (skew : Option ℕ) (execution network : Option (ℕ × ℕ)) (g : Gamma)
     → gamma_by (skew_of skew) (range_of execution) (range_of network) ≡ Some g → IsGamma g
-gamma_counts skew execution network g is = gamma_of (skew_of skew) (range_of execution) (range_of network) g (skew_counts skew)
+gamma_counts skew execution network g is =
+    gamma_of (skew_of skew) (range_of execution) (range_of network) g (skew_counts skew)
     (range_counts execution) (range_counts network) is
 
 -- ---- rates
@@ -124,7 +128,8 @@ rate_counts t (Some p) k is =
 -- ---- a period on which nothing is found
 
 pub leaves_time : (at t : ℕ) (g : Gamma) (k : ℕ) → bound_findings at (Some t) (Some g) k ≡ [] → least_period g k ≤ t
-leaves_time at t g k none = ltb-false t (least_period g k) (not_wrong (nat_lt t (least_period g k)) at PERIOD_TOO_SHORT _ none)
+leaves_time at t g k none =
+    ltb-false t (least_period g k) (not_wrong (nat_lt t (least_period g k)) at PERIOD_TOO_SHORT _ none)
 
 pub least_is_some : (g : Gamma) (k : ℕ) → IsGamma g → 1 ≤ least_period g k
 least_is_some g k gamma = let eps = gamma.skew.0 in omega (arith, eps)
@@ -138,10 +143,13 @@ rate_by : (at : ℕ) (path : List ℕ) (t p : ℕ) → 1 ≤ t → (d : Bool) �
     (finding at NOT_DIVISOR (name_and_number (name_and_number path p) t) ∷ []) ≡ []
     → cond ((d && nat_le 1 (t / p)) && nat_le (t / p) RATE) (Some (t / p)) None ≡ Some (t / p)
 rate_by at path t p some true h none =
-    let high = ltb-false RATE (t / p) (not_wrong (nat_lt RATE (t / p)) at RATE_TOO_HIGH (name_and_number path (t / p)) none) in
+    let high =
+    ltb-false RATE (t / p) (not_wrong (nat_lt RATE (t / p)) at RATE_TOO_HIGH (name_and_number path (t / p)) none) in
     let low = factor_is_some p (t / p) t some (divides_by p t h) in
-    ap (λ b. cond b (Some (t / p)) None) (and_from (nat_le 1 (t / p)) (nat_le (t / p) RATE) (le-leb 1 (t / p) low) (le-leb (t / p) RATE high))
+    ap (λ b. cond b (Some (t / p)) None)
+    (and_from (nat_le 1 (t / p)) (nat_le (t / p) RATE) (le-leb 1 (t / p) low) (le-leb (t / p) RATE high))
 rate_by at path t p some false h none = absurd (cc none)
 
-pub rate_from : (at : ℕ) (path : List ℕ) (t p : ℕ) → 1 ≤ t → period_findings at path (Some t) (Some p) ≡ [] → rate_of (Some t) (Some p) ≡ Some (t / p)
+pub rate_from : (at : ℕ) (path : List ℕ) (t p : ℕ) → 1 ≤ t → period_findings at path (Some t) (Some p) ≡ []
+    → rate_of (Some t) (Some p) ≡ Some (t / p)
 rate_from at path t p some none = rate_by at path t p some (divides p t) refl none

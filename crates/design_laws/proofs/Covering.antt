@@ -15,7 +15,8 @@ use Rattle.aadl_names.specs.Twice.{again, twice}
 use Rattle.aadl_names.proofs.Elements.{is_here, only_here, among_all, from_all}
 
 -- ---- lists
-pub from_map : {X Y : Type 0} (h : X → Y) (xs : List X) (y : Y) → Contains (map h xs) y → (x : X) × Contains xs x × (h x ≡ y)
+pub from_map : {X Y : Type 0} (h : X → Y) (xs : List X) (y : Y) → Contains (map h xs) y
+    → (x : X) × Contains xs x × (h x ≡ y)
 from_map h xs y c =
     let s = from_all (λ x. h x ∷ []) xs y (subst (λ l. Contains l y) (sym (flat_map_single h xs)) c) in
     (s.item, s.there, only_here (h s.item) y s.here)
@@ -35,12 +36,15 @@ given_by h x xs ys y (Some z) e later c = by (Contains-cons_cases z ys y c)
     by (inl same) = (x, Contains-append_left (x ∷ []) xs x (is_here x), subst (λ w. h x ≡ Some w) same e)
     by (inr there) = given_later h x xs y (later there)
 
-pub from_filter_map : {X Y : Type 0} (h : X → Option Y) (xs : List X) (y : Y) → Contains (filter_map h xs) y → (x : X) × Contains xs x × (h x ≡ Some y)
+pub from_filter_map : {X Y : Type 0} (h : X → Option Y) (xs : List X) (y : Y) → Contains (filter_map h xs) y
+    → (x : X) × Contains xs x × (h x ≡ Some y)
 from_filter_map h [] y c = absurd (Contains-nil y c)
-from_filter_map h (x ∷ xs) y c = given_by h x xs (filter_map h xs) y (h x) refl (λ there. from_filter_map h xs y there) c
+from_filter_map h (x ∷ xs) y c =
+    given_by h x xs (filter_map h xs) y (h x) refl (λ there. from_filter_map h xs y there) c
 
 pub from_filter : {X : Type 0} (p : X → Bool) (xs : List X) (x : X) → Contains (filter p xs) x → Contains xs x
-from_filter p xs x c = All-contains (Contains xs) (filter p xs) x (All-filter p (Contains xs) xs (All-contains_itself xs)) c
+from_filter p xs x c =
+    All-contains (Contains xs) (filter p xs) x (All-filter p (Contains xs) xs (All-contains_itself xs)) c
 
 -- ---- each of the findings is something of another kind, or among those that are possible
 -- a finding of this number says no more than where it stands
@@ -66,8 +70,10 @@ pub covered_wrong : (b : Bool) (at : ℕ) (ps : List PackageFault) → Covered (
 covered_wrong true at ps = covered_kind at ps
 covered_wrong false at ps = covered_none ps
 
-pub covered_kinds : {X : Type 0} (at : X → ℕ) (xs : List X) (ps : List PackageFault) → Covered (map (λ x. WrongKind (at x)) xs) ps
-covered_kinds at xs ps = record { each = λ f h. let from = from_map (λ x. WrongKind (at x)) xs f h in inl (sym (ap number_of from.2)) }
+pub covered_kinds : {X : Type 0} (at : X → ℕ) (xs : List X) (ps : List PackageFault)
+    → Covered (map (λ x. WrongKind (at x)) xs) ps
+covered_kinds at xs ps =
+    record { each = λ f h. let from = from_map (λ x. WrongKind (at x)) xs f h in inl (sym (ap number_of from.2)) }
 
 pub covered_one : (f : PackageFault) (ps : List PackageFault) → Contains ps f → Covered (f ∷ []) ps
 covered_one f ps there = covered_among (λ g h. subst (Contains ps) (only_here f g h) there)
@@ -79,7 +85,8 @@ covered_append {fs} {gs} {ps} c d = record { each = λ f h. by f (Contains-appen
     by f (inl h) = c.each f h
     by f (inr h) = d.each f h
 
-pub covered_wider : {fs ps qs : List PackageFault} → ((f : PackageFault) → Contains ps f → Contains qs f) → Covered fs ps → Covered fs qs
+pub covered_wider : {fs ps qs : List PackageFault} → ((f : PackageFault) → Contains ps f → Contains qs f)
+    → Covered fs ps → Covered fs qs
 covered_wider {fs} {ps} {qs} all c = record { each = λ f h. by f (c.each f h) }
   where
     by : (f : PackageFault) → IsWrongKind f ⊎ Contains ps f → IsWrongKind f ⊎ Contains qs f
@@ -89,19 +96,23 @@ covered_wider {fs} {ps} {qs} all c = record { each = λ f h. by f (c.each f h) }
 pub covered_front : {fs ps : List PackageFault} (qs : List PackageFault) → Covered fs ps → Covered fs (ps ++ qs)
 covered_front {fs} {ps} qs c = covered_wider (λ f h. Contains-append_left ps qs f h) c
 
-pub covered_back : {fs : List PackageFault} (ps : List PackageFault) {qs : List PackageFault} → Covered fs qs → Covered fs (ps ++ qs)
+pub covered_back : {fs : List PackageFault} (ps : List PackageFault) {qs : List PackageFault} → Covered fs qs
+    → Covered fs (ps ++ qs)
 covered_back {fs} ps {qs} c = covered_wider (λ f h. Contains-append_right ps qs f h) c
 
 pub covered_if : (b : Bool) {fs gs ps : List PackageFault} → Covered fs ps → Covered gs ps → Covered (cond b fs gs) ps
 covered_if true {fs} {gs} {ps} c d = c
 covered_if false {fs} {gs} {ps} c d = d
 
-pub covered_each : {X : Type 0} (g : X → List PackageFault) (xs : List X) (ps : List PackageFault) → ((x : X) → Contains xs x → Covered (g x) ps)
+pub covered_each : {X : Type 0} (g : X → List PackageFault) (xs : List X) (ps : List PackageFault)
+    → ((x : X) → Contains xs x → Covered (g x) ps)
     → Covered (flat_map g xs) ps
 covered_each g xs ps all = record { each = λ f h. let s = from_all g xs f h in (all s.item s.there).each f s.here }
 
-pub covered_flat : {X : Type 0} (g h : X → List PackageFault) → ((x : X) → Covered (g x) (h x)) → (xs : List X) → Covered (flat_map g xs) (flat_map h xs)
-covered_flat g h all xs = covered_each g xs (flat_map h xs) (λ x there. covered_wider (λ f here. among_all h xs x f there here) (all x))
+pub covered_flat : {X : Type 0} (g h : X → List PackageFault) → ((x : X) → Covered (g x) (h x)) → (xs : List X)
+    → Covered (flat_map g xs) (flat_map h xs)
+covered_flat g h all xs =
+    covered_each g xs (flat_map h xs) (λ x there. covered_wider (λ f here. among_all h xs x f there here) (all x))
 
 -- ---- each of the names may be found a second time
 pub record Named (names : List SpelledName) (possible : List PackageFault) : Type 0 where
@@ -114,17 +125,22 @@ named_append {es} {fs} {ps} c d = record { each = λ e h. by e (Contains-append_
     by e (inl h) = c.each e h
     by e (inr h) = d.each e h
 
-pub named_map : {X : Type 0} (h : X → SpelledName) (xs : List X) (ps : List PackageFault) → ((x : X) → Contains xs x → Contains ps (Twice (h x).name (h x).at))
+pub named_map : {X : Type 0} (h : X → SpelledName) (xs : List X) (ps : List PackageFault)
+    → ((x : X) → Contains xs x → Contains ps (Twice (h x).name (h x).at))
     → Named (map h xs) ps
 named_map h xs ps all = record {
-  each = λ e c. let from = from_map h xs e c in subst (λ (z : SpelledName). Contains ps (Twice z.name z.at)) from.2 (all from.0 from.1);
+  each = λ e c. let from = from_map h xs e c in
+      subst (λ (z : SpelledName). Contains ps (Twice z.name z.at)) from.2 (all from.0 from.1);
 }
 
 pub named_filter_map : {X : Type 0} (h : X → Option SpelledName) (xs : List X) (ps : List PackageFault)
-    → ((x : X) (e : SpelledName) → Contains xs x → h x ≡ Some e → Contains ps (Twice e.name e.at)) → Named (filter_map h xs) ps
-named_filter_map h xs ps all = record { each = λ e c. let from = from_filter_map h xs e c in all from.0 e from.1 from.2 }
+    → ((x : X) (e : SpelledName) → Contains xs x → h x ≡ Some e → Contains ps (Twice e.name e.at))
+    → Named (filter_map h xs) ps
+named_filter_map h xs ps all =
+    record { each = λ e c. let from = from_filter_map h xs e c in all from.0 e from.1 from.2 }
 
 pub covered_twice : (names : List SpelledName) (ps : List PackageFault) → Named names ps → Covered (twice names) ps
 covered_twice names ps named =
     covered_each (again names) names ps
-    (λ e there. covered_if (list_any _ names) (covered_one (Twice e.name e.at) ps (named.each e there)) (covered_none ps))
+    (λ e there. covered_if (list_any _ names) (covered_one (Twice e.name e.at) ps (named.each e there))
+    (covered_none ps))

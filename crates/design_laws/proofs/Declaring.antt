@@ -30,9 +30,12 @@ module _ (x : TypeDeclaration ℕ) where
   unfolding ports
   type_names r =
       let names = flat_map (λ (f : Feature ℕ). f.name ∷ []) x.features in
-      let behind_name = rise_back (identifier_parts x.name) _ (rise_tail (token (mark (category_mark x.category)) (x.at ∷ [])) _ r) in
-      let inside = rise_section feature_section ports (rise_front (section_parts feature_section ports) _ behind_name) in
-      let here = placed_flat feature_parts (λ (f : Feature ℕ). f.name ∷ []) (λ f _. feature_names f) x.features inside in
+      let behind_name =
+      rise_back (identifier_parts x.name) _ (rise_tail (token (mark (category_mark x.category)) (x.at ∷ [])) _ r) in
+      let inside =
+      rise_section feature_section ports (rise_front (section_parts feature_section ports) _ behind_name) in
+      let here =
+      placed_flat feature_parts (λ (f : Feature ℕ). f.name ∷ []) (λ f _. feature_names f) x.features inside in
       placed_tail _ _ names (placed_back (identifier_parts x.name) _ names
       (placed_front (section_parts feature_section ports) _ names (placed_section feature_section ports names here)))
 
@@ -66,17 +69,23 @@ module _ (x : AnnexTree ℕ) where
   tree_variables : Rise (annex_tree_parts x) → Placed (annex_tree_parts x) (variables_of x)
   unfolding variables states
   tree_variables r =
-      let here = placed_declared k.Variables variable_parts (λ v. identifiers v.names) variable_names x.variables (rise_front variables _ r) in
-      placed_front variables _ (variables_of x) (subst (λ l. Placed variables (flat_map (λ (v : VariableDeclaration ℕ). identifiers v.names) l))
+      let here =
+      placed_declared k.Variables variable_parts (λ v. identifiers v.names) variable_names x.variables
+      (rise_front variables _ r) in
+      placed_front variables _ (variables_of x)
+      (subst (λ l. Placed variables (flat_map (λ (v : VariableDeclaration ℕ). identifiers v.names) l))
       (same_list x.variables) here)
 
   tree_states : Rise (annex_tree_parts x) → Placed (annex_tree_parts x) (states_of x)
   unfolding variables states
   tree_states r =
       let rest = rise_back variables _ r in
-      let here = placed_declared k.States state_parts (λ s. identifiers s.names) state_names x.states (rise_front states _ rest) in
+      let here =
+      placed_declared k.States state_parts (λ s. identifiers s.names) state_names x.states
+      (rise_front states _ rest) in
       placed_back variables _ (states_of x) (placed_front states _ (states_of x)
-      (subst (λ l. Placed states (flat_map (λ (s : StateDeclaration ℕ). identifiers s.names) l)) (same_list x.states) here))
+      (subst (λ l. Placed states (flat_map (λ (s : StateDeclaration ℕ). identifiers s.names) l))
+      (same_list x.states) here))
 
 -- names that are placed in each annex that is a behaviour are placed in the first one's
 module _ (names : AnnexTree ℕ → List (Identifier ℕ)) (each : (x : AnnexTree ℕ) → Rise (annex_tree_parts x)
@@ -96,7 +105,8 @@ module _ (names : AnnexTree ℕ → List (Identifier ℕ)) (each : (x : AnnexTre
       (placed_front (annex_tree_parts y) _ (names y) (each y tree))))))
 
   first_of : (at : ℕ) (language : Identifier ℕ) (content : AnnexContent ℕ) (xs : List (Annex ℕ)) (b : ℕ × AnnexTree ℕ)
-      → (slice_get (behaviours xs) 0 ≡ Some b → Rise (flat_map annex_parts xs) → Placed (flat_map annex_parts xs) (names b.1))
+      → (slice_get (behaviours xs) 0 ≡ Some b → Rise (flat_map annex_parts xs)
+      → Placed (flat_map annex_parts xs) (names b.1))
       → slice_get (behaviours (record { at = at; language = language; content = content } ∷ xs)) 0 ≡ Some b
       → Rise (flat_map annex_parts (record { at = at; language = language; content = content } ∷ xs))
       → Placed (flat_map annex_parts (record { at = at; language = language; content = content } ∷ xs)) (names b.1)
@@ -109,7 +119,8 @@ module _ (names : AnnexTree ℕ → List (Identifier ℕ)) (each : (x : AnnexTre
       placed_front a (flat_map annex_parts xs) (names b.1) (in_content at language b.1 (behaviour x) (ap behaviour same)
       (rise_front a (flat_map annex_parts xs) r))
 
-  pub in_first : (xs : List (Annex ℕ)) (b : ℕ × AnnexTree ℕ) → slice_get (behaviours xs) 0 ≡ Some b → Rise (flat_map annex_parts xs)
+  pub in_first : (xs : List (Annex ℕ)) (b : ℕ × AnnexTree ℕ) → slice_get (behaviours xs) 0 ≡ Some b
+      → Rise (flat_map annex_parts xs)
       → Placed (flat_map annex_parts xs) (names b.1)
   in_first [] b is r = absurd (cc is)
   in_first (x ∷ xs) b is r = first_of x.at x.language x.content xs b (in_first xs b) is r
@@ -135,7 +146,8 @@ module _ (x : Implementation ℕ) where
       (rise_tail (token (mark (category_mark x.category)) (x.at ∷ [])) _ r))
 
   whole : (names : List (Identifier ℕ)) → Placed (subs ++ (connections ++
-      (properties ++ (annexes ++ ending_parts (implementation_name_parts x.end_name))))) names → Placed (implementation_parts x) names
+      (properties ++ (annexes ++ ending_parts (implementation_name_parts x.end_name))))) names
+      → Placed (implementation_parts x) names
   unfolding subs connections properties annexes
   whole names h = placed_tail (token (mark (category_mark x.category)) (x.at ∷ [])) _ names
       (placed_tail (plain k.Implementation) _ names (placed_back (implementation_name_parts x.name) _ names h))
@@ -167,28 +179,35 @@ module _ (x : Implementation ℕ) where
       → Placed (implementation_parts x) (names b.1)
   unfolding annexes
   annex_names names each b is r =
-      let inside = rise_front annexes _ (rise_back properties _ (rise_back connections _ (rise_back subs _ (behind_name r)))) in
+      let inside =
+      rise_front annexes _ (rise_back properties _ (rise_back connections _ (rise_back subs _ (behind_name r)))) in
       let here = in_first names each x.annexes b is inside in
       whole (names b.1) (placed_back subs _ (names b.1) (placed_back connections _ (names b.1)
       (placed_back properties _ (names b.1) (placed_front annexes _ (names b.1) here))))
 
-pub first_variables : (x : Implementation ℕ) (b : ℕ × AnnexTree ℕ) → slice_get (behaviours x.annexes) 0 ≡ Some b → Rise (implementation_parts x)
+pub first_variables : (x : Implementation ℕ) (b : ℕ × AnnexTree ℕ) → slice_get (behaviours x.annexes) 0 ≡ Some b
+    → Rise (implementation_parts x)
     → Placed (implementation_parts x) (variables_of b.1)
 first_variables x b is r = annex_names x variables_of tree_variables b is r
 
-pub first_states : (x : Implementation ℕ) (b : ℕ × AnnexTree ℕ) → slice_get (behaviours x.annexes) 0 ≡ Some b → Rise (implementation_parts x)
+pub first_states : (x : Implementation ℕ) (b : ℕ × AnnexTree ℕ) → slice_get (behaviours x.annexes) 0 ≡ Some b
+    → Rise (implementation_parts x)
     → Placed (implementation_parts x) (states_of b.1)
 first_states x b is r = annex_names x states_of tree_states b is r
 
 -- ---- declarations of a package
-pub rise_declarations : (tree : PackageTree ℕ) → Rise (package_parts tree) → Rise (flat_map declaration_parts tree.declarations)
+pub rise_declarations : (tree : PackageTree ℕ) → Rise (package_parts tree)
+    → Rise (flat_map declaration_parts tree.declarations)
 rise_declarations tree r =
-    rise_front (flat_map declaration_parts tree.declarations) _ (rise_back (flat_map with_parts tree.withs) _ (rise_tail (plain k.Public) _
+    rise_front (flat_map declaration_parts tree.declarations) _
+    (rise_back (flat_map with_parts tree.withs) _ (rise_tail (plain k.Public) _
     (rise_back (name_parts tree.name) _ (rise_tail (plain k.Package) _ r))))
 
-pub rise_one : (ds : List (Declaration ℕ)) (n : ℕ) (d : Declaration ℕ) → slice_get ds n ≡ Some d → Rise (flat_map declaration_parts ds)
+pub rise_one : (ds : List (Declaration ℕ)) (n : ℕ) (d : Declaration ℕ) → slice_get ds n ≡ Some d
+    → Rise (flat_map declaration_parts ds)
     → Rise (declaration_parts d)
 rise_one [] n d is r = absurd (cc is)
 rise_one (c ∷ ds) zero d is r = let e : c ≡ d = cc is in subst (λ x. Rise (declaration_parts x)) e
     (rise_front (declaration_parts c) (flat_map declaration_parts ds) r)
-rise_one (c ∷ ds) (suc n) d is r = rise_one ds n d is (rise_back (declaration_parts c) (flat_map declaration_parts ds) r)
+rise_one (c ∷ ds) (suc n) d is r =
+    rise_one ds n d is (rise_back (declaration_parts c) (flat_map declaration_parts ds) r)

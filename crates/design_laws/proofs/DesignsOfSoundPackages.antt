@@ -14,12 +14,16 @@ use Rattle.design_laws.specs.Designs.{IsDesignOf}
 use Rattle.design_laws.proofs.ThreadBehaviours.{ThreadLaw}
 use Rattle.design_laws.proofs.Accepting.{has_design, one_design}
 
-pub keeps : ThreadLaw → (tree : PackageTree ℕ) (s : Shown) → AreNamed tree → ∥ IsShown tree s ∥₁ → NothingFound tree s → (design : DesignParts)
+pub keeps : ThreadLaw → (tree : PackageTree ℕ) (s : Shown) → AreNamed tree → ∥ IsShown tree s ∥₁ → NothingFound tree s
+    → (design : DesignParts)
     → IsDesignOf tree s design → IsDesign design
 unfolding IsAcyclic
 keeps law tree s named shown nothing design is =
-    ∥∥₁_elim shown (hlevel props) (λ i. let d = has_design law tree s named i nothing in subst IsDesign (one_design tree s d.0 design d.1 is) d.2)
+    ∥∥₁_elim shown (hlevel props)
+    (λ i. let d = has_design law tree s named i nothing in subst IsDesign (one_design tree s d.0 design d.1 is) d.2)
 
-pub there_is : ThreadLaw → (tree : PackageTree ℕ) (s : Shown) → AreNamed tree → ∥ IsShown tree s ∥₁ → NothingFound tree s
+pub there_is : ThreadLaw → (tree : PackageTree ℕ) (s : Shown) → AreNamed tree → ∥ IsShown tree s ∥₁
+    → NothingFound tree s
     → ((design : DesignParts) → IsDesignOf tree s design → ⊥) → ⊥
-there_is law tree s named shown nothing never = ∥∥₁_elim shown (hlevel props) (λ i. let d = has_design law tree s named i nothing in never d.0 d.1)
+there_is law tree s named shown nothing never =
+    ∥∥₁_elim shown (hlevel props) (λ i. let d = has_design law tree s named i nothing in never d.0 d.1)

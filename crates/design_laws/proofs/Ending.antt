@@ -31,7 +31,8 @@ use Rattle.design_laws.proofs.Matching.{Zipped, zipped_at}
 use Rattle.design_laws.proofs.Porting.{kept_at, IsNode, is_node}
 
 -- ---- ports as a behaviour has them
-behaviour_ports : (tree : PackageTree ℕ) (x : Implementation ℕ) (o : Option (ℕ × AnnexTree ℕ)) (b : BehaviourParts) → behaviour_by tree x o ≡ Some b
+behaviour_ports : (tree : PackageTree ℕ) (x : Implementation ℕ) (o : Option (ℕ × AnnexTree ℕ)) (b : BehaviourParts)
+    → behaviour_by tree x o ≡ Some b
     → (b.ins ≡ map named_of (ins_in (ports_of tree x))) × (b.outs ≡ map named_of (outs_in (ports_of tree x)))
 behaviour_ports tree x None b is = absurd (cc is)
 behaviour_ports tree x (Some a) b is =
@@ -92,50 +93,63 @@ module _ (tree : PackageTree ℕ) (root : ℕ) (threads : List (List ℕ)) (cs :
     pub in_way : is_in tree root p ≡ true → types.is_in f ≡ true
     in_way goes = sym direction_is ∙ goes
 
-    pub in_number : is_in tree root p ≡ true → port_number tree root p ≡ count_by types.is_in (take p.port (ports_of tree at.sits.thread.component))
-    in_number goes = number_is ∙ in_test f.direction (in_way goes) (take p.port (ports_of tree at.sits.thread.component))
+    pub in_number : is_in tree root p ≡ true
+        → port_number tree root p ≡ count_by types.is_in (take p.port (ports_of tree at.sits.thread.component))
+    in_number goes =
+        number_is ∙ in_test f.direction (in_way goes) (take p.port (ports_of tree at.sits.thread.component))
 
-    in_listed : is_in tree root p ≡ true → slice_get (filter types.is_in (ports_of tree at.sits.thread.component)) (port_number tree root p) ≡ Some f
+    in_listed : is_in tree root p ≡ true
+        → slice_get (filter types.is_in (ports_of tree at.sits.thread.component)) (port_number tree root p) ≡ Some f
     in_listed goes =
         let way = sym direction_is ∙ goes in
         ap (slice_get (filter types.is_in (ports_of tree at.sits.thread.component))) (number_is
         ∙ in_test f.direction way (take p.port (ports_of tree at.sits.thread.component)))
         ∙ kept_at types.is_in (ports_of tree at.sits.thread.component) p.port f port_is way
 
-    pub in_port : is_in tree root p ≡ true → slice_get at.component.behaviour.ins (port_number tree root p) ≡ Some (named_of (values.port_of f))
+    pub in_port : is_in tree root p ≡ true
+        → slice_get at.component.behaviour.ins (port_number tree root p) ≡ Some (named_of (values.port_of f))
     in_port goes =
         let kept = filter types.is_in (ports_of tree at.sits.thread.component) in
         ap (λ l. slice_get l (port_number tree root p)) (behaviour_ports tree at.sits.thread.component
         (first_annex at.sits.thread.component) at.component.behaviour at.sits.seen).0
         ∙ (slice_get-map named_of (map values.port_of kept) (port_number tree root p)
-        ∙ (ap (option_map named_of) (slice_get-map values.port_of kept (port_number tree root p) ∙ ap (option_map values.port_of) (in_listed goes))))
+        ∙ (ap (option_map named_of)
+        (slice_get-map values.port_of kept (port_number tree root p)
+        ∙ ap (option_map values.port_of) (in_listed goes))))
 
     pub in_seen : is_in tree root p ≡ true → end_kind tree (map (thread_at tree root) threads)
         (Thread (node_at threads p.path) (port_number tree root p)) ≡ kind_in f.data_type
     in_seen goes =
         let node : slice_get (map (thread_at tree root) threads) (node_at threads p.path).0 ≡ Some (thread_at tree root p.path) =
         ap (slice_get (map (thread_at tree root) threads)) at.node.number
-        ∙ (slice_get-map (thread_at tree root) threads at.node.place ∙ ap (option_map (thread_at tree root)) at.node.is) in
-        ap (λ o. option_and_then (λ (g : Feature ℕ). kind_in g.data_type) (thread_in tree o (port_number tree root p))) node
+        ∙ (slice_get-map (thread_at tree root) threads at.node.place
+        ∙ ap (option_map (thread_at tree root)) at.node.is) in
+        ap (λ o. option_and_then (λ (g : Feature ℕ). kind_in g.data_type)
+        (thread_in tree o (port_number tree root p))) node
         ∙ (ap (λ o. option_and_then (λ (g : Feature ℕ). kind_in g.data_type)
         (slice_get (filter types.is_in (ports_at tree o)) (port_number tree root p))) at.sits.thread.seen
         ∙ ap (option_and_then (λ (g : Feature ℕ). kind_in g.data_type)) (in_listed goes))
 
     -- ---- an out port
-    pub out_port : is_in tree root p ≡ false → slice_get at.component.behaviour.outs (port_number tree root p) ≡ Some (named_of (values.port_of f))
+    pub out_port : is_in tree root p ≡ false
+        → slice_get at.component.behaviour.outs (port_number tree root p) ≡ Some (named_of (values.port_of f))
     out_port goes =
         let way = sym direction_is ∙ goes in
         let kept = filter (λ o. not (types.is_in o)) (ports_of tree at.sits.thread.component) in
         let listed : slice_get kept (port_number tree root p) ≡ Some f =
-        ap (slice_get kept) (number_is ∙ out_test f.direction way (take p.port (ports_of tree at.sits.thread.component)))
-        ∙ kept_at (λ o. not (types.is_in o)) (ports_of tree at.sits.thread.component) p.port f port_is (not_from_false (types.is_in f) way) in
+        ap (slice_get kept) (number_is
+        ∙ out_test f.direction way (take p.port (ports_of tree at.sits.thread.component)))
+        ∙ kept_at (λ o. not (types.is_in o)) (ports_of tree at.sits.thread.component) p.port f port_is
+        (not_from_false (types.is_in f) way) in
         ap (λ l. slice_get l (port_number tree root p)) (behaviour_ports tree at.sits.thread.component
         (first_annex at.sits.thread.component) at.component.behaviour at.sits.seen).1
         ∙ (slice_get-map named_of (map values.port_of kept) (port_number tree root p)
-        ∙ (ap (option_map named_of) (slice_get-map values.port_of kept (port_number tree root p) ∙ ap (option_map values.port_of) listed)))
+        ∙ (ap (option_map named_of)
+        (slice_get-map values.port_of kept (port_number tree root p) ∙ ap (option_map values.port_of) listed)))
 
   -- ---- the rate at an end
-  pub rate_at : (path : List ℕ) (n : ℕ) → (at : AtNode path) → end_rate (map (thread_rate tree root) (map (thread_at tree root) threads))
+  pub rate_at : (path : List ℕ) (n : ℕ) → (at : AtNode path)
+      → end_rate (map (thread_rate tree root) (map (thread_at tree root) threads))
       (Thread (node_at threads path) n) ≡ Some at.component.rate
   rate_at path n at =
       let read : slice_get (map (thread_rate tree root) (map (thread_at tree root) threads)) (node_at threads path).0 ≡ Some

@@ -14,9 +14,13 @@ record Placed (g : Graph) (n : ℕ) (old : List ℕ) : Type 0 where
   new : List ℕ
   is : IsPlaced g n old new
 
-by_there : (g : Graph) (n : ℕ) (old : List ℕ) → IsSequence g old → n < length g → (b : Bool) → list_all (is_there old) (targets_in g n) ≡ b → Placed g n old
+by_there : (g : Graph) (n : ℕ) (old : List ℕ) → IsSequence g old → n < length g → (b : Bool)
+    → list_all (is_there old) (targets_in g n) ≡ b → Placed g n old
 by_there g n old q lt true e =
-    record { new = insert_key nat_eq old n; is = placed_new g n old (insert_key nat_eq old n) lt e refl (insert_distinct old n q.distinct) }
+    record {
+      new = insert_key nat_eq old n;
+      is = placed_new g n old (insert_key nat_eq old n) lt e refl (insert_distinct old n q.distinct);
+    }
 by_there g n old q lt false e = record { new = old; is = placed_not g n old (λ h. misses_by g n old e) }
 
 by_declared : (g : Graph) (n : ℕ) (old : List ℕ) → IsSequence g old → (n < length g) ⊎ (length g ≤ n) → Placed g n old
@@ -45,7 +49,8 @@ record Longer (g : Graph) (n : ℕ) : Type 0 where
   sequence : IsSequence g keys
   long : n ≤ length keys
 
-next : (g : Graph) (n : ℕ) → IsWithin g → IsAcyclic g → suc n ≤ length g → (l : Longer g n) → (length l.keys < length g) ⊎ (length g ≤ length l.keys) → Longer g (suc n)
+next : (g : Graph) (n : ℕ) → IsWithin g → IsAcyclic g → suc n ≤ length g → (l : Longer g n)
+    → (length l.keys < length g) ⊎ (length g ≤ length l.keys) → Longer g (suc n)
 next g n within acyclic most l (inl fewer) =
     let r = round g (length g) l.keys l.sequence in
     let more = one_more g l.keys r.new within acyclic l.sequence fewer r.are in
@@ -56,7 +61,9 @@ next g n within acyclic most l (inr all) = record { keys = l.keys; sequence = l.
 longer : (g : Graph) (n : ℕ) → IsWithin g → IsAcyclic g → n ≤ length g → Longer g n
 longer g zero within acyclic most = record { keys = []; sequence = no_sequence g [] refl; long = omega arith }
 longer g (suc n) within acyclic most =
-    let l = longer g n within acyclic (omega arith) in next g n within acyclic most l (cases_lt (length l.keys) (length g))
+    let l = longer g n within acyclic (omega arith) in
+    next g n within acyclic most l (cases_lt (length l.keys) (length g))
 
 pub order : (g : Graph) → IsWithin g → IsAcyclic g → HasOrder g
-order g within acyclic = let l = longer g (length g) within acyclic (omega arith) in (l.keys, all_placed g l.keys l.sequence l.long)
+order g within acyclic = let l = longer g (length g) within acyclic (omega arith) in
+    (l.keys, all_placed g l.keys l.sequence l.long)

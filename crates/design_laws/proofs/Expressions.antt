@@ -16,7 +16,8 @@ use Rattle.design_laws.proofs.Clear.{Clear, clear_none, clear_one, clear_front, 
 
 by_role : (usage : Usage) (x : Identifier ℕ) (o : Option Role) → Clear (identifier_parts x) (use_as usage x o)
 by_role usage x None = clear_one (identifier_parts x) (Unknown x.spelling x.at) (is_here x.at)
-by_role usage x (Some role) = clear_unless (allows usage role) (clear_one (identifier_parts x) (WrongKind x.at) (is_here x.at))
+by_role usage x (Some role) =
+    clear_unless (allows usage role) (clear_one (identifier_parts x) (WrongKind x.at) (is_here x.at))
 
 pub use_clear : (known : Known) (usage : Usage) (x : Identifier ℕ) → Clear (identifier_parts x) (uses known usage x)
 use_clear known usage x = by_role usage x (known x.spelling)
@@ -43,11 +44,13 @@ mutual
       (clear_append (factor_clear known x) (factors_clear known rest))
 
   sum_clear : (known : Known) (x : e.Sum ℕ) → Clear (e.sum_parts x) (sum_uses known x)
-  sum_clear known (e.total sign first rest) = clear_back (parts_if e.leading_parts sign) (clear_append (term_clear known first) (terms_clear known rest))
+  sum_clear known (e.total sign first rest) =
+      clear_back (parts_if e.leading_parts sign) (clear_append (term_clear known first) (terms_clear known rest))
 
   terms_clear : (known : Known) (x : e.Terms ℕ) → Clear (e.terms_parts x) (terms_uses known x)
   terms_clear known e.no_terms = clear_none []
-  terms_clear known (e.add sign x rest) = clear_tail {p = plain (sign_mark sign)} (clear_append (term_clear known x) (terms_clear known rest))
+  terms_clear known (e.add sign x rest) =
+      clear_tail {p = plain (sign_mark sign)} (clear_append (term_clear known x) (terms_clear known rest))
 
   relation_clear : (known : Known) (x : e.Relation ℕ) → Clear (e.relation_parts x) (relation_uses known x)
   relation_clear known (e.single x) = sum_clear known x
@@ -55,8 +58,10 @@ mutual
       (clear_tail {p = plain (e.relation_mark operator)} (sum_clear known y))
 
   pub expression_clear : (known : Known) (x : e.Expression ℕ) → Clear (e.expression_parts x) (expression_uses known x)
-  expression_clear known (e.expression first rest) = clear_append (relation_clear known first) (relations_clear known rest)
+  expression_clear known (e.expression first rest) =
+      clear_append (relation_clear known first) (relations_clear known rest)
 
   relations_clear : (known : Known) (x : e.Relations ℕ) → Clear (e.relations_parts x) (relations_uses known x)
   relations_clear known e.no_relations = clear_none []
-  relations_clear known (e.join operator x rest) = clear_back (e.logic_parts operator) (clear_append (relation_clear known x) (relations_clear known rest))
+  relations_clear known (e.join operator x rest) =
+      clear_back (e.logic_parts operator) (clear_append (relation_clear known x) (relations_clear known rest))

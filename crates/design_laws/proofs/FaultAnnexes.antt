@@ -34,7 +34,8 @@ pub identifier_clear : (x : Identifier ℕ) → Clear (identifier_parts x) (of_i
 identifier_clear x = clear_one (identifier_parts x) (Twice x.spelling x.at) (is_here x.at)
 
 identifiers_clear : (x : Identifiers ℕ) → Clear (identifiers_parts x) (of_identifiers x)
-identifiers_clear x = clear_append (identifier_clear x.first) (clear_flat (behind k.Comma identifier_parts) of_identifier
+identifiers_clear x =
+    clear_append (identifier_clear x.first) (clear_flat (behind k.Comma identifier_parts) of_identifier
     (λ y. clear_tail {p = plain k.Comma} (identifier_clear y)) x.rest)
 
 association_clear : (x : Association ℕ) → Clear (association_parts x) (of_association x)
@@ -48,17 +49,20 @@ associations_clear (associate x xs) = clear_append (association_clear x) (associ
 
 pub properties_clear : (xs : Associations ℕ) → Clear (properties_parts xs) (of_associations xs)
 properties_clear no_associations = clear_none []
-properties_clear (associate x xs) = clear_tail {p = plain k.BraceOpen} (clear_front (plain k.BraceClose ∷ []) (associations_clear (associate x xs)))
+properties_clear (associate x xs) =
+    clear_tail {p = plain k.BraceOpen} (clear_front (plain k.BraceClose ∷ []) (associations_clear (associate x xs)))
 
 -- ---- variables and states
 variable_clear : (x : VariableDeclaration ℕ) → Clear (variable_parts x) (of_variable x)
-variable_clear x = clear_append (identifiers_clear x.names) (clear_tail {p = plain k.Colon} (clear_back (reference_parts x.data_type)
+variable_clear x =
+    clear_append (identifiers_clear x.names) (clear_tail {p = plain k.Colon} (clear_back (reference_parts x.data_type)
     (clear_front (plain k.Semicolon ∷ []) (properties_clear x.properties))))
 
 state_clear : (x : StateDeclaration ℕ) → Clear (state_parts x) (of_state x)
 state_clear x = clear_front (plain k.Colon ∷ _) (identifiers_clear x.names)
 
-declared_clear : {V : Type 0} (m : Mark) (f : V → List (Part ℕ)) (g : V → List PackageFault) → ((v : V) → Clear (f v) (g v)) → (o : Option (List V))
+declared_clear : {V : Type 0} (m : Mark) (f : V → List (Part ℕ)) (g : V → List PackageFault)
+    → ((v : V) → Clear (f v) (g v)) → (o : Option (List V))
     → Clear (parts_if (declared_parts m f) o) (flat_map g (listed_in o))
 declared_clear m f g each None = clear_none []
 declared_clear m f g each (Some vs) = clear_tail {p = plain m} (clear_flat f g each vs)
@@ -66,7 +70,8 @@ declared_clear m f g each (Some vs) = clear_tail {p = plain m} (clear_flat f g e
 -- ---- transitions
 module _ (is_state : List ℕ → Bool) (known : Known) where
   state_use_clear : (x : Identifier ℕ) → Clear (identifier_parts x) (state_uses is_state x)
-  state_use_clear x = clear_unless (is_state x.spelling) (clear_one (identifier_parts x) (Unknown x.spelling x.at) (is_here x.at))
+  state_use_clear x =
+      clear_unless (is_state x.spelling) (clear_one (identifier_parts x) (Unknown x.spelling x.at) (is_here x.at))
 
   guard_clear : (x : Option (Guard ℕ)) → Clear (parts_if guard_parts x) (guard_uses known x)
   guard_clear None = clear_none []
@@ -84,28 +89,33 @@ module _ (is_state : List ℕ → Bool) (known : Known) where
       let target = state_uses is_state x.target in
       let guard = guard_uses known x.guard in
       let effect = effect_uses known x.effect in
-      clear_back (parts_if label_parts x.label) (clear_four source target guard effect (clear_turned source target guard effect
+      clear_back (parts_if label_parts x.label)
+      (clear_four source target guard effect (clear_turned source target guard effect
       (clear_append (state_use_clear x.source) (clear_tail {p = plain k.GuardOpen} (clear_append (guard_clear x.guard)
-      (clear_tail {p = plain k.GuardClose} (clear_append (state_use_clear x.target) (clear_front (plain k.Semicolon ∷ []) (effect_clear x.effect)))))))))
+      (clear_tail {p = plain k.GuardClose}
+      (clear_append (state_use_clear x.target) (clear_front (plain k.Semicolon ∷ []) (effect_clear x.effect)))))))))
 
 abbrev pub transitions_of : AnnexTree ℕ → List (Part ℕ)
 transitions_of x = parts_if (declared_parts k.Transitions transition_parts) x.transitions
 
-pub behaviour_clear : (tree : PackageTree ℕ) (x : Implementation ℕ) (annex : AnnexTree ℕ) → Clear (transitions_of annex) (behaviour_faults tree x annex)
+pub behaviour_clear : (tree : PackageTree ℕ) (x : Implementation ℕ) (annex : AnnexTree ℕ)
+    → Clear (transitions_of annex) (behaviour_faults tree x annex)
 unfolding behaviour_faults
 behaviour_clear tree x annex =
     declared_clear k.Transitions transition_parts (transition_uses (is_among (states_of annex)) (known_in tree x annex))
     (transition_clear (is_among (states_of annex)) (known_in tree x annex)) annex.transitions
 
 -- ---- annexes
-module _ (transitions : AnnexTree ℕ → List PackageFault) (each : (x : AnnexTree ℕ) → Clear (transitions_of x) (transitions x)) where
+module _ (transitions : AnnexTree ℕ → List PackageFault)
+    (each : (x : AnnexTree ℕ) → Clear (transitions_of x) (transitions x)) where
   tree_clear : (x : AnnexTree ℕ) → Clear (annex_tree_parts x) (of_tree transitions x)
   tree_clear x = clear_append (declared_clear k.Variables variable_parts of_variable variable_clear x.variables)
       (clear_append (declared_clear k.States state_parts of_state state_clear x.states) (each x))
 
   content_clear : (x : AnnexContent ℕ) → Clear (content_parts x) (of_content transitions x)
   content_clear (foreign bytes) = clear_none (content_parts (foreign bytes))
-  content_clear (behaviour x) = clear_tail {p = plain k.AnnexOpen} (clear_front (plain k.AnnexClose ∷ []) (tree_clear x))
+  content_clear (behaviour x) =
+      clear_tail {p = plain k.AnnexOpen} (clear_front (plain k.AnnexClose ∷ []) (tree_clear x))
 
   pub annex_clear : (x : Annex ℕ) → Clear (annex_parts x) (of_annex transitions x)
   annex_clear x = clear_tail {p = token (mark k.Annex) (x.at ∷ [])} (clear_back (identifier_parts x.language)

@@ -36,20 +36,27 @@ reference_clear x = clear_one (reference_parts x) (Unknown (spelled_reference x)
 
 end_clear : (x : ConnectionEnd ℕ) → Clear (end_parts x) (unknown_end x)
 end_clear x = clear_one (end_parts x) (Unknown (spelled_end x) x.first.at)
-    (Contains-append_left (x.first.at ∷ []) (places_of (parts_if (behind k.Dot identifier_parts) x.second)) x.first.at (is_here x.first.at))
+    (Contains-append_left (x.first.at ∷ []) (places_of (parts_if (behind k.Dot identifier_parts) x.second)) x.first.at
+    (is_here x.first.at))
 
 -- ---- what is declared in a declaration
 feature_clear : (x : Feature ℕ) → Clear (feature_parts x) (of_feature x)
-feature_clear x = clear_append (identifier_clear x.name) (clear_tail {p = plain k.Colon} (clear_tail {p = plain (direction_mark x.direction)}
+feature_clear x =
+    clear_append (identifier_clear x.name)
+    (clear_tail {p = plain k.Colon} (clear_tail {p = plain (direction_mark x.direction)}
     (clear_tail {p = plain k.Data} (clear_tail {p = plain k.Port} (clear_back (parts_if reference_parts x.data_type)
     (clear_front (plain k.Semicolon ∷ []) (properties_clear x.properties)))))))
 
 subcomponent_clear : (x : Subcomponent ℕ) → Clear (subcomponent_parts x) (of_subcomponent x)
-subcomponent_clear x = clear_append (identifier_clear x.name) (clear_tail {p = plain k.Colon} (clear_tail {p = plain (category_mark x.category)}
-    (clear_append (reference_clear x.classifier) (clear_front (plain k.Semicolon ∷ []) (properties_clear x.properties)))))
+subcomponent_clear x =
+    clear_append (identifier_clear x.name)
+    (clear_tail {p = plain k.Colon} (clear_tail {p = plain (category_mark x.category)}
+    (clear_append (reference_clear x.classifier)
+    (clear_front (plain k.Semicolon ∷ []) (properties_clear x.properties)))))
 
 connection_clear : (x : Connection ℕ) → Clear (connection_parts x) (of_connection x)
-connection_clear x = clear_append (identifier_clear x.name) (clear_tail {p = plain k.Colon} (clear_tail {p = plain k.Port}
+connection_clear x =
+    clear_append (identifier_clear x.name) (clear_tail {p = plain k.Colon} (clear_tail {p = plain k.Port}
     (clear_append (end_clear x.source) (clear_tail {p = plain k.Arrow} (clear_append (end_clear x.target)
     (clear_front (plain k.Semicolon ∷ []) (properties_clear x.properties)))))))
 
@@ -61,15 +68,20 @@ no_transitions : (x : AnnexTree ℕ) → Clear (transitions_of x) []
 no_transitions x = clear_none (transitions_of x)
 
 type_clear : (x : TypeDeclaration ℕ) → Clear (type_parts x) (of_type x)
-type_clear x = clear_append (heading_clear (mark (category_mark x.category)) x.name.spelling x.at) (clear_back (identifier_parts x.name)
-    (clear_append (clear_section feature_section (flat_map feature_parts x.features) (clear_flat feature_parts of_feature feature_clear x.features))
+type_clear x =
+    clear_append (heading_clear (mark (category_mark x.category)) x.name.spelling x.at)
+    (clear_back (identifier_parts x.name)
+    (clear_append (clear_section feature_section (flat_map feature_parts x.features)
+    (clear_flat feature_parts of_feature feature_clear x.features))
     (clear_append (clear_section property_section (associations_parts x.properties) (associations_clear x.properties))
     (clear_front (ending_parts (identifier_parts x.end_name))
     (clear_flat annex_parts (of_annex none_of) (annex_clear none_of no_transitions) x.annexes)))))
 
-implementation_clear : (tree : PackageTree ℕ) (x : Implementation ℕ) → Clear (implementation_parts x) (of_implementation tree x)
+implementation_clear : (tree : PackageTree ℕ) (x : Implementation ℕ)
+    → Clear (implementation_parts x) (of_implementation tree x)
 implementation_clear tree x =
-    clear_append (heading_clear (mark (category_mark x.category)) (spelled_implementation x.name) x.at) (clear_tail {p = plain k.Implementation}
+    clear_append (heading_clear (mark (category_mark x.category)) (spelled_implementation x.name) x.at)
+    (clear_tail {p = plain k.Implementation}
     (clear_back (implementation_name_parts x.name)
     (clear_append (clear_section subcomponent_section (flat_map subcomponent_parts x.subcomponents)
     (clear_flat subcomponent_parts of_subcomponent subcomponent_clear x.subcomponents))
@@ -77,7 +89,8 @@ implementation_clear tree x =
     (clear_flat connection_parts of_connection connection_clear x.connections))
     (clear_append (clear_section property_section (associations_parts x.properties) (associations_clear x.properties))
     (clear_front (ending_parts (implementation_name_parts x.end_name))
-    (clear_flat annex_parts (of_annex (behaviour_faults tree x)) (annex_clear (behaviour_faults tree x) (behaviour_clear tree x)) x.annexes)))))))
+    (clear_flat annex_parts (of_annex (behaviour_faults tree x))
+    (annex_clear (behaviour_faults tree x) (behaviour_clear tree x)) x.annexes)))))))
 
 declaration_clear : (tree : PackageTree ℕ) (x : Declaration ℕ) → Clear (declaration_parts x) (of_declaration tree x)
 declaration_clear tree (type x) = type_clear x

@@ -37,12 +37,15 @@ both_of_kind : (a b : PackageFault) → IsWrongKind a → IsWrongKind b → plac
 both_of_kind a b m n place = of_kind a m ∙ ap WrongKind place ∙ sym (of_kind b n)
 
 module _ (tree : PackageTree ℕ) (rise : Rise (package_parts tree)) where
-  one_by : (a b : PackageFault) → IsWrongKind a ⊎ Contains (possible tree) a → IsWrongKind b ⊎ Contains (possible tree) b
+  one_by : (a b : PackageFault) → IsWrongKind a ⊎ Contains (possible tree) a
+      → IsWrongKind b ⊎ Contains (possible tree) b
       → place_of a ≡ place_of b → number_of a ≡ number_of b → a ≡ b
   one_by a b (inl e) y place number = both_of_kind a b e (sym number ∙ e) place
   one_by a b (inr h) (inl e) place number = both_of_kind a b (number ∙ e) e place
   one_by a b (inr h) (inr k) place number = (possible_clear tree).single rise a b h k place
 
-  pub one_finding : (root : ℕ) (a b : PackageFault) → Contains (package_faults tree root) a → Contains (package_faults tree root) b
+  pub one_finding : (root : ℕ) (a b : PackageFault) → Contains (package_faults tree root) a
+      → Contains (package_faults tree root) b
       → place_of a ≡ place_of b → number_of a ≡ number_of b → a ≡ b
-  one_finding root a b x y place number = one_by a b ((all_covered tree root).each a x) ((all_covered tree root).each b y) place number
+  one_finding root a b x y place number =
+      one_by a b ((all_covered tree root).each a x) ((all_covered tree root).each b y) place number

@@ -61,18 +61,22 @@ module _ (tree : PackageTree ℕ) (name : List ℕ) (is : IsSound tree name) whe
   all_taps : (ends : List Ends) × Lists (IsTap tree is.root) PortBefore ends
   all_taps = taps tree is.root sound one no_thread sequence.0 sequence.1 threads.0
 
-  by_limits : FirstOrNone tree is.root threads.0 threads.1 all_links.0 all_links.1 → HasFirstFault tree name ⊎ HasInstance tree name
+  by_limits : FirstOrNone tree is.root threads.0 threads.1 all_links.0 all_links.1
+      → HasFirstFault tree name ⊎ HasInstance tree name
   by_limits (inl f) =
       inl (
         TooMany (name_of f.limit),
         root_fault tree name is.root is.is_root (TooMany (name_of f.limit))
-            (limit_fault tree is.root f.limit (name_of f.limit) (silent_five tree is.root is.names is.recursion is.ends) refl f.passed f.before),
+            (limit_fault tree is.root f.limit (name_of f.limit) (silent_five tree is.root is.names is.recursion is.ends)
+            refl f.passed f.before),
       )
   by_limits (inr none) =
       inr (
         record { root = is.root; threads = threads.0; links = all_links.0; feeds = all_feeds.0; taps = all_taps.0 },
         record {
-          sound = root_silent tree name is.root is.is_root (all_silent tree is.root (silent_five tree is.root is.names is.recursion is.ends) none);
+          sound =
+              root_silent tree name is.root is.is_root
+              (all_silent tree is.root (silent_five tree is.root is.names is.recursion is.ends) none);
           root = is.is_root;
           threads = threads.1;
           links = all_links.1;
@@ -84,7 +88,8 @@ module _ (tree : PackageTree ℕ) (name : List ℕ) (is : IsSound tree name) whe
   pub ends : HasFirstFault tree name ⊎ HasInstance tree name
   ends = by_limits (first tree is.root threads.0 threads.1 all_links.0 all_links.1)
 
-by_begin : (tree : PackageTree ℕ) (name : List ℕ) → HasFirstFault tree name ⊎ IsSound tree name → HasFirstFault tree name ⊎ HasInstance tree name
+by_begin : (tree : PackageTree ℕ) (name : List ℕ) → HasFirstFault tree name ⊎ IsSound tree name
+    → HasFirstFault tree name ⊎ HasInstance tree name
 by_begin tree name (inl fault) = inl fault
 by_begin tree name (inr is) = ends tree name is
 

@@ -19,34 +19,51 @@ use Rattle.aadl_instance.proofs.Adding.{out_added}
 use Rattle.aadl_instance.proofs.Shown.{stands}
 use Rattle.design_laws.proofs.Tracing.{Comes, NoneComes, comes}
 
-module _ (tree : PackageTree ℕ) (root : ℕ) (sound : AreDeclared tree) (one : OneEach tree root) (no_thread : is_thread_at tree root ≡ false)
-    (keys : List ℕ) (order : IsOrder (containment tree) keys) (paths : List (List ℕ)) (threads : Lists (IsThreadAt tree root) PathBefore paths) where
+module _ (tree : PackageTree ℕ) (root : ℕ) (sound : AreDeclared tree) (one : OneEach tree root)
+    (no_thread : is_thread_at tree root ≡ false)
+    (keys : List ℕ) (order : IsOrder (containment tree) keys) (paths : List (List ℕ))
+    (threads : Lists (IsThreadAt tree root) PathBefore paths) where
   record Into (node port : ℕ) : Type 0 where
     incoming : Incoming
     are : AreInto tree root paths node port incoming
 
   -- ---- a port
   module _ (node port : ℕ) (path : List ℕ) (at : slice_get paths node ≡ Some path) where
-    by_kind : (c : Comes tree root (record { path = path; port = port })) → Into node port → IsLink tree root c.one ⊎ IsFeed tree root c.one → Into node (port + 1)
+    by_kind : (c : Comes tree root (record { path = path; port = port })) → Into node port
+        → IsLink tree root c.one ⊎ IsFeed tree root c.one → Into node (port + 1)
     by_kind c i (inl l) = record {
       incoming = record { links = i.incoming.links ++ chain_in tree root paths c.one ∷ []; feeds = i.incoming.feeds };
-      are = into_link tree root paths no_thread node port path at threads.in_order c.one c.there c.only i.incoming l i.are;
+      are =
+          into_link tree root paths no_thread node port path at threads.in_order c.one c.there c.only
+          i.incoming l i.are;
     }
     by_kind c i (inr f) = record {
       incoming = record { links = i.incoming.links; feeds = i.incoming.feeds ++ chain_in tree root paths c.one ∷ [] };
-      are = into_feed tree root paths no_thread node port path at threads.in_order c.one c.there c.only i.incoming f i.are;
+      are =
+          into_feed tree root paths no_thread node port path at threads.in_order c.one c.there c.only
+          i.incoming f i.are;
     }
 
-    by_coming : Into node port → Comes tree root (record { path = path; port = port }) ⊎ NoneComes tree root (record { path = path; port = port }) → Into node (port + 1)
+    by_coming : Into node port
+        → Comes tree root (record { path = path; port = port })
+        ⊎ NoneComes tree root (record { path = path; port = port }) → Into node (port + 1)
     by_coming i (inl c) = by_kind c i c.kind
-    by_coming i (inr none) = record { incoming = i.incoming; are = into_skip tree root paths no_thread node port path at threads.in_order i.incoming none i.are }
+    by_coming i (inr none) =
+        record {
+          incoming = i.incoming;
+          are = into_skip tree root paths no_thread node port path at threads.in_order i.incoming none i.are;
+        }
 
-    by_way : Into node port → (b : Bool) → is_in tree root (record { path = path; port = port }) ≡ b → Into node (port + 1)
+    by_way : Into node port → (b : Bool) → is_in tree root (record { path = path; port = port }) ≡ b
+        → Into node (port + 1)
     by_way i true e =
-        by_coming i (comes tree root sound one no_thread keys order (record { path = path; port = port }) (thread_listed tree root paths threads node path at, e))
+        by_coming i (comes tree root sound one no_thread keys order (record { path = path; port = port })
+        (thread_listed tree root paths threads node path at, e))
     by_way i false e = record {
       incoming = i.incoming;
-      are = out_added tree root no_thread paths threads.in_order node port path at i.incoming (thread_listed tree root paths threads node path at) e i.are;
+      are =
+          out_added tree root no_thread paths threads.in_order node port path at i.incoming
+          (thread_listed tree root paths threads node path at) e i.are;
     }
 
     one_port : Into node port → Into node (port + 1)
@@ -56,7 +73,8 @@ module _ (tree : PackageTree ℕ) (root : ℕ) (sound : AreDeclared tree) (one :
   all_ports : (node port : ℕ) (path : List ℕ) → slice_get paths node ≡ Some path → Into node 0 → Into node port
   all_ports node zero path at i = i
   all_ports node (suc port) path at i =
-      let e : port + 1 ≡ suc port = omega arith in subst (Into node) e (one_port node port path at (all_ports node port path at i))
+      let e : port + 1 ≡ suc port = omega arith in
+      subst (Into node) e (one_port node port path at (all_ports node port path at i))
 
   one_thread : (node : ℕ) (path : List ℕ) → slice_get paths node ≡ Some path → Into node 0 → Into (node + 1) 0
   one_thread node path at i =
@@ -65,12 +83,18 @@ module _ (tree : PackageTree ℕ) (root : ℕ) (sound : AreDeclared tree) (one :
       let p = all_ports node (length (ports_at tree (implementation_at tree s.0))) path at i in
       record {
         incoming = p.incoming;
-        are = into_thread tree root paths no_thread node (length (ports_at tree (implementation_at tree s.0))) s.0 path p.incoming at s.1 (omega arith) p.are;
+        are =
+            into_thread tree root paths no_thread node (length (ports_at tree (implementation_at tree s.0))) s.0 path
+            p.incoming at s.1 (omega arith) p.are;
       }
 
   -- ---- all threads
   all_threads : (node : ℕ) → node ≤ length paths → Into node 0
-  all_threads zero most = record { incoming = record { links = []; feeds = [] }; are = into_start tree root paths no_thread (record { links = []; feeds = [] }) refl refl }
+  all_threads zero most =
+      record {
+        incoming = record { links = []; feeds = [] };
+        are = into_start tree root paths no_thread (record { links = []; feeds = [] }) refl refl;
+      }
   all_threads (suc node) most =
       let p = slice_get-some paths node (omega arith) in
       let e : node + 1 ≡ suc node = omega arith in
@@ -80,7 +104,9 @@ module _ (tree : PackageTree ℕ) (root : ℕ) (sound : AreDeclared tree) (one :
   whole = all_threads (length paths) (omega arith)
 
   pub links : (ends : List Ends) × Lists (IsLink tree root) TargetBefore ends
-  links = let s = links_whole tree root paths no_thread (length paths) (omega arith) threads whole.incoming whole.are in (s.ends, s.listed)
+  links = let s = links_whole tree root paths no_thread (length paths) (omega arith) threads whole.incoming whole.are in
+      (s.ends, s.listed)
 
   pub feeds : (ends : List Ends) × Lists (IsFeed tree root) TargetBefore ends
-  feeds = let s = feeds_whole tree root paths no_thread (length paths) (omega arith) threads whole.incoming whole.are in (s.ends, s.listed)
+  feeds = let s = feeds_whole tree root paths no_thread (length paths) (omega arith) threads whole.incoming whole.are in
+      (s.ends, s.listed)

@@ -19,19 +19,27 @@ module _ (tree : PackageTree ℕ) (d : Direction) where
     new : List PortAt
     is : IsJoined tree d n wire old new
 
-  by_port : (n : ℕ) (wire : Wire) (old : List PortAt) (o : Option ℕ) → joined_by old tree d n (outer_end d wire) (inner_end d wire) ≡ o → Joins n wire old
+  by_port : (n : ℕ) (wire : Wire) (old : List PortAt) (o : Option ℕ)
+      → joined_by old tree d n (outer_end d wire) (inner_end d wire) ≡ o → Joins n wire old
   by_port n wire old None e = record { new = old; is = none_joined tree d old n wire e }
-  by_port n wire old (Some port) e = record { new = with_port old (port_at n port); is = one_joined tree d old n port wire e }
+  by_port n wire old (Some port) e =
+      record { new = with_port old (port_at n port); is = one_joined tree d old n port wire e }
 
   -- ---- the connections of a declaration
   record Front (n i : ℕ) (old : List PortAt) : Type 0 where
     new : List PortAt
     are : FrontJoined tree d n i old new
 
-  front_step : (n i : ℕ) (old : List PortAt) → is_thread_at tree n ≡ false → Front n i old → (wire : Wire) → slice_get (wires_at tree n) i ≡ Some wire → Front n (i + 1) old
+  front_step : (n i : ℕ) (old : List PortAt) → is_thread_at tree n ≡ false → Front n i old → (wire : Wire)
+      → slice_get (wires_at tree n) i ≡ Some wire → Front n (i + 1) old
   front_step n i old thread f wire e =
       let j = by_port n wire f.new (joined_by f.new tree d n (outer_end d wire) (inner_end d wire)) refl in
-      record { new = j.new; are = one_more tree d n i wire old f.new j.new thread e (Contains-from_slice_get (wires_at tree n) i wire e) j.is f.are }
+      record {
+        new = j.new;
+        are =
+            one_more tree d n i wire old f.new j.new thread e (Contains-from_slice_get (wires_at tree n) i wire e)
+            j.is f.are;
+      }
 
   some_wire : (n i : ℕ) → i < length (wires_at tree n) → (wire : Wire) × (slice_get (wires_at tree n) i ≡ Some wire)
   some_wire n i lt = slice_get-some (wires_at tree n) i lt
@@ -58,7 +66,8 @@ module _ (tree : PackageTree ℕ) (d : Direction) where
     ports : List PortAt
     front : FrontInside tree d keys at ports
 
-  by_key : (keys : List ℕ) (at : ℕ) → IsOrder (containment tree) keys → Known keys at → (o : Option ℕ) → slice_get keys at ≡ o → Known keys (at + 1)
+  by_key : (keys : List ℕ) (at : ℕ) → IsOrder (containment tree) keys → Known keys at → (o : Option ℕ)
+      → slice_get keys at ≡ o → Known keys (at + 1)
   by_key keys at order k None e = record { ports = k.ports; front = front_past tree d keys at k.ports e k.front }
   by_key keys at order k (Some n) e =
       let j = by_thread n k.ports (is_thread_at tree n) refl in
@@ -71,4 +80,5 @@ module _ (tree : PackageTree ℕ) (d : Direction) where
       subst (Known keys) e (by_key keys at order (known keys at order) (slice_get keys at) refl)
 
   pub inside : (keys : List ℕ) → IsOrder (containment tree) keys → (ports : List PortAt) × IsInside tree d ports
-  inside keys order = let k = known keys (length keys) order in (k.ports, front_all tree d keys (length keys) k.ports order (omega arith) k.front)
+  inside keys order = let k = known keys (length keys) order in
+      (k.ports, front_all tree d keys (length keys) k.ports order (omega arith) k.front)

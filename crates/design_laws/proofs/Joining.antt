@@ -41,12 +41,16 @@ use Rattle.design_laws.proofs.Ordering.{InPort, other_target, targets_rise, one_
 use Rattle.design_laws.proofs.Sourcing.{one_start}
 
 module _ {tree : PackageTree ℕ} {name : List ℕ} {parts : Parts} (flat : IsFlat tree name parts) (used : ℕ → Bool)
-    (is_use : IsUse tree parts.root used) (none : used_findings tree (shown_by tree parts) used ≡ []) (named : AreNamed tree)
-    (links_found : flat_map (link_findings tree (map (thread_at tree parts.root) parts.threads) (rates_of tree (shown_by tree parts)))
+    (is_use : IsUse tree parts.root used) (none : used_findings tree (shown_by tree parts) used ≡ [])
+    (named : AreNamed tree)
+    (links_found : flat_map (link_findings tree (map (thread_at tree parts.root) parts.threads)
+    (rates_of tree (shown_by tree parts)))
     (map (chain_at tree parts) parts.links) ≡ [])
-    (feeds_found : flat_map (feed_findings tree (map (thread_at tree parts.root) parts.threads) (rates_of tree (shown_by tree parts)))
+    (feeds_found : flat_map (feed_findings tree (map (thread_at tree parts.root) parts.threads)
+    (rates_of tree (shown_by tree parts)))
     (map (chain_at tree parts) parts.feeds) ≡ [])
-    (period : ℕ) (gamma : Gamma) (ignored : List (List ℕ)) (cs : List Component) (sits : Zipped (Sits tree parts.root) parts.threads cs) where
+    (period : ℕ) (gamma : Gamma) (ignored : List (List ℕ)) (cs : List Component)
+    (sits : Zipped (Sits tree parts.root) parts.threads cs) where
   -- a design with these components
   abbrev pub design_of : List Link → List Feed → List Tap → DesignParts
   design_of links feeds taps = record {
@@ -63,12 +67,14 @@ module _ {tree : PackageTree ℕ} {name : List ℕ} {parts : Parts} (flat : IsFl
   -- ---- what each list is made of
   pub record LinkIs (e : Ends) (l : Link) : Type 0 where
     pub link : walks.IsLink tree parts.root e
-    pub found : link_findings tree (map (thread_at tree parts.root) parts.threads) (rates_of tree (shown_by tree parts)) (chain_at tree parts e) ≡ []
+    pub found : link_findings tree (map (thread_at tree parts.root) parts.threads) (rates_of tree (shown_by tree parts))
+        (chain_at tree parts e) ≡ []
     pub is : l ≡ link_of flat (design_of [] [] []) sits e
 
   pub record FeedIs (e : Ends) (f : Feed) : Type 0 where
     pub feed : walks.IsFeed tree parts.root e
-    pub found : feed_findings tree (map (thread_at tree parts.root) parts.threads) (rates_of tree (shown_by tree parts)) (chain_at tree parts e) ≡ []
+    pub found : feed_findings tree (map (thread_at tree parts.root) parts.threads) (rates_of tree (shown_by tree parts))
+        (chain_at tree parts e) ≡ []
     pub is : f ≡ feed_of flat (design_of [] [] []) sits e
 
   pub record TapIs (e : Ends) (t : Tap) : Type 0 where
@@ -76,7 +82,8 @@ module _ {tree : PackageTree ℕ} {name : List ℕ} {parts : Parts} (flat : IsFl
     pub is : t ≡ tap_of flat (design_of [] [] []) sits e
 
   links_by : (es : List Ends) → AllByRecursion (walks.IsLink tree parts.root) es
-      → AllByRecursion (λ e. link_findings tree (map (thread_at tree parts.root) parts.threads) (rates_of tree (shown_by tree parts))
+      → AllByRecursion (λ e. link_findings tree (map (thread_at tree parts.root) parts.threads)
+      (rates_of tree (shown_by tree parts))
       (chain_at tree parts e) ≡ []) es
       → AllByRecursion (λ e. (l : Link) × (link_in tree (chain_at tree parts e) ≡ Some l) × LinkIs e l) es
   links_by [] each found = tt
@@ -94,12 +101,14 @@ module _ {tree : PackageTree ℕ} {name : List ℕ} {parts : Parts} (flat : IsFl
   links =
       all_made (λ e. link_in tree (chain_at tree parts e)) LinkIs parts.links
       (links_by parts.links (recursion_from_All (walks.IsLink tree parts.root) parts.links flat.links.each)
-      (all_unmapped (λ x. link_findings tree (map (thread_at tree parts.root) parts.threads) (rates_of tree (shown_by tree parts)) x ≡ [])
+      (all_unmapped (λ x. link_findings tree (map (thread_at tree parts.root) parts.threads)
+      (rates_of tree (shown_by tree parts)) x ≡ [])
       (chain_at tree parts) parts.links (all_none (link_findings tree (map (thread_at tree parts.root) parts.threads)
       (rates_of tree (shown_by tree parts))) (map (chain_at tree parts) parts.links) links_found)))
 
   feeds_by : (es : List Ends) → AllByRecursion (walks.IsFeed tree parts.root) es
-      → AllByRecursion (λ e. feed_findings tree (map (thread_at tree parts.root) parts.threads) (rates_of tree (shown_by tree parts))
+      → AllByRecursion (λ e. feed_findings tree (map (thread_at tree parts.root) parts.threads)
+      (rates_of tree (shown_by tree parts))
       (chain_at tree parts e) ≡ []) es
       → AllByRecursion (λ e. (f : Feed) × (feed_in tree (chain_at tree parts e) ≡ Some f) × FeedIs e f) es
   feeds_by [] each found = tt
@@ -117,7 +126,8 @@ module _ {tree : PackageTree ℕ} {name : List ℕ} {parts : Parts} (flat : IsFl
   feeds =
       all_made (λ e. feed_in tree (chain_at tree parts e)) FeedIs parts.feeds
       (feeds_by parts.feeds (recursion_from_All (walks.IsFeed tree parts.root) parts.feeds flat.feeds.each)
-      (all_unmapped (λ x. feed_findings tree (map (thread_at tree parts.root) parts.threads) (rates_of tree (shown_by tree parts)) x ≡ [])
+      (all_unmapped (λ x. feed_findings tree (map (thread_at tree parts.root) parts.threads)
+      (rates_of tree (shown_by tree parts)) x ≡ [])
       (chain_at tree parts) parts.feeds (all_none (feed_findings tree (map (thread_at tree parts.root) parts.threads)
       (rates_of tree (shown_by tree parts))) (map (chain_at tree parts) parts.feeds) feeds_found)))
 
@@ -171,8 +181,10 @@ module _ {tree : PackageTree ℕ} {name : List ℕ} {parts : Parts} (flat : IsFl
 
     links_rise : (a b : Ends) (l m : Link) → TargetBefore a b → LinkIs a l → LinkIs b m → model.LinkPrecedes l m
     links_rise a b l m before x y =
-        subst (λ k. model.LinkPrecedes k m) (sym x.is) (subst (λ k. model.LinkPrecedes (link_of flat (design_of [] [] []) sits a) k) (sym y.is)
-        (targets_rise flat (design_of ls fs ts) sits a b (link_port ls fs ts a x.link) (link_port ls fs ts b y.link) before))
+        subst (λ k. model.LinkPrecedes k m) (sym x.is)
+        (subst (λ k. model.LinkPrecedes (link_of flat (design_of [] [] []) sits a) k) (sym y.is)
+        (targets_rise flat (design_of ls fs ts) sits a b (link_port ls fs ts a x.link)
+        (link_port ls fs ts b y.link) before))
 
     feed_keeps_by : (e : Ends) (f : Feed) → FeedIs e f → model.IsFeed (design_of ls fs ts) f
     feed_keeps_by e f h = subst (model.IsFeed (design_of ls fs ts)) (sym h.is)
@@ -180,8 +192,10 @@ module _ {tree : PackageTree ℕ} {name : List ℕ} {parts : Parts} (flat : IsFl
 
     feeds_rise : (a b : Ends) (f g : Feed) → TargetBefore a b → FeedIs a f → FeedIs b g → model.FeedPrecedes f g
     feeds_rise a b f g before x y =
-        subst (λ k. model.FeedPrecedes k g) (sym x.is) (subst (λ k. model.FeedPrecedes (feed_of flat (design_of [] [] []) sits a) k) (sym y.is)
-        (targets_rise flat (design_of ls fs ts) sits a b (feed_port ls fs ts a x.feed) (feed_port ls fs ts b y.feed) before))
+        subst (λ k. model.FeedPrecedes k g) (sym x.is)
+        (subst (λ k. model.FeedPrecedes (feed_of flat (design_of [] [] []) sits a) k) (sym y.is)
+        (targets_rise flat (design_of ls fs ts) sits a b (feed_port ls fs ts a x.feed)
+        (feed_port ls fs ts b y.feed) before))
 
     tap_keeps_by : (e : Ends) (t : Tap) → TapIs e t → model.IsTap (design_of ls fs ts) t
     tap_keeps_by e t h = subst (model.IsTap (design_of ls fs ts)) (sym h.is)
@@ -198,21 +212,25 @@ module _ {tree : PackageTree ℕ} {name : List ℕ} {parts : Parts} (flat : IsFl
         other_name tree parts.root r.0 r.1 differ a.to b.to i.target j.target (tap_root a x.tap)
         (tap_root b y.tap) i.target_is j.target_is (ltb-true a.to.port b.to.port before) (sym first ∙ (same ∙ second))
 
-    feed_kind_is : (e : Ends) (f : Feed) → (h : FeedIs e f) → feed_kind (design_of ls fs ts) f ≡ (feed_joins flat used is_use none e h.feed).kind
+    feed_kind_is : (e : Ends) (f : Feed) → (h : FeedIs e f)
+        → feed_kind (design_of ls fs ts) f ≡ (feed_joins flat used is_use none e h.feed).kind
     feed_kind_is e f h =
         let p = feed_port ls fs ts e h.feed in
         let j = feed_joins flat used is_use none e h.feed in
         let typed : kind_in p.port.data_type ≡ Some j.kind = ap (λ (g : Feature ℕ). kind_in g.data_type)
         (same_Some p.port j.target (sym p.is ∙ j.target_is)) ∙ j.target_kind in
-        ap (feed_kind (design_of ls fs ts)) h.is ∙ in_kind_is flat (design_of ls fs ts) sits e.to p.port p.thread p.is p.goes j.kind typed
+        ap (feed_kind (design_of ls fs ts)) h.is
+        ∙ in_kind_is flat (design_of ls fs ts) sits e.to p.port p.thread p.is p.goes j.kind typed
 
-    feeds_agree : (a b : Ends) (f g : Feed) → TargetBefore a b → FeedIs a f → FeedIs b g → model.AgreeInKind (design_of ls fs ts) f g
+    feeds_agree : (a b : Ends) (f g : Feed) → TargetBefore a b → FeedIs a f → FeedIs b g
+        → model.AgreeInKind (design_of ls fs ts) f g
     feeds_agree a b f g before x y = record {
       kinds = λ same.
           let r = root_there flat used is_use none in
           let i = feed_joins flat used is_use none a x.feed in
           let j = feed_joins flat used is_use none b y.feed in
-          let differ = named.differ parts.root parts.root r.0 (names_clean flat) (declared_at tree parts.root r.0 r.1) in
+          let differ =
+          named.differ parts.root parts.root r.0 (names_clean flat) (declared_at tree parts.root r.0 r.1) in
           let first : f.name ≡ i.source.name.spelling = ap (λ (k : Feed). k.name) x.is ∙ ap port_name i.source_is in
           let second : g.name ≡ j.source.name.spelling = ap (λ (k : Feed). k.name) y.is ∙ ap port_name j.source_is in
           let one = one_named tree parts.root r.0 r.1 differ a.from b.from i.source j.source (feed_root a x.feed)
@@ -226,7 +244,8 @@ module _ {tree : PackageTree ℕ} {name : List ℕ} {parts : Parts} (flat : IsFl
     apart_by e f x d l y same =
         let first = ap (λ (k : Feed). model.port_place k.target.0 k.in_port) x.is in
         let second = ap (λ (k : Link). model.port_place k.target.0 k.in_port) y.is in
-        absurd (never_both e d x.feed y.link (one_port flat (design_of ls fs ts) sits e.to d.to (feed_port ls fs ts e x.feed)
+        absurd (never_both e d x.feed y.link
+        (one_port flat (design_of ls fs ts) sits e.to d.to (feed_port ls fs ts e x.feed)
         (link_port ls fs ts d y.link) (sym first ∙ (same ∙ second))))
 
   few_links : length links.all ≤ LINKS
@@ -251,27 +270,41 @@ module _ {tree : PackageTree ℕ} {name : List ℕ} {parts : Parts} (flat : IsFl
 
   pub links_keep : model.AreLinks whole
   links_keep = record {
-    each = all_zipped LinkIs (model.IsLink whole) (link_keeps_by links.all feeds.all taps.all) parts.links links.all links.each;
+    each =
+        all_zipped LinkIs (model.IsLink whole) (link_keeps_by links.all feeds.all taps.all) parts.links
+        links.all links.each;
     count = few_links;
-    order = pairs_zipped LinkIs TargetBefore model.LinkPrecedes (links_rise links.all feeds.all taps.all) parts.links links.all
+    order =
+        pairs_zipped LinkIs TargetBefore model.LinkPrecedes (links_rise links.all feeds.all taps.all)
+        parts.links links.all
         (pairs_from TargetBefore parts.links flat.links.in_order) links.each;
   }
 
   pub feeds_keep : model.AreFeeds whole
   feeds_keep = record {
-    each = all_zipped FeedIs (model.IsFeed whole) (feed_keeps_by links.all feeds.all taps.all) parts.feeds feeds.all feeds.each;
-    order = pairs_zipped FeedIs TargetBefore model.FeedPrecedes (feeds_rise links.all feeds.all taps.all) parts.feeds feeds.all
+    each =
+        all_zipped FeedIs (model.IsFeed whole) (feed_keeps_by links.all feeds.all taps.all) parts.feeds
+        feeds.all feeds.each;
+    order =
+        pairs_zipped FeedIs TargetBefore model.FeedPrecedes (feeds_rise links.all feeds.all taps.all)
+        parts.feeds feeds.all
         (pairs_from TargetBefore parts.feeds flat.feeds.in_order) feeds.each;
-    kinds = pairs_zipped FeedIs TargetBefore (model.AgreeInKind whole) (feeds_agree links.all feeds.all taps.all) parts.feeds feeds.all
+    kinds =
+        pairs_zipped FeedIs TargetBefore (model.AgreeInKind whole) (feeds_agree links.all feeds.all taps.all)
+        parts.feeds feeds.all
         (pairs_from TargetBefore parts.feeds flat.feeds.in_order) feeds.each;
     apart = all_zipped FeedIs (λ f. All (model.IsApart f) links.all)
-        (λ e f x. all_zipped LinkIs (model.IsApart f) (λ d l y. apart_by links.all feeds.all taps.all e f x d l y) parts.links links.all
+        (λ e f x. all_zipped LinkIs (model.IsApart f) (λ d l y. apart_by links.all feeds.all taps.all e f x d l y)
+        parts.links links.all
         links.each) parts.feeds feeds.all feeds.each;
   }
 
   pub taps_keep : model.AreTaps whole
   taps_keep = record {
-    each = all_zipped TapIs (model.IsTap whole) (tap_keeps_by links.all feeds.all taps.all) parts.taps taps.all taps.each;
-    names_differ = pairs_zipped TapIs PortBefore (λ (a b : Tap). a.name ≢ b.name) (taps_differ links.all feeds.all taps.all) parts.taps taps.all
+    each =
+        all_zipped TapIs (model.IsTap whole) (tap_keeps_by links.all feeds.all taps.all) parts.taps taps.all taps.each;
+    names_differ =
+        pairs_zipped TapIs PortBefore (λ (a b : Tap). a.name ≢ b.name) (taps_differ links.all feeds.all taps.all)
+        parts.taps taps.all
         (pairs_from PortBefore parts.taps flat.taps.in_order) taps.each;
   }

@@ -17,9 +17,11 @@ abbrev pub HasLeast : (ℕ → Type 0) → ℕ → Type 0
 HasLeast P bound = IsLeast P bound ⊎ NoneHas P bound
 
 wider : (P : ℕ → Type 0) (bound : ℕ) → IsLeast P bound → IsLeast P (suc bound)
-wider P bound l = let within = l.within in record { number = l.number; within = omega arith; has = l.has; first = l.first }
+wider P bound l = let within = l.within in
+    record { number = l.number; within = omega arith; has = l.has; first = l.first }
 
-none_at : (P : ℕ → Type 0) (bound : ℕ) → NoneHas P bound → (P bound → ⊥) → (n : ℕ) → n < suc bound → (n < bound) ⊎ (bound ≤ n) → P n → ⊥
+none_at : (P : ℕ → Type 0) (bound : ℕ) → NoneHas P bound → (P bound → ⊥) → (n : ℕ) → n < suc bound
+    → (n < bound) ⊎ (bound ≤ n) → P n → ⊥
 none_at P bound none here n less (inl lt) p = none n lt p
 none_at P bound none here n less (inr ge) p = let e : n ≡ bound = omega arith in here (subst P e p)
 

@@ -25,7 +25,8 @@ use Rattle.design_laws.proofs.Recursion.{first_recursive}
 use Rattle.design_laws.proofs.Connections.{first_end}
 
 -- all that a root contains
-pub uses : (tree : PackageTree ℕ) (root : ℕ) → root < length tree.declarations → (used : List ℕ) × ((n : ℕ) → Contains used n ↔ IsInUse tree root n)
+pub uses : (tree : PackageTree ℕ) (root : ℕ) → root < length tree.declarations
+    → (used : List ℕ) × ((n : ℕ) → Contains used n ↔ IsInUse tree root n)
 uses tree root lt =
     let same = length-map tree.declarations (targets_in tree) in
     let r = reach (containment tree) root (within tree) (omega arith) in
@@ -35,29 +36,36 @@ module _ (tree : PackageTree ℕ) (name : List ℕ) (root : ℕ) (is : root_numb
   pub declared_root : root < length tree.declarations
   declared_root = root_declared tree root (is_root_at tree name root is)
 
-  by_ends : package_faults tree root ≡ [] → ((f : PackageFault) → IsRecursive tree f → ⊥) → (o : Option PackageFault) → FirstIn (IsEndFault tree root) o → HasFirstFault tree name ⊎ IsSound tree name
+  by_ends : package_faults tree root ≡ [] → ((f : PackageFault) → IsRecursive tree f → ⊥) → (o : Option PackageFault)
+      → FirstIn (IsEndFault tree root) o → HasFirstFault tree name ⊎ IsSound tree name
   by_ends names never None x = inr (record { root = root; is_root = is; names = names; recursion = never; ends = x })
-  by_ends names never (Some fault) x = inl (fault, root_fault tree name root is fault (end_fault tree root fault names never x))
+  by_ends names never (Some fault) x =
+      inl (fault, root_fault tree name root is fault (end_fault tree root fault names never x))
 
-  ends_first : package_faults tree root ≡ [] → ((f : PackageFault) → IsRecursive tree f → ⊥) → HasFirstFault tree name ⊎ IsSound tree name
+  ends_first : package_faults tree root ≡ [] → ((f : PackageFault) → IsRecursive tree f → ⊥)
+      → HasFirstFault tree name ⊎ IsSound tree name
   ends_first names never =
       let o = order (containment tree) (within tree) (no_way_back tree never) in
       let u = uses tree root declared_root in
       let e = first_end tree root (declared tree root names) o.0 o.1 u.0 u.1 in
       by_ends names never e.0 e.1
 
-  by_recursion : package_faults tree root ≡ [] → (o : Option PackageFault) → FirstIn (IsRecursive tree) o → HasFirstFault tree name ⊎ IsSound tree name
+  by_recursion : package_faults tree root ≡ [] → (o : Option PackageFault) → FirstIn (IsRecursive tree) o
+      → HasFirstFault tree name ⊎ IsSound tree name
   by_recursion names None x = ends_first names x
-  by_recursion names (Some fault) x = inl (fault, root_fault tree name root is fault (recursion_fault tree root fault names x))
+  by_recursion names (Some fault) x =
+      inl (fault, root_fault tree name root is fault (recursion_fault tree root fault names x))
 
-  by_names : (o : Option PackageFault) → FirstOf (package_faults tree root) o → HasFirstFault tree name ⊎ IsSound tree name
+  by_names : (o : Option PackageFault) → FirstOf (package_faults tree root) o
+      → HasFirstFault tree name ⊎ IsSound tree name
   by_names None x = let r = first_recursive tree in by_recursion x r.0 r.1
   by_names (Some fault) x = inl (fault, root_fault tree name root is fault (name_fault tree root fault x))
 
   with_root : HasFirstFault tree name ⊎ IsSound tree name
   with_root = by_names (found None (package_faults tree root)) (found_is_first (package_faults tree root))
 
-by_root : (tree : PackageTree ℕ) (name : List ℕ) (o : Option ℕ) → root_number tree name ≡ o → HasFirstFault tree name ⊎ IsSound tree name
+by_root : (tree : PackageTree ℕ) (name : List ℕ) (o : Option ℕ) → root_number tree name ≡ o
+    → HasFirstFault tree name ⊎ IsSound tree name
 by_root tree name None e = inl (NoRoot, no_root tree name e)
 by_root tree name (Some root) e = with_root tree name root e
 

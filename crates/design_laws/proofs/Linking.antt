@@ -36,15 +36,18 @@ use Rattle.design_laws.proofs.Chaining.{first_there, last_there, kind_there, kin
 use Rattle.design_laws.proofs.Ending.{Sits, AtNode, at_node, in_port, out_port, component_there}
 
 -- ---- the adaptor between two rates
-pub rated_fits : (at : ℕ) (word : List ℕ) (text : Option (List ℕ)) (kind : Option Kind) (a b : Option ℕ) (p q : ℕ) → a ≡ Some p → b ≡ Some q
+pub rated_fits : (at : ℕ) (word : List ℕ) (text : Option (List ℕ)) (kind : Option Kind) (a b : Option ℕ) (p q : ℕ)
+    → a ≡ Some p → b ≡ Some q
     → rated at word (option_map adaptor_named text) kind a b ≡ [] → Fits text kind p q
 rated_fits at word text kind None b p q first second none = absurd (cc first)
 rated_fits at word text kind (Some a) None p q first second none = absurd (cc second)
 rated_fits at word text kind (Some a) (Some b) p q first second none =
-    subst (λ n. Fits text kind n q) (same_Some a p first) (subst (λ n. Fits text kind a n) (same_Some b q second) (fits at word text kind a b none))
+    subst (λ n. Fits text kind n q) (same_Some a p first)
+    (subst (λ n. Fits text kind a n) (same_Some b q second) (fits at word text kind a b none))
 
 thread_end_by : (tree : PackageTree ℕ) (parts : Parts) (p : Port) (path : List ℕ) → (path ≡ [] → ⊥)
-    → end_by tree parts.root parts.threads p path ≡ Thread (node_at parts.threads p.path) (port_number tree parts.root p)
+    → end_by tree parts.root parts.threads p path
+    ≡ Thread (node_at parts.threads p.path) (port_number tree parts.root p)
 thread_end_by tree parts p [] some = absurd (some refl)
 thread_end_by tree parts p (s ∷ path) some = refl
 
@@ -52,18 +55,22 @@ module _ {tree : PackageTree ℕ} {name : List ℕ} {parts : Parts} (flat : IsFl
   pub not_root : (p : Port) → IsThreadAt tree parts.root p.path → p.path ≡ [] → ⊥
   not_root p thread e = root_no_thread flat (thread_is flat [] (subst (IsThreadAt tree parts.root) e thread))
 
-  pub thread_end : (p : Port) → IsThreadAt tree parts.root p.path → end_in tree parts.root parts.threads p ≡ Thread (node_at parts.threads p.path)
+  pub thread_end : (p : Port) → IsThreadAt tree parts.root p.path
+      → end_in tree parts.root parts.threads p ≡ Thread (node_at parts.threads p.path)
       (port_number tree parts.root p)
   thread_end p thread = thread_end_by tree parts p p.path (not_root p thread)
 
-  pub root_end : (p : Port) → p.path ≡ [] → end_in tree parts.root parts.threads p ≡ Root (port_name (port_of tree parts.root p))
+  pub root_end : (p : Port) → p.path ≡ []
+      → end_in tree parts.root parts.threads p ≡ Root (port_name (port_of tree parts.root p))
   root_end p e = ap (end_by tree parts.root parts.threads p) e
 
-  pub start_goes_out : (p : Port) → IsStart tree parts.root p → IsThreadAt tree parts.root p.path → is_in tree parts.root p ≡ false
+  pub start_goes_out : (p : Port) → IsStart tree parts.root p → IsThreadAt tree parts.root p.path
+      → is_in tree parts.root p ≡ false
   start_goes_out p (inl s) thread = s.1
   start_goes_out p (inr s) thread = absurd (not_root p thread s.0)
 
-  pub end_goes_in : (p : Port) → IsEnd tree parts.root p → IsThreadAt tree parts.root p.path → is_in tree parts.root p ≡ true
+  pub end_goes_in : (p : Port) → IsEnd tree parts.root p → IsThreadAt tree parts.root p.path
+      → is_in tree parts.root p ≡ true
   end_goes_in p (inl s) thread = s.1
   end_goes_in p (inr s) thread = absurd (not_root p thread s.0)
 
@@ -77,8 +84,10 @@ module _ {tree : PackageTree ℕ} {name : List ℕ} {parts : Parts} (flat : IsFl
     pub source_kind : kind_in source.data_type ≡ Some kind
     pub target_kind : kind_in target.data_type ≡ Some kind
 
-  module _ (used : ℕ → Bool) (is_use : IsUse tree parts.root used) (none : used_findings tree (shown_by tree parts) used ≡ []) where
-    pub joins : (chain : List Place) (from to : Port) → Leads tree parts.root chain from to → (from ≡ to → ⊥) → Joins used from to
+  module _ (used : ℕ → Bool) (is_use : IsUse tree parts.root used)
+      (none : used_findings tree (shown_by tree parts) used ≡ []) where
+    pub joins : (chain : List Place) (from to : Port) → Leads tree parts.root chain from to → (from ≡ to → ⊥)
+        → Joins used from to
     joins [] from to leads apart = absurd (apart leads)
     joins (c ∷ cs) from to leads apart =
         let f = first_there tree parts.root c cs from to leads in
@@ -107,7 +116,8 @@ module _ {tree : PackageTree ℕ} {name : List ℕ} {parts : Parts} (flat : IsFl
         (λ same. not_root e.to to (sym (ap (λ (p : Port). p.path) same) ∙ from))
 
     pub tap_joins : (e : Ends) → walks.IsTap tree parts.root e → Joins used e.from e.to
-    tap_joins e (chain, is, from, to, carries) = joins chain e.from e.to is.leads (λ same. not_root e.from from (ap (λ (p : Port). p.path) same ∙ to))
+    tap_joins e (chain, is, from, to, carries) =
+        joins chain e.from e.to is.leads (λ same. not_root e.from from (ap (λ (p : Port). p.path) same ∙ to))
 
   -- ---- the carrier
   pub connection_is : (crossing : Bool) (chain : List Place) (e : Ends) → (c : Carries tree parts.root crossing chain e)
@@ -120,8 +130,10 @@ module _ {tree : PackageTree ℕ} {name : List ℕ} {parts : Parts} (flat : IsFl
 
   -- ---- with the components of a design
   module _ (design : DesignParts) (sits : Zipped (Sits tree parts.root) parts.threads design.components) where
-    pub node_of : (path : List ℕ) → IsThreadAt tree parts.root path → AtNode tree parts.root parts.threads design.components path
-    node_of path thread = at_node tree parts.root parts.threads design.components sits path (flat.threads.complete path thread)
+    pub node_of : (path : List ℕ) → IsThreadAt tree parts.root path
+        → AtNode tree parts.root parts.threads design.components path
+    node_of path thread =
+        at_node tree parts.root parts.threads design.components sits path (flat.threads.complete path thread)
 
     abbrev pub link_of : Ends → Link
     link_of e = record {
@@ -150,22 +162,27 @@ module _ {tree : PackageTree ℕ} {name : List ℕ} {parts : Parts} (flat : IsFl
 
     pub link_is : (e : Ends) → walks.IsLink tree parts.root e → link_in tree (chain_at tree parts e) ≡ Some (link_of e)
     link_is e (chain, is, from, to, carries) =
-        ap (λ a. link_by (chain_adaptor tree (chain_at tree parts e)) a (end_in tree parts.root parts.threads e.to)) (thread_end e.from from)
+        ap (λ a. link_by (chain_adaptor tree (chain_at tree parts e)) a (end_in tree parts.root parts.threads e.to))
+        (thread_end e.from from)
         ∙ ap (link_by (chain_adaptor tree (chain_at tree parts e)) (Thread (node_at parts.threads e.from.path)
         (port_number tree parts.root e.from))) (thread_end e.to to)
 
     pub feed_is : (e : Ends) → walks.IsFeed tree parts.root e → feed_in tree (chain_at tree parts e) ≡ Some (feed_of e)
     feed_is e (chain, is, from, to, carries) =
-        ap (λ a. feed_by (chain_adaptor tree (chain_at tree parts e)) a (end_in tree parts.root parts.threads e.to)) (root_end e.from from)
-        ∙ ap (feed_by (chain_adaptor tree (chain_at tree parts e)) (Root (port_name (port_of tree parts.root e.from)))) (thread_end e.to to)
+        ap (λ a. feed_by (chain_adaptor tree (chain_at tree parts e)) a (end_in tree parts.root parts.threads e.to))
+        (root_end e.from from)
+        ∙ ap (feed_by (chain_adaptor tree (chain_at tree parts e)) (Root (port_name (port_of tree parts.root e.from))))
+        (thread_end e.to to)
 
     pub tap_is : (e : Ends) → walks.IsTap tree parts.root e → tap_in (chain_at tree parts e) ≡ Some (tap_of e)
     tap_is e (chain, is, from, to, carries) =
         ap (λ a. tap_by a (end_in tree parts.root parts.threads e.to)) (thread_end e.from from)
-        ∙ ap (tap_by (Thread (node_at parts.threads e.from.path) (port_number tree parts.root e.from))) (root_end e.to to)
+        ∙ ap (tap_by (Thread (node_at parts.threads e.from.path) (port_number tree parts.root e.from)))
+        (root_end e.to to)
 
     -- ---- an in port of the design
-    module _ (p : Port) (f : Feature ℕ) (thread : IsThreadAt tree parts.root p.path) (is : port_of tree parts.root p ≡ Some f)
+    module _ (p : Port) (f : Feature ℕ) (thread : IsThreadAt tree parts.root p.path)
+        (is : port_of tree parts.root p ≡ Some f)
         (goes : is_in tree parts.root p ≡ true) where
       at : AtNode tree parts.root parts.threads design.components p.path
       at = node_of p.path thread
@@ -180,14 +197,17 @@ module _ {tree : PackageTree ℕ} {name : List ℕ} {parts : Parts} (flat : IsFl
             (in_port tree parts.root parts.threads design.components p f at is goes));
       }
 
-      pub in_kind_is : (k : Kind) → kind_in f.data_type ≡ Some k → in_kind (slice_get design.components (node_at parts.threads p.path).0)
+      pub in_kind_is : (k : Kind) → kind_in f.data_type ≡ Some k
+          → in_kind (slice_get design.components (node_at parts.threads p.path).0)
           (port_number tree parts.root p) ≡ k
       in_kind_is k typed =
-          ap (λ o. in_kind o (port_number tree parts.root p)) (component_there tree parts.root parts.threads design.components p.path at)
+          ap (λ o. in_kind o (port_number tree parts.root p))
+          (component_there tree parts.root parts.threads design.components p.path at)
           ∙ (ap kind_of (in_port tree parts.root parts.threads design.components p f at is goes) ∙ ap or_integer typed)
 
     -- ---- an out port of the design
-    module _ (p : Port) (f : Feature ℕ) (thread : IsThreadAt tree parts.root p.path) (is : port_of tree parts.root p ≡ Some f)
+    module _ (p : Port) (f : Feature ℕ) (thread : IsThreadAt tree parts.root p.path)
+        (is : port_of tree parts.root p ≡ Some f)
         (goes : is_in tree parts.root p ≡ false) where
       pub is_source : model.IsSource design (node_at parts.threads p.path).0 (port_number tree parts.root p)
       is_source =
@@ -201,11 +221,13 @@ module _ {tree : PackageTree ℕ} {name : List ℕ} {parts : Parts} (flat : IsFl
                 (out_port tree parts.root parts.threads design.components p f at is goes));
           }
 
-      pub out_kind_is : (k : Kind) → kind_in f.data_type ≡ Some k → out_kind (slice_get design.components (node_at parts.threads p.path).0)
+      pub out_kind_is : (k : Kind) → kind_in f.data_type ≡ Some k
+          → out_kind (slice_get design.components (node_at parts.threads p.path).0)
           (port_number tree parts.root p) ≡ k
       out_kind_is k typed =
           let at = node_of p.path thread in
-          ap (λ o. out_kind o (port_number tree parts.root p)) (component_there tree parts.root parts.threads design.components p.path at)
+          ap (λ o. out_kind o (port_number tree parts.root p))
+          (component_there tree parts.root parts.threads design.components p.path at)
           ∙ (ap kind_of (out_port tree parts.root parts.threads design.components p f at is goes) ∙ ap or_integer typed)
 
     pub rate_is : (path : List ℕ) → (at : AtNode tree parts.root parts.threads design.components path)

@@ -25,13 +25,15 @@ module _ {X : Type 0} (Before : X → X → Type 0) (one_way : (x y : X) → Bef
   tail_pairs x xs a i j d less lt = a (suc i) (suc j) d (omega arith) (omega arith)
 
   -- each begins with the other's first
-  same_first : (x y : X) (xs ys : List X) → AllPairs Before (x ∷ xs) → AllPairs Before (y ∷ ys) → (y ≡ x) ⊎ Contains ys x → (x ≡ y) ⊎ Contains xs y → x ≡ y
+  same_first : (x y : X) (xs ys : List X) → AllPairs Before (x ∷ xs) → AllPairs Before (y ∷ ys)
+      → (y ≡ x) ⊎ Contains ys x → (x ≡ y) ⊎ Contains xs y → x ≡ y
   same_first x y xs ys a b (inl e) h = sym e
   same_first x y xs ys a b (inr k) (inl e) = e
   same_first x y xs ys a b (inr k) (inr h) = absurd (one_way x y (head_before x y xs a h) (head_before y x ys b k))
 
   -- what stands behind the first of one list stands behind the same first of the other
-  behind : (x y z : X) (xs ys : List X) → x ≡ y → AllPairs Before (x ∷ xs) → Contains xs z → (y ≡ z) ⊎ Contains ys z → Contains ys z
+  behind : (x y z : X) (xs ys : List X) → x ≡ y → AllPairs Before (x ∷ xs) → Contains xs z → (y ≡ z) ⊎ Contains ys z
+      → Contains ys z
   behind x y z xs ys e a h (inl f) =
       let before = head_before x z xs a h in
       let round = subst (λ w. Before w z) e before in
@@ -45,7 +47,9 @@ module _ {X : Type 0} (Before : X → X → Type 0) (one_way : (x y : X) → Bef
   same_lists [] (y ∷ ys) a b there back = absurd (Contains-nil y (back y (in_head y ys)))
   same_lists (x ∷ xs) [] a b there back = absurd (Contains-nil x (there x (in_head x xs)))
   same_lists (x ∷ xs) (y ∷ ys) a b there back =
-      let first = same_first x y xs ys a b (first_or_later y x ys (there x (in_head x xs))) (first_or_later x y xs (back y (in_head y ys))) in
+      let first =
+      same_first x y xs ys a b (first_or_later y x ys (there x (in_head x xs)))
+      (first_or_later x y xs (back y (in_head y ys))) in
       let rest =
       same_lists xs ys (tail_pairs x xs a) (tail_pairs y ys b)
       (λ z h. behind x y z xs ys first a h (first_or_later y z ys (there z (in_tail x xs z h))))
@@ -57,4 +61,5 @@ module _ {X : Type 0} (Before : X → X → Type 0) (one_way : (x y : X) → Bef
 
   pub one_listing : (P : X → Type 0) (xs ys : List X) → Lists P Before xs → Lists P Before ys → xs ≡ ys
   one_listing P xs ys a b =
-      same_lists xs ys a.in_order b.in_order (λ z h. b.complete z (has_each P xs z a.each h)) (λ z h. a.complete z (has_each P ys z b.each h))
+      same_lists xs ys a.in_order b.in_order (λ z h. b.complete z (has_each P xs z a.each h))
+      (λ z h. a.complete z (has_each P ys z b.each h))

@@ -65,8 +65,11 @@ mutual
   action_named : (known : u.Known) (t : a.Action ℕ) → AreNamed (u.action_uses known t)
   action_named known (a.assign t r) = both (uses_named known Set t) (expression_named known r)
   action_named known (a.send t r) = both (uses_named known Send t) (expression_named known r)
-  action_named known (a.choose t r es o) = both (both (both (expression_named known t) (actions_named known r)) (elsifs_named known es)) (otherwise_named known o)
-  action_named known (a.loop at t type low high body) = both (again_named t (known t.spelling)) (block_named (u.with_loop known t) body)
+  action_named known (a.choose t r es o) =
+      both (both (both (expression_named known t) (actions_named known r)) (elsifs_named known es))
+      (otherwise_named known o)
+  action_named known (a.loop at t type low high body) =
+      both (again_named t (known t.spelling)) (block_named (u.with_loop known t) body)
 
   actions_named : (known : u.Known) (t : a.Actions ℕ) → AreNamed (u.actions_uses known t)
   actions_named known (a.actions t r) = both (action_named known t) (mores_named known r)
@@ -77,7 +80,8 @@ mutual
 
   elsifs_named : (known : u.Known) (t : a.Elsifs ℕ) → AreNamed (u.elsifs_uses known t)
   elsifs_named known a.no_elsifs = none
-  elsifs_named known (a.elsif t r es) = both (both (expression_named known t) (actions_named known r)) (elsifs_named known es)
+  elsifs_named known (a.elsif t r es) =
+      both (both (expression_named known t) (actions_named known r)) (elsifs_named known es)
 
   otherwise_named : (known : u.Known) (t : a.Otherwise ℕ) → AreNamed (u.otherwise_uses known t)
   otherwise_named known a.no_otherwise = none
@@ -100,12 +104,16 @@ effect_named : (known : u.Known) (o : Option (a.Block ℕ)) → AreNamed (p.effe
 effect_named known None = none
 effect_named known (Some t) = block_named known t
 
-transition_named : (is_state : List ℕ → Bool) (known : u.Known) (t : x.Transition ℕ) → AreNamed (p.transition_uses is_state known t)
+transition_named : (is_state : List ℕ → Bool) (known : u.Known) (t : x.Transition ℕ)
+    → AreNamed (p.transition_uses is_state known t)
 transition_named is_state known t =
-    both (both (both (state_named is_state t.source) (state_named is_state t.target)) (guard_named known t.guard)) (effect_named known t.effect)
+    both (both (both (state_named is_state t.source) (state_named is_state t.target)) (guard_named known t.guard))
+    (effect_named known t.effect)
 
-pub behaviour_named : (tree : PackageTree ℕ) (t : Implementation ℕ) (annex : x.AnnexTree ℕ) → AreNamed (p.behaviour_faults tree t annex)
+pub behaviour_named : (tree : PackageTree ℕ) (t : Implementation ℕ) (annex : x.AnnexTree ℕ)
+    → AreNamed (p.behaviour_faults tree t annex)
 unfolding p.behaviour_faults
 behaviour_named tree t annex =
-    each (p.transition_uses (p.is_among (states_of annex)) (p.known_in tree t annex)) (transition_named (p.is_among (states_of annex)) (p.known_in tree t annex))
+    each (p.transition_uses (p.is_among (states_of annex)) (p.known_in tree t annex))
+    (transition_named (p.is_among (states_of annex)) (p.known_in tree t annex))
     (listed_in annex.transitions)

@@ -26,7 +26,8 @@ both {a = a} {b = b} x y = record { named = λ f h. by f (Contains-append_cases 
     by f (inl h) = x.named f h
     by f (inr h) = y.named f h
 
-pub each : {X : Type 0} (g : X → List PackageFault) → ((x : X) → AreNamed (g x)) → (xs : List X) → AreNamed (flat_map g xs)
+pub each : {X : Type 0} (g : X → List PackageFault) → ((x : X) → AreNamed (g x)) → (xs : List X)
+    → AreNamed (flat_map g xs)
 each g n [] = none
 each g n (x ∷ xs) = both (n x) (each g n xs)
 

@@ -35,7 +35,8 @@ abbrev Apart : List ℕ → List ℕ → Type 0
 Apart a b = same_name a b ≡ false
 
 other : (a b : List ℕ) → Apart a b → a ≢ b
-other a b differ e = let same : same_name a b ≡ true = subst (λ c. same_name a c ≡ true) e (same_itself a) in absurd (false≢true (sym differ ∙ same))
+other a b differ e = let same : same_name a b ≡ true = subst (λ c. same_name a c ≡ true) e (same_itself a) in
+    absurd (false≢true (sym differ ∙ same))
 
 turned_by : (x y : Bool) → (y ≡ true → x ≡ true) → x ≡ false → y ≡ false
 turned_by x true back e = absurd (false≢true (sym e ∙ back refl))
@@ -56,7 +57,8 @@ ins_named [] = refl
 ins_named (f ∷ fs) = ap (λ l. f.name.spelling ∷ l) (ins_named fs)
 
 some_named : (v : VariableDeclaration ℕ) (is : List (Identifier ℕ)) (of : Identifier ℕ → Declared)
-    → ((i : Identifier ℕ) → (var_of (of i)).name ≡ i.spelling) → map (λ (d : VarDecl). d.name) (map var_of (map of is)) ≡ map spelling is
+    → ((i : Identifier ℕ) → (var_of (of i)).name ≡ i.spelling)
+    → map (λ (d : VarDecl). d.name) (map var_of (map of is)) ≡ map spelling is
 some_named v [] of each = refl
 some_named v (i ∷ is) of each = ap (λ n. n ∷ map (λ (d : VarDecl). d.name) (map var_of (map of is))) (each i)
     ∙ ap (λ l. i.spelling ∷ l) (some_named v is of each)
@@ -80,7 +82,8 @@ same_variables : (o : Option (List (VariableDeclaration ℕ)))
 same_variables None = refl
 same_variables (Some vs) = vars_named vs
 
-some_states : (s : StateDeclaration ℕ) (is : List (Identifier ℕ)) → map (λ (d : StateAt). d.name) (map (state_at s) is) ≡ map spelling is
+some_states : (s : StateDeclaration ℕ) (is : List (Identifier ℕ))
+    → map (λ (d : StateAt). d.name) (map (state_at s) is) ≡ map spelling is
 some_states s [] = refl
 some_states s (i ∷ is) = ap (λ l. i.spelling ∷ l) (some_states s is)
 
@@ -118,7 +121,9 @@ module _ (ports : List (Feature ℕ)) (annex : AnnexTree ℕ) where
   text_names = map port_name (ins ++ outs) ++ map spelling ids
 
   abbrev pub value_list : List (List ℕ)
-  value_list = map (λ (p : PortDecl). p.name) (map named_of (ins_in ports)) ++ map (λ (p : PortDecl). p.name) (map named_of (outs_in ports)) ++ map
+  value_list =
+      map (λ (p : PortDecl). p.name) (map named_of (ins_in ports))
+      ++ map (λ (p : PortDecl). p.name) (map named_of (outs_in ports)) ++ map
       (λ (d : VarDecl). d.name) (map var_of (variables_of annex))
 
   same_values : value_list ≡ text_names
@@ -129,7 +134,8 @@ module _ (ports : List (Feature ℕ)) (annex : AnnexTree ℕ) where
       ap (λ l. l ++ outs_of ++ vars) (ins_named (filter is_in ports))
       ∙ (ap (λ l. map port_name (filter is_in ports) ++ l ++ vars) (ins_named (filter (λ f. not (is_in f)) ports))
       ∙ (ap (λ l. l ++ vars) (sym (map-append port_name (filter is_in ports) (filter (λ f. not (is_in f)) ports)))
-      ∙ ap (λ l. map port_name (filter is_in ports ++ filter (λ f. not (is_in f)) ports) ++ l) (same_variables annex.variables)))
+      ∙ ap (λ l. map port_name (filter is_in ports ++ filter (λ f. not (is_in f)) ports) ++ l)
+      (same_variables annex.variables)))
 
   abbrev entry_port : Feature ℕ → SpelledName
   entry_port f = entry_of f.name
@@ -138,7 +144,9 @@ module _ (ports : List (Feature ℕ)) (annex : AnnexTree ℕ) where
   unfolding text_names ins outs ids
   text_apart differ =
       let all = pairs_from Differs (port_entries ports ++ variable_entries annex) differ in
-      let of_ports = pairs_unmapped Differs entry_port ports (pairs_first Differs (port_entries ports) (variable_entries annex) all) in
+      let of_ports =
+      pairs_unmapped Differs entry_port ports
+      (pairs_first Differs (port_entries ports) (variable_entries annex) all) in
       let of_variables = pairs_unmapped Differs entry_of (names.variables_of annex)
       (pairs_second Differs (port_entries ports) (variable_entries annex) all) in
       let across = all_unmapped (λ e. AllByRecursion (Differs e) (variable_entries annex)) entry_port ports
@@ -147,31 +155,38 @@ module _ (ports : List (Feature ℕ)) (annex : AnnexTree ℕ) where
       (λ f. AllByRecursion (Apart (port_name f)) (map spelling (names.variables_of annex)))
       (λ f h. AllByRecursion-map (Apart (port_name f)) spelling (names.variables_of annex)
       (all_unmapped (Differs (entry_port f)) entry_of (names.variables_of annex) h)) ports across in
-      let halves = split (λ f g. Apart (port_name f) (port_name g)) (λ f g. turned (port_name f) (port_name g)) is_in ports of_ports in
+      let halves =
+      split (λ f g. Apart (port_name f) (port_name g)) (λ f g. turned (port_name f) (port_name g)) is_in
+      ports of_ports in
       let fs = filter is_in ports ++ filter (λ f. not (is_in f)) ports in
       let P = λ (f : Feature ℕ). AllByRecursion (Apart (port_name f)) (map spelling (names.variables_of annex)) in
-      pairs_append Apart (map port_name fs) (map spelling (names.variables_of annex)) (pairs_mapped Apart port_name fs halves)
+      pairs_append Apart (map port_name fs) (map spelling (names.variables_of annex))
+      (pairs_mapped Apart port_name fs halves)
       (pairs_mapped Apart spelling (names.variables_of annex) of_variables)
       (AllByRecursion-map (λ n. AllByRecursion (Apart n) (map spelling (names.variables_of annex))) port_name fs
       (AllByRecursion-append P (filter is_in ports) (filter (λ f. not (is_in f)) ports) (all_kept P is_in ports cross)
       (all_kept P (λ f. not (is_in f)) ports cross)))
 
-  text_words : All IsPort ports → All IsNamed (names.variables_of annex) → AllByRecursion (λ n. is_word n ≡ true) text_names
+  text_words : All IsPort ports → All IsNamed (names.variables_of annex)
+      → AllByRecursion (λ n. is_word n ≡ true) text_names
   unfolding text_names ins outs ids
   text_words of_ports of_variables =
       let p = recursion_from_All IsPort ports of_ports in
       let fs = filter is_in ports ++ filter (λ f. not (is_in f)) ports in
       AllByRecursion-append (λ n. is_word n ≡ true) (map port_name fs) (map spelling (names.variables_of annex))
-      (AllByRecursion-map (λ n. is_word n ≡ true) port_name fs (AllByRecursion-append IsPort (filter is_in ports) (filter (λ f. not (is_in f)) ports)
+      (AllByRecursion-map (λ n. is_word n ≡ true) port_name fs
+      (AllByRecursion-append IsPort (filter is_in ports) (filter (λ f. not (is_in f)) ports)
       (all_kept IsPort is_in ports p) (all_kept IsPort (λ f. not (is_in f)) ports p)))
-      (AllByRecursion-map (λ n. is_word n ≡ true) spelling (names.variables_of annex) (recursion_from_All IsNamed (names.variables_of annex) of_variables))
+      (AllByRecursion-map (λ n. is_word n ≡ true) spelling (names.variables_of annex)
+      (recursion_from_All IsNamed (names.variables_of annex) of_variables))
 
   pub values_apart : Differ (port_entries ports ++ variable_entries annex) → AreDistinct value_list
   values_apart differ = pairs_all (λ a b. a ≢ b) value_list (pairs_weaker Apart (λ a b. a ≢ b) other value_list
       (subst (Pairs Apart) (sym same_values) (text_apart differ)))
 
   pub values_words : All IsPort ports → All IsNamed (names.variables_of annex) → IsTrue (list_all is_word value_list)
-  values_words of_ports of_variables = all_true is_word value_list (subst (AllByRecursion (λ n. is_word n ≡ true)) (sym same_values)
+  values_words of_ports of_variables =
+      all_true is_word value_list (subst (AllByRecursion (λ n. is_word n ≡ true)) (sym same_values)
       (text_words of_ports of_variables))
 
 -- ---- states
@@ -188,16 +203,20 @@ module _ (annex : AnnexTree ℕ) where
       (pairs_mapped Apart spelling (names.states_of annex) (pairs_unmapped Differs entry_of (names.states_of annex)
       (pairs_from Differs (state_entries annex) differ)))
 
-  pub states_apart : Differ (state_entries annex) → AllPairs (λ (s t : StateDecl). s.name ≢ t.name) (map declared (states_of annex))
+  pub states_apart : Differ (state_entries annex)
+      → AllPairs (λ (s t : StateDecl). s.name ≢ t.name) (map declared (states_of annex))
   states_apart differ =
       pairs_all (λ (s t : StateDecl). s.name ≢ t.name) (map declared (states_of annex))
       (pairs_mapped (λ (s t : StateDecl). s.name ≢ t.name) declared (states_of annex)
-      (pairs_weaker (λ (s t : StateAt). Apart s.name t.name) (λ (s t : StateAt). s.name ≢ t.name) (λ s t. other s.name t.name) (states_of annex)
+      (pairs_weaker (λ (s t : StateAt). Apart s.name t.name) (λ (s t : StateAt). s.name ≢ t.name)
+      (λ s t. other s.name t.name) (states_of annex)
       (pairs_unmapped Apart state_name (states_of annex) (apart_names differ))))
 
   pub states_words : All IsNamed (names.states_of annex) → IsTrue (list_all has_word (map declared (states_of annex)))
   states_words words =
-      all_true has_word (map declared (states_of annex)) (AllByRecursion-map (λ d. has_word d ≡ true) declared (states_of annex)
+      all_true has_word (map declared (states_of annex))
+      (AllByRecursion-map (λ d. has_word d ≡ true) declared (states_of annex)
       (all_unmapped (λ n. is_word n ≡ true) state_name (states_of annex)
       (subst (AllByRecursion (λ n. is_word n ≡ true)) (sym (same_states annex.states))
-      (AllByRecursion-map (λ n. is_word n ≡ true) spelling (names.states_of annex) (recursion_from_All IsNamed (names.states_of annex) words)))))
+      (AllByRecursion-map (λ n. is_word n ≡ true) spelling (names.states_of annex)
+      (recursion_from_All IsNamed (names.states_of annex) words)))))

@@ -7,7 +7,8 @@ use Rattle.annex_resolve.specs.declared.violation.Violation.{Violation}
 use Rattle.model_violations.specs.Violations.{Shown, findings, goes_before, AreViolations}
 use Rattle.design_laws.specs.proof.Accepted.{NothingFound}
 
-none_stable : {X : Type 0} (lt : X → X → Bool) → ((x : X) → ties lt x x ≡ true) → (xs : List X) → IsStableBy lt xs [] → xs ≡ []
+none_stable : {X : Type 0} (lt : X → X → Bool) → ((x : X) → ties lt x x ≡ true) → (xs : List X)
+    → IsStableBy lt xs [] → xs ≡ []
 none_stable lt itself [] same = refl
 none_stable lt itself (x ∷ xs) same = let first = rw (itself x) at (same x) in absurd (cc first)
 

@@ -25,7 +25,8 @@ one_way_paths [] [] e f = false≢true e
 one_way_paths [] (y ∷ q) e f = false≢true f
 one_way_paths (x ∷ p) [] e f = false≢true e
 one_way_paths (x ∷ p) (y ∷ q) e f =
-    one_way_by x y p q (one_way_paths p q) (or_and_cases (nat_lt x y) (nat_eq x y) (path_before p q) e) (or_and_cases (nat_lt y x) (nat_eq y x) (path_before q p) f)
+    one_way_by x y p q (one_way_paths p q) (or_and_cases (nat_lt x y) (nat_eq x y) (path_before p q) e)
+    (or_and_cases (nat_lt y x) (nat_eq y x) (path_before q p) f)
 
 pub paths_one_way : (a b : List ℕ) → PathBefore a b → PathBefore b a → ⊥
 paths_one_way a b h g = one_way_paths (reverse a) (reverse b) h g
@@ -52,7 +53,8 @@ not_same p q before same =
     let own = subst (λ (l : List ℕ). path_before (reverse p) (reverse l) ≡ true) e before in
     one_way_paths (reverse p) (reverse p) own own
 
-targets_by : (p q : List ℕ) (m n : ℕ) → (path_before (reverse p) (reverse q) ≡ true) ⊎ ((same_path p q ≡ true) × (nat_lt m n ≡ true))
+targets_by : (p q : List ℕ) (m n : ℕ)
+    → (path_before (reverse p) (reverse q) ≡ true) ⊎ ((same_path p q ≡ true) × (nat_lt m n ≡ true))
     → (path_before (reverse q) (reverse p) ≡ true) ⊎ ((same_path q p ≡ true) × (nat_lt n m ≡ true)) → ⊥
 targets_by p q m n (inl before) (inl after) = one_way_paths (reverse p) (reverse q) before after
 targets_by p q m n (inl before) (inr same) = not_same p q before same.0
@@ -62,8 +64,10 @@ targets_by p q m n (inr same) (inr other) = not_both_less m n same.1 other.1
 pub targets_one_way : (a b : Ends) → TargetBefore a b → TargetBefore b a → ⊥
 targets_one_way a b h g =
     targets_by a.to.path b.to.path a.to.port b.to.port
-    (or_and_cases (path_before (reverse a.to.path) (reverse b.to.path)) (same_path a.to.path b.to.path) (nat_lt a.to.port b.to.port) h)
-    (or_and_cases (path_before (reverse b.to.path) (reverse a.to.path)) (same_path b.to.path a.to.path) (nat_lt b.to.port a.to.port) g)
+    (or_and_cases (path_before (reverse a.to.path) (reverse b.to.path)) (same_path a.to.path b.to.path)
+    (nat_lt a.to.port b.to.port) h)
+    (or_and_cases (path_before (reverse b.to.path) (reverse a.to.path)) (same_path b.to.path a.to.path)
+    (nat_lt b.to.port a.to.port) g)
 
 pub ports_one_way : (a b : Ends) → PortBefore a b → PortBefore b a → ⊥
 ports_one_way a b h g = not_both_less a.to.port b.to.port h g

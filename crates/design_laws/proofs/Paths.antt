@@ -18,10 +18,15 @@ record SomePaths (g : Graph) (marks : List Bool) (n i : ℕ) : Type 0 where
   paths : List (List ℕ)
   listed : AreListed (Begun g marks n i) path_before paths
 
-one_sub : (g : Graph) (marks : List Bool) (n i : ℕ) → Known g marks n → SomePaths g marks n i → (o : Option ℕ) → below_in g n i ≡ o → SomePaths g marks n (i + 1)
+one_sub : (g : Graph) (marks : List Bool) (n i : ℕ) → Known g marks n → SomePaths g marks n i → (o : Option ℕ)
+    → below_in g n i ≡ o → SomePaths g marks n (i + 1)
 one_sub g marks n i known x None e = record { paths = x.paths; listed = listed_same g marks n i x.paths e x.listed }
 one_sub g marks n i known x (Some m) e =
-    let y = known i m e in record { paths = x.paths ++ map (λ q. i ∷ q) y.0; listed = listed_more g marks n i m x.paths y.0 e x.listed y.1 }
+    let y =
+    known i m e in record {
+      paths = x.paths ++ map (λ q. i ∷ q) y.0;
+      listed = listed_more g marks n i m x.paths y.0 e x.listed y.1;
+    }
 
 begun : (g : Graph) (marks : List Bool) (n i : ℕ) → Known g marks n → SomePaths g marks n i
 begun g marks n zero known = record { paths = own_paths (get_or marks n false); listed = own_listed g marks n }
@@ -31,16 +36,20 @@ begun g marks n (suc i) known =
 
 by_known : (g : Graph) (marks : List Bool) (n : ℕ) → Known g marks n → HasPaths g marks n
 by_known g marks n known =
-    let x = begun g marks n (length (targets_in g n)) known in (x.paths, all_listed g marks n (length (targets_in g n)) x.paths (omega arith) x.listed)
+    let x = begun g marks n (length (targets_in g n)) known in
+    (x.paths, all_listed g marks n (length (targets_in g n)) x.paths (omega arith) x.listed)
 
 -- ---- one behind the other
 abbrev KnownBefore : Graph → List Bool → List ℕ → ℕ → Type 0
 KnownBefore g marks keys k = (j n : ℕ) → j < k → slice_get keys j ≡ Some n → HasPaths g marks n
 
-known_at : (g : Graph) (marks : List Bool) (keys : List ℕ) → IsSequence g keys → (k n : ℕ) → KnownBefore g marks keys k → slice_get keys k ≡ Some n → HasPaths g marks n
-known_at g marks keys q k n before e = by_known g marks n (λ s m b. let h = q.behind k n s m e b in before h.0 m h.1 h.2)
+known_at : (g : Graph) (marks : List Bool) (keys : List ℕ) → IsSequence g keys → (k n : ℕ) → KnownBefore g marks keys k
+    → slice_get keys k ≡ Some n → HasPaths g marks n
+known_at g marks keys q k n before e =
+    by_known g marks n (λ s m b. let h = q.behind k n s m e b in before h.0 m h.1 h.2)
 
-known_more : (g : Graph) (marks : List Bool) (keys : List ℕ) → IsSequence g keys → (k : ℕ) → KnownBefore g marks keys k → (j n : ℕ) → j < suc k → (j < k) ⊎ (k ≤ j) → slice_get keys j ≡ Some n
+known_more : (g : Graph) (marks : List Bool) (keys : List ℕ) → IsSequence g keys → (k : ℕ) → KnownBefore g marks keys k
+    → (j n : ℕ) → j < suc k → (j < k) ⊎ (k ≤ j) → slice_get keys j ≡ Some n
     → HasPaths g marks n
 known_more g marks keys q k before j n lt (inl less) e = before j n less e
 known_more g marks keys q k before j n lt (inr ge) e =

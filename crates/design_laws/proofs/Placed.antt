@@ -23,7 +23,8 @@ pub pairs_append : {X : Type 0} (R : X → X → Type 0) (xs ys : List X) → Pa
 pairs_append R [] ys a b c = b
 pairs_append R (x ∷ xs) ys a b c = (AllByRecursion-append (R x) xs ys a.0 c.0, pairs_append R xs ys a.1 b c.1)
 
-pub pairs_weaker : {X : Type 0} (R S : X → X → Type 0) → ((x y : X) → R x y → S x y) → (xs : List X) → Pairs R xs → Pairs S xs
+pub pairs_weaker : {X : Type 0} (R S : X → X → Type 0) → ((x y : X) → R x y → S x y) → (xs : List X) → Pairs R xs
+    → Pairs S xs
 pairs_weaker R S f [] a = tt
 pairs_weaker R S f (x ∷ xs) a = (AllByRecursion-weaker (R x) (S x) (f x) xs a.0, pairs_weaker R S f xs a.1)
 
@@ -35,10 +36,12 @@ pub places_append : (a b : List (Part ℕ)) → places_of (a ++ b) ≡ places_of
 places_append a b = flat_map-append places_in a b
 
 pub in_front : (a b : List (Part ℕ)) (p : ℕ) → Contains (places_of a) p → Contains (places_of (a ++ b)) p
-in_front a b p h = subst (λ l. Contains l p) (sym (places_append a b)) (Contains-append_left (places_of a) (places_of b) p h)
+in_front a b p h =
+    subst (λ l. Contains l p) (sym (places_append a b)) (Contains-append_left (places_of a) (places_of b) p h)
 
 pub in_back : (a b : List (Part ℕ)) (p : ℕ) → Contains (places_of b) p → Contains (places_of (a ++ b)) p
-in_back a b p h = subst (λ l. Contains l p) (sym (places_append a b)) (Contains-append_right (places_of a) (places_of b) p h)
+in_back a b p h =
+    subst (λ l. Contains l p) (sym (places_append a b)) (Contains-append_right (places_of a) (places_of b) p h)
 
 pub rise_front : (a b : List (Part ℕ)) → Rise (a ++ b) → Rise a
 rise_front a b r = record {
@@ -81,19 +84,29 @@ pub record Placed (parts : List (Part ℕ)) (xs : List (Identifier ℕ)) : Type 
   pub inside : AllByRecursion (IsIn parts) xs
 
 pub placed_front : (a b : List (Part ℕ)) (xs : List (Identifier ℕ)) → Placed a xs → Placed (a ++ b) xs
-placed_front a b xs h = record { rising = h.rising; inside = AllByRecursion-weaker (IsIn a) (IsIn (a ++ b)) (λ x. in_front a b x.at) xs h.inside }
+placed_front a b xs h =
+    record {
+      rising = h.rising;
+      inside = AllByRecursion-weaker (IsIn a) (IsIn (a ++ b)) (λ x. in_front a b x.at) xs h.inside;
+    }
 
 pub placed_back : (a b : List (Part ℕ)) (xs : List (Identifier ℕ)) → Placed b xs → Placed (a ++ b) xs
-placed_back a b xs h = record { rising = h.rising; inside = AllByRecursion-weaker (IsIn b) (IsIn (a ++ b)) (λ x. in_back a b x.at) xs h.inside }
+placed_back a b xs h =
+    record {
+      rising = h.rising;
+      inside = AllByRecursion-weaker (IsIn b) (IsIn (a ++ b)) (λ x. in_back a b x.at) xs h.inside;
+    }
 
 pub placed_tail : (a : Part ℕ) (b : List (Part ℕ)) (xs : List (Identifier ℕ)) → Placed b xs → Placed (a ∷ b) xs
 placed_tail a b xs h = placed_back (a ∷ []) b xs h
 
-pub placed_section : (s : Section) (ps : List (Part ℕ)) (xs : List (Identifier ℕ)) → Placed ps xs → Placed (section_parts s ps) xs
+pub placed_section : (s : Section) (ps : List (Part ℕ)) (xs : List (Identifier ℕ)) → Placed ps xs
+    → Placed (section_parts s ps) xs
 placed_section s [] xs h = placed_tail (may (empty_section s)) [] xs h
 placed_section s (p ∷ ps) xs h = placed_tail (plain (section_mark s)) (p ∷ ps) xs h
 
-pub placed_append : (a b : List (Part ℕ)) (xs ys : List (Identifier ℕ)) → Rise (a ++ b) → Placed a xs → Placed b ys → Placed (a ++ b) (xs ++ ys)
+pub placed_append : (a b : List (Part ℕ)) (xs ys : List (Identifier ℕ)) → Rise (a ++ b) → Placed a xs → Placed b ys
+    → Placed (a ++ b) (xs ++ ys)
 placed_append a b xs ys r g h = record {
   rising = pairs_append Before xs ys g.rising h.rising
       (AllByRecursion-weaker (IsIn a) (λ x. AllByRecursion (Before x) ys)
@@ -106,7 +119,8 @@ placed_append a b xs ys r g h = record {
 pub placed_none : Placed [] []
 placed_none = record { rising = tt; inside = tt }
 
-pub placed_flat : {V : Type 0} (f : V → List (Part ℕ)) (g : V → List (Identifier ℕ)) → ((v : V) → Rise (f v) → Placed (f v) (g v))
+pub placed_flat : {V : Type 0} (f : V → List (Part ℕ)) (g : V → List (Identifier ℕ))
+    → ((v : V) → Rise (f v) → Placed (f v) (g v))
     → (vs : List V) → Rise (flat_map f vs)
     → Placed (flat_map f vs) (flat_map g vs)
 placed_flat f g each [] r = placed_none
@@ -121,11 +135,13 @@ singles : {X : Type 0} (xs : List X) → flat_map (λ x. x ∷ []) xs ≡ xs
 singles [] = refl
 singles (x ∷ xs) = ap (λ l. x ∷ l) (singles xs)
 
-pub placed_identifiers : (x : Identifiers ℕ) → Rise (identifiers_parts x) → Placed (identifiers_parts x) (x.first ∷ x.rest)
+pub placed_identifiers : (x : Identifiers ℕ) → Rise (identifiers_parts x)
+    → Placed (identifiers_parts x) (x.first ∷ x.rest)
 placed_identifiers x r =
     let rest = flat_map (behind k.Comma identifier_parts) x.rest in
     let later : Placed rest x.rest = subst (Placed rest) (singles x.rest)
-    (placed_flat (behind k.Comma identifier_parts) (λ y. y ∷ []) (λ y _. placed_tail (plain k.Comma) (identifier_parts y) (y ∷ [])
+    (placed_flat (behind k.Comma identifier_parts) (λ y. y ∷ [])
+    (λ y _. placed_tail (plain k.Comma) (identifier_parts y) (y ∷ [])
     (placed_identifier y)) x.rest (rise_back (identifier_parts x.first) rest r)) in
     placed_append (identifier_parts x.first) rest (x.first ∷ []) x.rest r (placed_identifier x.first) later
 

@@ -30,11 +30,15 @@ module _ {X : Type 0} (p : X → Bool) where
   kept_behind : (xs : List X) (i : ℕ) (x : X) → slice_get xs i ≡ Some x → p x ≡ true
       → slice_get (filter p xs) (length (filter p (take i xs))) ≡ Some x
   kept_behind [] i x is passes = absurd (cc is)
-  kept_behind (y ∷ xs) zero x is passes = let e = same_Some y x is in here_by (p y) y x (filter p xs) (subst (λ z. p z ≡ true) (sym e) passes) e
-  kept_behind (y ∷ xs) (suc i) x is passes = kept_by (p y) y x (filter p (take i xs)) (filter p xs) (kept_behind xs i x is passes)
+  kept_behind (y ∷ xs) zero x is passes = let e = same_Some y x is in
+      here_by (p y) y x (filter p xs) (subst (λ z. p z ≡ true) (sym e) passes) e
+  kept_behind (y ∷ xs) (suc i) x is passes =
+      kept_by (p y) y x (filter p (take i xs)) (filter p xs) (kept_behind xs i x is passes)
 
-  pub kept_at : (xs : List X) (i : ℕ) (x : X) → slice_get xs i ≡ Some x → p x ≡ true → slice_get (filter p xs) (count_by p (take i xs)) ≡ Some x
-  kept_at xs i x is passes = ap (slice_get (filter p xs)) (sym (length-filter p (take i xs))) ∙ kept_behind xs i x is passes
+  pub kept_at : (xs : List X) (i : ℕ) (x : X) → slice_get xs i ≡ Some x → p x ≡ true
+      → slice_get (filter p xs) (count_by p (take i xs)) ≡ Some x
+  kept_at xs i x is passes =
+      ap (slice_get (filter p xs)) (sym (length-filter p (take i xs))) ∙ kept_behind xs i x is passes
 
   one_more : (b : Bool) (y : X) (front back : List X) → length front < length back
       → length (cond b (y ∷ front) front) < length (cond b (y ∷ back) back)
@@ -54,7 +58,8 @@ module _ {X : Type 0} (p : X → Bool) where
   less_behind (y ∷ xs) (suc i) (suc j) x lt is passes = one_more (p y) y (filter p (take i xs)) (filter p (take j xs))
       (less_behind xs i j x (omega arith) is passes)
 
-  pub count_less : (xs : List X) (i j : ℕ) (x : X) → i < j → slice_get xs i ≡ Some x → p x ≡ true → count_by p (take i xs) < count_by p (take j xs)
+  pub count_less : (xs : List X) (i j : ℕ) (x : X) → i < j → slice_get xs i ≡ Some x → p x ≡ true
+      → count_by p (take i xs) < count_by p (take j xs)
   count_less xs i j x lt is passes =
       let a = length-filter p (take i xs) in
       let b = length-filter p (take j xs) in
@@ -70,7 +75,8 @@ pub one_path : (p q : List ℕ) → same_path p q ≡ true → p ≡ q
 one_path [] [] e = refl
 one_path [] (y ∷ q) e = absurd (false≢true e)
 one_path (x ∷ p) [] e = absurd (false≢true e)
-one_path (x ∷ p) (y ∷ q) e = let h = and_parts (nat_eq x y) (same_path p q) e in ap (λ k. k ∷ p) (eqb-true x y h.0) ∙ ap (λ l. y ∷ l) (one_path p q h.1)
+one_path (x ∷ p) (y ∷ q) e = let h = and_parts (nat_eq x y) (same_path p q) e in
+    ap (λ k. k ∷ p) (eqb-true x y h.0) ∙ ap (λ l. y ∷ l) (one_path p q h.1)
 
 -- one stands before the other, or the other before the one, but not both
 not_both_by : (x y : ℕ) (a b : Bool) → (a ≡ true → b ≡ true → ⊥) → (nat_lt x y || (nat_eq x y && a)) ≡ true
@@ -87,12 +93,14 @@ not_both (x ∷ p) [] first second = false≢true first
 not_both (x ∷ p) (y ∷ q) first second = not_both_by x y (path_before p q) (path_before q p) (not_both p q) first second
 
 -- ---- the number of a thread
-position_by : {X : Type 0} (p : X → Bool) (from : ℕ) (b : Bool) (rest : Option ℕ) → (b ≡ false → (n : ℕ) × (rest ≡ Some n))
+position_by : {X : Type 0} (p : X → Bool) (from : ℕ) (b : Bool) (rest : Option ℕ)
+    → (b ≡ false → (n : ℕ) × (rest ≡ Some n))
     → (n : ℕ) × (cond b (Some from) rest ≡ Some n)
 position_by p from true rest later = (from, refl)
 position_by p from false rest later = later refl
 
-position_some : {X : Type 0} (p : X → Bool) (from : ℕ) (xs : List X) (k : ℕ) (x : X) → slice_get xs k ≡ Some x → p x ≡ true
+position_some : {X : Type 0} (p : X → Bool) (from : ℕ) (xs : List X) (k : ℕ) (x : X) → slice_get xs k ≡ Some x
+    → p x ≡ true
     → (n : ℕ) × (position_from p from xs ≡ Some n)
 position_some p from [] k x is passes = absurd (cc is)
 position_some p from (y ∷ xs) zero x is passes =
@@ -122,7 +130,8 @@ is_node threads path h =
     }
 
 module _ (threads : List (List ℕ)) (sorted : AllPairs PathBefore threads) where
-  number_by : (p q : List ℕ) (m n : ℕ) → (m ≡ n) ⊎ ((m < n) ⊎ (n < m)) → slice_get threads m ≡ Some p → slice_get threads n ≡ Some q
+  number_by : (p q : List ℕ) (m n : ℕ) → (m ≡ n) ⊎ ((m < n) ⊎ (n < m)) → slice_get threads m ≡ Some p
+      → slice_get threads n ≡ Some q
       → path_before (reverse p) (reverse q) ≡ true → m < n
   number_by p q m n (inl e) first second before =
       let same : p ≡ q = same_Some p q (sym first ∙ (ap (slice_get threads) e ∙ second)) in
@@ -132,5 +141,6 @@ module _ (threads : List (List ℕ)) (sorted : AllPairs PathBefore threads) wher
   number_by p q m n (inr (inr lt)) first second before = absurd (not_both (reverse p) (reverse q) before
       (AllPairs-slice_get PathBefore threads n m q p sorted lt second first))
 
-  pub numbers_rise : (p q : List ℕ) → (a : IsNode threads p) (b : IsNode threads q) → path_before (reverse p) (reverse q) ≡ true → a.place < b.place
+  pub numbers_rise : (p q : List ℕ) → (a : IsNode threads p) (b : IsNode threads q)
+      → path_before (reverse p) (reverse q) ≡ true → a.place < b.place
   numbers_rise p q a b before = number_by p q a.place b.place (cases_order a.place b.place) a.is b.is before

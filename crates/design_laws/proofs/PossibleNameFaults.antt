@@ -33,7 +33,8 @@ abbrev pub of_state : StateDeclaration ℕ → List PackageFault
 of_state x = of_identifiers x.names
 
 abbrev pub of_tree : (AnnexTree ℕ → List PackageFault) → AnnexTree ℕ → List PackageFault
-of_tree transitions x = flat_map of_variable (listed_in x.variables) ++ (flat_map of_state (listed_in x.states) ++ transitions x)
+of_tree transitions x =
+    flat_map of_variable (listed_in x.variables) ++ (flat_map of_state (listed_in x.states) ++ transitions x)
 
 abbrev pub of_content : (AnnexTree ℕ → List PackageFault) → AnnexContent ℕ → List PackageFault
 of_content transitions (foreign bytes) = []
@@ -50,7 +51,8 @@ abbrev pub of_subcomponent : Subcomponent ℕ → List PackageFault
 of_subcomponent x = of_identifier x.name ++ (unknown_reference x.classifier ++ of_associations x.properties)
 
 abbrev pub of_connection : Connection ℕ → List PackageFault
-of_connection x = of_identifier x.name ++ (unknown_end x.source ++ (unknown_end x.target ++ of_associations x.properties))
+of_connection x =
+    of_identifier x.name ++ (unknown_end x.source ++ (unknown_end x.target ++ of_associations x.properties))
 
 abbrev pub none_of : AnnexTree ℕ → List PackageFault
 none_of x = []
@@ -61,7 +63,8 @@ of_type x = Twice x.name.spelling x.at
 
 abbrev pub of_implementation : PackageTree ℕ → Implementation ℕ → List PackageFault
 of_implementation tree x = Twice (spelled_implementation x.name) x.at ∷ (flat_map of_subcomponent x.subcomponents
-    ++ (flat_map of_connection x.connections ++ (of_associations x.properties ++ flat_map (of_annex (behaviour_faults tree x)) x.annexes)))
+    ++ (flat_map of_connection x.connections
+    ++ (of_associations x.properties ++ flat_map (of_annex (behaviour_faults tree x)) x.annexes)))
 
 abbrev pub of_declaration : PackageTree ℕ → Declaration ℕ → List PackageFault
 of_declaration tree (type x) = of_type x

@@ -104,8 +104,11 @@ type_properties tree root m t none is =
     let p = flat_map port_faults t.features in
     let l = list_faults (holders.Declaration t.category flag) t.properties in
     let whole = declaration_clean tree root m (type t) none is in
-    let front = append_is_nil_left _ (flat_map stray_faults t.annexes) (append_is_nil_left _ (flat_map variables_faults t.annexes) whole) in
-    subst (λ b. list_faults (holders.Declaration t.category b) t.properties ≡ []) (root_flag tree (implementation_at tree root) m)
+    let front =
+    append_is_nil_left _ (flat_map stray_faults t.annexes)
+    (append_is_nil_left _ (flat_map variables_faults t.annexes) whole) in
+    subst (λ b. list_faults (holders.Declaration t.category b) t.properties ≡ [])
+    (root_flag tree (implementation_at tree root) m)
     (append_is_nil_right _ l front)
 
 -- ---- some association
@@ -116,7 +119,8 @@ some_from (Some x) is = (x, refl)
 module _ {tree : PackageTree ℕ} {name : List ℕ} {parts : Parts} (flat : IsFlat tree name parts) (used : ℕ → Bool)
     (is_use : IsUse tree parts.root used) (none : used_findings tree (shown_by tree parts) used ≡ []) where
   -- ---- what an implementation in use, and its type, give
-  module _ (p : PropertyName) (n : ℕ) (x : Implementation ℕ) (in_use : used n ≡ true) (is : slice_get tree.declarations n ≡ Some (implementation x))
+  module _ (p : PropertyName) (n : ℕ) (x : Implementation ℕ) (in_use : used n ≡ true)
+      (is : slice_get tree.declarations n ≡ Some (implementation x))
       (known : Among p (recognised (holders.Declaration x.category (nat_eq n parts.root)))) where
     own_good : LooksGood p x.properties
     own_good =
@@ -126,15 +130,19 @@ module _ {tree : PackageTree ℕ} {name : List ℕ} {parts : Parts} (flat : IsFl
         let subs = flat_map sub_findings x.subcomponents in
         let connections = connections_findings tree (carries (carriers_of (shown_by tree parts))) n x in
         looks_good (holders.Declaration x.category (nat_eq n parts.root)) p x.properties known faults.properties
-        (append_is_nil_left big subs (append_is_nil_left (big ++ subs) connections (append_is_nil_left (big ++ subs ++ connections) (uses.thread_findings tree x) whole)))
+        (append_is_nil_left big subs
+        (append_is_nil_left (big ++ subs) connections
+        (append_is_nil_left (big ++ subs ++ connections) (uses.thread_findings tree x) whole)))
 
     module _ (type_known : (m : ℕ) (t : TypeDeclaration ℕ) → type_number tree x ≡ Some m
         → Among p (recognised (holders.Declaration t.category (is_root_type tree parts.root m)))) where
-      type_good : (m : ℕ) (t : TypeDeclaration ℕ) → type_number tree x ≡ Some m → slice_get tree.declarations m ≡ Some (type t)
+      type_good : (m : ℕ) (t : TypeDeclaration ℕ) → type_number tree x ≡ Some m
+          → slice_get tree.declarations m ≡ Some (type t)
           → LooksGood p t.properties
       type_good m t number type_is =
           let whole = type_clean tree (shown_by tree parts) used none n m x t in_use is number type_is in
-          looks_good (holders.Declaration t.category (is_root_type tree parts.root m)) p t.properties (type_known m t number)
+          looks_good (holders.Declaration t.category (is_root_type tree parts.root m)) p t.properties
+          (type_known m t number)
           (type_properties tree parts.root m t (names_clean flat) type_is)
           (append_is_nil_right (flat_map port_findings t.features) (list_big (holders.Declaration t.category
           (is_root_type tree parts.root m)) t.properties) whole)
@@ -145,7 +153,8 @@ module _ {tree : PackageTree ℕ} {name : List ℕ} {parts : Parts} (flat : IsFl
       types_by m (Some (implementation y)) number d_is = tt
       types_by m (Some (type t)) number d_is = (type_good m t number d_is, tt)
 
-      types_good : (o : Option ℕ) → type_number tree x ≡ o → AllByRecursion (LooksGood p) (type_lists (type_numbered tree o))
+      types_good : (o : Option ℕ) → type_number tree x ≡ o
+          → AllByRecursion (LooksGood p) (type_lists (type_numbered tree o))
       types_good None number = tt
       types_good (Some m) number = types_by m (slice_get tree.declarations m) number refl
 
@@ -155,7 +164,8 @@ module _ {tree : PackageTree ℕ} {name : List ℕ} {parts : Parts} (flat : IsFl
   -- ---- what a subcomponent gives
   periods_good : (n : ℕ) (x : Implementation ℕ) → used n ≡ true → implementation_at tree n ≡ Some x
       → AllByRecursion (LooksGood Period) (own_lists tree (Some x))
-  periods_good n x in_use is = both_good Period n x in_use (declared_at tree n x is) (period_at x.category (nat_eq n parts.root))
+  periods_good n x in_use is =
+      both_good Period n x in_use (declared_at tree n x is) (period_at x.category (nat_eq n parts.root))
       (λ m t _. period_at t.category (is_root_type tree parts.root m))
 
   periods_of : (n : ℕ) (o : Option (Implementation ℕ)) → used n ≡ true → implementation_at tree n ≡ o
@@ -176,11 +186,13 @@ module _ {tree : PackageTree ℕ} {name : List ℕ} {parts : Parts} (flat : IsFl
       let here = append_is_nil_right big subs (append_is_nil_left (big ++ subs) connections
       (append_is_nil_left (big ++ subs ++ connections) (uses.thread_findings tree x) whole)) in
       looks_good (holders.Subcomponent sub.category) Period sub.properties (period_at_sub sub.category)
-      (append_is_nil_right (wrong_if (not (may_contain x.category sub.category)) sub.name.at ++ names_faults tree sub sub.classifier.implementation)
+      (append_is_nil_right (wrong_if (not (may_contain x.category sub.category)) sub.name.at
+      ++ names_faults tree sub sub.classifier.implementation)
       (list_faults (holders.Subcomponent sub.category) sub.properties) faults)
       (flat_map-nil_at sub_findings x.subcomponents k sub here sub_is)
 
-  sub_by : (n k m : ℕ) (o : Option (Implementation ℕ)) (sub : Subcomponent ℕ) → used n ≡ true → implementation_at tree n ≡ o
+  sub_by : (n k m : ℕ) (o : Option (Implementation ℕ)) (sub : Subcomponent ℕ) → used n ≡ true
+      → implementation_at tree n ≡ o
       → slice_get (subcomponents_of o) k ≡ Some sub → LooksGood Period sub.properties
   sub_by n k m None sub in_use is sub_is = absurd (cc sub_is)
   sub_by n k m (Some x) sub in_use is sub_is = sub_good n k x sub in_use is sub_is
@@ -192,8 +204,10 @@ module _ {tree : PackageTree ℕ} {name : List ℕ} {parts : Parts} (flat : IsFl
   at_good n k m path stands step next =
       option_and_then_some (λ (sub : Subcomponent ℕ). referred tree sub.classifier) (sub_at tree n k) m step
       (λ sub sub_is target.
-      let here = sub_by n k m (implementation_at tree n) sub (is_used tree parts.root used is_use path n stands) refl sub_is in
-      let inner = periods_of m (implementation_at tree m) (is_used tree parts.root used is_use (k ∷ path) m next) refl in
+      let here =
+      sub_by n k m (implementation_at tree n) sub (is_used tree parts.root used is_use path n stands) refl sub_is in
+      let inner =
+      periods_of m (implementation_at tree m) (is_used tree parts.root used is_use (k ∷ path) m next) refl in
       let same : target_of tree sub ≡ implementation_at tree m = ap (option_and_then (implementation_at tree)) target in
       subst (λ o. AllByRecursion (LooksGood Period) (sub_lists tree o)) (sym sub_is)
       (here, subst (λ o. AllByRecursion (LooksGood Period) (own_lists tree o)) (sym same) inner))
@@ -208,7 +222,8 @@ module _ {tree : PackageTree ℕ} {name : List ℕ} {parts : Parts} (flat : IsFl
       let rest = subs_along tree parts.root path in
       let added : subs_along tree parts.root (k ∷ path) ≡ here ∷ rest = ap (λ o. sub_in o k ++ rest) before in
       subst (λ l. AllByRecursion (LooksGood Period) (flat_map (lists_at tree) l)) (sym added)
-      (AllByRecursion-append (LooksGood Period) (lists_at tree here) (flat_map (lists_at tree) rest) (at_good m k n path before step stands)
+      (AllByRecursion-append (LooksGood Period) (lists_at tree here) (flat_map (lists_at tree) rest)
+      (at_good m k n path before step stands)
       (along_good path m before)))
 
   -- ---- the root
@@ -228,7 +243,8 @@ module _ {tree : PackageTree ℕ} {name : List ℕ} {parts : Parts} (flat : IsFl
 
   type_flag : (x : Implementation ℕ) (m : ℕ) → implementation_at tree parts.root ≡ Some x → type_number tree x ≡ Some m
       → is_root_type tree parts.root m ≡ true
-  type_flag x m is number = ap (λ o. is_number m (option_and_then (type_number tree) o)) is ∙ (ap (is_number m) number ∙ nat_eq-self m)
+  type_flag x m is number =
+      ap (λ o. is_number m (option_and_then (type_number tree) o)) is ∙ (ap (is_number m) number ∙ nat_eq-self m)
 
   root_good : (p : PropertyName) → ((c : Category) → Among p (recognised (holders.Declaration c true)))
       → AllByRecursion (LooksGood p) (root_lists tree parts.root)
@@ -240,7 +256,8 @@ module _ {tree : PackageTree ℕ} {name : List ℕ} {parts : Parts} (flat : IsFl
       (λ b. Among p (recognised (holders.Declaration x.category b))) (sym flag) (known x.category) in
       subst (λ o. AllByRecursion (LooksGood p) (own_lists tree o)) (sym is)
       (both_good p parts.root x root_used (declared_at tree parts.root x is) own
-      (λ m t number. subst (λ b. Among p (recognised (holders.Declaration t.category b))) (sym (type_flag x m is number)) (known t.category)))
+      (λ m t number. subst (λ b. Among p (recognised (holders.Declaration t.category b)))
+      (sym (type_flag x m is number)) (known t.category)))
 
   -- what the root gives of a property
   pub record Gives (p : PropertyName) : Type 0 where
@@ -248,11 +265,16 @@ module _ {tree : PackageTree ℕ} {name : List ℕ} {parts : Parts} (flat : IsFl
     pub is : at_root tree parts.root p ≡ Some association
     pub good : IsGood p association
 
-  gives : (p : PropertyName) → ((c : Category) → Among p (recognised (holders.Declaration c true))) → is_some (at_root tree parts.root p) ≡ true
+  gives : (p : PropertyName) → ((c : Category) → Among p (recognised (holders.Declaration c true)))
+      → is_some (at_root tree parts.root p) ≡ true
       → Gives p
   gives p known some =
       let a = some_from (at_root tree parts.root p) some in
-      record { association = a.0; is = a.1; good = first_good p (root_lists tree parts.root) a.0 (root_good p known) a.1 }
+      record {
+        association = a.0;
+        is = a.1;
+        good = first_good p (root_lists tree parts.root) a.0 (root_good p known) a.1;
+      }
 
   module _ (rate : ℕ) (clean : root_findings tree parts.root rate ≡ []) where
     all_missing : missing_findings tree parts.root ≡ []
@@ -287,7 +309,8 @@ module _ {tree : PackageTree ℕ} {name : List ℕ} {parts : Parts} (flat : IsFl
         let b = missing_bound tree parts.root Skew in
         let c = missing_bound tree parts.root Execution in
         let d = missing_bound tree parts.root Network in
-        is_right (is_some (at_root tree parts.root Execution)) (root_place tree parts.root) GAMMA_MISSING (shown Execution)
+        is_right (is_some (at_root tree parts.root Execution)) (root_place tree parts.root) GAMMA_MISSING
+        (shown Execution)
         (append_is_nil_right (a ++ b) c (append_is_nil_left (a ++ b ++ c) d all_missing))
 
     has_network : is_some (at_root tree parts.root Network) ≡ true
@@ -321,14 +344,16 @@ module _ {tree : PackageTree ℕ} {name : List ℕ} {parts : Parts} (flat : IsFl
         let b = reversed_range Execution (at_root tree parts.root Execution) in
         let c = reversed_range Network (at_root tree parts.root Network) in (
           t.0,
-          skew_by given t.0 is (not_wrong (is_zero given) (place_of (at_root tree parts.root Skew)) GAMMA_ORDER (shown Skew)
+          skew_by given t.0 is (not_wrong (is_zero given) (place_of (at_root tree parts.root Skew)) GAMMA_ORDER
+              (shown Skew)
               (append_is_nil_left a b (append_is_nil_left (a ++ b) c all_ordered))),
         )
 
     ordered : (low high : ℕ) → nat_lt high low ≡ false → nat_le low high ≡ true
     ordered low high e = grind (arith, nat_tests)
 
-    range_by : (o : Option (ℕ × ℕ)) (r : ℕ × ℕ) → o ≡ Some r → is_reversed o ≡ false → option_and_then in_order o ≡ Some r
+    range_by : (o : Option (ℕ × ℕ)) (r : ℕ × ℕ) → o ≡ Some r → is_reversed o ≡ false
+        → option_and_then in_order o ≡ Some r
     range_by None r is some = absurd (cc is)
     range_by (Some q) r is some = ap (λ b. cond b (Some q) None) (ordered q.0 q.1 some) ∙ is
 
@@ -342,7 +367,8 @@ module _ {tree : PackageTree ℕ} {name : List ℕ} {parts : Parts} (flat : IsFl
         let b = reversed_range Execution (at_root tree parts.root Execution) in
         let c = reversed_range Network (at_root tree parts.root Network) in (
           t.0,
-          range_by given t.0 is (not_wrong (is_reversed given) (place_of (at_root tree parts.root Execution)) GAMMA_ORDER (shown Execution)
+          range_by given t.0 is (not_wrong (is_reversed given) (place_of (at_root tree parts.root Execution))
+              GAMMA_ORDER (shown Execution)
               (append_is_nil_right a b (append_is_nil_left (a ++ b) c all_ordered))),
         )
 
@@ -356,21 +382,25 @@ module _ {tree : PackageTree ℕ} {name : List ℕ} {parts : Parts} (flat : IsFl
         let b = reversed_range Execution (at_root tree parts.root Execution) in
         let c = reversed_range Network (at_root tree parts.root Network) in (
           t.0,
-          range_by given t.0 is (not_wrong (is_reversed given) (place_of (at_root tree parts.root Network)) GAMMA_ORDER (shown Network)
+          range_by given t.0 is (not_wrong (is_reversed given) (place_of (at_root tree parts.root Network)) GAMMA_ORDER
+              (shown Network)
               (append_is_nil_right (a ++ b) c all_ordered)),
         )
 
-    gamma_from : (eps : Option ℕ) (alpha mu : Option (ℕ × ℕ)) (n : ℕ) (a m : ℕ × ℕ) → eps ≡ Some n → alpha ≡ Some a → mu ≡ Some m
+    gamma_from : (eps : Option ℕ) (alpha mu : Option (ℕ × ℕ)) (n : ℕ) (a m : ℕ × ℕ) → eps ≡ Some n → alpha ≡ Some a
+        → mu ≡ Some m
         → (g : Gamma) × (gamma_by eps alpha mu ≡ Some g)
     gamma_from None alpha mu n a m x y z = absurd (cc x)
     gamma_from (Some e) None mu n a m x y z = absurd (cc y)
     gamma_from (Some e) (Some b) None n a m x y z = absurd (cc z)
-    gamma_from (Some e) (Some b) (Some c) n a m x y z = (record { eps = e; alpha_min = b.0; alpha_max = b.1; mu_min = c.0; mu_max = c.1 }, refl)
+    gamma_from (Some e) (Some b) (Some c) n a m x y z =
+        (record { eps = e; alpha_min = b.0; alpha_max = b.1; mu_min = c.0; mu_max = c.1 }, refl)
 
     pub root_bounds : (g : Gamma) × (root_gamma tree parts.root ≡ Some g)
     root_bounds =
         gamma_from (root_skew tree parts.root) (root_range tree parts.root Execution)
-        (root_range tree parts.root Network) root_skew_is.0 execution_is.0 network_is.0 root_skew_is.1 execution_is.1 network_is.1
+        (root_range tree parts.root Network) root_skew_is.0 execution_is.0 network_is.0 root_skew_is.1 execution_is.1
+        network_is.1
 
     pub bounds_keep : IsGamma root_bounds.0
     bounds_keep = gamma_counts (time_at (at_root tree parts.root Skew)) (range_at (at_root tree parts.root Execution))
@@ -393,13 +423,18 @@ module _ {tree : PackageTree ℕ} {name : List ℕ} {parts : Parts} (flat : IsFl
         → (p : ℕ) × (own_period tree parts.root (reverse (subs_along tree parts.root path)) ≡ Some p)
     own_is path n stands =
         let lists = flat_map (lists_at tree) (subs_along tree parts.root path) ++ root_lists tree parts.root in
-        let good = AllByRecursion-append (LooksGood Period) (flat_map (lists_at tree) (subs_along tree parts.root path)) (root_lists tree parts.root)
+        let good =
+        AllByRecursion-append (LooksGood Period) (flat_map (lists_at tree) (subs_along tree parts.root path))
+        (root_lists tree parts.root)
         (along_good path n stands) (root_good Period (λ c. period_at c true)) in
-        let a = some_from (first_in Period lists) (first_behind Period (flat_map (lists_at tree) (subs_along tree parts.root path))
+        let a =
+        some_from (first_in Period lists)
+        (first_behind Period (flat_map (lists_at tree) (subs_along tree parts.root path))
         (root_lists tree parts.root) has_period) in
         let t = period_good a.0 (first_good Period lists a.0 good a.1) in
         let same : lists_along tree parts.root (reverse (subs_along tree parts.root path)) ≡ lists = ap
-        (λ l. flat_map (lists_at tree) l ++ root_lists tree parts.root) (reverse-reverse (subs_along tree parts.root path)) in (
+        (λ l. flat_map (lists_at tree) l ++ root_lists tree parts.root)
+        (reverse-reverse (subs_along tree parts.root path)) in (
           t.0,
           ap (λ l. option_and_then within_hour (time_at (first_in Period l))) same
               ∙ (ap (λ o. option_and_then within_hour (time_at o)) a.1 ∙ t.2.is),
@@ -414,10 +449,12 @@ module _ {tree : PackageTree ℕ} {name : List ℕ} {parts : Parts} (flat : IsFl
         let t = root_time in
         let place = thread_place tree thread in
         let here = append_is_nil_right (found_if (not (is_periodic tree thread.subs)) place NOT_PERIODIC thread.path)
-        (period_findings place thread.path (root_period tree parts.root) (own_period tree parts.root thread.subs)) none_here' in
+        (period_findings place thread.path (root_period tree parts.root) (own_period tree parts.root thread.subs))
+        none_here' in
         let given = subst (λ o. period_findings place thread.path (Some t.0) o ≡ []) p.1
         (subst (λ o. period_findings place thread.path o (own_period tree parts.root thread.subs) ≡ []) t.1.is here) in
-        let rate_of' : numbers.rate_of (Some t.0) (Some p.0) ≡ Some (t.0 / p.0) = rate_from place thread.path t.0 p.0 some_time given in (
+        let rate_of' : numbers.rate_of (Some t.0) (Some p.0) ≡ Some (t.0 / p.0) =
+        rate_from place thread.path t.0 p.0 some_time given in (
           t.0 / p.0,
           ap (λ o. numbers.rate_of o (own_period tree parts.root thread.subs)) t.1.is
               ∙ (ap (numbers.rate_of (Some t.0)) p.1 ∙ rate_of'),

@@ -20,10 +20,13 @@ module _ {X : Type 0} (lt : X → X → Bool) (order : IsStrictWeakOrder lt) whe
   above_of x [] h = tt
   above_of x (y ∷ ys) h = (h 0 (omega arith), above_of x ys (λ k p. h (suc k) (omega arith)))
 
-  up_of : (xs : List X) → ((i j : ℕ) (d : X) → i ≤ j → j < length xs → lt (get_or xs j d) (get_or xs i d) ≡ false) → Up xs
+  up_of : (xs : List X) → ((i j : ℕ) (d : X) → i ≤ j → j < length xs
+      → lt (get_or xs j d) (get_or xs i d) ≡ false) → Up xs
   up_of [] h = tt
-  up_of (x ∷ xs) h =
-      (above_of x xs (λ k p. h 0 (suc k) x (omega arith) (omega arith)), up_of xs (λ i j d p q. h (suc i) (suc j) d (omega arith) (omega arith)))
+  up_of (x ∷ xs) h = (
+    above_of x xs (λ k p. h 0 (suc k) x (omega arith) (omega arith)),
+    up_of xs (λ i j d p q. h (suc i) (suc j) d (omega arith) (omega arith)),
+  )
 
   above_if : (x y : X) (l : List X) (b : Bool) → lt y x ≡ false → Above x l → Above x (cond b (y ∷ l) l)
   above_if x y l true p q = (p, q)
@@ -75,7 +78,8 @@ module _ {X : Type 0} (lt : X → X → Bool) (order : IsStrictWeakOrder lt) whe
   kept_itself : (x : X) (xs : List X) → filter (ties lt x) (x ∷ xs) ≡ x ∷ filter (ties lt x) xs
   kept_itself x xs = ap (λ b. cond b (x ∷ filter (ties lt x) xs) (filter (ties lt x) xs)) (ties_itself x)
 
-  kept_or_not : (x y : X) (ys : List X) (b : Bool) → ties lt x y ≡ b → filter (ties lt x) (y ∷ ys) ≡ cond b (y ∷ filter (ties lt x) ys) (filter (ties lt x) ys)
+  kept_or_not : (x y : X) (ys : List X) (b : Bool) → ties lt x y ≡ b
+      → filter (ties lt x) (y ∷ ys) ≡ cond b (y ∷ filter (ties lt x) ys) (filter (ties lt x) ys)
   kept_or_not x y ys b e = ap (λ c. cond c (y ∷ filter (ties lt x) ys) (filter (ties lt x) ys)) e
 
   -- x is among what stands behind y, so it does not go before y
@@ -86,13 +90,19 @@ module _ {X : Type 0} (lt : X → X → Bool) (order : IsStrictWeakOrder lt) whe
   abbrev Same : List X → List X → Type 0
   Same xs ys = (z : X) → filter (ties lt z) xs ≡ filter (ties lt z) ys
 
-  by_tie : (x y : X) (xs ys : List X) → Up (x ∷ xs) → Up (y ∷ ys) → Same (x ∷ xs) (y ∷ ys) → (b : Bool) → ties lt x y ≡ b → x ≡ y
+  by_tie : (x y : X) (xs ys : List X) → Up (x ∷ xs) → Up (y ∷ ys) → Same (x ∷ xs) (y ∷ ys) → (b : Bool)
+      → ties lt x y ≡ b → x ≡ y
   by_tie x y xs ys a b same true e =
-      heads x y (filter (ties lt x) xs) (filter (ties lt x) ys) (sym (kept_itself x xs) ∙ (same x ∙ kept_or_not x y ys true e))
+      heads x y (filter (ties lt x) xs) (filter (ties lt x) ys)
+      (sym (kept_itself x xs) ∙ (same x ∙ kept_or_not x y ys true e))
   by_tie x y xs ys a b same false e =
-      let ahead : filter (ties lt x) ys ≡ x ∷ filter (ties lt x) xs = sym (sym (kept_itself x xs) ∙ (same x ∙ kept_or_not x y ys false e)) in
-      let after : filter (ties lt y) xs ≡ y ∷ filter (ties lt y) ys = sym (kept_or_not y x xs false (ties_turned y x ∙ e)) ∙ (same y ∙ kept_itself y ys) in
-      let tie = tie_of x y (behind x y ys (filter (ties lt x) xs) b.0 ahead) (behind y x xs (filter (ties lt y) ys) a.0 after) in
+      let ahead : filter (ties lt x) ys ≡ x ∷ filter (ties lt x) xs =
+      sym (sym (kept_itself x xs) ∙ (same x ∙ kept_or_not x y ys false e)) in
+      let after : filter (ties lt y) xs ≡ y ∷ filter (ties lt y) ys =
+      sym (kept_or_not y x xs false (ties_turned y x ∙ e)) ∙ (same y ∙ kept_itself y ys) in
+      let tie =
+      tie_of x y (behind x y ys (filter (ties lt x) xs) b.0 ahead)
+      (behind y x xs (filter (ties lt y) ys) a.0 after) in
       absurd (false≢true (sym e ∙ tie))
 
   same_rest : (x y : X) (xs ys : List X) → x ≡ y → Same (x ∷ xs) (y ∷ ys) → Same xs ys
@@ -116,5 +126,7 @@ module _ {X : Type 0} (lt : X → X → Bool) (order : IsStrictWeakOrder lt) whe
       let rest = one_up xs ys a.1 b.1 (same_rest x y xs ys first same) in
       λ i. first i ∷ rest i
 
-  pub one_order : (xs ys : List X) → IsSortedBy lt xs → IsSortedBy lt ys → ((z : X) → filter (ties lt z) xs ≡ filter (ties lt z) ys) → xs ≡ ys
-  one_order xs ys a b same = one_up xs ys (up_of xs (sorted_far lt order xs a)) (up_of ys (sorted_far lt order ys b)) same
+  pub one_order : (xs ys : List X) → IsSortedBy lt xs → IsSortedBy lt ys
+      → ((z : X) → filter (ties lt z) xs ≡ filter (ties lt z) ys) → xs ≡ ys
+  one_order xs ys a b same =
+      one_up xs ys (up_of xs (sorted_far lt order xs a)) (up_of ys (sorted_far lt order ys b)) same

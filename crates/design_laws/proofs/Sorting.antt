@@ -67,10 +67,12 @@ module _ {X : Type 0} (lt : X → X → Bool) (order : IsStrictWeakOrder lt) whe
   -- what ties with the same ties
   both_tie : (z x y : X) → ties lt z x ≡ true → ties lt z y ≡ true → lt y x ≡ false
   both_tie z x y h k =
-      order.chain y z x (not_true (lt y z) (right (not (lt z y)) (not (lt y z)) k)) (not_true (lt z x) (left (not (lt z x)) (not (lt x z)) h))
+      order.chain y z x (not_true (lt y z) (right (not (lt z y)) (not (lt y z)) k))
+      (not_true (lt z x) (left (not (lt z x)) (not (lt x z)) h))
 
   turned : (z x y : X) (rest : List X) (a b : Bool) → ties lt z x ≡ a → ties lt z y ≡ b → lt y x ≡ true
-      → cond b (y ∷ cond a (x ∷ rest) rest) (cond a (x ∷ rest) rest) ≡ cond a (x ∷ cond b (y ∷ rest) rest) (cond b (y ∷ rest) rest)
+      → cond b (y ∷ cond a (x ∷ rest) rest) (cond a (x ∷ rest) rest)
+      ≡ cond a (x ∷ cond b (y ∷ rest) rest) (cond b (y ∷ rest) rest)
   turned z x y rest true true e f h = let g = both_tie z x y e f in absurd cc
   turned z x y rest true false e f h = refl
   turned z x y rest false true e f h = refl
@@ -83,7 +85,8 @@ module _ {X : Type 0} (lt : X → X → Bool) (order : IsStrictWeakOrder lt) whe
       by : filter (ties lt z) (put x ys) ≡ filter (ties lt z) (x ∷ ys) → (b : Bool) → lt y x ≡ b
           → filter (ties lt z) (cond b (y ∷ put x ys) (x ∷ y ∷ ys)) ≡ filter (ties lt z) (x ∷ y ∷ ys)
       by later true e =
-          ap (λ (l : List X). cond (ties lt z y) (y ∷ l) l) later ∙ turned z x y (filter (ties lt z) ys) (ties lt z x) (ties lt z y) refl refl e
+          ap (λ (l : List X). cond (ties lt z y) (y ∷ l) l) later
+          ∙ turned z x y (filter (ties lt z) ys) (ties lt z x) (ties lt z y) refl refl e
       by later false e = refl
 
   same : (z : X) (xs : List X) → filter (ties lt z) (sorted xs) ≡ filter (ties lt z) xs
@@ -91,13 +94,20 @@ module _ {X : Type 0} (lt : X → X → Bool) (order : IsStrictWeakOrder lt) whe
   same z (x ∷ xs) = put_same z x (sorted xs) ∙ ap (λ (l : List X). cond (ties lt z x) (x ∷ l) l) (same z xs)
 
   -- ---- by numbers
-  in_order : (xs : List X) → Ascends xs → (k : ℕ) (d : X) → k + 1 < length xs → lt (get_or xs (k + 1) d) (get_or xs k d) ≡ false
+  in_order : (xs : List X) → Ascends xs → (k : ℕ) (d : X) → k + 1 < length xs
+      → lt (get_or xs (k + 1) d) (get_or xs k d) ≡ false
   in_order [] a k d h = absurd (omega arith)
   in_order (x ∷ []) a k d h = absurd (omega arith)
   in_order (x ∷ y ∷ xs) (n, a) zero d h = n
   in_order (x ∷ y ∷ xs) (n, a) (suc k) d h =
       let e : suc (k + 1) ≡ suc k + 1 = omega arith in
-      subst (λ (i : ℕ). lt (get_or (x ∷ y ∷ xs) i d) (get_or (y ∷ xs) k d) ≡ false) e (in_order (y ∷ xs) a k d (omega arith))
+      subst (λ (i : ℕ). lt (get_or (x ∷ y ∷ xs) i d) (get_or (y ∷ xs) k d) ≡ false) e
+      (in_order (y ∷ xs) a k d (omega arith))
 
   pub has_sorted : (xs : List X) → HasSorted lt xs
-  has_sorted xs = record { list = sorted xs; in_order = λ k d low h. in_order (sorted xs) (ascends xs) k d h; same = λ z. same z xs }
+  has_sorted xs =
+      record {
+        list = sorted xs;
+        in_order = λ k d low h. in_order (sorted xs) (ascends xs) k d h;
+        same = λ z. same z xs;
+      }

@@ -42,12 +42,14 @@ module _ {tree : PackageTree ℕ} {name : List ℕ} {parts : Parts} (flat : IsFl
     (is_use : IsUse tree parts.root used) (none : used_findings tree (shown_by tree parts) used ≡ [])
     (design : DesignParts) (sits : Zipped (Sits tree parts.root) parts.threads design.components) where
   -- the type of the target, as findings see it
-  seen_kind : (p : Port) (f : Feature ℕ) (k : Kind) → IsThreadAt tree parts.root p.path → port_of tree parts.root p ≡ Some f
+  seen_kind : (p : Port) (f : Feature ℕ) (k : Kind) → IsThreadAt tree parts.root p.path
+      → port_of tree parts.root p ≡ Some f
       → is_in tree parts.root p ≡ true → kind_in f.data_type ≡ Some k
       → end_kind tree (map (thread_at tree parts.root) parts.threads) (end_in tree parts.root parts.threads p) ≡ Some k
   seen_kind p f k thread is goes typed =
       ap (end_kind tree (map (thread_at tree parts.root) parts.threads)) (thread_end flat p thread)
-      ∙ (in_seen tree parts.root parts.threads design.components p f (node_of flat design sits p.path thread) is goes ∙ typed)
+      ∙ (in_seen tree parts.root parts.threads design.components p f (node_of flat design sits p.path thread) is
+      goes ∙ typed)
 
   seen_rate : (p : Port) → (thread : IsThreadAt tree parts.root p.path)
       → end_rate (rates_of tree (shown_by tree parts)) (end_in tree parts.root parts.threads p) ≡ Some
@@ -59,10 +61,13 @@ module _ {tree : PackageTree ℕ} {name : List ℕ} {parts : Parts} (flat : IsFl
       ∙ ap Some (sym (rate_is flat design sits p.path at)))
 
   -- ---- links
-  link_fits : (e : Ends) → walks.IsLink tree parts.root e → link_findings tree (map (thread_at tree parts.root) parts.threads)
+  link_fits : (e : Ends) → walks.IsLink tree parts.root e
+      → link_findings tree (map (thread_at tree parts.root) parts.threads)
       (rates_of tree (shown_by tree parts)) (chain_at tree parts e) ≡ []
-      → (k : Kind) → end_kind tree (map (thread_at tree parts.root) parts.threads) (end_in tree parts.root parts.threads e.to) ≡ Some k
-      → (divides_or_divided (rate_of design (node_at parts.threads e.from.path).0) (rate_of design (node_at parts.threads e.to.path).0) ≡ true)
+      → (k : Kind) → end_kind tree (map (thread_at tree parts.root) parts.threads)
+      (end_in tree parts.root parts.threads e.to) ≡ Some k
+      → (divides_or_divided (rate_of design (node_at parts.threads e.from.path).0)
+      (rate_of design (node_at parts.threads e.to.path).0) ≡ true)
       × (is_allowed (link_of flat design sits e).adaptor (rate_of design (node_at parts.threads e.from.path).0)
       (rate_of design (node_at parts.threads e.to.path).0) ≡ true)
       × (suits_kind (link_of flat design sits e).adaptor k ≡ true)
@@ -72,18 +77,24 @@ module _ {tree : PackageTree ℕ} {name : List ℕ} {parts : Parts} (flat : IsFl
       let x = chain_at tree parts e in
       let rules = λ (l : Connection ℕ). timing_findings tree threads x l ++ adaptor_findings tree threads all x l in
       let here : rules c.link ≡ [] = subst (λ o. on_carrier rules o ≡ []) (connection_is flat true chain e c) found in
-      let one = append_is_nil_right (timing_findings tree threads x c.link) (adaptor_findings tree threads all x c.link) here in
+      let one =
+      append_is_nil_right (timing_findings tree threads x c.link)
+      (adaptor_findings tree threads all x c.link) here in
       let p = rate_of design (node_at parts.threads e.from.path).0 in
       let q = rate_of design (node_at parts.threads e.to.path).0 in
-      let f = rated_fits c.link.name.at (end_name tree threads x.to) (adaptor_text c.link) (end_kind tree threads x.to) (end_rate all x.from)
+      let f =
+      rated_fits c.link.name.at (end_name tree threads x.to) (adaptor_text c.link) (end_kind tree threads x.to)
+      (end_rate all x.from)
       (end_rate all x.to) p q (seen_rate e.from from) (seen_rate e.to to) one in
       let same = adaptor_is flat true chain e c in (
         f.divides,
         ap (λ a. is_allowed a p q) same ∙ f.allowed,
-        ap (λ a. suits_kind a k) same ∙ subst (λ o. kind_suits (option_and_then adaptor_named (adaptor_text c.link)) o ≡ true) seen f.suits,
+        ap (λ a. suits_kind a k) same
+            ∙ subst (λ o. kind_suits (option_and_then adaptor_named (adaptor_text c.link)) o ≡ true) seen f.suits,
       )
 
-  pub link_keeps : (e : Ends) → walks.IsLink tree parts.root e → link_findings tree (map (thread_at tree parts.root) parts.threads)
+  pub link_keeps : (e : Ends) → walks.IsLink tree parts.root e
+      → link_findings tree (map (thread_at tree parts.root) parts.threads)
       (rates_of tree (shown_by tree parts)) (chain_at tree parts e) ≡ []
       → model.IsLink design (link_of flat design sits e)
   link_keeps e (chain, is, from, to, c) found =
@@ -92,7 +103,9 @@ module _ {tree : PackageTree ℕ} {name : List ℕ} {parts : Parts} (flat : IsFl
       let into = end_goes_in flat e.to is.ends to in
       let in_kind' = in_kind_is flat design sits e.to j.target to j.target_is into j.kind j.target_kind in
       let out_kind' = out_kind_is flat design sits e.from j.source from j.source_is out j.kind j.source_kind in
-      let f = link_fits e (chain, is, from, to, c) found j.kind (seen_kind e.to j.target j.kind to j.target_is into j.target_kind) in
+      let f =
+      link_fits e (chain, is, from, to, c) found j.kind
+      (seen_kind e.to j.target j.kind to j.target_is into j.target_kind) in
       record {
         source = is_source flat design sits e.from j.source from j.source_is out;
         target = is_target flat design sits e.to j.target to j.target_is into;
@@ -107,24 +120,32 @@ module _ {tree : PackageTree ℕ} {name : List ℕ} {parts : Parts} (flat : IsFl
       → IsTrue (is_word (port_name (port_of tree parts.root p)))
   root_word words p f is =
       let all = port_words tree words (option_and_then (type_number tree) (component_at tree parts.root p.path)) in
-      subst (λ o. IsTrue (is_word (port_name o))) (sym is) (all_at IsPort (ports_at tree (component_at tree parts.root p.path)) p.port f
+      subst (λ o. IsTrue (is_word (port_name o))) (sym is)
+      (all_at IsPort (ports_at tree (component_at tree parts.root p.path)) p.port f
       (recursion_from_All IsPort (ports_at tree (component_at tree parts.root p.path)) all) is)
 
   -- ---- feeds
-  feed_fits : (e : Ends) → walks.IsFeed tree parts.root e → feed_findings tree (map (thread_at tree parts.root) parts.threads)
+  feed_fits : (e : Ends) → walks.IsFeed tree parts.root e
+      → feed_findings tree (map (thread_at tree parts.root) parts.threads)
       (rates_of tree (shown_by tree parts)) (chain_at tree parts e) ≡ []
-      → (k : Kind) → end_kind tree (map (thread_at tree parts.root) parts.threads) (end_in tree parts.root parts.threads e.to) ≡ Some k
-      → (is_allowed (feed_of flat design sits e).adaptor 1 (rate_of design (node_at parts.threads e.to.path).0) ≡ true) ×
+      → (k : Kind) → end_kind tree (map (thread_at tree parts.root) parts.threads)
+      (end_in tree parts.root parts.threads e.to) ≡ Some k
+      → (is_allowed (feed_of flat design sits e).adaptor 1
+      (rate_of design (node_at parts.threads e.to.path).0) ≡ true) ×
       (suits_kind (feed_of flat design sits e).adaptor k ≡ true)
   feed_fits e (chain, is, from, to, c) found k seen =
       let threads = map (thread_at tree parts.root) parts.threads in
       let all = rates_of tree (shown_by tree parts) in
       let x = chain_at tree parts e in
-      let one : adaptor_findings tree threads all x c.link ≡ [] = subst (λ o. on_carrier (adaptor_findings tree threads all x) o ≡ [])
+      let one : adaptor_findings tree threads all x c.link ≡ [] =
+      subst (λ o. on_carrier (adaptor_findings tree threads all x) o ≡ [])
       (connection_is flat false chain e c) found in
       let q = rate_of design (node_at parts.threads e.to.path).0 in
-      let first : end_rate all (end_in tree parts.root parts.threads e.from) ≡ Some 1 = ap (end_rate all) (root_end flat e.from from) in
-      let f = rated_fits c.link.name.at (end_name tree threads x.to) (adaptor_text c.link) (end_kind tree threads x.to) (end_rate all x.from)
+      let first : end_rate all (end_in tree parts.root parts.threads e.from) ≡ Some 1 =
+      ap (end_rate all) (root_end flat e.from from) in
+      let f =
+      rated_fits c.link.name.at (end_name tree threads x.to) (adaptor_text c.link) (end_kind tree threads x.to)
+      (end_rate all x.from)
       (end_rate all x.to) 1 q first (seen_rate e.to to) one in
       let same = adaptor_is flat false chain e c in (
         ap (λ a. is_allowed a 1 q) same ∙ f.allowed,
@@ -133,13 +154,16 @@ module _ {tree : PackageTree ℕ} {name : List ℕ} {parts : Parts} (flat : IsFl
       )
 
   pub feed_keeps : HasWords tree → (e : Ends) → walks.IsFeed tree parts.root e
-      → feed_findings tree (map (thread_at tree parts.root) parts.threads) (rates_of tree (shown_by tree parts)) (chain_at tree parts e) ≡ []
+      → feed_findings tree (map (thread_at tree parts.root) parts.threads) (rates_of tree (shown_by tree parts))
+      (chain_at tree parts e) ≡ []
       → model.IsFeed design (feed_of flat design sits e)
   feed_keeps words e (chain, is, from, to, c) found =
       let j = feed_joins flat used is_use none e (chain, is, from, to, c) in
       let into = end_goes_in flat e.to is.ends to in
       let in_kind' = in_kind_is flat design sits e.to j.target to j.target_is into j.kind j.target_kind in
-      let f = feed_fits e (chain, is, from, to, c) found j.kind (seen_kind e.to j.target j.kind to j.target_is into j.target_kind) in
+      let f =
+      feed_fits e (chain, is, from, to, c) found j.kind
+      (seen_kind e.to j.target j.kind to j.target_is into j.target_kind) in
       record {
         name = root_word words e.from j.source j.source_is;
         target = is_target flat design sits e.to j.target to j.target_is into;
@@ -148,7 +172,8 @@ module _ {tree : PackageTree ℕ} {name : List ℕ} {parts : Parts} (flat : IsFl
       }
 
   -- ---- taps
-  pub tap_keeps : HasWords tree → (e : Ends) → walks.IsTap tree parts.root e → model.IsTap design (tap_of flat design sits e)
+  pub tap_keeps : HasWords tree → (e : Ends) → walks.IsTap tree parts.root e
+      → model.IsTap design (tap_of flat design sits e)
   tap_keeps words e (chain, is, from, to, c) =
       let j = tap_joins flat used is_use none e (chain, is, from, to, c) in
       record {

@@ -33,7 +33,9 @@ place p [] = 0
 place p (x ∷ xs) = cond (p x) 0 (suc (place p xs))
 
 place_is : {X : Type 0} (p : X → Bool) (xs : List X) → place p xs ≡ position_or_len p xs
-place_is p xs = is_position_or_len (place p) p refl (λ x ys. let e : suc (place p ys) ≡ 1 + place p ys = omega arith in ap (cond (p x) 0) e) xs
+place_is p xs =
+    is_position_or_len (place p) p refl
+    (λ x ys. let e : suc (place p ys) ≡ 1 + place p ys = omega arith in ap (cond (p x) 0) e) xs
 
 place_by : (b any : Bool) (n long : ℕ) → (any ≡ true → n < long) → (b || any) ≡ true → cond b 0 (suc n) < suc long
 place_by true any n long later some = omega arith
@@ -47,7 +49,8 @@ pub first_within : {X : Type 0} (p : X → Bool) (xs : List X) → list_any p xs
 first_within p xs some =
     let at = position_or_len p xs in
     let within : at < length xs = subst (λ n. n < length xs) (place_is p xs) (place_within p xs some) in
-    let first : first_number p xs ≡ at = ap (λ t. unwrap_or (cond t (Some at) None) (length xs)) (lt-ltb at (length xs) within) in
+    let first : first_number p xs ≡ at =
+    ap (λ t. unwrap_or (cond t (Some at) None) (length xs)) (lt-ltb at (length xs) within) in
     subst (λ n. n < length xs) (sym first) within
 
 -- ---- some of a list
@@ -56,9 +59,11 @@ any_by true b c d first later some = rw (first refl) refl
 any_by false true c d first later some = refl
 any_by false false c d first later some = later some
 
-any_weaker : {X : Type 0} (p q : X → Bool) → ((x : X) → p x ≡ true → q x ≡ true) → (xs : List X) → list_any p xs ≡ true → list_any q xs ≡ true
+any_weaker : {X : Type 0} (p q : X → Bool) → ((x : X) → p x ≡ true → q x ≡ true) → (xs : List X) → list_any p xs ≡ true
+    → list_any q xs ≡ true
 any_weaker p q each [] some = some
-any_weaker p q each (x ∷ xs) some = any_by (p x) (q x) (list_any p xs) (list_any q xs) (each x) (any_weaker p q each xs) some
+any_weaker p q each (x ∷ xs) some =
+    any_by (p x) (q x) (list_any p xs) (list_any q xs) (each x) (any_weaker p q each xs) some
 
 -- ---- states
 state_within : (annex : AnnexTree ℕ) (name : List ℕ) → is_among (names.states_of annex) name ≡ true
@@ -67,8 +72,11 @@ state_within annex name among =
     let spelled = list_any-map (same_name name) (λ (x : Identifier ℕ). x.spelling) (names.states_of annex) in
     let same = ap (list_any (same_name name)) (same_states annex.states) in
     let seen = list_any-map (same_name name) (λ (s : StateAt). s.name) (states_of annex) in
-    let some : list_any (λ (s : StateAt). same_name name s.name) (states_of annex) ≡ true = sym seen ∙ (same ∙ (spelled ∙ among)) in
-    let turned = any_weaker (λ (s : StateAt). same_name name s.name) (λ (s : StateAt). same_name s.name name) (λ s h. same_turned name s.name h)
+    let some : list_any (λ (s : StateAt). same_name name s.name) (states_of annex)
+    ≡ true = sym seen ∙ (same ∙ (spelled ∙ among)) in
+    let turned =
+    any_weaker (λ (s : StateAt). same_name name s.name) (λ (s : StateAt). same_name s.name name)
+    (λ s h. same_turned name s.name h)
     (states_of annex) some in
     lt-ltb (state_number (states_of annex) name) (length (states_of annex))
     (first_within (λ (s : StateAt). same_name s.name name) (states_of annex) turned)
@@ -80,26 +88,35 @@ is_state_by false fault e = absurd (cc e)
 is_known : (is_state : List ℕ → Bool) (x : Identifier ℕ) → state_uses is_state x ≡ [] → is_state x.spelling ≡ true
 is_known is_state x none = is_state_by (is_state x.spelling) (Unknown x.spelling x.at) none
 
-declared_by : (annex : AnnexTree ℕ) (known : Known) (t : Transition ℕ) → transition_uses (is_among (names.states_of annex)) known t ≡ []
+declared_by : (annex : AnnexTree ℕ) (known : Known) (t : Transition ℕ)
+    → transition_uses (is_among (names.states_of annex)) known t ≡ []
     → is_declared (states_of annex) t ≡ true
 declared_by annex known t none =
     let is_state = is_among (names.states_of annex) in
-    let ends = append_is_nil_left (state_uses is_state t.source ++ state_uses is_state t.target) (guard_uses known t.guard)
-    (append_is_nil_left (state_uses is_state t.source ++ state_uses is_state t.target ++ guard_uses known t.guard) (effect_uses known t.effect) none) in
-    let source = is_known is_state t.source (append_is_nil_left (state_uses is_state t.source) (state_uses is_state t.target) ends) in
-    let target = is_known is_state t.target (append_is_nil_right (state_uses is_state t.source) (state_uses is_state t.target) ends) in
+    let ends =
+    append_is_nil_left (state_uses is_state t.source ++ state_uses is_state t.target) (guard_uses known t.guard)
+    (append_is_nil_left (state_uses is_state t.source ++ state_uses is_state t.target ++ guard_uses known t.guard)
+    (effect_uses known t.effect) none) in
+    let source =
+    is_known is_state t.source
+    (append_is_nil_left (state_uses is_state t.source) (state_uses is_state t.target) ends) in
+    let target =
+    is_known is_state t.target
+    (append_is_nil_right (state_uses is_state t.source) (state_uses is_state t.target) ends) in
     and_from (nat_lt (state_number (states_of annex) t.source.spelling) (length (states_of annex)))
     (nat_lt (state_number (states_of annex) t.target.spelling) (length (states_of annex)))
     (state_within annex t.source.spelling source) (state_within annex t.target.spelling target)
 
-pub all_declared : (tree : PackageTree ℕ) (x : Implementation ℕ) (annex : AnnexTree ℕ) → behaviour_faults tree x annex ≡ []
+pub all_declared : (tree : PackageTree ℕ) (x : Implementation ℕ) (annex : AnnexTree ℕ)
+    → behaviour_faults tree x annex ≡ []
     → IsTrue (list_all (is_declared (states_of annex)) (transitions_of annex))
 unfolding behaviour_faults
 all_declared tree x annex none =
     let uses = transition_uses (is_among (names.states_of annex)) (known_in tree x annex) in
     let each = all_none uses (transitions_of annex) none in
     all_true (is_declared (states_of annex)) (transitions_of annex)
-    (AllByRecursion-weaker (λ t. uses t ≡ []) (λ t. is_declared (states_of annex) t ≡ true) (λ t h. declared_by annex (known_in tree x annex) t h)
+    (AllByRecursion-weaker (λ t. uses t ≡ []) (λ t. is_declared (states_of annex) t ≡ true)
+    (λ t h. declared_by annex (known_in tree x annex) t h)
     (transitions_of annex) each)
 
 -- ---- the first behaviour of a thread's implementation
@@ -107,7 +124,8 @@ of_thread : {Y : Type 0} (b : Bool) (xs ys zs : List Y) → b ≡ true → cond 
 of_thread true xs ys zs is e = append_is_nil_left xs ys e
 of_thread false xs ys zs is e = absurd (cc is)
 
-first_faults : (tree : PackageTree ℕ) (x : Implementation ℕ) (bs : List (ℕ × AnnexTree ℕ)) (b : ℕ × AnnexTree ℕ) → slice_get bs 0 ≡ Some b
+first_faults : (tree : PackageTree ℕ) (x : Implementation ℕ) (bs : List (ℕ × AnnexTree ℕ)) (b : ℕ × AnnexTree ℕ)
+    → slice_get bs 0 ≡ Some b
     → is_thread x.category ≡ true → annex_faults tree x bs ≡ []
     → behaviour_faults tree x b.1 ≡ []
 first_faults tree x [] b is thread none = absurd (cc is)
@@ -127,9 +145,11 @@ declaration_clean tree root n d none is =
     let zero' : 0 + n ≡ n = omega arith in
     subst (λ k. declaration_faults tree root (k, d) ≡ []) zero' here
 
-pub first_clean : (tree : PackageTree ℕ) (root n : ℕ) (x : Implementation ℕ) (b : ℕ × AnnexTree ℕ) → package_faults tree root ≡ []
+pub first_clean : (tree : PackageTree ℕ) (root n : ℕ) (x : Implementation ℕ) (b : ℕ × AnnexTree ℕ)
+    → package_faults tree root ≡ []
     → slice_get tree.declarations n ≡ Some (implementation x) → is_thread x.category ≡ true
     → slice_get (names.behaviours x.annexes) 0 ≡ Some b → behaviour_faults tree x b.1 ≡ []
 first_clean tree root n x b none is thread first =
-    first_faults tree x (names.behaviours x.annexes) b first thread (append_is_nil_right _ (annex_faults tree x (names.behaviours x.annexes))
+    first_faults tree x (names.behaviours x.annexes) b first thread
+    (append_is_nil_right _ (annex_faults tree x (names.behaviours x.annexes))
     (declaration_clean tree root n (implementation x) none is))

@@ -10,5 +10,7 @@ use Rattle.design_laws.proofs.Wording.{have_words}
 pub named : (tree : source.PackageTree) → AreNamed (placed tree)
 named tree = record {
   words = have_words tree;
-  differ = λ root n x none is. ∥∥₁_elim tree.given (hlevel props) (λ given. differ_given (placed tree) root n x given none is);
+  differ =
+      λ root n x none is. ∥∥₁_elim tree.given (hlevel props)
+      (λ given. differ_given (placed tree) root n x given none is);
 }

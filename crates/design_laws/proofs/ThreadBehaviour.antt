@@ -22,22 +22,26 @@ use Rattle.design_laws.proofs.Typing.{ins_typed, outs_typed, variables_typed, va
 use Rattle.design_laws.proofs.Stating.{all_declared, first_clean}
 
 -- ---- ports are named by words
-ports_by : (tree : PackageTree ℕ) → HasWords tree → (m : ℕ) (d : Option (Declaration ℕ)) → slice_get tree.declarations m ≡ d
+ports_by : (tree : PackageTree ℕ) → HasWords tree → (m : ℕ) (d : Option (Declaration ℕ))
+    → slice_get tree.declarations m ≡ d
     → All IsPort (features_of (type_in d))
 ports_by tree words m None is = All-nil IsPort
 ports_by tree words m (Some (implementation y)) is = All-nil IsPort
 ports_by tree words m (Some (type t)) is = words.ports m t is
 
-pub port_words : (tree : PackageTree ℕ) → HasWords tree → (o : Option ℕ) → All IsPort (features_of (type_numbered tree o))
+pub port_words : (tree : PackageTree ℕ) → HasWords tree → (o : Option ℕ)
+    → All IsPort (features_of (type_numbered tree o))
 port_words tree words None = All-nil IsPort
 port_words tree words (Some m) = ports_by tree words m (slice_get tree.declarations m) refl
 
 -- ---- what is known of the annex
-module _ (tree : PackageTree ℕ) (root n : ℕ) (x : Implementation ℕ) (words : HasWords tree) (differ : NamesDiffer tree x)
+module _ (tree : PackageTree ℕ) (root n : ℕ) (x : Implementation ℕ) (words : HasWords tree)
+    (differ : NamesDiffer tree x)
     (clean : package_faults tree root ≡ [])
     (is : slice_get tree.declarations n ≡ Some (implementation x)) (thread : is_thread x.category ≡ true)
     (ports : flat_map port_findings (ports_of tree x) ≡ []) where
-  ready : (b : ℕ × AnnexTree ℕ) → first_annex x ≡ Some b → variables_findings b.1 ≡ [] → IsReady (values_of tree x b.1) (scope_of tree x b.1) b.1
+  ready : (b : ℕ × AnnexTree ℕ) → first_annex x ≡ Some b → variables_findings b.1 ≡ []
+      → IsReady (values_of tree x b.1) (scope_of tree x b.1) b.1
   ready b first none =
       let of_ports = port_words tree words (type_number tree x) in
       let behaviour = behaviour_of (values_of tree x b.1) (scope_of tree x b.1) b.1 in
@@ -50,7 +54,8 @@ module _ (tree : PackageTree ℕ) (root n : ℕ) (x : Implementation ℕ) (words
         };
         firsts = variables_first b.1 none;
         fits = scope_fits behaviour (ins_in (ports_of tree x)) (outs_in (ports_of tree x)) (variables_of b.1)
-            (ins_typed (ports_of tree x) ports) (outs_typed (ports_of tree x) ports) (variables_typed b.1 none) refl refl refl;
+            (ins_typed (ports_of tree x) ports) (outs_typed (ports_of tree x) ports) (variables_typed b.1 none)
+            refl refl refl;
         states = all_declared tree x b.1 (first_clean tree root n x b clean is thread first);
       }
 
@@ -59,8 +64,12 @@ module _ (tree : PackageTree ℕ) (root n : ℕ) (x : Implementation ℕ) (words
     behaves_by : (o : Option (ℕ × AnnexTree ℕ)) → first_annex x ≡ o → annex_rules tree x o ≡ [] → Behaves tree x
     behaves_by None first none = absurd (cc none)
     behaves_by (Some b) first none =
-        let variables = append_is_nil_left (variables_findings b.1) (annex_findings (values_of tree x b.1) (scope_of tree x b.1) b.0 b.1) none in
-        let annex = append_is_nil_right (variables_findings b.1) (annex_findings (values_of tree x b.1) (scope_of tree x b.1) b.0 b.1) none in
+        let variables =
+        append_is_nil_left (variables_findings b.1)
+        (annex_findings (values_of tree x b.1) (scope_of tree x b.1) b.0 b.1) none in
+        let annex =
+        append_is_nil_right (variables_findings b.1)
+        (annex_findings (values_of tree x b.1) (scope_of tree x b.1) b.0 b.1) none in
         record {
           behaviour = behaviour_of (values_of tree x b.1) (scope_of tree x b.1) b.1;
           is_behaviour = ap (behaviour_by tree x) first;

@@ -39,7 +39,8 @@ use Rattle.design_laws.proofs.Clean.{names_clean, declared_at, implementation_cl
 
 -- ---- the component that stands at a path is that of its innermost subcomponent
 
-innermost_last : (tree : PackageTree ℕ) (front : List SubAt) (x : SubAt) → innermost tree (front ++ x ∷ []) ≡ sub_of tree x
+innermost_last : (tree : PackageTree ℕ) (front : List SubAt) (x : SubAt)
+    → innermost tree (front ++ x ∷ []) ≡ sub_of tree x
 innermost_last tree front x = ap (option_and_then (sub_of tree)) (slice_get-last front x)
 
 component_by : (tree : PackageTree ℕ) (root s : ℕ) (path : List ℕ) (n : ℕ) → standing tree root path ≡ Some n
@@ -47,7 +48,8 @@ component_by : (tree : PackageTree ℕ) (root s : ℕ) (path : List ℕ) (n : �
 component_by tree root s path n stands =
     let here : SubAt = record { declaration = n; sub = s } in
     let along : reverse (subs_along tree root (s ∷ path)) ≡ reverse (subs_along tree root path) ++ here ∷ [] =
-    ap (λ o. reverse (sub_in o s ++ subs_along tree root path)) stands ∙ reverse-append (here ∷ []) (subs_along tree root path) in
+    ap (λ o. reverse (sub_in o s ++ subs_along tree root path)) stands
+    ∙ reverse-append (here ∷ []) (subs_along tree root path) in
     ap (innermost tree) along ∙ innermost_last tree (reverse (subs_along tree root path)) here
 
 pub joined : {A B C : Type 0} (f : A → Option B) (g : B → Option C) (o : Option A)
@@ -86,16 +88,19 @@ first_by p from n x xs false rest test later is =
     let e = h.number in
     record { place = suc h.place; one = h.one; number = omega (arith, e); is = h.is; passes = h.passes }
 
-pub first_is : {X : Type 0} (p : X → Bool) (from n : ℕ) (xs : List X) → position_from p from xs ≡ Some n → FirstIs p from n xs
+pub first_is : {X : Type 0} (p : X → Bool) (from n : ℕ) (xs : List X) → position_from p from xs ≡ Some n
+    → FirstIs p from n xs
 first_is p from n [] is = absurd (cc is)
-first_is p from n (x ∷ xs) is = first_by p from n x xs (p x) (position_from p (from + 1) xs) refl (first_is p (from + 1) n xs) is
+first_is p from n (x ∷ xs) is =
+    first_by p from n x xs (p x) (position_from p (from + 1) xs) refl (first_is p (from + 1) n xs) is
 
 system_no_thread : (c : Category) → is_system c ≡ true → is_thread c ≡ true → ⊥
 system_no_thread categories.System system thread = false≢true thread
 system_no_thread categories.Process system thread = false≢true thread
 system_no_thread categories.Thread system thread = false≢true system
 
-root_system : (name : List ℕ) (d : Declaration ℕ) (x : Implementation ℕ) → d ≡ implementation x → is_root name d ≡ true → is_system x.category ≡ true
+root_system : (name : List ℕ) (d : Declaration ℕ) (x : Implementation ℕ) → d ≡ implementation x → is_root name d ≡ true
+    → is_system x.category ≡ true
 root_system name (type y) x is passes = absurd (false≢true passes)
 root_system name (implementation y) x is passes =
     let e : y ≡ x = cc is in
@@ -119,7 +124,8 @@ pub record ThreadIs (tree : PackageTree ℕ) (root : ℕ) (path : List ℕ) : Ty
   pub is_thread : is_thread component.category ≡ true
   pub seen : component_of tree (thread_at tree root path) ≡ Some component
 
-thread_by : {tree : PackageTree ℕ} {name : List ℕ} {parts : Parts} → IsFlat tree name parts → (path : List ℕ) (x : Implementation ℕ)
+thread_by : {tree : PackageTree ℕ} {name : List ℕ} {parts : Parts} → IsFlat tree name parts
+    → (path : List ℕ) (x : Implementation ℕ)
     → component_at tree parts.root path ≡ Some x → is_thread x.category ≡ true
     → ThreadIs tree parts.root path
 thread_by {tree} {name} {parts} flat [] x e thread = absurd (system_no_thread x.category (root_is flat x e) thread)
@@ -143,27 +149,33 @@ thread_is flat path t = thread_by flat path t.0 t.1.0 t.1.1
 -- nothing found makes a thread's implementation behave
 abbrev pub ThreadLaw : Type 0
 ThreadLaw =
-    (tree : PackageTree ℕ) (root n : ℕ) (x : Implementation ℕ) → HasWords tree → NamesDiffer tree x → package_faults tree root ≡ []
+    (tree : PackageTree ℕ) (root n : ℕ) (x : Implementation ℕ) → HasWords tree → NamesDiffer tree x
+    → package_faults tree root ≡ []
     → slice_get tree.declarations n ≡ Some (implementation x)
-    → is_thread x.category ≡ true → flat_map port_findings (ports_of tree x) ≡ [] → threads.implementation_findings tree x ≡ [] → Behaves tree x
+    → is_thread x.category ≡ true → flat_map port_findings (ports_of tree x) ≡ []
+    → threads.implementation_findings tree x ≡ [] → Behaves tree x
 
 module _ {tree : PackageTree ℕ} {name : List ℕ} {parts : Parts} (flat : IsFlat tree name parts) (used : ℕ → Bool)
     (is_use : IsUse tree parts.root used) (none : used_findings tree (shown_by tree parts) used ≡ []) where
   ports_by : (n m : ℕ) (x : Implementation ℕ) (d : Option (Declaration ℕ)) → used n ≡ true
-      → slice_get tree.declarations n ≡ Some (implementation x) → type_number tree x ≡ Some m → slice_get tree.declarations m ≡ d
+      → slice_get tree.declarations n ≡ Some (implementation x) → type_number tree x ≡ Some m
+      → slice_get tree.declarations m ≡ d
       → flat_map port_findings (features_of (type_in d)) ≡ []
   ports_by n m x None in_use is number d_is = refl
   ports_by n m x (Some (implementation y)) in_use is number d_is = refl
   ports_by n m x (Some (type t)) in_use is number d_is =
-      append_is_nil_left (flat_map port_findings t.features) _ (type_clean tree (shown_by tree parts) used none n m x t in_use is number d_is)
+      append_is_nil_left (flat_map port_findings t.features) _
+      (type_clean tree (shown_by tree parts) used none n m x t in_use is number d_is)
 
-  ports_at : (n : ℕ) (x : Implementation ℕ) (o : Option ℕ) → used n ≡ true → slice_get tree.declarations n ≡ Some (implementation x)
+  ports_at : (n : ℕ) (x : Implementation ℕ) (o : Option ℕ) → used n ≡ true
+      → slice_get tree.declarations n ≡ Some (implementation x)
       → type_number tree x ≡ o → flat_map port_findings (features_of (type_numbered tree o)) ≡ []
   ports_at n x None in_use is number = refl
   ports_at n x (Some m) in_use is number = ports_by n m x (slice_get tree.declarations m) in_use is number refl
 
   -- the ports of each implementation in use have types
-  pub ports_clean : (n : ℕ) (x : Implementation ℕ) → used n ≡ true → slice_get tree.declarations n ≡ Some (implementation x)
+  pub ports_clean : (n : ℕ) (x : Implementation ℕ) → used n ≡ true
+      → slice_get tree.declarations n ≡ Some (implementation x)
       → flat_map port_findings (ports_of tree x) ≡ []
   ports_clean n x in_use is = ports_at n x (type_number tree x) in_use is refl
 
@@ -174,9 +186,11 @@ module _ {tree : PackageTree ℕ} {name : List ℕ} {parts : Parts} (flat : IsFl
         let is = declared_at tree t.number t.component t.is_component in
         let in_use = is_used tree parts.root used is_use path t.number t.stands in
         let whole = implementation_clean tree (shown_by tree parts) used none t.number t.component in_use is in
-        let own = where_true (is_thread t.component.category) (threads.implementation_findings tree t.component) t.is_thread
+        let own =
+        where_true (is_thread t.component.category) (threads.implementation_findings tree t.component) t.is_thread
         (append_is_nil_right _ (thread_findings tree t.component) whole) in
-        law tree parts.root t.number t.component named.words (named.differ parts.root t.number t.component (names_clean flat) is)
+        law tree parts.root t.number t.component named.words
+        (named.differ parts.root t.number t.component (names_clean flat) is)
         (names_clean flat) is t.is_thread (ports_clean t.number t.component in_use is) own
 
     pub seen_behaviour : (path : List ℕ) → (t : ThreadIs tree parts.root path) → (b : Behaves tree t.component)
@@ -192,10 +206,13 @@ module _ {tree : PackageTree ℕ} {name : List ℕ} {parts : Parts} (flat : IsFl
     pub have_rules : All (HasRules tree) (map (thread_at tree parts.root) parts.threads)
     have_rules =
         All-map (HasRules tree) (thread_at tree parts.root) parts.threads
-        (All-weaker (IsThreadAt tree parts.root) (λ path. HasRules tree (thread_at tree parts.root path)) rules_at parts.threads flat.threads.each)
+        (All-weaker (IsThreadAt tree parts.root) (λ path. HasRules tree (thread_at tree parts.root path)) rules_at
+        parts.threads flat.threads.each)
 
 -- no thread stands at the root
-pub root_no_thread : {tree : PackageTree ℕ} {name : List ℕ} {parts : Parts} → IsFlat tree name parts → ThreadIs tree parts.root [] → ⊥
+pub root_no_thread : {tree : PackageTree ℕ} {name : List ℕ} {parts : Parts} → IsFlat tree name parts
+    → ThreadIs tree parts.root [] → ⊥
 root_no_thread {tree} {name} {parts} flat t =
     let same : parts.root ≡ t.number = same_Some parts.root t.number t.stands in
-    system_no_thread t.component.category (root_is flat t.component (ap (implementation_at tree) same ∙ t.is_component)) t.is_thread
+    system_no_thread t.component.category
+    (root_is flat t.component (ap (implementation_at tree) same ∙ t.is_component)) t.is_thread

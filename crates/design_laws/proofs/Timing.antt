@@ -82,38 +82,48 @@ wrong_none : (b : Bool) (at : ℕ) → wrong_if b at ≡ [] → b ≡ false
 wrong_none true at e = absurd (cc e)
 wrong_none false at e = refl
 
-good_by : (holder : PropertyHolder) (p : PropertyName) (x : Association ℕ) → Among p (recognised holder) → shape_fault holder x ≡ []
+good_by : (holder : PropertyHolder) (p : PropertyName) (x : Association ℕ) → Among p (recognised holder)
+    → shape_fault holder x ≡ []
     → counted_big holder x ≡ [] → counts x ≡ true → is_named (name_of p) x ≡ true → IsGood p x
 good_by holder p x known shape big count named =
     let shapes = all_false (λ q. is_named (name_of q) x && not (has_shape q (association_value x))) (recognised holder)
-    (wrong_none (misshapen holder x) (association_at x) (where_true (counts x) (wrong_if (misshapen holder x) (association_at x)) count shape)) in
-    let here = of_among (λ q. (is_named (name_of q) x && not (has_shape q (association_value x))) ≡ false) p (recognised holder) shapes known in
+    (wrong_none (misshapen holder x) (association_at x)
+    (where_true (counts x) (wrong_if (misshapen holder x) (association_at x)) count shape)) in
+    let here =
+    of_among (λ q. (is_named (name_of q) x && not (has_shape q (association_value x))) ≡ false) p
+    (recognised holder) shapes known in
     let bigs = all_none (big_as x) (recognised holder) (where_true (counts x) (association_big holder x) count big) in
     let there = of_among (λ q. big_as x q ≡ []) p (recognised holder) bigs known in
     record {
       shape = not-false (has_shape p (association_value x)) (second_false (is_named (name_of p) x)
           (not (has_shape p (association_value x))) here named);
       small = second_false (is_named (name_of p) x) (is_too_big p (association_value x))
-          (not_wrong (is_named (name_of p) x && is_too_big p (association_value x)) (association_at x) NUMBER_TOO_BIG (shown p) there) named;
+          (not_wrong (is_named (name_of p) x && is_too_big p (association_value x)) (association_at x) NUMBER_TOO_BIG
+          (shown p) there) named;
     }
 
 -- ---- the first of a name among those that count
-both_all : {X : Type 0} (P Q : X → Type 0) (xs : List X) → AllByRecursion P xs → AllByRecursion Q xs → AllByRecursion (λ x. P x × Q x) xs
+both_all : {X : Type 0} (P Q : X → Type 0) (xs : List X) → AllByRecursion P xs → AllByRecursion Q xs
+    → AllByRecursion (λ x. P x × Q x) xs
 both_all P Q [] a b = tt
 both_all P Q (x ∷ xs) a b = ((a.0, b.0), both_all P Q xs a.1 b.1)
 
 module _ {X : Type 0} (P : X → Type 0) (c p : X → Bool) where
-  here_by : (b : Bool) (x y : X) (rest : Option X) → p y ≡ b → P y → c y ≡ true → (rest ≡ Some x → P x × (c x ≡ true) × (p x ≡ true))
+  here_by : (b : Bool) (x y : X) (rest : Option X) → p y ≡ b → P y → c y ≡ true
+      → (rest ≡ Some x → P x × (c x ≡ true) × (p x ≡ true))
       → cond b (Some y) rest ≡ Some x → P x × (c x ≡ true) × (p x ≡ true)
-  here_by true x y rest is at count later e = subst (λ z. P z × (c z ≡ true) × (p z ≡ true)) (same_Some y x e) (at, count, is)
+  here_by true x y rest is at count later e =
+      subst (λ z. P z × (c z ≡ true) × (p z ≡ true)) (same_Some y x e) (at, count, is)
   here_by false x y rest is at count later e = later e
 
-  kept_by : (b : Bool) (x y : X) (ys : List X) → c y ≡ b → P y → (find p ys ≡ Some x → P x × (c x ≡ true) × (p x ≡ true))
+  kept_by : (b : Bool) (x y : X) (ys : List X) → c y ≡ b → P y
+      → (find p ys ≡ Some x → P x × (c x ≡ true) × (p x ≡ true))
       → find p (cond b (y ∷ ys) ys) ≡ Some x → P x × (c x ≡ true) × (p x ≡ true)
   kept_by true x y ys is at later e = here_by (p y) x y (find p ys) refl at is later e
   kept_by false x y ys is at later e = later e
 
-  found_kept : (xs : List X) (x : X) → AllByRecursion P xs → find p (filter c xs) ≡ Some x → P x × (c x ≡ true) × (p x ≡ true)
+  found_kept : (xs : List X) (x : X) → AllByRecursion P xs → find p (filter c xs) ≡ Some x
+      → P x × (c x ≡ true) × (p x ≡ true)
   found_kept [] x all e = absurd (cc e)
   found_kept (y ∷ xs) x all e = kept_by (c y) x y (filter c xs) refl all.0 (found_kept xs x all.1) e
 
@@ -121,28 +131,35 @@ module _ {X : Type 0} (P : X → Type 0) (c p : X → Bool) where
 pub record LooksGood (p : PropertyName) (xs : Associations ℕ) : Type 0 where
   pub each : (x : Association ℕ) → association_named xs (name_of p) ≡ Some x → IsGood p x
 
-pub looks_good : (holder : PropertyHolder) (p : PropertyName) (xs : Associations ℕ) → Among p (recognised holder) → list_faults holder xs ≡ []
+pub looks_good : (holder : PropertyHolder) (p : PropertyName) (xs : Associations ℕ) → Among p (recognised holder)
+    → list_faults holder xs ≡ []
     → list_big holder xs ≡ [] → LooksGood p xs
 looks_good holder p xs known faults big = record {
   each = λ x is.
-      let shapes = all_none (shape_fault holder) (listed xs) (append_is_nil_left (flat_map (shape_fault holder) (listed xs))
+      let shapes =
+      all_none (shape_fault holder) (listed xs) (append_is_nil_left (flat_map (shape_fault holder) (listed xs))
       (twice (property_entries xs)) faults) in
       let bigs = all_none (counted_big holder) (listed xs) big in
-      let f = found_kept (λ a. (shape_fault holder a ≡ []) × (counted_big holder a ≡ [])) counts (is_named (name_of p)) (listed xs) x
+      let f =
+      found_kept (λ a. (shape_fault holder a ≡ []) × (counted_big holder a ≡ [])) counts (is_named (name_of p))
+      (listed xs) x
       (both_all (λ a. shape_fault holder a ≡ []) (λ a. counted_big holder a ≡ []) (listed xs) shapes bigs) is in
       good_by holder p x known f.0.0 f.0.1 f.1 f.2;
 }
 
 -- ---- the first in several lists
-or_by : (p : PropertyName) (o rest : Option (Association ℕ)) (x : Association ℕ) → (o ≡ Some x → IsGood p x) → (rest ≡ Some x → IsGood p x)
+or_by : (p : PropertyName) (o rest : Option (Association ℕ)) (x : Association ℕ) → (o ≡ Some x → IsGood p x)
+    → (rest ≡ Some x → IsGood p x)
     → option_or o rest ≡ Some x → IsGood p x
 or_by p None rest x first later e = later e
 or_by p (Some y) rest x first later e = first e
 
-pub first_good : (p : PropertyName) (lists : List (Associations ℕ)) (x : Association ℕ) → AllByRecursion (LooksGood p) lists
+pub first_good : (p : PropertyName) (lists : List (Associations ℕ)) (x : Association ℕ)
+    → AllByRecursion (LooksGood p) lists
     → first_in p lists ≡ Some x → IsGood p x
 first_good p [] x all e = absurd (cc e)
-first_good p (xs ∷ rest) x all e = or_by p (association_named xs (name_of p)) (first_in p rest) x (all.0.each x) (first_good p rest x all.1) e
+first_good p (xs ∷ rest) x all e =
+    or_by p (association_named xs (name_of p)) (first_in p rest) x (all.0.each x) (first_good p rest x all.1) e
 
 or_some : (o rest : Option (Association ℕ)) → is_some rest ≡ true → is_some (option_or o rest) ≡ true
 or_some None rest is = is
@@ -152,7 +169,8 @@ or_first : (o rest : Option (Association ℕ)) → is_some o ≡ true → is_som
 or_first None rest is = absurd (false≢true is)
 or_first (Some x) rest is = refl
 
-pub first_behind : (p : PropertyName) (a b : List (Associations ℕ)) → is_some (first_in p b) ≡ true → is_some (first_in p (a ++ b)) ≡ true
+pub first_behind : (p : PropertyName) (a b : List (Associations ℕ)) → is_some (first_in p b) ≡ true
+    → is_some (first_in p (a ++ b)) ≡ true
 first_behind p [] b is = is
 first_behind p (xs ∷ a) b is = or_some (association_named xs (name_of p)) (first_in p (a ++ b)) (first_behind p a b is)
 
@@ -170,7 +188,8 @@ within_is n short = ap (λ b. cond b (Some n) None) (le-leb n HOUR short)
 time_by : (given : Option ℕ) → is_some given ≡ true → is_above given ≡ false
     → (n : ℕ) × (given ≡ Some n) × IsTime (option_and_then within_hour given) n
 time_by None some small = absurd (false≢true some)
-time_by (Some n) some small = let short = within_by n small in (n, refl, record { is = within_is n short; short = short })
+time_by (Some n) some small = let short = within_by n small in
+    (n, refl, record { is = within_is n short; short = short })
 
 pub period_good : (x : Association ℕ) → IsGood Period x → (n : ℕ) × (time_at (Some x) ≡ Some n) × IsTime
     (option_and_then within_hour (time_at (Some x))) n
@@ -181,7 +200,8 @@ pub skew_good : (x : Association ℕ) → IsGood Skew x → (n : ℕ) × (time_a
 skew_good x good = time_by (time_of (association_value x)) good.shape good.small
 
 -- ---- ranges
-span_by : (given : Option (ℕ × ℕ)) → is_some given ≡ true → has_above given ≡ false → (r : ℕ × ℕ) × (option_and_then range_within given ≡ Some r)
+span_by : (given : Option (ℕ × ℕ)) → is_some given ≡ true → has_above given ≡ false
+    → (r : ℕ × ℕ) × (option_and_then range_within given ≡ Some r)
 span_by None some small = absurd (false≢true some)
 span_by (Some r) some small =
     let h = or_parts (nat_lt HOUR r.0) (nat_lt HOUR r.1) small in (
@@ -190,8 +210,10 @@ span_by (Some r) some small =
           (le-leb r.1 HOUR (within_by r.1 h.1))),
     )
 
-pub execution_good : (x : Association ℕ) → IsGood Execution x → (r : ℕ × ℕ) × (option_and_then range_within (range_at (Some x)) ≡ Some r)
+pub execution_good : (x : Association ℕ) → IsGood Execution x
+    → (r : ℕ × ℕ) × (option_and_then range_within (range_at (Some x)) ≡ Some r)
 execution_good x good = span_by (range_of (association_value x)) good.shape good.small
 
-pub network_good : (x : Association ℕ) → IsGood Network x → (r : ℕ × ℕ) × (option_and_then range_within (range_at (Some x)) ≡ Some r)
+pub network_good : (x : Association ℕ) → IsGood Network x
+    → (r : ℕ × ℕ) × (option_and_then range_within (range_at (Some x)) ≡ Some r)
 network_good x good = span_by (range_of (association_value x)) good.shape good.small

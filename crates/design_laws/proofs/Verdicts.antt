@@ -20,7 +20,8 @@ use Rattle.design_laws.proofs.Orders.{paths_one_way, targets_one_way, ports_one_
 use Rattle.design_laws.proofs.Sorted.{one_order}
 
 -- ---- the instance
-pub one_instance : (tree : PackageTree ℕ) (name : List ℕ) (a b : Parts) → IsFlat tree name a → IsFlat tree name b → a ≡ b
+pub one_instance : (tree : PackageTree ℕ) (name : List ℕ) (a b : Parts) → IsFlat tree name a
+    → IsFlat tree name b → a ≡ b
 one_instance tree name a b x y =
     let root = same_Some a.root b.root (sym x.root ∙ y.root) in
     let threads =
@@ -45,7 +46,8 @@ one_use tree root f g a b =
     let same : (n : ℕ) → f n ≡ g n = λ n. both_ways (f n) (g n) (λ h. (b n).1 ((a n).0 h)) (λ h. (a n).1 ((b n).0 h)) in
     λ i n. same n i
 
-pub one_list : (tree : PackageTree ℕ) (s : Shown) (a b : List Violation) → AreViolations tree s a → AreViolations tree s b → a ≡ b
+pub one_list : (tree : PackageTree ℕ) (s : Shown) (a b : List Violation) → AreViolations tree s a
+    → AreViolations tree s b → a ≡ b
 one_list tree s a b x y =
     let used = one_use tree s.root x.used y.used x.is_use y.is_use in
     one_order goes_before goes_before_orders a b x.in_order y.in_order
@@ -56,11 +58,15 @@ pub no_list : (tree : PackageTree ℕ) (name : List ℕ) (design : DesignParts) 
     → IsDesignIn tree name design → IsFlat tree name parts → AreViolations tree (shown_by tree parts) list → list ≡ []
 no_list tree name design parts list d flat all =
     let same = one_instance tree name d.parts parts d.flat flat in
-    one_list tree (shown_by tree parts) list [] all (subst (λ (p : Parts). AreViolations tree (shown_by tree p) []) same d.nothing_wrong)
+    one_list tree (shown_by tree parts) list [] all
+    (subst (λ (p : Parts). AreViolations tree (shown_by tree p) []) same d.nothing_wrong)
 
 -- ---- the design
-pub one_design : ((tree : PackageTree ℕ) (s : Shown) (a b : DesignParts) → IsDesignOf tree s a → IsDesignOf tree s b → a ≡ b)
-    → (tree : PackageTree ℕ) (name : List ℕ) (a b : DesignParts) → IsDesignIn tree name a → IsDesignIn tree name b → a ≡ b
+pub one_design : ((tree : PackageTree ℕ) (s : Shown) (a b : DesignParts) → IsDesignOf tree s a
+    → IsDesignOf tree s b → a ≡ b)
+    → (tree : PackageTree ℕ) (name : List ℕ) (a b : DesignParts) → IsDesignIn tree name a
+    → IsDesignIn tree name b → a ≡ b
 one_design law tree name a b x y =
     let same = one_instance tree name x.parts y.parts x.flat y.flat in
-    law tree (shown_by tree y.parts) a b (subst (λ (p : Parts). IsDesignOf tree (shown_by tree p) a) same x.design_of) y.design_of
+    law tree (shown_by tree y.parts) a b
+    (subst (λ (p : Parts). IsDesignOf tree (shown_by tree p) a) same x.design_of) y.design_of

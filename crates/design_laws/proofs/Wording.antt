@@ -60,27 +60,34 @@ pub identifier_word : (x : source.Identifier) → IsNamed (identifier_view kept_
 identifier_word x = subst IsTrue (same_words (string_bytes x.spelling)) x.word
 
 -- ---- lists of views
-all_viewed : {A B : Type 0} (P : B → Type 0) (v : A → B) → ((x : A) → P (v x)) → (xs : List A) → AllByRecursion P (map v xs)
+all_viewed : {A B : Type 0} (P : B → Type 0) (v : A → B) → ((x : A) → P (v x)) → (xs : List A)
+    → AllByRecursion P (map v xs)
 all_viewed P v each [] = tt
 all_viewed P v each (x ∷ xs) = (each x, all_viewed P v each xs)
 
-all_flat : {A B C : Type 0} (P : C → Type 0) (v : A → B) (g : B → List C) → ((x : A) → AllByRecursion P (g (v x))) → (xs : List A)
+all_flat : {A B C : Type 0} (P : C → Type 0) (v : A → B) (g : B → List C) → ((x : A) → AllByRecursion P (g (v x)))
+    → (xs : List A)
     → AllByRecursion P (flat_map g (map v xs))
 all_flat P v g each [] = tt
-all_flat P v g each (x ∷ xs) = AllByRecursion-append P (g (v x)) (flat_map g (map v xs)) (each x) (all_flat P v g each xs)
+all_flat P v g each (x ∷ xs) =
+    AllByRecursion-append P (g (v x)) (flat_map g (map v xs)) (each x) (all_flat P v g each xs)
 
-identifiers_words : (x : source_names.Identifiers) → AllByRecursion IsNamed (identifiers (identifiers_view kept_place x))
-identifiers_words x = (identifier_word x.first, all_viewed IsNamed (identifier_view kept_place) identifier_word x.rest.items)
+identifiers_words : (x : source_names.Identifiers)
+    → AllByRecursion IsNamed (identifiers (identifiers_view kept_place x))
+identifiers_words x =
+    (identifier_word x.first, all_viewed IsNamed (identifier_view kept_place) identifier_word x.rest.items)
 
 variables_by : (o : Option (Vec source_variable.VariableDeclaration Global))
     → AllByRecursion IsNamed (flat_map (λ (v : VariableDeclaration ℕ). identifiers v.names)
     (listed_in (option_map (λ xs. map (variable_view kept_place) xs.items) o)))
 variables_by None = tt
-variables_by (Some vs) = all_flat IsNamed (variable_view kept_place) (λ (v : VariableDeclaration ℕ). identifiers v.names)
+variables_by (Some vs) =
+    all_flat IsNamed (variable_view kept_place) (λ (v : VariableDeclaration ℕ). identifiers v.names)
     (λ v. identifiers_words v.names) vs.items
 
 states_by : (o : Option (Vec source_state.StateDeclaration Global)) → AllByRecursion IsNamed
-    (flat_map (λ (s : StateDeclaration ℕ). identifiers s.names) (listed_in (option_map (λ xs. map (state_view kept_place) xs.items) o)))
+    (flat_map (λ (s : StateDeclaration ℕ). identifiers s.names)
+    (listed_in (option_map (λ xs. map (state_view kept_place) xs.items) o)))
 states_by None = tt
 states_by (Some vs) = all_flat IsNamed (state_view kept_place) (λ (s : StateDeclaration ℕ). identifiers s.names)
     (λ s. identifiers_words s.names) vs.items
@@ -88,15 +95,19 @@ states_by (Some vs) = all_flat IsNamed (state_view kept_place) (λ (s : StateDec
 -- ---- the first behaviour of some annexes
 module _ (names : AnnexTree ℕ → List (Identifier ℕ)) (each : (x : source_tree.AnnexTree)
     → AllByRecursion IsNamed (names (annex_tree_view kept_place x))) where
-  content_words : (at : ℕ) (language : Identifier ℕ) (c : source_content.AnnexContent) (rest : List (ℕ × AnnexTree ℕ)) (b : ℕ × AnnexTree ℕ)
+  content_words : (at : ℕ) (language : Identifier ℕ) (c : source_content.AnnexContent) (rest : List (ℕ × AnnexTree ℕ))
+      (b : ℕ × AnnexTree ℕ)
       → (slice_get rest 0 ≡ Some b → AllByRecursion IsNamed (names b.1))
-      → slice_get (cons_option (behaviour_in (record { at = at; language = language; content = content_view kept_place c })) rest) 0 ≡ Some b
+      → slice_get (cons_option
+      (behaviour_in (record { at = at; language = language; content = content_view kept_place c })) rest) 0 ≡ Some b
       → AllByRecursion IsNamed (names b.1)
   content_words at language (contents.Unread bytes) rest b later is = later is
   content_words at language (contents.Behaviour x) rest b later is =
-      subst (λ (o : ℕ × AnnexTree ℕ). AllByRecursion IsNamed (names o.1)) (same_Some (at, annex_tree_view kept_place x) b is) (each x)
+      subst (λ (o : ℕ × AnnexTree ℕ). AllByRecursion IsNamed (names o.1))
+      (same_Some (at, annex_tree_view kept_place x) b is) (each x)
 
-  pub first_words : (xs : List source_annex.Annex) (b : ℕ × AnnexTree ℕ) → slice_get (behaviours (map (annex_view kept_place) xs)) 0 ≡ Some b
+  pub first_words : (xs : List source_annex.Annex) (b : ℕ × AnnexTree ℕ)
+      → slice_get (behaviours (map (annex_view kept_place) xs)) 0 ≡ Some b
       → AllByRecursion IsNamed (names b.1)
   first_words [] b is = absurd (cc is)
   first_words (x ∷ xs) b is = content_words x.at (identifier_view kept_place x.language) x.content
@@ -112,16 +123,20 @@ module _ (P : TypeDeclaration ℕ → Type 0) (each : (x : source_type.TypeDecla
   type_by (declarations.Type y) x e = let same : type_view kept_place y ≡ x = cc e in subst P same (each y)
   type_by (declarations.Implementation y) x e = absurd (cc e)
 
-  of_types : (tree : source_package.PackageTree) (n : ℕ) (x : TypeDeclaration ℕ) → slice_get (placed tree).declarations n ≡ Some (type x) → P x
+  of_types : (tree : source_package.PackageTree) (n : ℕ) (x : TypeDeclaration ℕ)
+      → slice_get (placed tree).declarations n ≡ Some (type x) → P x
   of_types tree n x is =
       let m = mapped_from (declaration_view kept_place) (slice_get tree.declarations.items n) (type x)
       (sym (slice_get-map (declaration_view kept_place) tree.declarations.items n) ∙ is) in
       type_by m.0 x m.1
 
-module _ (P : Implementation ℕ → Type 0) (each : (x : source_implementation.Implementation) → P (implementation_view kept_place x)) where
-  implementation_by : (d : source_declaration.Declaration) (x : Implementation ℕ) → declaration_view kept_place d ≡ implementation x → P x
+module _ (P : Implementation ℕ → Type 0)
+    (each : (x : source_implementation.Implementation) → P (implementation_view kept_place x)) where
+  implementation_by : (d : source_declaration.Declaration) (x : Implementation ℕ)
+      → declaration_view kept_place d ≡ implementation x → P x
   implementation_by (declarations.Type y) x e = absurd (cc e)
-  implementation_by (declarations.Implementation y) x e = let same : implementation_view kept_place y ≡ x = cc e in subst P same (each y)
+  implementation_by (declarations.Implementation y) x e = let same : implementation_view kept_place y ≡ x = cc e in
+      subst P same (each y)
 
   of_implementations : (tree : source_package.PackageTree) (n : ℕ) (x : Implementation ℕ)
       → slice_get (placed tree).declarations n ≡ Some (implementation x) → P x
@@ -135,7 +150,8 @@ PortWords x = All (λ (f : Feature ℕ). IsNamed f.name) x.features
 
 port_words : (x : source_type.TypeDeclaration) → PortWords (type_view kept_place x)
 port_words x =
-    All-from_recursion (λ (f : Feature ℕ). IsNamed f.name) _ (all_viewed (λ (f : Feature ℕ). IsNamed f.name) (feature_view kept_place)
+    All-from_recursion (λ (f : Feature ℕ). IsNamed f.name) _
+    (all_viewed (λ (f : Feature ℕ). IsNamed f.name) (feature_view kept_place)
     (λ f. identifier_word f.name) x.features.items)
 
 abbrev SubWords : Implementation ℕ → Type 0
@@ -160,5 +176,7 @@ have_words tree = record {
   subs = λ n x is. of_implementations SubWords sub_words tree n x is;
   variables = λ n x b is first. of_implementations (AnnexWords variables_of)
       (annex_words variables_of (λ t. variables_by t.variables)) tree n x is b first;
-  states = λ n x b is first. of_implementations (AnnexWords states_of) (annex_words states_of (λ t. states_by t.states)) tree n x is b first;
+  states =
+      λ n x b is first. of_implementations (AnnexWords states_of) (annex_words states_of (λ t. states_by t.states)) tree
+      n x is b first;
 }

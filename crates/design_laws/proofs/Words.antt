@@ -78,7 +78,8 @@ IsWordPart (may extra) = Unit {0}
 record AreWords (parts : List (Part ℕ)) : Type 0 where
   each : AllByRecursion IsWordPart parts
 
-kinds_passed : (ks : List Kind) (ss rest : List Spot) → HaveKinds ks ss rest → AllByRecursion IsWordSpot ss → AllByRecursion IsWordSpot rest
+kinds_passed : (ks : List Kind) (ss rest : List Spot) → HaveKinds ks ss rest → AllByRecursion IsWordSpot ss
+    → AllByRecursion IsWordSpot rest
 kinds_passed [] ss rest have h = subst (AllByRecursion IsWordSpot) have h
 kinds_passed (k ∷ ks) ss rest have h = kinds_passed ks have.1 rest have.4 (subst (AllByRecursion IsWordSpot) have.2 h).1
 
@@ -126,7 +127,8 @@ named x h = subst IsTrue (same_words x.spelling) h.each.0
 all_named : (x : Identifiers ℕ) → AreWords (identifiers_parts x) → AllByRecursion IsNamed (identifiers x)
 all_named x h = (
   named x.first (front (identifier_parts x.first) _ h),
-  each_of (behind k.Comma identifier_parts) IsNamed (λ y g. named y (tail (plain k.Comma) (identifier_parts y) g)) x.rest
+  each_of (behind k.Comma identifier_parts) IsNamed
+      (λ y g. named y (tail (plain k.Comma) (identifier_parts y) g)) x.rest
       (back (identifier_parts x.first) (flat_map (behind k.Comma identifier_parts) x.rest) h),
 )
 
@@ -135,20 +137,24 @@ ports_named x h =
     let ports = flat_map feature_parts x.features in
     let behind_name = back (identifier_parts x.name) _ (tail _ _ h) in
     All-from_recursion (λ (f : Feature ℕ). IsNamed f.name) x.features
-    (each_of feature_parts (λ (f : Feature ℕ). IsNamed f.name) (λ f g. named f.name (front (identifier_parts f.name) _ g)) x.features
+    (each_of feature_parts (λ (f : Feature ℕ). IsNamed f.name)
+    (λ f g. named f.name (front (identifier_parts f.name) _ g)) x.features
     (in_section feature_section ports (front (section_parts feature_section ports) _ behind_name)))
 
 -- ---- the names of an annex
-all_in : {V : Type 0} (g : V → List (Identifier ℕ)) (vs : List V) → AllByRecursion (λ v. AllByRecursion IsNamed (g v)) vs
+all_in : {V : Type 0} (g : V → List (Identifier ℕ)) (vs : List V)
+    → AllByRecursion (λ v. AllByRecursion IsNamed (g v)) vs
     → AllByRecursion IsNamed (flat_map g vs)
 all_in g [] h = tt
 all_in g (v ∷ vs) h = AllByRecursion-append IsNamed (g v) (flat_map g vs) h.0 (all_in g vs h.1)
 
 module _ {V : Type 0} (m : Mark) (f : V → List (Part ℕ)) (g : V → List (Identifier ℕ))
     (from : (v : V) → AreWords (f v) → AllByRecursion IsNamed (g v)) where
-  declared_named : (o : Option (List V)) → AreWords (parts_if (declared_parts m f) o) → AllByRecursion IsNamed (flat_map g (listed_in o))
+  declared_named : (o : Option (List V)) → AreWords (parts_if (declared_parts m f) o)
+      → AllByRecursion IsNamed (flat_map g (listed_in o))
   declared_named None h = tt
-  declared_named (Some vs) h = all_in g vs (each_of f (λ v. AllByRecursion IsNamed (g v)) from vs (tail (plain m) (flat_map f vs) h))
+  declared_named (Some vs) h =
+      all_in g vs (each_of f (λ v. AllByRecursion IsNamed (g v)) from vs (tail (plain m) (flat_map f vs) h))
 
 module _ (x : AnnexTree ℕ) (h : AreWords (annex_tree_parts x)) where
   variables_named : AllByRecursion IsNamed (variables_of x)
@@ -166,7 +172,8 @@ module _ (x : AnnexTree ℕ) (h : AreWords (annex_tree_parts x)) where
 
 -- the first behaviour among annexes
 tree_of : (at : ℕ) (language : Identifier ℕ) (x : AnnexTree ℕ)
-    → AreWords (annex_parts (record { at = at; language = language; content = behaviour x })) → AreWords (annex_tree_parts x)
+    → AreWords (annex_parts (record { at = at; language = language; content = behaviour x }))
+    → AreWords (annex_tree_parts x)
 tree_of at language x h =
     let content = front (content_parts (behaviour x)) _ (back (identifier_parts language) _ (tail _ _ h)) in
     front (annex_tree_parts x) (plain k.AnnexClose ∷ []) (tail (plain k.AnnexOpen) _ content)
@@ -174,15 +181,18 @@ tree_of at language x h =
 first_of : (at : ℕ) (language : Identifier ℕ) (content : AnnexContent ℕ) (xs : List (Annex ℕ)) (b : ℕ × AnnexTree ℕ)
     → (slice_get (behaviours xs) 0 ≡ Some b → AreWords (flat_map annex_parts xs) → AreWords (annex_tree_parts b.1))
     → slice_get (behaviours (record { at = at; language = language; content = content } ∷ xs)) 0 ≡ Some b
-    → AreWords (flat_map annex_parts (record { at = at; language = language; content = content } ∷ xs)) → AreWords (annex_tree_parts b.1)
+    → AreWords (flat_map annex_parts (record { at = at; language = language; content = content } ∷ xs))
+    → AreWords (annex_tree_parts b.1)
 first_of at language (foreign bytes) xs b later is h =
-    later is (back (annex_parts (record { at = at; language = language; content = foreign bytes })) (flat_map annex_parts xs) h)
+    later is (back (annex_parts (record { at = at; language = language; content = foreign bytes }))
+    (flat_map annex_parts xs) h)
 first_of at language (behaviour x) xs b later is h =
     let same : x ≡ b.1 = ap (λ (o : ℕ × AnnexTree ℕ). o.1) (same_Some (at, x) b is) in
     subst (λ y. AreWords (annex_tree_parts y)) same (tree_of at language x
     (front (annex_parts (record { at = at; language = language; content = behaviour x })) (flat_map annex_parts xs) h))
 
-first_tree : (xs : List (Annex ℕ)) (b : ℕ × AnnexTree ℕ) → slice_get (behaviours xs) 0 ≡ Some b → AreWords (flat_map annex_parts xs)
+first_tree : (xs : List (Annex ℕ)) (b : ℕ × AnnexTree ℕ) → slice_get (behaviours xs) 0 ≡ Some b
+    → AreWords (flat_map annex_parts xs)
     → AreWords (annex_tree_parts b.1)
 first_tree [] b is h = absurd (cc is)
 first_tree (x ∷ xs) b is h = first_of x.at x.language x.content xs b (first_tree xs b) is h
@@ -199,7 +209,9 @@ module _ (x : Implementation ℕ) (h : AreWords (implementation_parts x)) where
   properties = section_parts property_section (associations_parts x.properties)
 
   abbrev behind_subs : List (Part ℕ)
-  behind_subs = connections ++ (properties ++ (flat_map annex_parts x.annexes ++ ending_parts (implementation_name_parts x.end_name)))
+  behind_subs =
+      connections ++ (properties
+      ++ (flat_map annex_parts x.annexes ++ ending_parts (implementation_name_parts x.end_name)))
 
   behind_name : AreWords (subs ++ behind_subs)
   behind_name = back (implementation_name_parts x.name) _ (tail _ _ (tail _ _ h))
@@ -207,24 +219,33 @@ module _ (x : Implementation ℕ) (h : AreWords (implementation_parts x)) where
   subs_named : All (λ (s : Subcomponent ℕ). IsNamed s.name) x.subcomponents
   subs_named =
       All-from_recursion (λ (s : Subcomponent ℕ). IsNamed s.name) x.subcomponents
-      (each_of subcomponent_parts (λ (s : Subcomponent ℕ). IsNamed s.name) (λ s g. named s.name (front (identifier_parts s.name) _ g))
-      x.subcomponents (in_section subcomponent_section (flat_map subcomponent_parts x.subcomponents) (front subs behind_subs behind_name)))
+      (each_of subcomponent_parts (λ (s : Subcomponent ℕ). IsNamed s.name)
+      (λ s g. named s.name (front (identifier_parts s.name) _ g))
+      x.subcomponents (in_section subcomponent_section (flat_map subcomponent_parts x.subcomponents)
+      (front subs behind_subs behind_name)))
 
-  first_behaviour : (b : ℕ × AnnexTree ℕ) → slice_get (behaviours x.annexes) 0 ≡ Some b → AreWords (annex_tree_parts b.1)
+  first_behaviour : (b : ℕ × AnnexTree ℕ) → slice_get (behaviours x.annexes) 0 ≡ Some b
+      → AreWords (annex_tree_parts b.1)
   first_behaviour b is =
-      first_tree x.annexes b is (front (flat_map annex_parts x.annexes) _ (back properties _ (back connections _ (back subs behind_subs behind_name))))
+      first_tree x.annexes b is
+      (front (flat_map annex_parts x.annexes) _
+      (back properties _ (back connections _ (back subs behind_subs behind_name))))
 
 -- ---- a package
-declarations_of : (tree : PackageTree ℕ) → AreWords (package_parts tree) → AreWords (flat_map declaration_parts tree.declarations)
+declarations_of : (tree : PackageTree ℕ) → AreWords (package_parts tree)
+    → AreWords (flat_map declaration_parts tree.declarations)
 declarations_of tree h =
-    front (flat_map declaration_parts tree.declarations) _ (back (flat_map with_parts tree.withs) _ (tail (plain k.Public) _
+    front (flat_map declaration_parts tree.declarations) _
+    (back (flat_map with_parts tree.withs) _ (tail (plain k.Public) _
     (back (name_parts tree.name) _ (tail (plain k.Package) _ h))))
 
-one_of : (ds : List (Declaration ℕ)) (n : ℕ) (d : Declaration ℕ) → slice_get ds n ≡ Some d → AreWords (flat_map declaration_parts ds)
+one_of : (ds : List (Declaration ℕ)) (n : ℕ) (d : Declaration ℕ) → slice_get ds n ≡ Some d
+    → AreWords (flat_map declaration_parts ds)
     → AreWords (declaration_parts d)
 one_of [] n d is h = absurd (cc is)
 one_of (c ∷ ds) zero d is h =
-    subst (λ e. AreWords (declaration_parts e)) (same_Some c d is) (front (declaration_parts c) (flat_map declaration_parts ds) h)
+    subst (λ e. AreWords (declaration_parts e)) (same_Some c d is)
+    (front (declaration_parts c) (flat_map declaration_parts ds) h)
 one_of (c ∷ ds) (suc n) d is h = one_of ds n d is (back (declaration_parts c) (flat_map declaration_parts ds) h)
 
 package_words : (tree : PackageTree ℕ) → AreWords (package_parts tree) → HasWords tree
@@ -244,4 +265,7 @@ pub has_words : (text : List ℕ) (tree : PackageTree ℕ) → IsTreeOf text tre
 has_words text tree given =
     let ts = given.tokens in
     let words = recursion_from_All (IsWordAt text) ts (words_of text ts given.lexed) in
-    package_words tree (record { each = written_words (package_parts tree) (spots text ts) [] given.written (spots_words false text ts words) })
+    package_words tree (record {
+      each =
+          written_words (package_parts tree) (spots text ts) [] given.written (spots_words false text ts words);
+    })

@@ -57,7 +57,8 @@ abbrev pub chain_adaptor : PackageTree ℕ → Chain → Option Adaptor
 chain_adaptor tree x = option_and_then given_adaptor (connection_of tree x.carrier)
 
 abbrev pub link_by : Option Adaptor → ChainEnd → ChainEnd → Option Link
-link_by a (Thread s out) (Thread t in_port) = Some (record { source = s; out_port = out; target = t; in_port = in_port; adaptor = a })
+link_by a (Thread s out) (Thread t in_port) =
+    Some (record { source = s; out_port = out; target = t; in_port = in_port; adaptor = a })
 link_by a (Thread s out) (Root name) = None
 link_by a (Root name) to = None
 

@@ -4,13 +4,15 @@ use Rattle.std.proofs.lemmas.List.{take_min, drop_min}
 use Rattle.pals_base.specs.declared.values.PortValue.{PortValue}
 use Rattle.pals_base.specs.Adaptors.{groups}
 
-groups_more : (count i m : ℕ) (rest : List PortValue) → i < count → groups (count - i) m rest ≡ take m rest ∷ groups (count - (i + 1)) m (drop m rest)
+groups_more : (count i m : ℕ) (rest : List PortValue) → i < count
+    → groups (count - i) m rest ≡ take m rest ∷ groups (count - (i + 1)) m (drop m rest)
 groups_more count i m rest below =
     let one_more : count - i ≡ suc (count - (i + 1)) = omega arith in
     ap (λ n. groups n m rest) one_more
 
 -- one group on: what is done, and what the groups that are left give
-pub join_step : (f : List PortValue → PortValue) (all done rest group later : List PortValue) (count i m n : ℕ) → i < count
+pub join_step : (f : List PortValue → PortValue) (all done rest group later : List PortValue)
+    (count i m n : ℕ) → i < count
     → n ≡ min m (length rest) → group ≡ take n rest → later ≡ drop n rest
     → done ++ map f (groups (count - i) m rest) ≡ all
     → (done ++ f group ∷ []) ++ map f (groups (count - (i + 1)) m later) ≡ all

@@ -83,15 +83,18 @@ pub record IsSummed (ports : List PortValue) (i : ℕ) (sum : ℤ) (count : ℕ)
   pub low : neg_ℤ (pos (2 ^ 63 * count)) ≤ℤ sum
   pub high : sum ≤ℤ pos ((2 ^ 63 - 1) * count)
 
-present_more : (ports : List PortValue) (i : ℕ) (port : PortValue) → i < length ports → get_or ports i Absent ≡ port → present (take (i + 1) ports) ≡ present (take i ports) ++ present (port ∷ [])
+present_more : (ports : List PortValue) (i : ℕ) (port : PortValue) → i < length ports → get_or ports i Absent ≡ port
+    → present (take (i + 1) ports) ≡ present (take i ports) ++ present (port ∷ [])
 present_more ports i port below read =
     ap present (take_more ports i Absent below)
     ∙ present-append (take i ports) (get_or ports i Absent ∷ [])
     ∙ ap (λ p. present (take i ports) ++ present (p ∷ [])) read
 
-pub IsSummed-absent : (ports : List PortValue) (i : ℕ) (sum : ℤ) (count : ℕ) → i < length ports → get_or ports i Absent ≡ Absent → IsSummed ports i sum count → IsSummed ports (i + 1) sum count
+pub IsSummed-absent : (ports : List PortValue) (i : ℕ) (sum : ℤ) (count : ℕ) → i < length ports
+    → get_or ports i Absent ≡ Absent → IsSummed ports i sum count → IsSummed ports (i + 1) sum count
 IsSummed-absent ports i sum count below read so_far =
-    let more : present (take (i + 1) ports) ≡ present (take i ports) = present_more ports i Absent below read ∙ append-nil (present (take i ports)) in
+    let more : present (take (i + 1) ports) ≡ present (take i ports) = present_more ports i Absent below read
+    ∙ append-nil (present (take i ports)) in
     record {
       total = so_far.total ∙ ap (fold ◌+ℤ◌ (pos 0)) (sym more);
       counted = so_far.counted ∙ ap length (sym more);
@@ -100,11 +103,16 @@ IsSummed-absent ports i sum count below read so_far =
       high = so_far.high;
     }
 
-pub IsSummed-present : (ports : List PortValue) (i : ℕ) (sum : ℤ) (count : ℕ) (v : ℤ) → i < length ports → get_or ports i Absent ≡ Present v → SFits w64 v → IsSummed ports i sum count → IsSummed ports (i + 1) (sum +ℤ v) (count + 1)
+pub IsSummed-present : (ports : List PortValue) (i : ℕ) (sum : ℤ) (count : ℕ) (v : ℤ) → i < length ports
+    → get_or ports i Absent ≡ Present v → SFits w64 v → IsSummed ports i sum count
+    → IsSummed ports (i + 1) (sum +ℤ v) (count + 1)
 IsSummed-present ports i sum count v below read fits so_far =
-    let more : present (take (i + 1) ports) ≡ present (take i ports) ++ v ∷ [] = present_more ports i (Present v) below read in
+    let more : present (take (i + 1) ports) ≡ present (take i ports) ++ v ∷ [] =
+    present_more ports i (Present v) below read in
     record {
-      total = ap (λ s. s +ℤ v) so_far.total ∙ sym (fold_push ◌+ℤ◌ (pos 0) (present (take i ports)) v) ∙ ap (fold ◌+ℤ◌ (pos 0)) (sym more);
+      total =
+          ap (λ s. s +ℤ v) so_far.total ∙ sym (fold_push ◌+ℤ◌ (pos 0) (present (take i ports)) v)
+          ∙ ap (fold ◌+ℤ◌ (pos 0)) (sym more);
       counted = ap (λ n. n + 1) so_far.counted ∙ sym (length_push (present (take i ports)) v) ∙ ap length (sym more);
       few = omega arith;
       low = omega (arith, ints);

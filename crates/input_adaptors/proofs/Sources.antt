@@ -24,10 +24,14 @@ itself_from : (tuple : List PortValue) (port : PortValue) → Contains tuple por
 itself_from tuple port among v e = subst (Contains tuple) e among
 
 -- ---- to a higher rate
-All-placed : (tuple : List PortValue) (n m : ℕ) (port : PortValue) → IsFrom tuple port → All (IsFrom tuple) (slice_set (replicate m Absent) (n - 1) port)
-All-placed tuple n m port from = All-set (IsFrom tuple) (replicate m Absent) (n - 1) port from (All-replicate (IsFrom tuple) m Absent (absent_from tuple))
+All-placed : (tuple : List PortValue) (n m : ℕ) (port : PortValue) → IsFrom tuple port
+    → All (IsFrom tuple) (slice_set (replicate m Absent) (n - 1) port)
+All-placed tuple n m port from =
+    All-set (IsFrom tuple) (replicate m Absent) (n - 1) port from
+    (All-replicate (IsFrom tuple) m Absent (absent_from tuple))
 
-All-spread : (tuple : List PortValue) (a : Adaptor) (m : ℕ) (port : PortValue) → IsFrom tuple port → All (IsFrom tuple) (spread a m port)
+All-spread : (tuple : List PortValue) (a : Adaptor) (m : ℕ) (port : PortValue) → IsFrom tuple port
+    → All (IsFrom tuple) (spread a m port)
 All-spread tuple Repeat m port from = All-replicate (IsFrom tuple) m port from
 All-spread tuple First m port from = All-placed tuple 1 m port from
 All-spread tuple Last m port from = All-placed tuple m m port from
@@ -37,10 +41,12 @@ All-spread tuple Max m port from = All-replicate (IsFrom tuple) m Absent (absent
 All-spread tuple Min m port from = All-replicate (IsFrom tuple) m Absent (absent_from tuple)
 All-spread tuple Average m port from = All-replicate (IsFrom tuple) m Absent (absent_from tuple)
 
-All-spread_all : (tuple : List PortValue) (a : Adaptor) (m : ℕ) (ports : List PortValue) → ((port : PortValue) → Contains ports port → IsFrom tuple port) → All (IsFrom tuple) (flat_map (spread a m) ports)
+All-spread_all : (tuple : List PortValue) (a : Adaptor) (m : ℕ) (ports : List PortValue)
+    → ((port : PortValue) → Contains ports port → IsFrom tuple port) → All (IsFrom tuple) (flat_map (spread a m) ports)
 All-spread_all tuple a m [] from = All-nil (IsFrom tuple)
 All-spread_all tuple a m (port ∷ ports) from =
-    All-append (IsFrom tuple) (spread a m port) (flat_map (spread a m) ports) (All-spread tuple a m port (from port (Contains-head port ports)))
+    All-append (IsFrom tuple) (spread a m port) (flat_map (spread a m) ports)
+    (All-spread tuple a m port (from port (Contains-head port ports)))
     (All-spread_all tuple a m ports (λ x among. from x (Contains-tail port x ports among)))
 
 -- ---- to a lower rate
@@ -55,11 +61,13 @@ Contains-latest : (w : ℤ) (ws : List ℤ) → Contains (w ∷ ws) (latest_of w
 Contains-latest w [] = Contains-head w []
 Contains-latest w (x ∷ ws) = Contains-tail w (latest_of x ws) (x ∷ ws) (Contains-latest x ws)
 
-latest_from : (group : List PortValue) (numbers : List ℤ) → present group ≡ numbers → IsFrom group (of_present latest_of numbers)
+latest_from : (group : List PortValue) (numbers : List ℤ) → present group ≡ numbers
+    → IsFrom group (of_present latest_of numbers)
 latest_from group [] same v e = cc
 latest_from group (w ∷ ws) same v e =
     let is : latest_of w ws ≡ v = cc in
-    Contains-from_present group v (subst (λ vs. Contains vs v) (sym same) (subst (Contains (w ∷ ws)) is (Contains-latest w ws)))
+    Contains-from_present group v
+    (subst (λ vs. Contains vs v) (sym same) (subst (Contains (w ∷ ws)) is (Contains-latest w ws)))
 
 joined_from : (a : Adaptor) (group : List PortValue) → a ≢ Average → IsFrom group (joined a group)
 joined_from Repeat group other = absent_from group
@@ -75,25 +83,36 @@ joined_from Average group other = absurd (other refl)
 abbrev IsPartOf : List PortValue → List PortValue → Type 0
 IsPartOf tuple group = All (Contains tuple) group
 
-All-part : (tuple : List PortValue) (count m : ℕ) (rest : List PortValue) → IsPartOf tuple rest → All (IsPartOf tuple) (groups count m rest)
+All-part : (tuple : List PortValue) (count m : ℕ) (rest : List PortValue) → IsPartOf tuple rest
+    → All (IsPartOf tuple) (groups count m rest)
 All-part tuple zero m rest part = All-nil (IsPartOf tuple)
 All-part tuple (suc count) m rest part =
-    All-cons (IsPartOf tuple) (take m rest) (groups count m (drop m rest)) (All-take (Contains tuple) m rest part) (All-part tuple count m (drop m rest) (All-drop (Contains tuple) m rest part))
+    All-cons (IsPartOf tuple) (take m rest) (groups count m (drop m rest)) (All-take (Contains tuple) m rest part)
+    (All-part tuple count m (drop m rest) (All-drop (Contains tuple) m rest part))
 
-All-joined : (tuple : List PortValue) (a : Adaptor) (count m : ℕ) → a ≢ Average → All (IsFrom tuple) (map (joined a) (groups count m tuple))
+All-joined : (tuple : List PortValue) (a : Adaptor) (count m : ℕ) → a ≢ Average
+    → All (IsFrom tuple) (map (joined a) (groups count m tuple))
 All-joined tuple a count m other =
     All-map (IsFrom tuple) (joined a) (groups count m tuple)
-    (All-weaker (IsPartOf tuple) (λ group. IsFrom tuple (joined a group)) (λ group part v e. All-contains (Contains tuple) group (Present v) part (joined_from a group other v e)) (groups count m tuple)
+    (All-weaker (IsPartOf tuple) (λ group. IsFrom tuple (joined a group))
+    (λ group part v e. All-contains (Contains tuple) group (Present v) part (joined_from a group other v e))
+    (groups count m tuple)
     (All-part tuple count m tuple (All-contains_itself tuple)))
 
 -- ---- the whole
-All-adapt : (adaptor : Option Adaptor) (p q : ℕ) (tuple : List PortValue) → adaptor ≢ Some Average → All (IsFrom tuple) (adapt adaptor p q tuple)
-All-adapt None p q tuple other = All-weaker (Contains tuple) (IsFrom tuple) (itself_from tuple) tuple (All-contains_itself tuple)
+All-adapt : (adaptor : Option Adaptor) (p q : ℕ) (tuple : List PortValue) → adaptor ≢ Some Average
+    → All (IsFrom tuple) (adapt adaptor p q tuple)
+All-adapt None p q tuple other =
+    All-weaker (Contains tuple) (IsFrom tuple) (itself_from tuple) tuple (All-contains_itself tuple)
 All-adapt (Some a) p q tuple other =
     elim (cases_lt p q) [
-      | inl below ↦ subst (All (IsFrom tuple)) (sym (adapt-faster a p q tuple below)) (All-spread_all tuple a (q / p) tuple (itself_from tuple))
-      | inr above ↦ subst (All (IsFrom tuple)) (sym (adapt-slower a p q tuple above)) (All-joined tuple a q (p / q) (λ e. other (ap Some e)))
+      | inl below ↦ subst (All (IsFrom tuple)) (sym (adapt-faster a p q tuple below))
+          (All-spread_all tuple a (q / p) tuple (itself_from tuple))
+      | inr above ↦ subst (All (IsFrom tuple)) (sym (adapt-slower a p q tuple above))
+          (All-joined tuple a q (p / q) (λ e. other (ap Some e)))
     ]
 
-pub Contains-adapt : (adaptor : Option Adaptor) (p q : ℕ) (tuple : List PortValue) (v : ℤ) → adaptor ≢ Some Average → Contains (adapt adaptor p q tuple) (Present v) → Contains tuple (Present v)
-Contains-adapt adaptor p q tuple v other among = All-contains (IsFrom tuple) (adapt adaptor p q tuple) (Present v) (All-adapt adaptor p q tuple other) among v refl
+pub Contains-adapt : (adaptor : Option Adaptor) (p q : ℕ) (tuple : List PortValue) (v : ℤ) → adaptor ≢ Some Average
+    → Contains (adapt adaptor p q tuple) (Present v) → Contains tuple (Present v)
+Contains-adapt adaptor p q tuple v other among =
+    All-contains (IsFrom tuple) (adapt adaptor p q tuple) (Present v) (All-adapt adaptor p q tuple other) among v refl

@@ -18,14 +18,17 @@ use Rattle.input_adaptors.proofs.Rates.{adapt-faster, length-spread, length-spre
 placed_there : (n m j : ℕ) (v : PortValue) → j < m → j + 1 ≡ n → slice_index_or (placed n m v) j Absent ≡ v
 placed_there n m j v below here =
     let e : n - 1 ≡ j = omega arith in
-    ap (λ k. slice_index_or (slice_set (replicate m Absent) k v) j Absent) e ∙ get_or-set_same (replicate m Absent) j v Absent (omega (arith, length-replicate m Absent))
+    ap (λ k. slice_index_or (slice_set (replicate m Absent) k v) j Absent) e
+    ∙ get_or-set_same (replicate m Absent) j v Absent (omega (arith, length-replicate m Absent))
 
-placed_absent : (n m j : ℕ) (v : PortValue) → 1 ≤ n → j < m → (j + 1 ≢ n) → slice_index_or (placed n m v) j Absent ≡ Absent
+placed_absent : (n m j : ℕ) (v : PortValue) → 1 ≤ n → j < m → (j + 1 ≢ n)
+    → slice_index_or (placed n m v) j Absent ≡ Absent
 placed_absent n m j v some below elsewhere =
     let e : j ≢ n - 1 = omega arith in
     get_or-set_other (replicate m Absent) (n - 1) j v Absent e ∙ get_or-replicate m j Absent Absent below
 
-spread_there : (a : Adaptor) (m j : ℕ) (v : PortValue) → j < m → TakesPlace a m j → slice_index_or (spread a m v) j Absent ≡ v
+spread_there : (a : Adaptor) (m j : ℕ) (v : PortValue) → j < m → TakesPlace a m j
+    → slice_index_or (spread a m v) j Absent ≡ v
 spread_there Repeat m j v below here = get_or-replicate m j v Absent below
 spread_there First m j v below here = placed_there 1 m j v below (omega arith)
 spread_there Last m j v below here = placed_there m m j v below here
@@ -39,11 +42,13 @@ first_of_both : (a b : Bool) → IsTrue (a && b) → IsTrue a
 first_of_both true b both = refl
 first_of_both false b both = both
 
-spread_absent : (a : Adaptor) (m j : ℕ) (v : PortValue) → IsTrue (may_spread a m) → j < m → ¬ TakesPlace a m j → slice_index_or (spread a m v) j Absent ≡ Absent
+spread_absent : (a : Adaptor) (m j : ℕ) (v : PortValue) → IsTrue (may_spread a m) → j < m → ¬ TakesPlace a m j
+    → slice_index_or (spread a m v) j Absent ≡ Absent
 spread_absent Repeat m j v can below elsewhere = absurd (elsewhere tt)
 spread_absent First m j v can below elsewhere = placed_absent 1 m j v (omega arith) below (λ e. elsewhere (omega arith))
 spread_absent Last m j v can below elsewhere = placed_absent m m j v (omega arith) below elsewhere
-spread_absent (At n) m j v can below elsewhere = placed_absent n m j v (leb-true 1 n (first_of_both (nat_le 1 n) (nat_le n m) can)) below elsewhere
+spread_absent (At n) m j v can below elsewhere =
+    placed_absent n m j v (leb-true 1 n (first_of_both (nat_le 1 n) (nat_le n m) can)) below elsewhere
 spread_absent Latest m j v can below elsewhere = cc
 spread_absent Max m j v can below elsewhere = cc
 spread_absent Min m j v can below elsewhere = cc
@@ -75,7 +80,8 @@ spread_silent Average m j = replicate_silent m j
 
 -- ---- all values
 at_spread : (a : Adaptor) (m i j : ℕ) (tuple : List PortValue) → j < m
-    → slice_index_or (flat_map (spread a m) tuple) (i * m + j) Absent ≡ slice_index_or (spread a m (slice_index_or tuple i Absent)) j Absent
+    → slice_index_or (flat_map (spread a m) tuple) (i * m + j) Absent
+    ≡ slice_index_or (spread a m (slice_index_or tuple i Absent)) j Absent
 at_spread a m i j [] below = sym (spread_silent a m j)
 at_spread a m zero j (v ∷ tuple) below =
     let e : 0 * m + j ≡ j = omega arith in
@@ -83,33 +89,41 @@ at_spread a m zero j (v ∷ tuple) below =
     ∙ get_or_append_left (spread a m v) (flat_map (spread a m) tuple) Absent j (omega (arith, length-spread a m v))
 at_spread a m (suc i) j (v ∷ tuple) below =
     let e : suc i * m + j - m ≡ i * m + j = omega arith in
-    get_or-append_right (spread a m v) (flat_map (spread a m) tuple) m (suc i * m + j) Absent (length-spread a m v) (omega arith)
+    get_or-append_right (spread a m v) (flat_map (spread a m) tuple) m (suc i * m + j) Absent (length-spread a m v)
+    (omega arith)
     ∙ ap (λ k. slice_index_or (flat_map (spread a m) tuple) k Absent) e
     ∙ at_spread a m i j tuple below
 
 slice_get-spread : (a : Adaptor) (m i j : ℕ) (tuple : List PortValue) → i < length tuple → j < m
-    → slice_get (flat_map (spread a m) tuple) (i * m + j) ≡ Some (slice_index_or (spread a m (slice_index_or tuple i Absent)) j Absent)
+    → slice_get (flat_map (spread a m) tuple) (i * m + j)
+    ≡ Some (slice_index_or (spread a m (slice_index_or tuple i Absent)) j Absent)
 slice_get-spread a m i j tuple within below =
     let here : i * m + j < m * length tuple = mul-add-lt i m j (length tuple) within below in
-    slice_get-get_or (flat_map (spread a m) tuple) (i * m + j) Absent (omega (arith, length-spread_all a m tuple)) ∙ ap Some (at_spread a m i j tuple below)
+    slice_get-get_or (flat_map (spread a m) tuple) (i * m + j) Absent (omega (arith, length-spread_all a m tuple))
+    ∙ ap Some (at_spread a m i j tuple below)
 
 -- a place of all values over m places each
 pub spread-place : (a : Adaptor) (m step : ℕ) (tuple : List PortValue) → 0 < m
-    → slice_index_or (flat_map (spread a m) tuple) step Absent ≡ slice_index_or (spread a m (slice_index_or tuple (step / m) Absent)) (step % m) Absent
+    → slice_index_or (flat_map (spread a m) tuple) step Absent
+    ≡ slice_index_or (spread a m (slice_index_or tuple (step / m) Absent)) (step % m) Absent
 spread-place a m step tuple some =
     let e : step ≡ step / m * m + step % m = omega (arith, div-add-mod step m) in
-    ap (λ k. slice_index_or (flat_map (spread a m) tuple) k Absent) e ∙ at_spread a m (step / m) (step % m) tuple (mod-lt step some)
+    ap (λ k. slice_index_or (flat_map (spread a m) tuple) k Absent) e
+    ∙ at_spread a m (step / m) (step % m) tuple (mod-lt step some)
 
-pub spread-none : (a : Adaptor) (m step : ℕ) (tuple : List PortValue) → m ≡ 0 → slice_index_or (flat_map (spread a m) tuple) step Absent ≡ Absent
+pub spread-none : (a : Adaptor) (m step : ℕ) (tuple : List PortValue) → m ≡ 0
+    → slice_index_or (flat_map (spread a m) tuple) step Absent ≡ Absent
 spread-none a m step tuple none =
     let e : length tuple * m ≡ 0 = ap (λ n. length tuple * n) none ∙ omega arith in
     get_or_past (flat_map (spread a m) tuple) step Absent (omega (arith, length-spread_all a m tuple))
 
 may_spread-allowed : (a : Adaptor) (p q : ℕ) → p < q → IsTrue (is_allowed (Some a) p q) → IsTrue (may_spread a (q / p))
 may_spread-allowed a p q below allowed =
-    subst (λ b. IsTrue (if b then may_spread a (q / p) else nat_lt q p && may_join a (p / q))) (lt-ltb p q below) allowed
+    subst (λ b. IsTrue (if b then may_spread a (q / p) else nat_lt q p && may_join a (p / q)))
+    (lt-ltb p q below) allowed
 
-pub slice_get-there : (a : Adaptor) (p q i j : ℕ) (tuple : List PortValue) → p < q → IsTrue (is_allowed (Some a) p q) → length tuple ≡ p → i < p → j < q / p → TakesPlace a (q / p) j
+pub slice_get-there : (a : Adaptor) (p q i j : ℕ) (tuple : List PortValue) → p < q → IsTrue (is_allowed (Some a) p q)
+    → length tuple ≡ p → i < p → j < q / p → TakesPlace a (q / p) j
     → slice_get (adapt (Some a) p q tuple) (i * (q / p) + j) ≡ slice_get tuple i
 slice_get-there a p q i j tuple higher allowed size within below here =
     let inside : i < length tuple = omega arith in
@@ -118,10 +132,12 @@ slice_get-there a p q i j tuple higher allowed size within below here =
     ∙ ap Some (spread_there a (q / p) j (slice_index_or tuple i Absent) below here)
     ∙ sym (slice_get-get_or tuple i Absent inside)
 
-pub slice_get-absent : (a : Adaptor) (p q i j : ℕ) (tuple : List PortValue) → p < q → IsTrue (is_allowed (Some a) p q) → length tuple ≡ p → i < p → j < q / p → ¬ TakesPlace a (q / p) j
+pub slice_get-absent : (a : Adaptor) (p q i j : ℕ) (tuple : List PortValue) → p < q → IsTrue (is_allowed (Some a) p q)
+    → length tuple ≡ p → i < p → j < q / p → ¬ TakesPlace a (q / p) j
     → slice_get (adapt (Some a) p q tuple) (i * (q / p) + j) ≡ Some Absent
 slice_get-absent a p q i j tuple higher allowed size within below elsewhere =
     let inside : i < length tuple = omega arith in
     ap (λ places. slice_get places (i * (q / p) + j)) (adapt-faster a p q tuple higher)
     ∙ slice_get-spread a (q / p) i j tuple inside below
-    ∙ ap Some (spread_absent a (q / p) j (slice_index_or tuple i Absent) (may_spread-allowed a p q higher allowed) below elsewhere)
+    ∙ ap Some (spread_absent a (q / p) j (slice_index_or tuple i Absent) (may_spread-allowed a p q higher allowed)
+    below elsewhere)

@@ -35,7 +35,12 @@ pub fn spread_place(adaptor: Adaptor, m: u32, values: &[PortValue], step: usize)
 }
 
 // Adds the `m` places of one value.
-fn push_spread(tuple: &mut Tuple, adaptor: Adaptor, m: u32, value: PortValue) -> Result<(), NoMemory>
+fn push_spread(
+    tuple: &mut Tuple,
+    adaptor: Adaptor,
+    m: u32,
+    value: PortValue,
+) -> Result<(), NoMemory>
     ensures { OnOk result (tuple.new ≡ tuple.old ++ spread adaptor m value) }
 {
     for place in 0..m {

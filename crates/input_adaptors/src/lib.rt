@@ -38,7 +38,13 @@ pub fn adapt(
 
 /// Place `step`, from 0, of what `adapt` gives. It takes no memory, so that a step can read its
 /// inputs in the tuples themselves.
-pub fn adapted_place(adaptor: Option<Adaptor>, p: u32, q: u32, tuple: &[PortValue], step: usize) -> PortValue
+pub fn adapted_place(
+    adaptor: Option<Adaptor>,
+    p: u32,
+    q: u32,
+    tuple: &[PortValue],
+    step: usize,
+) -> PortValue
     requires { step < q }
     ensures { result ≡ slice_index_or (adapt adaptor p q tuple.now) step Absent }
 {

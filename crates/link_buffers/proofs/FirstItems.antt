@@ -26,18 +26,22 @@ module _ {X : Type 0} (p : X → Bool) where
   pub find_none : (xs : List X) → position p xs ≡ None → find p xs ≡ None
   find_none xs at = find_at p xs ∙ slice_get_past xs (position_or_len p xs) (no_place xs at)
 
-  pub without_some : (xs : List X) (n : ℕ) → position p xs ≡ Some n → before_first p xs ++ after_first p xs ≡ remove xs n
+  pub without_some : (xs : List X) (n : ℕ) → position p xs ≡ Some n
+      → before_first p xs ++ after_first p xs ≡ remove xs n
   without_some xs n at = rw ((first_place xs n at).0, add-one) refl
 
   pub without_none : (xs : List X) → position p xs ≡ None → before_first p xs ++ after_first p xs ≡ xs
   without_none xs at = let past : length xs ≤ position_or_len p xs = no_place xs at in grind (arith, common_steps)
 
   -- without the first that passes, where its place is known
-  pub without_at : (xs : List X) (n : ℕ) (d : X) → n < length xs → ((k : ℕ) → k < n → p (get_or xs k d) ≡ false) → p (get_or xs n d) ≡ true → before_first p xs ++ after_first p xs ≡ remove xs n
+  pub without_at : (xs : List X) (n : ℕ) (d : X) → n < length xs → ((k : ℕ) → k < n → p (get_or xs k d) ≡ false)
+      → p (get_or xs n d) ≡ true → before_first p xs ++ after_first p xs ≡ remove xs n
   without_at xs n d within before at = rw (position_or_len_is p xs n d (omega arith) before (λ _. at), add-one) refl
 
   -- where none passes
-  pub without_any : (xs : List X) (d : X) → ((k : ℕ) → k < length xs → p (get_or xs k d) ≡ false) → before_first p xs ++ after_first p xs ≡ xs
+  pub without_any : (xs : List X) (d : X) → ((k : ℕ) → k < length xs → p (get_or xs k d) ≡ false)
+      → before_first p xs ++ after_first p xs ≡ xs
   without_any xs d none =
-      let past : position_or_len p xs ≡ length xs = position_or_len_is p xs (length xs) d (omega arith) none (λ lt. absurd (omega arith)) in
+      let past : position_or_len p xs ≡ length xs =
+      position_or_len_is p xs (length xs) d (omega arith) none (λ lt. absurd (omega arith)) in
       grind (arith, common_steps)

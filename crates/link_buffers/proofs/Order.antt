@@ -30,10 +30,13 @@ entry x y z = record { due = x; link = record { 0 = y }; round = z }
 
 same_entry : (a b : DueEntry) → a.due ≡ b.due → a.link.0 ≡ b.link.0 → a.round ≡ b.round → a ≡ b
 same_entry a b due link round =
-    ap (λ x. entry x a.link.0 a.round) due ∙ (ap (λ y. entry b.due y a.round) link ∙ ap (λ z. entry b.due b.link.0 z) round)
+    ap (λ x. entry x a.link.0 a.round) due
+    ∙ (ap (λ y. entry b.due y a.round) link ∙ ap (λ z. entry b.due b.link.0 z) round)
 
 pub entry_from_test : (a b : DueEntry) → is_entry a b ≡ true → a ≡ b
-entry_from_test a b same = same_entry a b (grind (arith, nat_tests)) (grind (arith, nat_tests)) (grind (arith, nat_tests))
+entry_from_test a b same =
+    same_entry a b (grind (arith, nat_tests)) (grind (arith, nat_tests)) (grind (arith, nat_tests))
 
 pub same_from_neither : (a b : DueEntry) → comes_before a b ≡ false → comes_before b a ≡ false → a ≡ b
-same_from_neither a b first second = same_entry a b (grind (arith, nat_tests)) (grind (arith, nat_tests)) (grind (arith, nat_tests))
+same_from_neither a b first second =
+    same_entry a b (grind (arith, nat_tests)) (grind (arith, nat_tests)) (grind (arith, nat_tests))

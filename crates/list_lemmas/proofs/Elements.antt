@@ -56,7 +56,8 @@ pub list_any_by_element : {X : Type 0} (p : X → Bool) (xs : List X) (x : X) �
 list_any_by_element p xs x there passes = list_any_at p xs there.0 x there.1 (ap p there.2 ∙ passes)
 
 pub list_any_by_number : (xs : List ℕ) (n : ℕ) → Contains xs n → list_any (nat_eq n) xs ≡ true
-list_any_by_number xs n there = list_any_at (nat_eq n) xs there.0 n there.1 (eq-eqb n (get_or xs there.0 n) (sym there.2))
+list_any_by_number xs n there =
+    list_any_at (nat_eq n) xs there.0 n there.1 (eq-eqb n (get_or xs there.0 n) (sym there.2))
 
 pub list_any-map : {X Y : Type 0} (p : Y → Bool) (f : X → Y) (xs : List X)
     → list_any p (map f xs) ≡ list_any (λ x. p (f x)) xs
@@ -68,7 +69,8 @@ list_all_kept : {A : Type 0} (p : A → Bool) (kept : Bool) (x : A) (xs : List A
 list_all_kept p true x xs here all = ap (λ b. b && list_all p xs) here ∙ all
 list_all_kept p false x xs here all = all
 
-pub list_all-filter : {A : Type 0} (p q : A → Bool) (xs : List A) → list_all p xs ≡ true → list_all p (filter q xs) ≡ true
+pub list_all-filter : {A : Type 0} (p q : A → Bool) (xs : List A) → list_all p xs ≡ true
+    → list_all p (filter q xs) ≡ true
 list_all-filter p q [] all = refl
 list_all-filter p q (x ∷ xs) all =
     let both = and_parts (p x) (list_all p xs) all in

@@ -56,7 +56,8 @@ one_more : (node : ℕ) (o : Option ℕ) (later : List ℕ)
     → sends_of node (with_sender o later) ≡ cond (option_map_or (λ j. nat_eq j node) o false) 1 0 + sends_of node later
 one_more node None later = sym (zero-add _)
 one_more node (Some j) later =
-    sum_by-cons (λ x. cond (nat_eq node x) 1 0) j later ∙ ap (λ b. cond b 1 0 + sends_of node later) (nat_eq-swapped node j)
+    sum_by-cons (λ x. cond (nat_eq node x) 1 0) j later
+    ∙ ap (λ b. cond b 1 0 + sends_of node later) (nat_eq-swapped node j)
 
 -- ---- counts of all
 joined : (a b c x y z : ℕ) → b ≡ a + x → c ≡ b + y → z ≡ x + y → c ≡ a + z

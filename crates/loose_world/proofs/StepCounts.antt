@@ -220,8 +220,10 @@ counts_after run s (Step node reading) k agree may = counts_step run s node (nod
 counts_after run s (Finish node) k agree may = counts_finish run s node (node_at s node.0).phase k agree refl may
 counts_after run s (Send node reading) k agree may = counts_send run s node reading k agree may
 counts_after run s (Arrive link round reading) k agree may = counts_arrive run s link round reading k
-counts_after run s (Drop link round) k agree may = record { steps = add_zero_from _ _ refl; sends = add_zero_from _ _ refl }
-counts_after run s (Repeat link round) k agree may = record { steps = add_zero_from _ _ refl; sends = add_zero_from _ _ refl }
+counts_after run s (Drop link round) k agree may =
+    record { steps = add_zero_from _ _ refl; sends = add_zero_from _ _ refl }
+counts_after run s (Repeat link round) k agree may =
+    record { steps = add_zero_from _ _ refl; sends = add_zero_from _ _ refl }
 
 pub step_counts : (run : Run) (s t : BusState) (e : BusEvent) (node : ℕ) → IsRunOf run → Agrees run s → IsStep run s e t
     → IsCounted run s (event_of e) t node

@@ -19,7 +19,8 @@ kept_by : (ks : List ℕ) (k n : ℕ) (same : Bool) → nat_eq n k ≡ same → 
 kept_by ks k n true e there = let found : has ks n ≡ true = ap (has ks) (eqb-true n k e) ∙ there in rw found refl
 kept_by ks k n false e there = sym (or-false (has ks n))
 
-inserted_by : (ks : List ℕ) (k n : ℕ) (there : Bool) → has ks k ≡ there → has (cond there ks (ks ++ k ∷ [])) n ≡ (has ks n || nat_eq n k)
+inserted_by : (ks : List ℕ) (k n : ℕ) (there : Bool) → has ks k ≡ there
+    → has (cond there ks (ks ++ k ∷ [])) n ≡ (has ks n || nat_eq n k)
 inserted_by ks k n true h = kept_by ks k n (nat_eq n k) refl h
 inserted_by ks k n false h = list_any-append (nat_eq n) ks (k ∷ []) ∙ ap (λ b. has ks n || b) (or-false (nat_eq n k))
 
@@ -34,14 +35,23 @@ pub or_tested : (a b c d : Bool) → b ≡ true → d ≡ (a || c) → d ≡ (a 
 or_tested a b c d passes is = is ∙ sym (ap (λ t. a || (t && c)) passes)
 
 -- what one more of numbered things, looked up by its number, adds to a test of them
-pub one_more_passes : {A : Type 0} (p : ℕ × A → Bool) (g : Option A → Bool) (xs : List A) (i : ℕ) (old new : Bool) → ((x : A) → g (Some x) ≡ p (i, x)) → i < length xs
-    → old ≡ list_any p (enumerate_from 0 (take i xs)) → new ≡ (old || g (slice_get xs i)) → new ≡ list_any p (enumerate_from 0 (take (i + 1) xs))
+pub one_more_passes : {A : Type 0} (p : ℕ × A → Bool) (g : Option A → Bool) (xs : List A) (i : ℕ) (old new : Bool)
+    → ((x : A) → g (Some x) ≡ p (i, x)) → i < length xs
+    → old ≡ list_any p (enumerate_from 0 (take i xs)) → new ≡ (old || g (slice_get xs i))
+    → new ≡ list_any p (enumerate_from 0 (take (i + 1) xs))
 one_more_passes p g xs i old new same within before added =
     let at = standing_at xs i within in
     let front = enumerate_from 0 (take i xs) in
-    added ∙ ap (λ b. b || g (slice_get xs i)) before ∙ ap (λ b. list_any p front || b) (ap g at.there ∙ same at.value ∙ sym (or-false (p (i, at.value))))
-    ∙ sym (list_any-append p front ((i, at.value) ∷ [])) ∙ ap (list_any p) (sym (next_numbered xs i at.value within at.is))
+    added ∙ ap (λ b. b || g (slice_get xs i)) before
+    ∙ ap (λ b. list_any p front || b) (ap g at.there ∙ same at.value ∙ sym (or-false (p (i, at.value))))
+    ∙ sym (list_any-append p front ((i, at.value) ∷ []))
+    ∙ ap (list_any p) (sym (next_numbered xs i at.value within at.is))
 
 -- ---- where the numbers are those in use, the test for them is the test for what is in use
-pub is_use : (tree : PackageTree ℕ) (root : ℕ) (ks : List ℕ) → ((n : ℕ) → Contains ks n ↔ IsInUse tree root n) → IsUse tree root (has ks)
-is_use tree root ks told = λ n. ((λ h. (told n).0 (Contains-from_any eqb-true n ks h)), (λ u. list_any-from_Contains nat_eq_equiv n ks ((told n).1 u)))
+pub is_use : (tree : PackageTree ℕ) (root : ℕ) (ks : List ℕ) → ((n : ℕ) → Contains ks n ↔ IsInUse tree root n)
+    → IsUse tree root (has ks)
+is_use tree root ks told =
+    λ n. (
+      (λ h. (told n).0 (Contains-from_any eqb-true n ks h)),
+      (λ u. list_any-from_Contains nat_eq_equiv n ks ((told n).1 u)),
+    )

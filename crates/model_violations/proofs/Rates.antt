@@ -30,30 +30,36 @@ rate_bounds (Some t) None k is = absurd (cc is)
 rate_bounds (Some t) (Some p) k is = bounded t p k (passed_by (is_rate t p) (t / p) k is)
 
 -- ---- the rates of threads
-rate_at : (tree : PackageTree ℕ) (root : ℕ) (o : Option ThreadAt) (k : ℕ) → option_map (thread_rate tree root) o ≡ Some (Some k) → 0 < k
+rate_at : (tree : PackageTree ℕ) (root : ℕ) (o : Option ThreadAt) (k : ℕ)
+    → option_map (thread_rate tree root) o ≡ Some (Some k) → 0 < k
 rate_at tree root None k is = absurd (cc is)
 rate_at tree root (Some thread) k is =
     let e : thread_rate tree root thread ≡ Some k = cc in
     let b = rate_bounds (root_period tree root) (own_period tree root thread.subs) k e in
     omega (arith, b.0)
 
-pub rates_positive : (tree : PackageTree ℕ) (root : ℕ) (threads : List ThreadAt) (rates : List (Option ℕ)) → rates ≡ map (thread_rate tree root) threads
+pub rates_positive : (tree : PackageTree ℕ) (root : ℕ) (threads : List ThreadAt) (rates : List (Option ℕ))
+    → rates ≡ map (thread_rate tree root) threads
     → (n k : ℕ) → slice_get rates n ≡ Some (Some k) → 0 < k
 rates_positive tree root threads rates are n k is =
-    rate_at tree root (slice_get threads n) k (sym (slice_get-map (thread_rate tree root) threads n) ∙ ap (λ l. slice_get l n) (sym are) ∙ is)
+    rate_at tree root (slice_get threads n) k
+    (sym (slice_get-map (thread_rate tree root) threads n) ∙ ap (λ l. slice_get l n) (sym are) ∙ is)
 
 -- ---- the greatest
 raised_within : (k : ℕ) (o : Option ℕ) → k ≤ RATE → ((r : ℕ) → o ≡ Some r → r ≤ RATE) → greater_rate k o ≤ RATE
 raised_within k None within each = within
 raised_within k (Some r) within each = let h = each r refl in omega (arith, within, h)
 
-greatest_within : (k : ℕ) (tree : PackageTree ℕ) (root : ℕ) (threads : List ThreadAt) → k ≤ RATE → fold greater_rate k (map (thread_rate tree root) threads) ≤ RATE
+greatest_within : (k : ℕ) (tree : PackageTree ℕ) (root : ℕ) (threads : List ThreadAt) → k ≤ RATE
+    → fold greater_rate k (map (thread_rate tree root) threads) ≤ RATE
 greatest_within k tree root [] within = within
 greatest_within k tree root (x ∷ threads) within =
     greatest_within (greater_rate k (thread_rate tree root x)) tree root threads
-    (raised_within k (thread_rate tree root x) within (λ r is. (rate_bounds (root_period tree root) (own_period tree root x.subs) r is).1))
+    (raised_within k (thread_rate tree root x) within
+    (λ r is. (rate_bounds (root_period tree root) (own_period tree root x.subs) r is).1))
 
-pub greatest_fits : (tree : PackageTree ℕ) (root : ℕ) (threads : List ThreadAt) (rates : List (Option ℕ)) (greatest : ℕ) → rates ≡ map (thread_rate tree root) threads → greatest ≡ greatest_rate rates → greatest ≤ RATE
+pub greatest_fits : (tree : PackageTree ℕ) (root : ℕ) (threads : List ThreadAt) (rates : List (Option ℕ)) (greatest : ℕ)
+    → rates ≡ map (thread_rate tree root) threads → greatest ≡ greatest_rate rates → greatest ≤ RATE
 greatest_fits tree root threads rates greatest are is =
     let h = greatest_within 1 tree root threads (omega arith) in
     let e : greatest ≡ fold greater_rate 1 (map (thread_rate tree root) threads) = is ∙ ap (fold greater_rate 1) are in

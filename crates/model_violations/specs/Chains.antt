@@ -27,13 +27,15 @@ is_plain given (Some p) (Some q) = nat_eq p q && not (is_some given)
 
 abbrev pub adaptor_findings : PackageTree ℕ → List ThreadAt → List (Option ℕ) → Chain → Connection ℕ → List Violation
 adaptor_findings tree threads rates x c =
-    rated c.name.at (end_name tree threads x.to) (option_map adaptor_named (adaptor_text c)) (end_kind tree threads x.to) (end_rate rates x.from) (end_rate rates x.to)
+    rated c.name.at (end_name tree threads x.to) (option_map adaptor_named (adaptor_text c))
+    (end_kind tree threads x.to) (end_rate rates x.from) (end_rate rates x.to)
 
 abbrev pub timing_findings : PackageTree ℕ → List ThreadAt → Chain → Connection ℕ → List Violation
 timing_findings tree threads x c = found_if (not (is_delayed c)) c.name.at NOT_DELAYED (end_name tree threads x.to)
 
 abbrev pub stray_findings : PackageTree ℕ → List ThreadAt → Chain → Connection ℕ → List Violation
-stray_findings tree threads x c = found_if (is_some (adaptor_text c)) c.name.at STRAY_ADAPTOR (end_name tree threads x.to)
+stray_findings tree threads x c =
+    found_if (is_some (adaptor_text c)) c.name.at STRAY_ADAPTOR (end_name tree threads x.to)
 
 -- ---- on the carrier
 abbrev pub on_carrier : (Connection ℕ → List Violation) → Option (Connection ℕ) → List Violation
@@ -42,7 +44,8 @@ on_carrier rules (Some c) = rules c
 
 abbrev pub link_findings : PackageTree ℕ → List ThreadAt → List (Option ℕ) → Chain → List Violation
 link_findings tree threads rates x =
-    on_carrier (λ c. timing_findings tree threads x c ++ adaptor_findings tree threads rates x c) (connection_of tree x.carrier)
+    on_carrier (λ c. timing_findings tree threads x c ++ adaptor_findings tree threads rates x c)
+    (connection_of tree x.carrier)
 
 abbrev pub feed_findings : PackageTree ℕ → List ThreadAt → List (Option ℕ) → Chain → List Violation
 feed_findings tree threads rates x = on_carrier (adaptor_findings tree threads rates x) (connection_of tree x.carrier)

@@ -50,8 +50,10 @@ delay_findings c = found_if (joins_own c && is_delayed c) c.name.at DELAYED_ROOT
 abbrev pub adaptor_findings : Bool → Connection ℕ → List Violation
 adaptor_findings carried c = found_if (not carried && is_some (adaptor_text c)) c.name.at STRAY_ADAPTOR c.name.spelling
 
-abbrev pub connection_findings : PackageTree ℕ → (ℕ → ℕ → Bool) → ℕ → Implementation ℕ → ℕ × Connection ℕ → List Violation
-connection_findings tree carried n x (i, c) = ends_findings tree x c ++ delay_findings c ++ adaptor_findings (carried n i) c
+abbrev pub connection_findings : PackageTree ℕ → (ℕ → ℕ → Bool) → ℕ → Implementation ℕ → ℕ × Connection ℕ
+    → List Violation
+connection_findings tree carried n x (i, c) =
+    ends_findings tree x c ++ delay_findings c ++ adaptor_findings (carried n i) c
 
 abbrev pub connections_findings : PackageTree ℕ → (ℕ → ℕ → Bool) → ℕ → Implementation ℕ → List Violation
 connections_findings tree carried n x = flat_map (connection_findings tree carried n x) (enumerate_from 0 x.connections)

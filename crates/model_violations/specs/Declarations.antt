@@ -13,7 +13,8 @@ use Rattle.model_violations.specs.Threads as threads
 
 -- ---- a type: its ports, and times above an hour
 abbrev pub type_findings : Bool → TypeDeclaration ℕ → List Violation
-type_findings of_root x = flat_map port_findings x.features ++ list_big (holders.Declaration x.category of_root) x.properties
+type_findings of_root x =
+    flat_map port_findings x.features ++ list_big (holders.Declaration x.category of_root) x.properties
 
 -- ---- an implementation: times above an hour, its connections, and the behaviour of a thread
 abbrev pub sub_findings : Subcomponent ℕ → List Violation
@@ -29,13 +30,18 @@ implementation_findings tree root carried n x =
 
 -- the implementations of threads that are in use have no more ports and variables than a design may have
 pub record AreSmall (tree : PackageTree ℕ) (used : ℕ → Bool) : Type 0 where
-  pub each : (n : ℕ) (x : Implementation ℕ) → used n ≡ true → implementation_at tree n ≡ Some x → is_thread x.category ≡ true
+  pub each : (n : ℕ) (x : Implementation ℕ) → used n ≡ true → implementation_at tree n ≡ Some x
+      → is_thread x.category ≡ true
       → threads.IsSmall tree x
 
 -- ---- a declaration of a number, where it is in use, by the tests for implementations and for types
-abbrev pub declaration_findings : PackageTree ℕ → ℕ → (ℕ → Bool) → (ℕ → Bool) → (ℕ → ℕ → Bool) → ℕ × Declaration ℕ → List Violation
-declaration_findings tree root used types carried (n, type x) = if types n then type_findings (is_root_type tree root n) x else []
-declaration_findings tree root used types carried (n, implementation x) = if used n then implementation_findings tree root carried n x else []
+abbrev pub declaration_findings : PackageTree ℕ → ℕ → (ℕ → Bool) → (ℕ → Bool) → (ℕ → ℕ → Bool) → ℕ × Declaration ℕ
+    → List Violation
+declaration_findings tree root used types carried (n, type x) =
+    if types n then type_findings (is_root_type tree root n) x else []
+declaration_findings tree root used types carried (n, implementation x) =
+    if used n then implementation_findings tree root carried n x else []
 
 abbrev pub declarations_findings : PackageTree ℕ → ℕ → (ℕ → Bool) → (ℕ → Bool) → (ℕ → ℕ → Bool) → List Violation
-declarations_findings tree root used types carried = flat_map (declaration_findings tree root used types carried) (enumerate_from 0 tree.declarations)
+declarations_findings tree root used types carried =
+    flat_map (declaration_findings tree root used types carried) (enumerate_from 0 tree.declarations)

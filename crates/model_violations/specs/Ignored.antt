@@ -39,11 +39,14 @@ abbrev pub connection_ignored : Connection ℕ → List (List ℕ)
 connection_ignored x = ignored_in holders.Connection x.properties
 
 abbrev pub type_ignored : Bool → TypeDeclaration ℕ → List (List ℕ)
-type_ignored of_root x = flat_map port_ignored x.features ++ ignored_in (holders.Declaration x.category of_root) x.properties ++ flat_map annex_ignored x.annexes
+type_ignored of_root x =
+    flat_map port_ignored x.features ++ ignored_in (holders.Declaration x.category of_root) x.properties
+    ++ flat_map annex_ignored x.annexes
 
 abbrev pub implementation_ignored : Bool → Implementation ℕ → List (List ℕ)
 implementation_ignored of_root x =
-    flat_map sub_ignored x.subcomponents ++ flat_map connection_ignored x.connections ++ ignored_in (holders.Declaration x.category of_root) x.properties
+    flat_map sub_ignored x.subcomponents ++ flat_map connection_ignored x.connections
+    ++ ignored_in (holders.Declaration x.category of_root) x.properties
     ++ flat_map annex_ignored x.annexes
 
 -- ---- a declaration by its number, where the root's implementation and its type have these numbers
@@ -70,4 +73,5 @@ all_behind names [] = names
 all_behind names (x ∷ xs) = all_behind (behind names x) xs
 
 abbrev pub ignored_names : PackageTree ℕ → ℕ → List (List ℕ)
-ignored_names tree root = all_behind [] (flat_map (declaration_ignored root (root_type tree root)) (enumerate_from 0 tree.declarations))
+ignored_names tree root =
+    all_behind [] (flat_map (declaration_ignored root (root_type tree root)) (enumerate_from 0 tree.declarations))

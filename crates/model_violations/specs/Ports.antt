@@ -34,7 +34,8 @@ end_name tree threads (Thread node port) = thread_port_name tree (slice_get thre
 end_name tree threads (Root name) = name
 
 abbrev pub end_kind : PackageTree ℕ → List ThreadAt → ChainEnd → Option Kind
-end_kind tree threads (Thread node port) = option_and_then (λ f. kind_in f.data_type) (thread_in tree (slice_get threads node.0) port)
+end_kind tree threads (Thread node port) =
+    option_and_then (λ f. kind_in f.data_type) (thread_in tree (slice_get threads node.0) port)
 end_kind tree threads (Root name) = None
 
 -- the rate of the component at an end; the root sends once a round

@@ -25,7 +25,8 @@ pub record IsSmall (tree : PackageTree ℕ) (x : Implementation ℕ) : Type 0 wh
 -- without one there is no initial state
 abbrev pub annex_rules : PackageTree ℕ → Implementation ℕ → Option (ℕ × AnnexTree ℕ) → List Violation
 annex_rules tree x None = finding x.name.component_type.at NO_INITIAL [] ∷ []
-annex_rules tree x (Some b) = variables_findings b.1 ++ annex_findings (values_of tree x b.1) (scope_of tree x b.1) b.0 b.1
+annex_rules tree x (Some b) =
+    variables_findings b.1 ++ annex_findings (values_of tree x b.1) (scope_of tree x b.1) b.0 b.1
 
 abbrev pub behaviour_by : PackageTree ℕ → Implementation ℕ → Option (ℕ × AnnexTree ℕ) → Option BehaviourParts
 behaviour_by tree x None = None

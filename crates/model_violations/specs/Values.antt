@@ -48,7 +48,8 @@ value_in None = pos 0
 value_in (Some text) = value_of text
 
 abbrev pub first_of : VariableDeclaration ℕ → ℤ
-first_of v = value_in (option_and_then (λ a. only_text (association_value a)) (association_named v.properties (name_of Initial)))
+first_of v =
+    value_in (option_and_then (λ a. only_text (association_value a)) (association_named v.properties (name_of Initial)))
 
 abbrev pub variable_of : Option Kind → ℤ → Identifier ℕ → Declared
 variable_of kind first x = record { name = x.spelling; kind = kind; first = first }
@@ -86,7 +87,9 @@ variable_entry (n, d) = record { name = d.name; kind = d.kind; meaning = Variabl
 abbrev pub scope_by : List Declared → List Declared → List Declared → Scope
 scope_by ins outs vars =
     record {
-      entries = map in_entry (enumerate_from 0 ins) ++ map out_entry (enumerate_from 0 outs) ++ map variable_entry (enumerate_from 0 vars);
+      entries =
+          map in_entry (enumerate_from 0 ins) ++ map out_entry (enumerate_from 0 outs)
+          ++ map variable_entry (enumerate_from 0 vars);
       next = length vars;
     }
 

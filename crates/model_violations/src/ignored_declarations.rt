@@ -15,7 +15,12 @@ fn add_ports(alloc: Global, ports: &[Feature], found: &mut Items<Text>) -> Resul
     ensures { OnOk result (found.new ≡ found.old ++ flat_map spec.port_ignored (map (feature_view kept_place) ports.now)) }
 {
     for port in ports {
-        add_list(alloc, PropertyHolder::Port, port.properties.as_slice(), found)?;
+        add_list(
+            alloc,
+            PropertyHolder::Port,
+            port.properties.as_slice(),
+            found,
+        )?;
     }
     Ok(())
 }

@@ -17,7 +17,7 @@ use crate::variables::variables_of;
 use aadl_tree::{Annex, AnnexContent, AnnexTree, Implementation};
 use aadl_uses::Uses;
 use annex_resolve::violation::NO_INITIAL;
-use annex_resolve::{Scope, DeclaredValues, Violation, resolve_annex};
+use annex_resolve::{DeclaredValues, Scope, Violation, resolve_annex};
 use component_checks::types::add_variables_findings;
 use pals_base::{BehaviourParts, Items, NoMemory};
 use std::alloc::Global;

@@ -4,8 +4,8 @@ ghost use Rattle.std.specs.List.{enumerate_from};
 ghost use Rattle.model_violations.specs.Values as spec;
 
 use crate::declared::Declared;
-use annex_resolve::{DeclaredName, Meaning, Scope, DeclaredValues};
-use pals_base::{Items, Kind, PortDecl, NoMemory, TryClone, VarDecl};
+use annex_resolve::{DeclaredName, DeclaredValues, Meaning, Scope};
+use pals_base::{Items, Kind, NoMemory, PortDecl, TryClone, VarDecl};
 use std::alloc::Global;
 
 // A type; a bad one is as good as Integer.
@@ -75,7 +75,11 @@ fn entry_of(alloc: Global, declared: &Declared, meaning: Meaning) -> Result<Decl
 }
 
 // Adds what in ports stand for.
-fn add_ins(alloc: Global, ins: &[Declared], entries: &mut Items<DeclaredName>) -> Result<(), NoMemory>
+fn add_ins(
+    alloc: Global,
+    ins: &[Declared],
+    entries: &mut Items<DeclaredName>,
+) -> Result<(), NoMemory>
     requires { length ins.now < 2 ^ 32 }
     ensures { OnOk result (entries.new ≡ entries.old ++ map spec.in_entry (enumerate_from 0 ins.now)) }
 {
@@ -86,7 +90,11 @@ fn add_ins(alloc: Global, ins: &[Declared], entries: &mut Items<DeclaredName>) -
 }
 
 // Adds what out ports stand for.
-fn add_outs(alloc: Global, outs: &[Declared], entries: &mut Items<DeclaredName>) -> Result<(), NoMemory>
+fn add_outs(
+    alloc: Global,
+    outs: &[Declared],
+    entries: &mut Items<DeclaredName>,
+) -> Result<(), NoMemory>
     requires { length outs.now < 2 ^ 32 }
     ensures { OnOk result (entries.new ≡ entries.old ++ map spec.out_entry (enumerate_from 0 outs.now)) }
 {

@@ -14,9 +14,12 @@ use Rattle.aadl_names.specs.Behaviours.{first_behaviour}
 
 -- an annex of some content, and others behind it
 abbrev first_with : Annex → AnnexContent ℕ → List (plain.Annex ℕ) → Option (AnnexTree ℕ)
-first_with x content rest = first_behaviour (behaviours (record { at = x.at; language = identifier_view kept_place x.language; content = content } ∷ rest))
+first_with x content rest =
+    first_behaviour (behaviours
+    (record { at = x.at; language = identifier_view kept_place x.language; content = content } ∷ rest))
 
-pub here_first : (items : List Annex) (i : ℕ) (x : Annex) (content : source_content.AnnexContent) (whole : (Option (AnnexTree ℕ))) → i < length items
+pub here_first : (items : List Annex) (i : ℕ) (x : Annex) (content : source_content.AnnexContent)
+    (whole : (Option (AnnexTree ℕ))) → i < length items
     → x ≡ get_or items i x → x.content ≡ content
     → whole ≡ first_behaviour (behaviours (map (annex_view kept_place) (drop i items)))
     → whole ≡ first_with x (content_view kept_place content) (map (annex_view kept_place) (drop (i + 1) items))
@@ -27,4 +30,5 @@ here_first items i x content whole within is of left =
 -- behind the last annex there is none
 pub none_first : (items : List Annex) (i : ℕ) (whole : (Option (AnnexTree ℕ))) → length items ≤ i
     → whole ≡ first_behaviour (behaviours (map (annex_view kept_place) (drop i items))) → None ≡ whole
-none_first items i whole past left = sym (left ∙ ap (λ l. first_behaviour (behaviours (map (annex_view kept_place) l))) (none_left items i past))
+none_first items i whole past left =
+    sym (left ∙ ap (λ l. first_behaviour (behaviours (map (annex_view kept_place) l))) (none_left items i past))

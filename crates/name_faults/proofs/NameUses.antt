@@ -9,12 +9,15 @@ use Rattle.aadl_names.specs.PackageFaults.{in_order, transition_uses}
 pub for_all : {X : Type 0} (f g : List ℕ → X) → ((name : List ℕ) → f name ≡ g name) → f ≡ g
 for_all f g h = λ i name. h name i
 
-pub same_uses : (is_state states : List ℕ → Bool) (known names : Known) (xs ys : List (Transition ℕ)) → is_state ≡ states → known ≡ names → xs ≡ ys
+pub same_uses : (is_state states : List ℕ → Bool) (known names : Known) (xs ys : List (Transition ℕ))
+    → is_state ≡ states → known ≡ names → xs ≡ ys
     → flat_map (transition_uses is_state known) xs ≡ flat_map (transition_uses states names) ys
 same_uses is_state states known names xs ys a b c =
-    ap (λ s. flat_map (transition_uses s known) xs) a ∙ (ap (λ k. flat_map (transition_uses states k) xs) b ∙ ap (flat_map (transition_uses states names)) c)
+    ap (λ s. flat_map (transition_uses s known) xs) a
+    ∙ (ap (λ k. flat_map (transition_uses states k) xs) b ∙ ap (flat_map (transition_uses states names)) c)
 
-pub same_order : (first before : Bool) (ports roles variables varying : Known) → first ≡ before → ports ≡ roles → variables ≡ varying
+pub same_order : (first before : Bool) (ports roles variables varying : Known) → first ≡ before → ports ≡ roles
+    → variables ≡ varying
     → in_order first ports variables ≡ in_order before roles varying
 same_order first before ports roles variables varying a b c =
     ap (λ f. in_order f ports variables) a ∙ (ap (λ k. in_order before k variables) b ∙ ap (in_order before roles) c)

@@ -3,7 +3,8 @@ use Rattle.std.proofs.Common.{◌≡◌, ℕ, Bool, true, false, cond, List, [],
 use Rattle.aadl_tree.specs.Values.{Association, Associations, no_associations, associate}
 use Rattle.aadl_names.specs.Properties.{counts, counted, association_entry, property_entries}
 
-one_more : {A B : Type 0} (f : A → B) (b : Bool) (x : A) (xs : List A) → map f (cond b (x ∷ xs) xs) ≡ map f (cond b (x ∷ []) []) ++ map f xs
+one_more : {A B : Type 0} (f : A → B) (b : Bool) (x : A) (xs : List A)
+    → map f (cond b (x ∷ xs) xs) ≡ map f (cond b (x ∷ []) []) ++ map f xs
 one_more f true x xs = refl
 one_more f false x xs = refl
 

@@ -22,7 +22,8 @@ one_if : (b : Bool) (x : plain.Association ℕ) → twice (map association_entry
 one_if true x = one_entry (association_entry x)
 one_if false x = refl
 
-pub none_twice : (xs : List Association) → length xs < 2 → twice (property_entries (associations_view kept_place xs)) ≡ []
+pub none_twice : (xs : List Association) → length xs < 2
+    → twice (property_entries (associations_view kept_place xs)) ≡ []
 none_twice [] few = refl
 none_twice (x ∷ []) few = one_if (counts (association_view kept_place x)) (association_view kept_place x)
 none_twice (x ∷ y ∷ xs) few = absurd (grind arith)

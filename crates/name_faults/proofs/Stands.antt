@@ -25,43 +25,56 @@ module _ (tree : PackageTree ℕ) (n : ℕ) (x : Implementation ℕ) (stands : S
   pub type_is : type_number_at tree n ≡ type_number tree x
   type_is = ap (λ d. type_number_by tree (implementation_in d)) stands
 
-  below_by : (s : ℕ) → below tree n s ≡ option_and_then (λ (sub : Subcomponent ℕ). referred tree sub.classifier) (slice_get x.subcomponents s)
-  below_by s = ap (λ d. option_and_then (λ (sub : Subcomponent ℕ). referred tree sub.classifier) (slice_get (subcomponents_of (implementation_in d)) s)) stands
+  below_by : (s : ℕ) → below tree n s
+      ≡ option_and_then (λ (sub : Subcomponent ℕ). referred tree sub.classifier) (slice_get x.subcomponents s)
+  below_by s =
+      ap (λ d. option_and_then (λ (sub : Subcomponent ℕ). referred tree sub.classifier)
+      (slice_get (subcomponents_of (implementation_in d)) s)) stands
 
-  pub below_is : (s : ℕ) (sub : Subcomponent ℕ) → slice_get x.subcomponents s ≡ Some sub → below tree n s ≡ referred tree sub.classifier
+  pub below_is : (s : ℕ) (sub : Subcomponent ℕ) → slice_get x.subcomponents s ≡ Some sub
+      → below tree n s ≡ referred tree sub.classifier
   below_is s sub is = below_by s ∙ ap (option_and_then (λ (sub : Subcomponent ℕ). referred tree sub.classifier)) is
 
   pub wires_are : wires_at tree n ≡ map (wire_of tree x) x.connections
   wires_are = ap (λ d. wires_of tree (implementation_in d)) stands
 
-  pub own_direction : (p : ℕ) → direction_in (features_of (type_numbered tree (type_number_at tree n))) p ≡ direction_of tree x (Own p)
+  pub own_direction : (p : ℕ)
+      → direction_in (features_of (type_numbered tree (type_number_at tree n))) p ≡ direction_of tree x (Own p)
   own_direction p = ap (λ t. direction_in (features_of (type_numbered tree t)) p) type_is
 
   type_below_is : (s : ℕ) → option_and_then (type_number_at tree) (below tree n s)
       ≡ option_and_then (type_number tree) (option_and_then (target_of tree) (slice_get x.subcomponents s))
   type_below_is s =
       ap (option_and_then (type_number_at tree)) (below_by s)
-      ∙ option_and_then_assoc (λ (sub : Subcomponent ℕ). referred tree sub.classifier) (type_number_at tree) (slice_get x.subcomponents s)
+      ∙ option_and_then_assoc (λ (sub : Subcomponent ℕ). referred tree sub.classifier) (type_number_at tree)
+      (slice_get x.subcomponents s)
       ∙ by (slice_get x.subcomponents s)
     where
-      by : (o : Option (Subcomponent ℕ)) → option_and_then (λ (sub : Subcomponent ℕ). option_and_then (type_number_at tree) (referred tree sub.classifier)) o
+      by : (o : Option (Subcomponent ℕ))
+          → option_and_then (λ (sub : Subcomponent ℕ).
+          option_and_then (type_number_at tree) (referred tree sub.classifier)) o
           ≡ option_and_then (type_number tree) (option_and_then (target_of tree) o)
       by None = refl
       by (Some sub) = inner (referred tree sub.classifier)
         where
-          inner : (t : Option ℕ) → option_and_then (type_number_at tree) t ≡ option_and_then (type_number tree) (option_and_then (implementation_at tree) t)
+          inner : (t : Option ℕ) → option_and_then (type_number_at tree) t
+              ≡ option_and_then (type_number tree) (option_and_then (implementation_at tree) t)
           inner None = refl
           inner (Some m) = refl
 
-  pub inner_direction : (s p : ℕ) → direction_in (features_of (type_numbered tree (option_and_then (type_number_at tree) (below tree n s)))) p
+  pub inner_direction : (s p : ℕ)
+      → direction_in (features_of (type_numbered tree (option_and_then (type_number_at tree) (below tree n s)))) p
       ≡ direction_of tree x (Inner s p)
   inner_direction s p = ap (λ t. direction_in (features_of (type_numbered tree t)) p) (type_below_is s)
 
 -- what is found by the ports that a connection joins
 module _ (tree : PackageTree ℕ) (x : Implementation ℕ) (c : Connection ℕ) (w : Wire) (is : w ≡ wire_of tree x c) where
-  pub joined : (old new : Option PackageFault) (source target : Option (PortPlace × Option Direction)) → source ≡ option_map (with_direction tree x) w.source
+  pub joined : (old new : Option PackageFault) (source target : Option (PortPlace × Option Direction))
+      → source ≡ option_map (with_direction tree x) w.source
       → target ≡ option_map (with_direction tree x) w.target → new ≡ found old (joined_faults c source target)
       → new ≡ found old (connection_faults tree x c)
   joined old new source target from to more =
-      more ∙ ap (λ s. found old (joined_faults c s target)) (from ∙ ap (λ (v : Wire). option_map (with_direction tree x) v.source) is)
-      ∙ ap (λ t. found old (joined_faults c (sited tree x c.source) t)) (to ∙ ap (λ (v : Wire). option_map (with_direction tree x) v.target) is)
+      more ∙ ap (λ s. found old (joined_faults c s target))
+      (from ∙ ap (λ (v : Wire). option_map (with_direction tree x) v.source) is)
+      ∙ ap (λ t. found old (joined_faults c (sited tree x c.source) t))
+      (to ∙ ap (λ (v : Wire). option_map (with_direction tree x) v.target) is)

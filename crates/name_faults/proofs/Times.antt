@@ -5,7 +5,8 @@ use Rattle.aadl_tree.specs.Values.{Value, list}
 use Rattle.aadl_tree.specs.proof.ValueViews.{values_of}
 use Rattle.aadl_names.specs.Properties.{times, only_text, is_initial_text}
 
-pub has_time : (signed : Bool) (a b : Option ℕ) → is_some (cond signed None (times a b)) ≡ (not signed && is_some a && is_some b)
+pub has_time : (signed : Bool) (a b : Option ℕ)
+    → is_some (cond signed None (times a b)) ≡ (not signed && is_some a && is_some b)
 has_time true a b = refl
 has_time false None b = refl
 has_time false (Some n) None = refl

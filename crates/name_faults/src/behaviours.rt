@@ -18,7 +18,7 @@ use crate::categories::is_thread;
 use crate::parts::transitions_in;
 use crate::{BehaviourScope, check_transitions, state_names, variable_roles};
 use aadl_names::numbered::type_numbered;
-use aadl_names::{Finder, Role, NameTable};
+use aadl_names::{Finder, NameTable, Role};
 use aadl_tree::{Annex, AnnexContent, AnnexTree, Implementation, PackageTree};
 use std::alloc::{AllocError, Global};
 

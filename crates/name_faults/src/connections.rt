@@ -14,7 +14,7 @@ ghost use Rattle.name_faults.specs.proof.NumberedImplementations.{StandsAt};
 use crate::check_properties;
 use aadl_names::connection_ends::port_direction;
 use aadl_names::spelling::spelled_end;
-use aadl_names::{Finder, PropertyHolder, PortPlace};
+use aadl_names::{Finder, PortPlace, PropertyHolder};
 use aadl_tree::{Connection, ConnectionEnd, Direction, Implementation};
 use aadl_uses::{Uses, Wires};
 use std::alloc::AllocError;
@@ -26,7 +26,11 @@ fn direction_of(uses: &Uses<'_>, number: usize, site: PortPlace) -> Option<Direc
 {
     match site {
         PortPlace::Own(port) => port_direction(&uses.names, uses.type_number(number), port),
-        PortPlace::Inner(sub, port) => port_direction(&uses.names, uses.type_below(number, sub), port),
+        PortPlace::Inner(sub, port) => port_direction(
+            &uses.names,
+            uses.type_below(number, sub),
+            port,
+        ),
     }
 }
 
@@ -129,7 +133,11 @@ fn check_connection(
     check_source(finder, &connection.source, at, source)?;
     check_target(finder, &connection.target, at, target)?;
     finder.wrong_if(is_own(source) && is_own(target), at);
-    check_properties(finder, PropertyHolder::Connection, connection.properties.as_slice())
+    check_properties(
+        finder,
+        PropertyHolder::Connection,
+        connection.properties.as_slice(),
+    )
 }
 
 /// Finds what is wrong with the connections of the implementation of a number.

@@ -11,7 +11,7 @@ ghost use Rattle.name_faults.specs.proof.PortNames.{AreNamesOf};
 
 use crate::port_names::PortNames;
 use aadl_names::earliest::{earliest_of, is_before};
-use aadl_names::{SpelledName, Finder, NumberedPlace};
+use aadl_names::{Finder, NumberedPlace, SpelledName};
 use aadl_tree::Feature;
 use std::alloc::AllocError;
 

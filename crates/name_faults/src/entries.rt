@@ -67,7 +67,10 @@ fn add_connections(
 }
 
 /// Variables of a behaviour.
-pub fn variable_entries(alloc: Global, behaviour: &AnnexTree) -> Result<Items<SpelledName>, AllocError>
+pub fn variable_entries(
+    alloc: Global,
+    behaviour: &AnnexTree,
+) -> Result<Items<SpelledName>, AllocError>
     ensures { IfOk result (λ entries. entries ≡ spec.variable_entries (annex_tree_view kept_place behaviour.now)) }
 {
     let mut entries = Items::new(alloc);
@@ -100,7 +103,10 @@ pub fn type_entries(alloc: Global, tree: &PackageTree) -> Result<Items<SpelledNa
 }
 
 /// Implementations.
-pub fn implementation_entries(alloc: Global, tree: &PackageTree) -> Result<Items<SpelledName>, AllocError>
+pub fn implementation_entries(
+    alloc: Global,
+    tree: &PackageTree,
+) -> Result<Items<SpelledName>, AllocError>
     ensures { IfOk result (λ entries. entries ≡ filter_map spec.implementation_entry (placed tree.now).declarations) }
 {
     let mut entries = Items::new(alloc);
@@ -158,7 +164,11 @@ fn add_words(
     Ok(())
 }
 
-fn add_word(alloc: Global, entries: &mut Items<SpelledName>, word: &Identifier) -> Result<(), AllocError>
+fn add_word(
+    alloc: Global,
+    entries: &mut Items<SpelledName>,
+    word: &Identifier,
+) -> Result<(), AllocError>
     ensures { OnOk result (entries.new ≡ entries.old ++ entry_of (identifier_view kept_place word.now) ∷ []) }
 {
     entries.push(entry_of(alloc, word)?)?;

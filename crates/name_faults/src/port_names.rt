@@ -1,6 +1,6 @@
 //! What the ports of a type are called.
 
-use aadl_names::{PackageFault, Role, NumberedPlace, NameTable};
+use aadl_names::{NameTable, NumberedPlace, PackageFault, Role};
 use pals_base::Items;
 
 /// What the ports of one type are called: what is asked of them for each of its implementations.

@@ -18,7 +18,7 @@ use crate::port_names::{AllPortNames, PortNames};
 use aadl_names::earliest::earliest_of;
 use aadl_names::numbered::type_numbered;
 use aadl_names::twice::check_twice;
-use aadl_names::{SpelledName, Finder, PackageFault, Role, NameTable};
+use aadl_names::{Finder, NameTable, PackageFault, Role, SpelledName};
 use aadl_tree::{Declaration, Direction, Feature, PackageTree};
 use pals_base::Items;
 use std::alloc::{AllocError, Global};

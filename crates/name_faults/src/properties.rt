@@ -18,7 +18,7 @@ use crate::shapes::has_shape;
 use aadl_names::name_comparison::is_spelled;
 use aadl_names::spelling::spelled_name;
 use aadl_names::twice::check_twice;
-use aadl_names::{SpelledName, Finder, PropertyHolder};
+use aadl_names::{Finder, PropertyHolder, SpelledName};
 use aadl_tree::{Association, Name, Value};
 use pals_base::Items;
 use std::alloc::{AllocError, Global};

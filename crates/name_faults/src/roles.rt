@@ -11,7 +11,7 @@ ghost use Rattle.aadl_names.specs.PackageFaults.{is_among, variable_roles};
 ghost use Rattle.name_faults.specs.proof.Marks.{value_if, is_marked};
 
 use crate::parts::{states_in, variables_in};
-use aadl_names::{Role, NameTable};
+use aadl_names::{NameTable, Role};
 use aadl_tree::{AnnexTree, Identifier, Identifiers};
 use std::alloc::{AllocError, Global};
 

@@ -3,7 +3,7 @@ ghost use Rattle.std.specs.Prelude.{◌≡◌};
 ghost use Rattle.aadl_tree.specs.Names.{same_name};
 ghost use Rattle.std.specs.List.{list_any};
 
-use aadl_names::{Role, NameTable};
+use aadl_names::{NameTable, Role};
 use aadl_tree::Identifier;
 use pals_base::{Items, Text, TryClone};
 use std::alloc::{AllocError, Global};
@@ -36,7 +36,11 @@ impl<'t> BehaviourScope<'t> {
     ghost use Rattle.name_faults.specs.proof.Scopes.{loop_roles, known_by};
 
     /// The names of a behaviour, outside its loops.
-    pub fn new(alloc: Global, first: &'t NameTable<Role>, second: &'t NameTable<Role>) -> BehaviourScope<'t>
+    pub fn new(
+        alloc: Global,
+        first: &'t NameTable<Role>,
+        second: &'t NameTable<Role>,
+    ) -> BehaviourScope<'t>
         ensures { known_by result ≡ either (value_of first.now) (value_of second.now) }
     {
         BehaviourScope {

@@ -17,7 +17,11 @@ use aadl_tree::{Block, Guard, Identifier, Transition};
 use std::alloc::AllocError;
 
 // Finds that a name is no state's.
-fn check_state(finder: &mut Finder, states: &NameTable<()>, name: &Identifier) -> Result<(), AllocError>
+fn check_state(
+    finder: &mut Finder,
+    states: &NameTable<()>,
+    name: &Identifier,
+) -> Result<(), AllocError>
     ensures { OnOk result (finder.new ≡ found finder.old (spec.state_uses (is_state_by states.now) (identifier_view kept_place name.now))) }
 {
     let word = name.spelling.as_str();

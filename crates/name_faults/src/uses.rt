@@ -70,7 +70,11 @@ fn check_primary(
 }
 
 #[cycle(uses)]
-fn check_factor(finder: &mut Finder, scope: &BehaviourScope<'_>, factor: &Factor) -> Result<(), AllocError>
+fn check_factor(
+    finder: &mut Finder,
+    scope: &BehaviourScope<'_>,
+    factor: &Factor,
+) -> Result<(), AllocError>
     ensures { OnOk result (finder.new ≡ found finder.old (spec.factor_uses (known_by scope.now) (factor_view kept_place factor.now))) }
 {
     match factor {
@@ -81,7 +85,11 @@ fn check_factor(finder: &mut Finder, scope: &BehaviourScope<'_>, factor: &Factor
 }
 
 #[cycle(uses)]
-fn check_term(finder: &mut Finder, scope: &BehaviourScope<'_>, term: &Term) -> Result<(), AllocError>
+fn check_term(
+    finder: &mut Finder,
+    scope: &BehaviourScope<'_>,
+    term: &Term,
+) -> Result<(), AllocError>
     ensures { OnOk result (finder.new ≡ found finder.old (spec.term_uses (known_by scope.now) (term_view kept_place term.now))) }
 {
     check_factor(finder, scope, &term.first)?;
@@ -134,7 +142,11 @@ pub fn check_expression(
 }
 
 #[cycle(actions)]
-fn check_action(finder: &mut Finder, scope: &BehaviourScope<'_>, action: &Action) -> Result<(), AllocError>
+fn check_action(
+    finder: &mut Finder,
+    scope: &BehaviourScope<'_>,
+    action: &Action,
+) -> Result<(), AllocError>
     ensures { OnOk result (finder.new ≡ found finder.old (spec.action_uses (known_by scope.now) (action_view kept_place action.now))) }
 {
     match action {
@@ -152,7 +164,11 @@ fn check_action(finder: &mut Finder, scope: &BehaviourScope<'_>, action: &Action
 }
 
 #[cycle(actions)]
-fn check_choice(finder: &mut Finder, scope: &BehaviourScope<'_>, choice: &Choice) -> Result<(), AllocError>
+fn check_choice(
+    finder: &mut Finder,
+    scope: &BehaviourScope<'_>,
+    choice: &Choice,
+) -> Result<(), AllocError>
     ensures { OnOk result (finder.new ≡ found finder.old (spec.action_uses (known_by scope.now) (choice_view kept_place choice.now))) }
 {
     check_expression(finder, scope, &choice.test)?;
@@ -168,7 +184,11 @@ fn check_choice(finder: &mut Finder, scope: &BehaviourScope<'_>, choice: &Choice
 }
 
 #[cycle(actions)]
-fn check_loop(finder: &mut Finder, scope: &BehaviourScope<'_>, turns: &Loop) -> Result<(), AllocError>
+fn check_loop(
+    finder: &mut Finder,
+    scope: &BehaviourScope<'_>,
+    turns: &Loop,
+) -> Result<(), AllocError>
     ensures { OnOk result (finder.new ≡ found finder.old (spec.action_uses (known_by scope.now) (loop_view kept_place turns.now))) }
 {
     check_again(finder, scope, &turns.variable)?;
@@ -193,7 +213,11 @@ fn check_actions(
 
 /// Finds how actions use names wrongly.
 #[cycle(actions)]
-pub fn check_block(finder: &mut Finder, scope: &BehaviourScope<'_>, block: &Block) -> Result<(), AllocError>
+pub fn check_block(
+    finder: &mut Finder,
+    scope: &BehaviourScope<'_>,
+    block: &Block,
+) -> Result<(), AllocError>
     ensures { OnOk result (finder.new ≡ found finder.old (spec.block_uses (known_by scope.now) (block_view kept_place block.now))) }
 {
     match &block.actions {

@@ -142,7 +142,8 @@ pub record Taken (old new : CourseValue) (node : NodeNo) (reading : ℕ) {T : Ty
   pub is_open : OnOk result (IsOpen new node.0)
   pub allows : OnOk result (Allows new (Start node (Some reading)))
 
-due_ends : (bus : BusValue) (lists : List ClockState) (notes : List NodeNote) (new : BusValue) (node : NodeNo) (reading : ℕ)
+due_ends : (bus : BusValue) (lists : List ClockState) (notes : List NodeNote) (new : BusValue) (node : NodeNo)
+    (reading : ℕ)
     (end : BusError AllocError) → Still (course_of bus lists notes) lists notes node reading bus
     → DueEnds bus node.0 reading new end → Goes (course_of bus lists notes) (course_of new lists notes)
 due_ends bus lists notes new node reading (fault.Stopped why) still ends = elim ends [

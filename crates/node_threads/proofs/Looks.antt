@@ -105,7 +105,8 @@ not_stopped : (b : BusValue) → b.state.stop ≡ None → b.closed ≡ false �
 not_stopped b going unclosed (inl stop) = stop going
 not_stopped b going unclosed (inr closed) = absurd (let both : false ≡ true = sym unclosed ∙ closed in cc)
 
-at_meeting : (b : BusValue) (lists : List ClockState) (node : NodeNo) (reading : ℕ) (action : NodeAction) (meeting : Bool)
+at_meeting : (b : BusValue) (lists : List ClockState) (node : NodeNo) (reading : ℕ) (action : NodeAction)
+    (meeting : Bool)
     → b.state.stop ≡ None → b.closed ≡ false → Does b.run (clocks_of meeting lists) b.state node (Some reading) action
     → meeting ≡ true → GoesAt b node.0 (Some reading)
 at_meeting b lists node reading action false going unclosed does is = absurd (cc)

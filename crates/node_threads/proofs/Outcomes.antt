@@ -31,7 +31,8 @@ same_by bus other lists others notes noted same readings = record {
   lists = lists_of bus.meeting lists others readings ∙ ap (λ m. lists_in (clocks_of m others)) same.1;
 }
 
-pub same_stays : (bus other : BusValue) (lists others : List ClockState) (notes noted : List NodeNote) (v w : CourseValue)
+pub same_stays : (bus other : BusValue) (lists others : List ClockState) (notes noted : List NodeNote)
+    (v w : CourseValue)
     → course_of bus lists notes ≡ v → course_of other others noted ≡ w
     → (bus.run ≡ other.run) × (bus.meeting ≡ other.meeting)
     → map (λ (c : ClockState). c.readings) lists ≡ map (λ (c : ClockState). c.readings) others → Stays w v

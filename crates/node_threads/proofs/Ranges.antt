@@ -77,7 +77,8 @@ fits_in plan n Holding a rules few amid is = subst Fits (same_Some (action.Send 
 fits_in plan n Done a rules few amid is = absurd (cc)
 
 -- the target of a node's next action is a reading
-pub target_fits : (run : Run) (s : BusState) (node : ℕ) (a : NodeAction) → IsRunOf run → run.rounds ≤ ROUNDS → Agrees run s
+pub target_fits : (run : Run) (s : BusState) (node : ℕ) (a : NodeAction) → IsRunOf run → run.rounds ≤ ROUNDS
+    → Agrees run s
     → node < length run.design.components
     → upcoming (plan_of run.design node) (node_at s node) ≡ Some a → target (plan_of run.design node) a ≤ READING
 target_fits run s node a rules few agrees within is =

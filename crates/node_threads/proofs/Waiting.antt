@@ -23,7 +23,8 @@ ended_sent b Meet node rounds goal ends = tt
 ended_sent b (Lists lists) node rounds goal ends = inr ends.0
 
 -- a node whose list's end is noted
-pub noted_sent : (bus : BusValue) (lists : List ClockState) (notes : List NodeNote) (v : CourseValue) (node rounds goal : ℕ)
+pub noted_sent : (bus : BusValue) (lists : List ClockState) (notes : List NodeNote) (v : CourseValue)
+    (node rounds goal : ℕ)
     → course_of bus lists notes ≡ v → IsCourse (course_of bus lists notes) → note_at notes node ≡ note.ClockEnded goal
     → HasSent v.bus v.clocks node rounds
 noted_sent bus lists notes v node rounds goal is course noted =

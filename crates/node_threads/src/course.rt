@@ -10,7 +10,7 @@ ghost use Rattle.node_threads.specs.proof.Ends.{AllEnded, EndsFit, end_in, phase
 
 use crate::clocks::same_lists;
 use crate::ends::{NodeEnd, NodeNote};
-use bus_machine::{NodeAction, Next};
+use bus_machine::{Next, NodeAction};
 use pals_base::{Items, Nanos, NoMemory, NodeNo};
 use pals_bus::Bus;
 use pals_clock::ListClock;

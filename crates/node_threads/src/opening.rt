@@ -11,7 +11,11 @@ use pals_clock::Clocks;
 use std::alloc::Global;
 
 /// The course of a bus before its first event, twice: one for the threads, and one that is kept.
-pub fn open_with_spare(alloc: Global, bus: Bus, clocks: Clocks) -> Result<(SharedRun, SharedRun), NoMemory>
+pub fn open_with_spare(
+    alloc: Global,
+    bus: Bus,
+    clocks: Clocks,
+) -> Result<(SharedRun, SharedRun), NoMemory>
     requires opening { bus ≡ opening_bus bus.run bus.codes bus.meeting }
     requires clocks { AreClocksOf bus clocks }
     ensures { IfOk result (λ both. IsOf bus clocks both.0 × IsOf bus clocks both.1) }

@@ -8,7 +8,7 @@ ghost use Rattle.node_threads.specs.proof.Courses.{Stays, IsOpen, IsNext, IsRead
 use crate::clocks::ClockAnswer;
 use crate::course::SharedRun;
 use crate::ends::NodeNote;
-use bus_machine::{NodeAction, Next};
+use bus_machine::{Next, NodeAction};
 use pals_base::{Nanos, NodeNo};
 use pals_bus::{BusError, BusFinishEnd, BusSendEnd, BusStartEnd, BusStepEnd, DueEnd};
 use pals_node::{Done, Finished, Job, StartEnd, StepEnd};
@@ -92,7 +92,8 @@ impl SharedRun {
         requires ended { EndsAt self.old.bus self.old.clocks node.0 target }
         ensures { Stays self.old self.new }
     {
-        self.notes.set(node.0 as usize, NodeNote::ClockEnded { target });
+        self.notes
+            .set(node.0 as usize, NodeNote::ClockEnded { target });
         NextMove::Over
     }
 

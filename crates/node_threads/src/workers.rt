@@ -37,7 +37,13 @@ pub fn work_all<R: Threads + Wait + Sync, W: Starter, G: Gate + Sync>(
 
 // The part of a node, in a thread of its own: it does the job that its last turn asked for, if there is
 // one, and takes its next turn.
-fn work<R: Wait, G: Gate>(rt: &R, lock: &Mutex<Locked>, bells: &WakeSignals, gate: &G, node: NodeNo) {
+fn work<R: Wait, G: Gate>(
+    rt: &R,
+    lock: &Mutex<Locked>,
+    bells: &WakeSignals,
+    gate: &G,
+    node: NodeNo,
+) {
     let mut turn = NextMove::Again;
     for _ in rt.forever() {
         turn = take_turn(rt, lock, bells, node, done_in(turn, gate, node));

@@ -41,10 +41,30 @@ once_less : (q b r : ℤ) → pred_ℤ q *ℤ b +ℤ (r +ℤ b) ≡ q *ℤ b +�
 once_less q b r = ap (λ x. x +ℤ (r +ℤ b)) (pred_ℤ-*ℤ q b) ∙ regroup (q *ℤ b) b r
 
 moved : (a q b r : ℤ) → q *ℤ b +ℤ r ≡ a → unsigned_abs r < unsigned_abs b → IsModulus a b (with_sign_of b r)
-moved a q (pos n) (pos zero) is below = record { division = (q, is); above_0 = λ _. (omega (arith, ints), omega (arith, ints)); below_0 = λ h. absurd (omega (arith, ints)) }
-moved a q (negsuc n) (pos zero) is below = record { division = (q, is); above_0 = λ h. absurd (omega (arith, ints)); below_0 = λ _. (omega (arith, ints), omega (arith, ints)) }
-moved a q (pos n) (pos (suc r)) is below = record { division = (q, is); above_0 = λ _. (omega (arith, ints), omega (arith, ints)); below_0 = λ h. absurd (omega (arith, ints)) }
-moved a q (negsuc n) (negsuc r) is below = record { division = (q, is); above_0 = λ h. absurd (omega (arith, ints)); below_0 = λ _. (omega (arith, ints), omega (arith, ints)) }
+moved a q (pos n) (pos zero) is below =
+    record {
+      division = (q, is);
+      above_0 = λ _. (omega (arith, ints), omega (arith, ints));
+      below_0 = λ h. absurd (omega (arith, ints));
+    }
+moved a q (negsuc n) (pos zero) is below =
+    record {
+      division = (q, is);
+      above_0 = λ h. absurd (omega (arith, ints));
+      below_0 = λ _. (omega (arith, ints), omega (arith, ints));
+    }
+moved a q (pos n) (pos (suc r)) is below =
+    record {
+      division = (q, is);
+      above_0 = λ _. (omega (arith, ints), omega (arith, ints));
+      below_0 = λ h. absurd (omega (arith, ints));
+    }
+moved a q (negsuc n) (negsuc r) is below =
+    record {
+      division = (q, is);
+      above_0 = λ h. absurd (omega (arith, ints));
+      below_0 = λ _. (omega (arith, ints), omega (arith, ints));
+    }
 moved a q (negsuc n) (pos (suc r)) is below = record {
   division = (pred_ℤ q, once_less q (negsuc n) (pos (suc r)) ∙ is);
   above_0 = λ h. absurd (omega (arith, ints));

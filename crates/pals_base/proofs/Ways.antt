@@ -22,7 +22,8 @@ use Rattle.pals_base.proofs.Settling.{all_marked, rule_at, settles_past}
 abbrev pub Fails : {A : Type 0} → (A → Bool) → List A → Type 0
 Fails {A} p xs = (x : A) × Contains xs x × (p x ≡ false)
 
-here_or_later : {A : Type 0} (p : A → Bool) (here : Bool) (x : A) (xs : List A) → p x ≡ here → (here && list_all p xs) ≡ false → (list_all p xs ≡ false → Fails p xs) → Fails p (x ∷ xs)
+here_or_later : {A : Type 0} (p : A → Bool) (here : Bool) (x : A) (xs : List A) → p x ≡ here
+    → (here && list_all p xs) ≡ false → (list_all p xs ≡ false → Fails p xs) → Fails p (x ∷ xs)
 here_or_later p false x xs is not_all later = (x, (zero, omega arith, refl), is)
 here_or_later p true x xs is not_all later =
     let found = later not_all in
@@ -47,7 +48,8 @@ apart x (y ∷ xs) none = (
 -- ---- a way is shorter than there are states
 pub incomplete_within : (b : BehaviourParts) (s : ℕ) → is_complete b s ≡ false → s < length b.states
 incomplete_within b s incomplete =
-    let past : length b.states ≤ s → ⊥ = λ beyond. both_ways (is_complete b s) incomplete (settles_past zero b s beyond) in
+    let past : length b.states ≤ s → ⊥ =
+    λ beyond. both_ways (is_complete b s) incomplete (settles_past zero b s beyond) in
     omega (arith, past)
 
 -- the states that a way of n transitions meets: n and one, no two equal, each of them there and a way from the first
@@ -64,7 +66,11 @@ met b zero s t acyclic within way = record {
   count = omega arith;
   distinct = IsDistinct-cons eqb s [] tt tt;
   each = λ q found. elim (or_cases (eqb q s) false found) as (λ r. (k : ℕ) × IsWay b k s q × (q < length b.states)) [
-    | inl here ↦ (zero, sym (eqb-true q s here), subst (λ x. x < length b.states) (sym (eqb-true q s here ∙ way)) within)
+    | inl here ↦ (
+      zero,
+      sym (eqb-true q s here),
+      subst (λ x. x < length b.states) (sym (eqb-true q s here ∙ way)) within,
+    )
     | inr later ↦ absurd (both_ways false refl later)
   ];
 }
@@ -77,16 +83,24 @@ met b (suc n) s t acyclic within way =
       states = s ∷ rest.states;
       count = ap suc rest.count;
       distinct = IsDistinct-cons eqb s rest.states (apart s rest.states new) rest.distinct;
-      each = λ q found. elim (or_cases (eqb q s) (list_any (eqb q) rest.states) found) as (λ r. (k : ℕ) × IsWay b k s q × (q < length b.states)) [
-        | inl here ↦ (zero, sym (eqb-true q s here), subst (λ x. x < length b.states) (sym (eqb-true q s here)) (incomplete_within b s way.0))
-        | inr later ↦ let on = rest.each q later in (suc on.0, (way.0, (e, way.1.1, on.1)), on.2)
-      ];
+      each =
+          λ q found. elim (or_cases (eqb q s) (list_any (eqb q) rest.states) found) as
+          (λ r. (k : ℕ) × IsWay b k s q × (q < length b.states)) [
+            | inl here ↦ (
+              zero,
+              sym (eqb-true q s here),
+              subst (λ x. x < length b.states) (sym (eqb-true q s here)) (incomplete_within b s way.0),
+            )
+            | inr later ↦ let on = rest.each q later in (suc on.0, (way.0, (e, way.1.1, on.1)), on.2)
+          ];
     }
 
-pub way_is_short : (b : BehaviourParts) (n s t : ℕ) → IsAcyclic b → t < length b.states → IsWay b n s t → n < length b.states
+pub way_is_short : (b : BehaviourParts) (n s t : ℕ) → IsAcyclic b → t < length b.states → IsWay b n s t
+    → n < length b.states
 way_is_short b n s t acyclic within way =
     let all = met b n s t acyclic within way in
-    let few = length-le_from_distinct_below all.states (length b.states) all.distinct (λ q found. (all.each q found).2) in
+    let few =
+    length-le_from_distinct_below all.states (length b.states) all.distinct (λ q found. (all.each q found).2) in
     omega arith
 
 -- ---- without a cycle each state settles
@@ -115,28 +129,39 @@ settled_unless_cycle b s acyclic =
     ]
 
 -- ---- where each state settles there is no cycle
-goes_further : (n : ℕ) (b : BehaviourParts) (s : ℕ) (e : Edge) → is_complete b s ≡ false → settles (suc n) b s ≡ true → Contains (leaving b s) e → settles n b e.target ≡ true
+goes_further : (n : ℕ) (b : BehaviourParts) (s : ℕ) (e : Edge) → is_complete b s ≡ false → settles (suc n) b s ≡ true
+    → Contains (leaving b s) e → settles n b e.target ≡ true
 goes_further n b s e under_way settle is =
-    passes_by_list_all (λ e. settles n b e.target) (leaving b s) e (ap (λ c. c || list_all (λ e. settles n b e.target) (leaving b s)) (sym under_way) ∙ settle) is
+    passes_by_list_all (λ e. settles n b e.target) (leaving b s) e
+    (ap (λ c. c || list_all (λ e. settles n b e.target) (leaving b s)) (sym under_way) ∙ settle) is
 
-never_back : (m : ℕ) (b : BehaviourParts) (s at n k : ℕ) → IsWay b (suc n) s s → IsWay b k at s → settles m b at ≡ true → ⊥
-never_back zero b s at n zero cycle way settle = both_ways (is_complete b s) cycle.0 (ap (is_complete b) (sym way) ∙ settle)
+never_back : (m : ℕ) (b : BehaviourParts) (s at n k : ℕ) → IsWay b (suc n) s s → IsWay b k at s
+    → settles m b at ≡ true → ⊥
+never_back zero b s at n zero cycle way settle =
+    both_ways (is_complete b s) cycle.0 (ap (is_complete b) (sym way) ∙ settle)
 never_back zero b s at n (suc k) cycle way settle = both_ways (is_complete b at) way.0 settle
 never_back (suc m) b s at n zero cycle way settle =
-    never_back m b s cycle.1.0.target n n cycle cycle.1.2 (goes_further m b s cycle.1.0 cycle.0 (ap (settles (suc m) b) (sym way) ∙ settle) cycle.1.1)
+    never_back m b s cycle.1.0.target n n cycle cycle.1.2
+    (goes_further m b s cycle.1.0 cycle.0 (ap (settles (suc m) b) (sym way) ∙ settle) cycle.1.1)
 never_back (suc m) b s at n (suc k) cycle way settle =
     never_back m b s way.1.0.target n k cycle way.1.2 (goes_further m b at way.1.0 way.0 settle way.1.1)
 
-no_cycle : (b : BehaviourParts) → list_all (settles (length b.states) b) (upwards 0 (length b.states)) ≡ true → IsAcyclic b
+no_cycle : (b : BehaviourParts) → list_all (settles (length b.states) b) (upwards 0 (length b.states)) ≡ true
+    → IsAcyclic b
 unfolding IsAcyclic
 no_cycle b settle s n cycle =
-    never_back (length b.states) b s s n zero cycle refl (rule_at (settles (length b.states) b) (length b.states) s settle (incomplete_within b s cycle.0))
+    never_back (length b.states) b s s n zero cycle refl
+    (rule_at (settles (length b.states) b) (length b.states) s settle (incomplete_within b s cycle.0))
 
 -- the marks of all states tell whether there is a cycle
-pub marks_tell : (b : BehaviourParts) (marks : List Bool) → marks ≡ map (settles (length b.states) b) (upwards 0 (length b.states))
+pub marks_tell : (b : BehaviourParts) (marks : List Bool)
+    → marks ≡ map (settles (length b.states) b) (upwards 0 (length b.states))
     → IsTrue (list_all (λ mark. mark) marks) ↔ IsAcyclic b
 marks_tell b marks is =
     let settle = settles (length b.states) b in
     let states = upwards 0 (length b.states) in
-    let same : list_all (λ mark. mark) marks ≡ list_all settle states = ap (list_all (λ mark. mark)) is ∙ all_marked settle states in
-    (λ all. no_cycle b (sym same ∙ all), λ acyclic. same ∙ all_passed settle states (λ s. settled_unless_cycle b s acyclic))
+    let same : list_all (λ mark. mark) marks
+    ≡ list_all settle states = ap (list_all (λ mark. mark)) is ∙ all_marked settle states in (
+      λ all. no_cycle b (sym same ∙ all),
+      λ acyclic. same ∙ all_passed settle states (λ s. settled_unless_cycle b s acyclic),
+    )

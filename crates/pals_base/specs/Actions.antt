@@ -41,8 +41,10 @@ without_loop n done = on_value done (λ e. Ok (record e { vars = take n e.vars }
 
 abbrev mutual
   pub act : Action → Frame → List Bool → List PortValue → Result Effect Trap
-  act (Assign x e) frame fresh outs = on_value (eval e frame fresh) (λ v. Ok (record { vars = slice_set frame.vars x v; outs = outs }))
-  act (Emit p e) frame fresh outs = on_value (eval e frame fresh) (λ v. Ok (record { vars = frame.vars; outs = slice_set outs p (Present v) }))
+  act (Assign x e) frame fresh outs =
+      on_value (eval e frame fresh) (λ v. Ok (record { vars = slice_set frame.vars x v; outs = outs }))
+  act (Emit p e) frame fresh outs =
+      on_value (eval e frame fresh) (λ v. Ok (record { vars = frame.vars; outs = slice_set outs p (Present v) }))
   act (If branches otherwise) frame fresh outs = act_first branches frame fresh outs (acts otherwise frame fresh outs)
   act (For low high body) frame fresh outs =
       for_each (numbers low high)
@@ -52,10 +54,12 @@ abbrev mutual
   -- one after the other
   pub acts : Actions → Frame → List Bool → List PortValue → Result Effect Trap
   acts Nothing frame fresh outs = Ok (record { vars = frame.vars; outs = outs })
-  acts (Do a rest) frame fresh outs = on_value (act a frame fresh outs) (λ e. acts rest (with_vars frame e.vars) fresh e.outs)
+  acts (Do a rest) frame fresh outs =
+      on_value (act a frame fresh outs) (λ e. acts rest (with_vars frame e.vars) fresh e.outs)
 
   -- the first branch whose guard is true, or else what is done otherwise
   pub act_first : Branches → Frame → List Bool → List PortValue → Result Effect Trap → Result Effect Trap
   act_first NoBranch frame fresh outs otherwise = otherwise
   act_first (Where guard actions rest) frame fresh outs otherwise =
-      on_value (eval guard frame fresh) (λ v. if is_true v then acts actions frame fresh outs else act_first rest frame fresh outs otherwise)
+      on_value (eval guard frame fresh)
+      (λ v. if is_true v then acts actions frame fresh outs else act_first rest frame fresh outs otherwise)

@@ -62,4 +62,5 @@ joined Repeat group = Absent
 -- ---- the whole
 abbrev pub adapt : Option Adaptor → ℕ → ℕ → List PortValue → List PortValue
 adapt None p q tuple = tuple
-adapt (Some a) p q tuple = if nat_lt p q then flat_map (spread a (q / p)) tuple else map (joined a) (groups q (p / q) tuple)
+adapt (Some a) p q tuple =
+    if nat_lt p q then flat_map (spread a (q / p)) tuple else map (joined a) (groups q (p / q) tuple)

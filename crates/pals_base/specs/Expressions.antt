@@ -66,4 +66,5 @@ abbrev mutual
   -- the later operands of a chain, from the value of what stands left of them
   pub eval_rest : Operands → Frame → List Bool → ℤ → Result ℤ Trap
   eval_rest NoMore frame fresh left = Ok left
-  eval_rest (Then op e rest) frame fresh left = on_value (combined op left (eval e frame fresh)) (λ v. eval_rest rest frame fresh v)
+  eval_rest (Then op e rest) frame fresh left =
+      on_value (combined op left (eval e frame fresh)) (λ v. eval_rest rest frame fresh v)

@@ -63,7 +63,8 @@ opens (When e) frame fresh = on_value (eval e frame fresh) (λ v. Ok (is_true v)
 -- the first transition whose guard is true
 abbrev pub first_open : List Edge → Frame → List Bool → Result (Option Edge) Trap
 first_open [] frame fresh = Ok None
-first_open (e ∷ es) frame fresh = on_value (opens e.trigger frame fresh) (λ open'. if open' then Ok (Some e) else first_open es frame fresh)
+first_open (e ∷ es) frame fresh =
+    on_value (opens e.trigger frame fresh) (λ open'. if open' then Ok (Some e) else first_open es frame fresh)
 
 -- ---- a step
 -- a frame, and what the out ports have
@@ -74,14 +75,17 @@ pub record Fired : Type 0 where
 -- goes along a transition, if there is one
 abbrev pub along : Option Edge → List Bool → Fired → Result Fired Trap
 along None fresh at = Ok at
-along (Some e) fresh at = on_value (acts e.actions at.frame fresh at.outs) (λ done. Ok (record { frame = record at.frame { state = e.target; vars = done.vars }; outs = done.outs }))
+along (Some e) fresh at =
+    on_value (acts e.actions at.frame fresh at.outs)
+    (λ done. Ok (record { frame = record at.frame { state = e.target; vars = done.vars }; outs = done.outs }))
 
 -- from a state on until a complete one, by at most n transitions
 abbrev pub settled : ℕ → BehaviourParts → List Bool → Fired → Result Fired Trap
 settled zero b fresh at = Ok at
 settled (suc n) b fresh at =
     if is_complete b at.frame.state then Ok at
-    else on_value (first_open (leaving b at.frame.state) at.frame fresh) (λ e. on_value (along e fresh at) (λ next. settled n b fresh next))
+    else on_value (first_open (leaving b at.frame.state) at.frame fresh)
+    (λ e. on_value (along e fresh at) (λ next. settled n b fresh next))
 
 -- the dispatch transition of a complete state
 abbrev pub dispatched : BehaviourParts → ℕ → Option Edge
@@ -89,7 +93,9 @@ dispatched b state = find (λ e. is_dispatch e.trigger) (leaving b state)
 
 -- the whole step of a frame that holds its inputs; it meets no state twice before a complete one
 abbrev pub reaction : BehaviourParts → List Bool → Frame → Result Fired Trap
-reaction b fresh frame = on_value (along (dispatched b frame.state) fresh (record { frame = frame; outs = silence b })) (λ at. settled (length b.states) b fresh at)
+reaction b fresh frame =
+    on_value (along (dispatched b frame.state) fresh (record { frame = frame; outs = silence b }))
+    (λ at. settled (length b.states) b fresh at)
 
 -- what a step leaves: at a trap, the frame from before it with the new held inputs and the halt, and no outputs
 abbrev pub outcome : BehaviourParts → Frame → Result Fired Trap → Fired
@@ -110,7 +116,13 @@ fire b frame inputs =
 -- ---- frames
 -- the frame that a component starts with
 abbrev pub initial : BehaviourParts → Frame
-initial b = record { state = b.initial; vars = map (λ (v : VarDecl). v.first) b.vars; held = replicate (length b.ins) (pos 0); halt = None }
+initial b =
+    record {
+      state = b.initial;
+      vars = map (λ (v : VarDecl). v.first) b.vars;
+      held = replicate (length b.ins) (pos 0);
+      halt = None;
+    }
 
 -- the frame fits the behaviour: a complete state, and as many variables and held inputs
 pub record HasShape (b : BehaviourParts) (frame : Frame) : Type 0 where

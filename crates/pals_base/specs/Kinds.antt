@@ -110,8 +110,10 @@ abbrev mutual
   pub is_sound : Action → BehaviourParts → ℕ → ℕ → Bool
   is_sound (Assign x e) b loops around = suits_variable (slice_get b.vars x) (kinds_of e b loops)
   is_sound (Emit p e) b loops around = suits_port (slice_get b.outs p) (kinds_of e b loops)
-  is_sound (If branches otherwise) b loops around = branches_are_sound branches b loops around && are_sound otherwise b loops around
-  is_sound (For low high body) b loops around = is_short (turns low high) around && are_sound body b (loops + 1) (around * turns low high)
+  is_sound (If branches otherwise) b loops around =
+      branches_are_sound branches b loops around && are_sound otherwise b loops around
+  is_sound (For low high body) b loops around =
+      is_short (turns low high) around && are_sound body b (loops + 1) (around * turns low high)
 
   pub are_sound : Actions → BehaviourParts → ℕ → ℕ → Bool
   are_sound Nothing b loops around = true

@@ -14,7 +14,9 @@ use Rattle.pals_base.specs.Steps.{upwards}
 -- ---- names
 -- the names of a thread's ports and variables
 abbrev pub value_names : BehaviourParts → List (List ℕ)
-value_names b = map (λ (port : PortDecl). port.name) b.ins ++ map (λ (port : PortDecl). port.name) b.outs ++ map (λ (v : VarDecl). v.name) b.vars
+value_names b =
+    map (λ (port : PortDecl). port.name) b.ins ++ map (λ (port : PortDecl). port.name) b.outs
+    ++ map (λ (v : VarDecl). v.name) b.vars
 
 abbrev pub has_word : StateDecl → Bool
 has_word s = is_word s.name
@@ -39,7 +41,9 @@ has_condition b (When e) = (kinds_of e b 0).boolean
 
 -- a transition goes from a state to a state, and its guard and actions are well typed, with short loops
 abbrev pub is_edge : BehaviourParts → Edge → Bool
-is_edge b e = nat_lt e.source (length b.states) && nat_lt e.target (length b.states) && has_condition b e.trigger && are_sound e.actions b 0 1
+is_edge b e =
+    nat_lt e.source (length b.states) && nat_lt e.target (length b.states) && has_condition b e.trigger
+    && are_sound e.actions b 0 1
 
 -- ---- states
 abbrev pub dispatch_count : List Edge → ℕ

@@ -36,7 +36,8 @@ pub record Stepped : Type 0 where
 
 -- the steps of a round: the fold of `fire`, with each out port's values gathered as a tuple
 abbrev pub steps : BehaviourParts → Frame → List (List PortValue) → Stepped
-steps b frame vectors = record { frame = frame_after b frame vectors; tuples = columns (length b.outs) (outputs b frame vectors) }
+steps b frame vectors =
+    record { frame = frame_after b frame vectors; tuples = columns (length b.outs) (outputs b frame vectors) }
 
 -- a tuple with every place after its first n absent
 abbrev pub cut : ℕ → List PortValue → List PortValue

@@ -3,7 +3,7 @@ ghost use Rattle.std.specs.Prelude.{◌≡◌, option_copied};
 ghost use Rattle.pals_base.specs.proof.Seen.{tree_of, operands_along};
 ghost use Rattle.pals_base.specs.Kinds.{may_be, only, allows, literal_kinds, port_kinds, variable_kinds, joined, kinds_of, kinds_along};
 
-use crate::behaviour::{BehaviourParts, Expr, Kind, PortDecl, Op, Operand};
+use crate::behaviour::{BehaviourParts, Expr, Kind, Op, Operand, PortDecl};
 
 /// The types that a value may have: none where an expression is not well typed, and both for a
 /// number that may stand for a truth value.

@@ -21,7 +21,7 @@ pub mod values;
 
 pub use arithmetic::{abs, add, modulo, mul, neg, quot, rem, sub};
 pub use behaviour::{
-    Act, Behaviour, BehaviourParts, Branch, Expr, Guard, Kind, PortDecl, Op, Operand, StateDecl,
+    Act, Behaviour, BehaviourParts, Branch, Expr, Guard, Kind, Op, Operand, PortDecl, StateDecl,
     Transition, VarDecl,
 };
 pub use copy::TryClone;

@@ -69,12 +69,14 @@ finish_after run s node step is =
     (λ k. with_node s node.0 (finished (plan_of run.design node.0) run.rounds k (node_at s node.0)))) is
 
 -- ---- messages
-pub taken_flies : (o : Option FlightCopy) (tuple : List PortValue) → option_map (λ (c : FlightCopy). c.tuple) o ≡ Some tuple
+pub taken_flies : (o : Option FlightCopy) (tuple : List PortValue)
+    → option_map (λ (c : FlightCopy). c.tuple) o ≡ Some tuple
     → is_some o ≡ true
 taken_flies None tuple is = absurd (cc)
 taken_flies (Some copy) tuple is = refl
 
-pub taken_is : (o : Option FlightCopy) (tuple : List PortValue) → option_map (λ (c : FlightCopy). c.tuple) o ≡ Some tuple
+pub taken_is : (o : Option FlightCopy) (tuple : List PortValue)
+    → option_map (λ (c : FlightCopy). c.tuple) o ≡ Some tuple
     → tuple_in o ≡ tuple
 taken_is None tuple is = absurd (cc)
 taken_is (Some copy) tuple is = cc

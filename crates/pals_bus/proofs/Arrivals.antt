@@ -240,7 +240,8 @@ node_reached f t link round tuple target keeps within takes target_is =
     ap₂ (λ (ns : List NodeValue) (k : ℕ). node_of ns k) nodes target_is
     ∙ node_is f goal keeps (omega (arith, count, there))
 
-pub slot_reached : (f t : Fields) (link : LinkNo) (round : ℕ) (tuple : Option (List PortValue)) (target port : ℕ) → Keeps f
+pub slot_reached : (f t : Fields) (link : LinkNo) (round : ℕ) (tuple : Option (List PortValue))
+    (target port : ℕ) → Keeps f
     → link.0 < length (arc_value f.design).links → Takes f t link round tuple
     → target ≡ (slice_index_or (arc_value f.design).links link.0 no_link).target.0
     → port ≡ (slice_index_or (arc_value f.design).links link.0 no_link).in_port
@@ -262,7 +263,8 @@ arrival_is f t link round tuple target port result keeps within takes target_is 
     answers ∙ ap₂ (λ (k : NodeValue) (p : ℕ). arrived k.state p round)
     (node_reached f t link round tuple target keeps within takes target_is) port_is
 
-pub comes_by : (f t g : Fields) (link : LinkNo) (round : ℕ) (reading : Option ℕ) (tuple : List PortValue) (target port : ℕ)
+pub comes_by : (f t g : Fields) (link : LinkNo) (round : ℕ) (reading : Option ℕ) (tuple : List PortValue)
+    (target port : ℕ)
     (result : Arrived) (first : List JournalEntry) → Keeps f → link.0 < length (arc_value f.design).links
     → Takes f t link round (Some tuple) → target ≡ (slice_index_or (arc_value f.design).links link.0 no_link).target.0
     → port ≡ (slice_index_or (arc_value f.design).links link.0 no_link).in_port

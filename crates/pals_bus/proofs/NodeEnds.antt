@@ -303,7 +303,8 @@ sends v f s g nodes node reading round messages stands says round_is is =
     }
 
 pub send_place : (v : BusValue) (f s : Fields) (nodes : List NodeValue) (node : ℕ) (reading : Option ℕ)
-    (messages : List (List PortValue)) → Stands v f node → Sends (node_of f.nodes node) reading (node_of nodes node) messages
+    (messages : List (List PortValue)) → Stands v f node
+    → Sends (node_of f.nodes node) reading (node_of nodes node) messages
     → s ≡ record f { nodes = nodes; flights = s.flights; queues = s.queues }
     → length s.journal.items < vec_capacity s.journal
 send_place v f s nodes node reading messages stands says sent =
@@ -317,7 +318,8 @@ send_place v f s nodes node reading messages stands says sent =
 
 -- the queues have room for its messages
 pub send_room : (v : BusValue) (f : Fields) (nodes : List NodeValue) (node : ℕ) (reading : Option ℕ)
-    (messages : List (List PortValue)) → Stands v f node → Sends (node_of f.nodes node) reading (node_of nodes node) messages
+    (messages : List (List PortValue)) → Stands v f node
+    → Sends (node_of f.nodes node) reading (node_of nodes node) messages
     → nodes ≡ slice_set f.nodes node (node_of nodes node)
     → AreQueuesAmid node 0 (arc_value f.design).links nodes f.flights f.queues
 send_room v f nodes node reading messages stands says are =

@@ -79,7 +79,8 @@ pub longer : (new old : List JournalEntry) (x : JournalEntry) → new ≡ old ++
 longer new old x is = ap length is ∙ length-append old (x ∷ [])
 
 -- ---- Start
-pub start_happens : (f g : Fields) (node : NodeNo) (reading : Option ℕ) (m : NodeValue) (values : List PortValue) (round : ℕ)
+pub start_happens : (f g : Fields) (node : NodeNo) (reading : Option ℕ) (m : NodeValue)
+    (values : List PortValue) (round : ℕ)
     (job : JobValue) → Keeps f → f.stop ≡ None → node.0 < length f.nodes
     → Starts (node_value (value_of f) node.0) values reading m job → round ≡ (node_at (state_of f) node.0).count
     → values ≡ values_at f.env round
@@ -109,7 +110,8 @@ start_happens f g node reading m values round job keeps going within starts roun
           (sym (turn_shown f g node.0 m (started plan (values_at f.env n.count) n) keeps within all.state same)) all;
     }
 
-pub start_keeps : (f g : Fields) (node : NodeNo) (reading : Option ℕ) (m : NodeValue) (values : List PortValue) (round : ℕ)
+pub start_keeps : (f g : Fields) (node : NodeNo) (reading : Option ℕ) (m : NodeValue)
+    (values : List PortValue) (round : ℕ)
     (job : JobValue) → Keeps f → node.0 < length f.nodes → Starts (node_value (value_of f) node.0) values reading m job
     → g ≡ record f { nodes = slice_set f.nodes node.0 m; journal = g.journal }
     → g.journal.items ≡ f.journal.items ++ entry.Start node round reading ∷ []

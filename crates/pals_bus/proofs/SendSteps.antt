@@ -67,7 +67,8 @@ same_head : {X : Type 0} (x y : X) (xs ys : List X) → ◌≡◌ {A = List X} (
 same_head x y xs ys is = (cc, cc)
 
 -- the next link is the node's, and its message goes into flight
-pub sending_one : (first now : Fields) (node round : ℕ) (reading : Option ℕ) (messages left rest : List (List PortValue))
+pub sending_one : (first now : Fields) (node round : ℕ) (reading : Option ℕ)
+    (messages left rest : List (List PortValue))
     (link : LinkNo) (tuple : List PortValue) (flight : FlightState) (queue : QueueState) → CanSend first node messages
     → Sending first now node round reading messages left link.0 → link.0 < length (arc_value first.design).links
     → is_from node (slice_index_or (arc_value first.design).links link.0 no_link) ≡ true → left ≡ tuple ∷ rest
@@ -169,7 +170,8 @@ sending_room first now node round reading messages left number so_far room withi
     let same : (slice_index_or now.flights number no_flight).spare ≡ (slice_index_or first.flights number no_flight).spare = ap (λ (f : FlightState). f.spare) (so_far.sent.others number (omega arith)) in
     omega (arith, here, same)
 
-pub sending_queue_room : (first now : Fields) (node round : ℕ) (reading : Option ℕ) (messages left : List (List PortValue))
+pub sending_queue_room : (first now : Fields) (node round : ℕ) (reading : Option ℕ)
+    (messages left : List (List PortValue))
     (number : ℕ) → Sending first now node round reading messages left number
     → number < length (arc_value first.design).links
     → is_from node (slice_index_or (arc_value first.design).links number no_link) ≡ true
@@ -194,7 +196,8 @@ message_left first now node round reading messages left number can so_far within
 
 -- ---- the next link from the node
 -- the numbers that the code reads are those of the fields as they were
-pub own_links : (first now : Fields) (node round : ℕ) (reading : Option ℕ) (messages left : List (List PortValue)) (at : ℕ)
+pub own_links : (first now : Fields) (node round : ℕ) (reading : Option ℕ)
+    (messages left : List (List PortValue)) (at : ℕ)
     (ns all : List LinkNo)
     → Reaches (Sending first now node round reading messages left) node at (arc_value first.design).links
     (slice_index_or first.outgoing node no_numbers) → all ≡ slice_index_or first.outgoing node no_numbers
@@ -247,7 +250,8 @@ sending_places first now node round reading messages left number can so_far with
     )
 
 -- once all links of the node are done
-pub sending_all : (first now : Fields) (node round : ℕ) (reading : Option ℕ) (messages left : List (List PortValue)) (at : ℕ)
+pub sending_all : (first now : Fields) (node round : ℕ) (reading : Option ℕ)
+    (messages left : List (List PortValue)) (at : ℕ)
     (all : List LinkNo)
     → Reaches (Sending first now node round reading messages left) node at (arc_value first.design).links
     (slice_index_or first.outgoing node no_numbers) → all ≡ slice_index_or first.outgoing node no_numbers

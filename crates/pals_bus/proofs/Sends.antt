@@ -41,14 +41,16 @@ unsent_node f node reading m messages keeps within sends =
     ∙ is_unsent (plan_of (arc_value f.design) node) (node_at (state_of f) node) sends.may
 
 -- what the messages need
-pub send_room : (f : Fields) (node : ℕ) (reading : Option ℕ) (m : NodeValue) (messages : List (List PortValue)) → Keeps f
+pub send_room : (f : Fields) (node : ℕ) (reading : Option ℕ) (m : NodeValue)
+    (messages : List (List PortValue)) → Keeps f
     → node < length f.nodes → Sends (node_value (value_of f) node) reading m messages
     → HasRoomFor node (length (arc_value f.design).links) (arc_value f.design).links f.flights
 send_room f node reading m messages keeps within sends =
     room_of (arc_value f.design).links f.nodes f.flights node (length (arc_value f.design).links) keeps.rooms
     (unsent_node f node reading m messages keeps within sends)
 
-pub send_queues : (f : Fields) (node : ℕ) (reading : Option ℕ) (m : NodeValue) (messages : List (List PortValue)) → Keeps f
+pub send_queues : (f : Fields) (node : ℕ) (reading : Option ℕ) (m : NodeValue)
+    (messages : List (List PortValue)) → Keeps f
     → node < length f.nodes → Sends (node_value (value_of f) node) reading m messages
     → AreQueuesAmid node 0 (arc_value f.design).links (slice_set f.nodes node m) f.flights f.queues
 send_queues f node reading m messages keeps within sends =
@@ -64,7 +66,8 @@ send_count f node reading m messages sends =
     ∙ length-map (filter (is_from node) (arc_value f.design).links) (λ (l : Link). l.out_port)
 
 -- the node owes one entry less
-pub send_owes : (f : Fields) (node : ℕ) (reading : Option ℕ) (m : NodeValue) (messages : List (List PortValue)) → Keeps f
+pub send_owes : (f : Fields) (node : ℕ) (reading : Option ℕ) (m : NodeValue)
+    (messages : List (List PortValue)) → Keeps f
     → node < length f.nodes → Sends (node_value (value_of f) node) reading m messages
     → sum_by owed (slice_set f.nodes node m) + 1 ≡ sum_by owed f.nodes
 send_owes f node reading m messages keeps within sends =
@@ -73,7 +76,8 @@ send_owes f node reading m messages keeps within sends =
     (owed_sent n f.rounds m (is_unsent (plan_of (arc_value f.design) node) n.state sends.may)
     (ap (λ (k : NodeValue). k.state) sends.state) ∙ ap owed (sym (node_is f node keeps within)))
 
-pub send_happens : (f g : Fields) (node : NodeNo) (reading : Option ℕ) (m : NodeValue) (messages : List (List PortValue))
+pub send_happens : (f g : Fields) (node : NodeNo) (reading : Option ℕ) (m : NodeValue)
+    (messages : List (List PortValue))
     (round : ℕ) → Keeps f → f.stop ≡ None → node.0 < length f.nodes
     → Sends (node_value (value_of f) node.0) reading m messages
     → round ≡ round_of (node_at (state_of f) node.0)
@@ -99,7 +103,8 @@ send_happens f g node reading m messages round keeps going within sends round_is
     sends.may refl
     (told ∙ ap (λ r. f.journal.items ++ entry.Send node r reading ∷ []) round_is))
 
-pub send_keeps_bus : (f g : Fields) (node : NodeNo) (reading : Option ℕ) (m : NodeValue) (messages : List (List PortValue))
+pub send_keeps_bus : (f g : Fields) (node : NodeNo) (reading : Option ℕ) (m : NodeValue)
+    (messages : List (List PortValue))
     (round : ℕ) → Keeps f → node.0 < length f.nodes → Sends (node_value (value_of f) node.0) reading m messages
     → AreSent node.0 (arc_value f.design).links f.delays round reading messages (length (arc_value f.design).links)
     f.flights g.flights → AreQueues (arc_value f.design).links (slice_set f.nodes node.0 m) g.flights g.queues

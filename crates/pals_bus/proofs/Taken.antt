@@ -96,7 +96,8 @@ pub record Takes (f g : Fields) (link : LinkNo) (round : ℕ) (tuple : Option (L
   pub room : NoLessRoom f.flights g.flights
   pub others : g ≡ record f { flights = g.flights; queues = g.queues }
 
-pub same_count : (f g : Fields) (link : LinkNo) (round : ℕ) (tuple : Option (List PortValue)) → Takes f g link round tuple
+pub same_count : (f g : Fields) (link : LinkNo) (round : ℕ) (tuple : Option (List PortValue))
+    → Takes f g link round tuple
     → length g.flights ≡ length f.flights
 same_count f g link round tuple takes =
     as_many f.flights g.flights link.0 (without_oldest round (slice_index_or f.flights link.0 no_flight).copies)
@@ -139,18 +140,21 @@ none_holds None holds = holds
 none_holds (Some x) holds = tt
 
 -- ---- Drop
-some_flies : (o : Option FlightCopy) (tuple : List PortValue) → Some tuple ≡ option_map (λ (copy : FlightCopy). copy.tuple) o
+some_flies : (o : Option FlightCopy) (tuple : List PortValue)
+    → Some tuple ≡ option_map (λ (copy : FlightCopy). copy.tuple) o
     → is_some o ≡ true
 some_flies None tuple is = absurd (cc)
 some_flies (Some copy) tuple is = refl
 
-pub some_in_flight : (f g : Fields) (link : LinkNo) (round : ℕ) (tuple : List PortValue) → Takes f g link round (Some tuple)
+pub some_in_flight : (f g : Fields) (link : LinkNo) (round : ℕ) (tuple : List PortValue)
+    → Takes f g link round (Some tuple)
     → is_in_flight round (flight_at (state_of f) link.0) ≡ true
 some_in_flight f g link round tuple takes =
     ap (is_in_flight round) (flight_is f.flights link.0)
     ∙ some_flies (oldest round (slice_index_or f.flights link.0 no_flight).copies) tuple takes.taken
 
-pub copies_left : (f g : Fields) (link : LinkNo) (round : ℕ) (tuple : Option (List PortValue)) → Takes f g link round tuple
+pub copies_left : (f g : Fields) (link : LinkNo) (round : ℕ) (tuple : Option (List PortValue))
+    → Takes f g link round tuple
     → copies_in g.flights ≡ slice_set (copies_in f.flights) link.0
     (without_oldest round (flight_at (state_of f) link.0))
 copies_left f g link round tuple takes =

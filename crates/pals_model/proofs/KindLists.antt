@@ -47,7 +47,8 @@ pub find_fits : {X : Type 0} (P : X → Type 0) (test : X → Bool) (xs : List X
     → find test xs ≡ Some found → P found
 find_fits P test [] found all is = absurd (cc)
 find_fits P test (x ∷ xs) found all is =
-    found_either P (test x) x found (find test xs) (All-head P x xs all) (λ later. find_fits P test xs found (All-tail P x xs all) later) is
+    found_either P (test x) x found (find test xs) (All-head P x xs all)
+    (λ later. find_fits P test xs found (All-tail P x xs all) later) is
 
 -- ---- results
 pub any_ok : {A : Type 0} (P : A → Type 0) (r : Result A Trap) → ((x : A) → P x) → IfOk r P

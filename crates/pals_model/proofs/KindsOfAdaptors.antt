@@ -44,7 +44,8 @@ present_fits : (kind : Kind) (tuple : List PortValue) → TupleFits kind tuple �
 present_fits kind [] all = All-nil (Fits kind)
 present_fits kind (Absent ∷ tuple) all = present_fits kind tuple (All-tail (PortFits kind) Absent tuple all)
 present_fits kind (Present v ∷ tuple) all =
-    All-cons (Fits kind) v (present tuple) (All-head (PortFits kind) (Present v) tuple all) (present_fits kind tuple (All-tail (PortFits kind) (Present v) tuple all))
+    All-cons (Fits kind) v (present tuple) (All-head (PortFits kind) (Present v) tuple all)
+    (present_fits kind tuple (All-tail (PortFits kind) (Present v) tuple all))
 
 latest_fits : (kind : Kind) (v : ℤ) (vs : List ℤ) → Fits kind v → All (Fits kind) vs → Fits kind (latest_of v vs)
 latest_fits kind v [] fits all = fits
@@ -71,7 +72,8 @@ groups_fit : (kind : Kind) (count m : ℕ) (tuple : List PortValue) → TupleFit
     → All (TupleFits kind) (groups count m tuple)
 groups_fit kind zero m tuple all = All-nil (TupleFits kind)
 groups_fit kind (suc count) m tuple all =
-    All-cons (TupleFits kind) (take m tuple) (groups count m (drop m tuple)) (All-take (PortFits kind) m tuple all) (groups_fit kind count m (drop m tuple) (All-drop (PortFits kind) m tuple all))
+    All-cons (TupleFits kind) (take m tuple) (groups count m (drop m tuple)) (All-take (PortFits kind) m tuple all)
+    (groups_fit kind count m (drop m tuple) (All-drop (PortFits kind) m tuple all))
 
 -- ---- the whole
 if_fits : (kind : Kind) (b : Bool) (xs ys : List PortValue) → TupleFits kind xs → TupleFits kind ys
@@ -84,8 +86,10 @@ boolean_fits : (a : Option Adaptor) (p q : ℕ) (tuple : List PortValue) → IsT
 boolean_fits None p q tuple suits all = all
 boolean_fits (Some a) p q tuple suits all =
     if_fits Boolean (nat_lt p q) (flat_map (spread a (q / p)) tuple) (map (joined a) (groups q (p / q) tuple))
-    (flat_all (PortFits Boolean) (PortFits Boolean) (spread a (q / p)) tuple (λ port fits. spread_fits a Boolean (q / p) port fits) all)
-    (map_all (TupleFits Boolean) (PortFits Boolean) (joined a) (groups q (p / q) tuple) (λ group fits. joined_fits a group suits fits) (groups_fit Boolean q (p / q) tuple all))
+    (flat_all (PortFits Boolean) (PortFits Boolean) (spread a (q / p)) tuple
+    (λ port fits. spread_fits a Boolean (q / p) port fits) all)
+    (map_all (TupleFits Boolean) (PortFits Boolean) (joined a) (groups q (p / q) tuple)
+    (λ group fits. joined_fits a group suits fits) (groups_fit Boolean q (p / q) tuple all))
 
 pub adapt_fits : (kind : Kind) (a : Option Adaptor) (p q : ℕ) (tuple : List PortValue) → IsTrue (suits_kind a kind)
     → TupleFits kind tuple → TupleFits kind (adapt a p q tuple)

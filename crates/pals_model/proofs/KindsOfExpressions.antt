@@ -94,11 +94,16 @@ combined_may And a b left right one two =
 combined_may Or a b left right one two =
     on_ok (MayBe (joined Or a b)) right (λ x. applied Or left x) (λ x is. truth_fits (is_true left || is_true x))
 combined_may Xor a b left right one two =
-    on_ok (MayBe (joined Xor a b)) right (λ x. applied Xor left x) (λ x is. truth_fits (cond (is_true left) (not (is_true x)) (is_true x)))
+    on_ok (MayBe (joined Xor a b)) right (λ x. applied Xor left x)
+    (λ x is. truth_fits (cond (is_true left) (not (is_true x)) (is_true x)))
 combined_may AndThen a b left right one two =
-    if_ok (MayBe (joined AndThen a b)) (is_true left) right (Ok (pos 0)) (weaker_ok (MayBe b) (MayBe (joined AndThen a b)) right (λ x may is. may (and_parts a.boolean b.boolean is).1) two) (λ is. inl refl)
+    if_ok (MayBe (joined AndThen a b)) (is_true left) right (Ok (pos 0))
+    (weaker_ok (MayBe b) (MayBe (joined AndThen a b)) right (λ x may is. may (and_parts a.boolean b.boolean is).1)
+    two) (λ is. inl refl)
 combined_may OrElse a b left right one two =
-    if_ok (MayBe (joined OrElse a b)) (is_true left) (Ok (pos 1)) right (λ is. inr refl) (weaker_ok (MayBe b) (MayBe (joined OrElse a b)) right (λ x may is. may (and_parts a.boolean b.boolean is).1) two)
+    if_ok (MayBe (joined OrElse a b)) (is_true left) (Ok (pos 1)) right (λ is. inr refl)
+    (weaker_ok (MayBe b) (MayBe (joined OrElse a b)) right
+    (λ x may is. may (and_parts a.boolean b.boolean is).1) two)
 
 -- ---- expressions
 mutual
@@ -106,18 +111,23 @@ mutual
       → VarsFit b frame.vars → HeldFit b frame.held → IfOk (eval e frame fresh) (MayBe (kinds_of e b loops))
   eval_may (Literal n) b loops frame fresh vars held = literal_may n
   eval_may (Variable x) b loops frame fresh vars held =
-      var_by b (slice_get b.vars x) (nat_lt x (length b.vars + loops)) (slice_index_or frame.vars x (pos 0)) (λ d is. vars x d is)
+      var_by b (slice_get b.vars x) (nat_lt x (length b.vars + loops)) (slice_index_or frame.vars x (pos 0))
+      (λ d is. vars x d is)
   eval_may (PortRead p) b loops frame fresh vars held =
       port_by (slice_get b.ins p) (slice_index_or frame.held p (pos 0)) (λ d is. held p d is)
   eval_may (Fresh p) b loops frame fresh vars held = λ is. truth_fits (slice_index_or fresh p false)
   eval_may (Neg e) b loops frame fresh vars held =
-      any_ok (MayBe (kinds_of (Neg e) b loops)) (on_value (eval e frame fresh) negation_of) (λ x is. absurd (false≢true is))
+      any_ok (MayBe (kinds_of (Neg e) b loops)) (on_value (eval e frame fresh) negation_of)
+      (λ x is. absurd (false≢true is))
   eval_may (Abs e) b loops frame fresh vars held =
-      any_ok (MayBe (kinds_of (Abs e) b loops)) (on_value (eval e frame fresh) magnitude_of) (λ x is. absurd (false≢true is))
+      any_ok (MayBe (kinds_of (Abs e) b loops)) (on_value (eval e frame fresh) magnitude_of)
+      (λ x is. absurd (false≢true is))
   eval_may (Not e) b loops frame fresh vars held =
-      on_ok (MayBe (kinds_of (Not e) b loops)) (eval e frame fresh) (λ v. Ok (truth (not (is_true v)))) (λ v is. truth_fits (not (is_true v)))
+      on_ok (MayBe (kinds_of (Not e) b loops)) (eval e frame fresh) (λ v. Ok (truth (not (is_true v))))
+      (λ v is. truth_fits (not (is_true v)))
   eval_may (Chain first rest) b loops frame fresh vars held =
-      then_ok (MayBe (kinds_of first b loops)) (MayBe (kinds_along rest b loops (kinds_of first b loops))) (eval first frame fresh) (λ v. eval_rest rest frame fresh v) (eval_may first b loops frame fresh vars held)
+      then_ok (MayBe (kinds_of first b loops)) (MayBe (kinds_along rest b loops (kinds_of first b loops)))
+      (eval first frame fresh) (λ v. eval_rest rest frame fresh v) (eval_may first b loops frame fresh vars held)
       (λ v may. rest_may rest b loops frame fresh vars held (kinds_of first b loops) v may)
 
   pub rest_may : (rest : Operands) (b : BehaviourParts) (loops : ℕ) (frame : Frame) (fresh : List Bool)
@@ -125,6 +135,9 @@ mutual
       → IfOk (eval_rest rest frame fresh left) (MayBe (kinds_along rest b loops kinds))
   rest_may NoMore b loops frame fresh vars held kinds left may = may
   rest_may (Then op e rest) b loops frame fresh vars held kinds left may =
-      then_ok (MayBe (joined op kinds (kinds_of e b loops))) (MayBe (kinds_along rest b loops (joined op kinds (kinds_of e b loops)))) (combined op left (eval e frame fresh)) (λ v. eval_rest rest frame fresh v)
-      (combined_may op kinds (kinds_of e b loops) left (eval e frame fresh) may (eval_may e b loops frame fresh vars held))
+      then_ok (MayBe (joined op kinds (kinds_of e b loops)))
+      (MayBe (kinds_along rest b loops (joined op kinds (kinds_of e b loops))))
+      (combined op left (eval e frame fresh)) (λ v. eval_rest rest frame fresh v)
+      (combined_may op kinds (kinds_of e b loops) left (eval e frame fresh) may
+      (eval_may e b loops frame fresh vars held))
       (λ v so_far. rest_may rest b loops frame fresh vars held (joined op kinds (kinds_of e b loops)) v so_far)

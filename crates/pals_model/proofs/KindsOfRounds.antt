@@ -39,7 +39,8 @@ column_at : (lists : List (List PortValue)) (from n p : ℕ) → p < n
 column_at lists from zero p within = absurd (omega arith)
 column_at lists from (suc n) zero within = let here : from ≡ from + 0 = omega arith in ap (λ k. column k lists) here
 column_at lists from (suc n) (suc p) within =
-    let next : suc from + p ≡ from + suc p = omega arith in column_at lists (suc from) n p (omega arith) ∙ ap (λ k. column k lists) next
+    let next : suc from + p ≡ from + suc p = omega arith in
+    column_at lists (suc from) n p (omega arith) ∙ ap (λ k. column k lists) next
 
 pub place_of_column : (lists : List (List PortValue)) (at p : ℕ)
     → slice_index_or (column at lists) p Absent ≡ slice_index_or (slice_index_or lists p []) at Absent
@@ -52,23 +53,28 @@ twice_at : {S : Type 0} (R : S → List PortValue) (source : ℕ → S) (from n 
 twice_at R source from zero p within = absurd (omega arith)
 twice_at R source from (suc n) zero within = let here : from ≡ from + 0 = omega arith in ap (λ k. R (source k)) here
 twice_at R source from (suc n) (suc p) within =
-    let next : suc from + p ≡ from + suc p = omega arith in twice_at R source (suc from) n p (omega arith) ∙ ap (λ k. R (source k)) next
+    let next : suc from + p ≡ from + suc p = omega arith in
+    twice_at R source (suc from) n p (omega arith) ∙ ap (λ k. R (source k)) next
 
 -- ---- what in ports bring
 abbrev MessagesAreFit : DesignParts → List (List PortValue) → Type 0
 MessagesAreFit design messages =
-    (number : ℕ) (link : Link) → slice_get design.links number ≡ Some link → TupleFits (link_kind design link) (slice_index_or messages number [])
+    (number : ℕ) (link : Link) → slice_get design.links number ≡ Some link
+    → TupleFits (link_kind design link) (slice_index_or messages number [])
 
 -- the kind of an in port of a component
 in_port_kind : (design : DesignParts) (node p target in_port : ℕ) (c : Component) (port : PortDecl)
     → slice_get design.components node ≡ Some c → slice_get c.behaviour.ins p ≡ Some port → target ≡ node → in_port ≡ p
     → in_kind (slice_get design.components target) in_port ≡ port.kind
 in_port_kind design node p target in_port c port is_c is_port to_node to_port =
-    ap₂ (λ t q. in_kind (slice_get design.components t) q) to_node to_port ∙ ap (λ o. in_kind o p) is_c ∙ ap kind_of is_port
+    ap₂ (λ t q. in_kind (slice_get design.components t) q) to_node to_port ∙ ap (λ o. in_kind o p) is_c
+    ∙ ap kind_of is_port
 
-source_fits : (design : DesignParts) (env : Env) (round : ℕ) (messages : List (List PortValue)) (node p : ℕ) (c : Component) (port : PortDecl) (l f : Option ℕ)
+source_fits : (design : DesignParts) (env : Env) (round : ℕ) (messages : List (List PortValue)) (node p : ℕ)
+    (c : Component) (port : PortDecl) (l f : Option ℕ)
     → IsDesign design → EnvFits design env → MessagesAreFit design messages
-    → slice_get design.components node ≡ Some c → slice_get c.behaviour.ins p ≡ Some port → position (link_goes_to node p) design.links ≡ l → position (feed_goes_to node p) design.feeds ≡ f
+    → slice_get design.components node ≡ Some c → slice_get c.behaviour.ins p ≡ Some port
+    → position (link_goes_to node p) design.links ≡ l → position (feed_goes_to node p) design.feeds ≡ f
     → TupleFits port.kind (reading design (values_at env round) messages c.rate (from_link l (from_feed design f)))
 source_fits design env round messages node p c port (Some number) f rules given sent is_c is_port to_link to_feed =
     let at = found_at (link_goes_to node p) design.links number to_link in
@@ -76,27 +82,38 @@ source_fits design env round messages node p c port (Some number) f rules given 
     let goes = and_parts (nat_eq link.target.0 node) (nat_eq link.in_port p) at.2 in
     let rule = at_element (IsLink design) design.links number link rules.links.each at.1 in
     let kind =
-    in_port_kind design node p link.target.0 link.in_port c port is_c is_port (eqb-true link.target.0 node goes.0) (eqb-true link.in_port p goes.1) in
+    in_port_kind design node p link.target.0 link.in_port c port is_c is_port (eqb-true link.target.0 node goes.0)
+    (eqb-true link.in_port p goes.1) in
     let message = slice_index_or messages number [] in
-    let fits : TupleFits port.kind message = subst (λ k. TupleFits k message) (rule.kinds ∙ kind) (sent number link at.1) in
-    let suits : IsTrue (suits_kind link.adaptor port.kind) = subst (λ k. IsTrue (suits_kind link.adaptor k)) kind rule.suits in
-    subst (λ o. TupleFits port.kind (read_link design c.rate message o)) (sym at.1) (adapt_fits port.kind link.adaptor (rate_of design link.source.0) c.rate message suits fits)
+    let fits : TupleFits port.kind message =
+    subst (λ k. TupleFits k message) (rule.kinds ∙ kind) (sent number link at.1) in
+    let suits : IsTrue (suits_kind link.adaptor port.kind) =
+    subst (λ k. IsTrue (suits_kind link.adaptor k)) kind rule.suits in
+    subst (λ o. TupleFits port.kind (read_link design c.rate message o)) (sym at.1)
+    (adapt_fits port.kind link.adaptor (rate_of design link.source.0) c.rate message suits fits)
 source_fits design env round messages node p c port None (Some number) rules given sent is_c is_port to_link to_feed =
     let at = found_at (feed_goes_to node p) design.feeds number to_feed in
     let f = at.0 in
     let goes = and_parts (nat_eq f.target.0 node) (nat_eq f.in_port p) at.2 in
     let rule = at_element (IsFeed design) design.feeds number f rules.feeds.each at.1 in
     let kind =
-    in_port_kind design node p f.target.0 f.in_port c port is_c is_port (eqb-true f.target.0 node goes.0) (eqb-true f.in_port p goes.1) in
+    in_port_kind design node p f.target.0 f.in_port c port is_c is_port (eqb-true f.target.0 node goes.0)
+    (eqb-true f.in_port p goes.1) in
     let value = slice_index_or (values_at env round) (root_of design number) Absent in
     let own : root_kind design f.name ≡ port.kind = sym (feeds_have_root_kind design number f rules at.1) ∙ kind in
-    let fits : PortFits port.kind value = subst (λ k. PortFits k value) own (given round (root_of design number) f.name (feed_has_root design number f at.1)) in
-    let suits : IsTrue (suits_kind f.adaptor port.kind) = subst (λ k. IsTrue (suits_kind f.adaptor k)) kind rule.suits in
-    subst (λ o. TupleFits port.kind (read_feed value c.rate o)) (sym at.1) (adapt_fits port.kind f.adaptor 1 c.rate (value ∷ []) suits (All-cons (PortFits port.kind) value [] fits (All-nil (PortFits port.kind))))
+    let fits : PortFits port.kind value =
+    subst (λ k. PortFits k value) own
+    (given round (root_of design number) f.name (feed_has_root design number f at.1)) in
+    let suits : IsTrue (suits_kind f.adaptor port.kind) =
+    subst (λ k. IsTrue (suits_kind f.adaptor k)) kind rule.suits in
+    subst (λ o. TupleFits port.kind (read_feed value c.rate o)) (sym at.1)
+    (adapt_fits port.kind f.adaptor 1 c.rate (value ∷ []) suits
+    (All-cons (PortFits port.kind) value [] fits (All-nil (PortFits port.kind))))
 source_fits design env round messages node p c port None None rules given sent is_c is_port to_link to_feed =
     absent_fits port.kind c.rate
 
-vectors_fit : (design : DesignParts) (env : Env) (round : ℕ) (messages : List (List PortValue)) (node : ℕ) (c : Component)
+vectors_fit : (design : DesignParts) (env : Env) (round : ℕ) (messages : List (List PortValue)) (node : ℕ)
+    (c : Component)
     → IsDesign design → EnvFits design env → MessagesAreFit design messages → slice_get design.components node ≡ Some c
     → All (PortsFit c.behaviour.ins) (inputs_of design (values_at env round) messages node c)
 vectors_fit design env round messages node c rules given sent is_c =
@@ -106,10 +123,15 @@ vectors_fit design env round messages node c rules given sent is_c =
     (λ at unit p port is.
     let within = slice_get_within c.behaviour.ins p port is in
     let zero' : 0 + p ≡ p = omega arith in
-    let here : slice_index_or lists p [] ≡ R (source_of design node p) = twice_at R (λ q. source_of design node q) 0 (length c.behaviour.ins) p within ∙ ap (λ q. R (source_of design node q)) zero' in
+    let here : slice_index_or lists p [] ≡ R (source_of design node p) =
+    twice_at R (λ q. source_of design node q) 0 (length c.behaviour.ins) p within
+    ∙ ap (λ q. R (source_of design node q)) zero' in
     let fits : TupleFits port.kind (slice_index_or lists p []) =
-    subst (TupleFits port.kind) (sym here) (source_fits design env round messages node p c port (position (link_goes_to node p) design.links) (position (feed_goes_to node p) design.feeds) rules given sent is_c is refl refl) in
-    subst (PortFits port.kind) (sym (place_of_column lists at p)) (index_fits (PortFits port.kind) (slice_index_or lists p []) at Absent fits tt))
+    subst (TupleFits port.kind) (sym here)
+    (source_fits design env round messages node p c port (position (link_goes_to node p) design.links)
+    (position (feed_goes_to node p) design.feeds) rules given sent is_c is refl refl) in
+    subst (PortFits port.kind) (sym (place_of_column lists at p))
+    (index_fits (PortFits port.kind) (slice_index_or lists p []) at Absent fits tt))
     (every (λ (at : ℕ). Unit {0}) (upwards 0 c.rate) (λ at. tt))
 
 feed_fits : (design : DesignParts) (env : Env) (messages : List (List PortValue)) (node round : ℕ) (c : Component)
@@ -117,7 +139,8 @@ feed_fits : (design : DesignParts) (env : Env) (messages : List (List PortValue)
     → All (PortsFit c.behaviour.ins) (feed design env messages node round)
 unfolding feed
 feed_fits design env messages node round c rules given sent is_c =
-    subst (All (PortsFit c.behaviour.ins)) (sym (ap (inputs_in design (values_at env round) messages node) is_c)) (vectors_fit design env round messages node c rules given sent is_c)
+    subst (All (PortsFit c.behaviour.ins)) (sym (ap (inputs_in design (values_at env round) messages node) is_c))
+    (vectors_fit design env round messages node c rules given sent is_c)
 
 -- ---- a round
 record RoundFits (design : DesignParts) (env : Env) (round : ℕ) : Type 0 where
@@ -129,7 +152,9 @@ next_frame : (design : DesignParts) (env : Env) (node round : ℕ) (c : Componen
     → RoundFits design env round → slice_get design.components node ≡ Some c
     → FrameFits c.behaviour (own_steps design env node round c).frame
 next_frame design env node round c rules given before is_c =
-    frames_fit c.behaviour (state design env node round) (feed design env (comp design env round).messages node round) (is_behaviour design node c rules is_c) (state_has_shape design env node round c rules is_c) (before.frames node c is_c)
+    frames_fit c.behaviour (state design env node round) (feed design env (comp design env round).messages node round)
+    (is_behaviour design node c rules is_c) (state_has_shape design env node round c rules is_c)
+    (before.frames node c is_c)
     (feed_fits design env (comp design env round).messages node round c rules given before.messages is_c)
 
 -- the tuple of an out port
@@ -142,17 +167,23 @@ tuple_fits design env node round out_port c rules given before is_c within =
     let vectors = feed design env (comp design env round).messages node round in
     let outs = outputs c.behaviour frame vectors in
     let all =
-    outputs_fit c.behaviour frame vectors (is_behaviour design node c rules is_c) (state_has_shape design env node round c rules is_c) (before.frames node c is_c)
+    outputs_fit c.behaviour frame vectors (is_behaviour design node c rules is_c)
+    (state_has_shape design env node round c rules is_c) (before.frames node c is_c)
     (feed_fits design env (comp design env round).messages node round c rules given before.messages is_c) in
     let port = slice_get-some c.behaviour.outs out_port within in
     let zero' : 0 + out_port ≡ out_port = omega arith in
-    let here : slice_index_or (columns (length c.behaviour.outs) outs) out_port [] ≡ column out_port outs = column_at outs 0 (length c.behaviour.outs) out_port within ∙ ap (λ k. column k outs) zero' in
-    subst (λ k. TupleFits k (slice_index_or (columns (length c.behaviour.outs) outs) out_port [])) (sym (ap kind_of port.1))
-    (subst (TupleFits port.0.kind) (sym here) (map_all (PortsFit c.behaviour.outs) (PortFits port.0.kind) (λ list. slice_index_or list out_port Absent) outs (λ list fits. fits out_port port.0 port.1) all))
+    let here : slice_index_or (columns (length c.behaviour.outs) outs) out_port [] ≡ column out_port outs =
+    column_at outs 0 (length c.behaviour.outs) out_port within ∙ ap (λ k. column k outs) zero' in
+    subst (λ k. TupleFits k (slice_index_or (columns (length c.behaviour.outs) outs) out_port []))
+    (sym (ap kind_of port.1))
+    (subst (TupleFits port.0.kind) (sym here)
+    (map_all (PortsFit c.behaviour.outs) (PortFits port.0.kind) (λ list. slice_index_or list out_port Absent) outs
+    (λ list fits. fits out_port port.0 port.1) all))
 
 cut_fits : (kind : Kind) (n : ℕ) (tuple : List PortValue) → TupleFits kind tuple → TupleFits kind (cut n tuple)
 cut_fits kind n tuple fits =
-    All-append (PortFits kind) (take n tuple) (replicate (length tuple - n) Absent) (All-take (PortFits kind) n tuple fits) (absent_fits kind (length tuple - n))
+    All-append (PortFits kind) (take n tuple) (replicate (length tuple - n) Absent)
+    (All-take (PortFits kind) n tuple fits) (absent_fits kind (length tuple - n))
 
 message_fits : (design : DesignParts) (env : Env) (number round : ℕ) (link : Link) → IsDesign design
     → EnvFits design env → RoundFits design env round → slice_get design.links number ≡ Some link
@@ -160,11 +191,16 @@ message_fits : (design : DesignParts) (env : Env) (number round : ℕ) (link : L
 message_fits design env number round link rules given before is_link =
     let rule = at_element (IsLink design) design.links number link rules.links.each is_link in
     let from = component_at design link.source.0 rule.source.node_is in
-    let within : link.out_port < length from.0.behaviour.outs = subst (λ o. link.out_port < outs_in o) from.1 rule.source.port_is in
-    let kind : out_kind (Some from.0) link.out_port ≡ link_kind design link = ap (λ o. out_kind o link.out_port) (sym from.1) in
-    subst (TupleFits (link_kind design link)) (sym (message_from_source design env number round link from.0 is_link from.1))
-    (cut_fits (link_kind design link) (sent_steps design.gamma design.period from.0.rate) (slice_index_or (own_steps design env link.source.0 round from.0).tuples link.out_port [])
-    (subst (λ k. TupleFits k (slice_index_or (own_steps design env link.source.0 round from.0).tuples link.out_port [])) kind (tuple_fits design env link.source.0 round link.out_port from.0 rules given before from.1 within)))
+    let within : link.out_port < length from.0.behaviour.outs =
+    subst (λ o. link.out_port < outs_in o) from.1 rule.source.port_is in
+    let kind : out_kind (Some from.0) link.out_port ≡ link_kind design link =
+    ap (λ o. out_kind o link.out_port) (sym from.1) in
+    subst (TupleFits (link_kind design link))
+    (sym (message_from_source design env number round link from.0 is_link from.1))
+    (cut_fits (link_kind design link) (sent_steps design.gamma design.period from.0.rate)
+    (slice_index_or (own_steps design env link.source.0 round from.0).tuples link.out_port [])
+    (subst (λ k. TupleFits k (slice_index_or (own_steps design env link.source.0 round from.0).tuples link.out_port []))
+    kind (tuple_fits design env link.source.0 round link.out_port from.0 rules given before from.1 within)))
 
 -- what waits on a link is the message of the round before
 waiting_is : (design : DesignParts) (env : Env) (number round : ℕ)
@@ -179,19 +215,23 @@ rounds_fit : (design : DesignParts) (env : Env) (round : ℕ) → IsDesign desig
     → RoundFits design env round
 rounds_fit design env zero rules given = record {
   frames =
-      λ node c is_c. subst (FrameFits c.behaviour) (sym (state_begins design env node c is_c)) (initial_fits c.behaviour (is_behaviour design node c rules is_c));
+      λ node c is_c. subst (FrameFits c.behaviour) (sym (state_begins design env node c is_c))
+      (initial_fits c.behaviour (is_behaviour design node c rules is_c));
   messages = λ number link is_link.
       let message = slice_index_or (comp design env 0).messages number [] in
       All-weaker (λ p. p ≡ Absent) (PortFits (link_kind design link)) (absent_is_fit (link_kind design link)) message
-      (index_fits (λ (tuple : List PortValue). All (λ p. p ≡ Absent) tuple) (comp design env 0).messages number [] (links_begin_absent design env) (All-nil (λ p. p ≡ Absent)));
+      (index_fits (λ (tuple : List PortValue). All (λ p. p ≡ Absent) tuple) (comp design env 0).messages number []
+      (links_begin_absent design env) (All-nil (λ p. p ≡ Absent)));
 }
 rounds_fit design env (suc round) rules given =
     let before = rounds_fit design env round rules given in
     record {
       frames =
-          λ node c is_c. subst (FrameFits c.behaviour) (sym (state_goes_on design env node round c is_c)) (next_frame design env node round c rules given before is_c);
+          λ node c is_c. subst (FrameFits c.behaviour) (sym (state_goes_on design env node round c is_c))
+          (next_frame design env node round c rules given before is_c);
       messages =
-          λ number link is_link. subst (TupleFits (link_kind design link)) (waiting_is design env number round) (message_fits design env number round link rules given before is_link);
+          λ number link is_link. subst (TupleFits (link_kind design link)) (waiting_is design env number round)
+          (message_fits design env number round link rules given before is_link);
     }
 
 -- ---- the laws
@@ -204,18 +244,25 @@ messages_fit design env number round link rules given is_link =
 
 tap_fits : (design : DesignParts) (env : Env) (node round k : ℕ) (c : Component) (tap : Tap) → IsDesign design
     → EnvFits design env → slice_get design.components node ≡ Some c → slice_get (taps_of design node) k ≡ Some tap
-    → TupleFits (out_kind (Some c) tap.out_port) (slice_index_or (map (λ (t : Tap). slice_index_or (own_steps design env node round c).tuples t.out_port []) (taps_of design node)) k [])
+    → TupleFits (out_kind (Some c) tap.out_port)
+    (slice_index_or (map (λ (t : Tap). slice_index_or (own_steps design env node round c).tuples t.out_port [])
+    (taps_of design node)) k [])
 tap_fits design env node round k c tap rules given is_c is_tap =
     let tuples = (own_steps design env node round c).tuples in
     let rule =
-    at_element (IsTap design) (taps_of design node) k tap (All-filter (λ (t : Tap). nat_eq t.source.0 node) (IsTap design) design.taps rules.taps.each) is_tap in
+    at_element (IsTap design) (taps_of design node) k tap
+    (All-filter (λ (t : Tap). nat_eq t.source.0 node) (IsTap design) design.taps rules.taps.each) is_tap in
     let own =
-    at_element (λ (t : Tap). nat_eq t.source.0 node ≡ true) (taps_of design node) k tap (filter_passes (λ (t : Tap). nat_eq t.source.0 node) design.taps) is_tap in
+    at_element (λ (t : Tap). nat_eq t.source.0 node ≡ true) (taps_of design node) k tap
+    (filter_passes (λ (t : Tap). nat_eq t.source.0 node) design.taps) is_tap in
     let here : tap.source.0 ≡ node = eqb-true tap.source.0 node own in
-    let within : tap.out_port < length c.behaviour.outs = subst (λ o. tap.out_port < outs_in o) (ap (slice_get design.components) here ∙ is_c) rule.source.port_is in
+    let within : tap.out_port < length c.behaviour.outs =
+    subst (λ o. tap.out_port < outs_in o) (ap (slice_get design.components) here ∙ is_c) rule.source.port_is in
     let f = λ (t : Tap). slice_index_or tuples t.out_port [] in
-    let is : slice_get (map f (taps_of design node)) k ≡ Some (f tap) = slice_get-map f (taps_of design node) k ∙ ap (option_map f) is_tap in
-    subst (TupleFits (out_kind (Some c) tap.out_port)) (sym (get_or_from_slice_get (map f (taps_of design node)) k (f tap) [] is))
+    let is : slice_get (map f (taps_of design node)) k ≡ Some (f tap) = slice_get-map f (taps_of design node) k
+    ∙ ap (option_map f) is_tap in
+    subst (TupleFits (out_kind (Some c) tap.out_port))
+    (sym (get_or_from_slice_get (map f (taps_of design node)) k (f tap) [] is))
     (tuple_fits design env node round tap.out_port c rules given (rounds_fit design env round rules given) is_c within)
 
 pub parts_fit : PartsFit

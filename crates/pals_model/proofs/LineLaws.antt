@@ -48,7 +48,9 @@ other_byte byte passes same = let both : false ≡ true = sym (ap (λ b. not (na
 
 -- a text that is written out
 plain : (text : List ℕ) → list_all (λ byte. not (nat_eq byte 10)) text ≡ true → IsLine text
-plain text passes = All-weaker (λ byte. not (nat_eq byte 10) ≡ true) (λ byte. byte ≢ 10) other_byte text (all_pass (λ byte. not (nat_eq byte 10)) text passes)
+plain text passes =
+    All-weaker (λ byte. not (nat_eq byte 10) ≡ true) (λ byte. byte ≢ 10) other_byte text
+    (all_pass (λ byte. not (nat_eq byte 10)) text passes)
 
 word : (name : List ℕ) → is_word name ≡ true → IsLine name
 word name is = word_without 10 name refl is
@@ -66,7 +68,8 @@ onto : (k base n : ℕ) (acc : List ℕ) → IsLine acc → IsLine (digits_onto 
 onto zero base n acc line = line
 onto (suc k) base n acc line =
     let more = All-cons (λ byte. byte ≢ 10) (digit_glyph false (n % base)) acc (digit_other (n % base)) line in
-    digit_or (n / base == 0) (digit_glyph false (n % base) ∷ acc) (digits_onto k base false (n / base) (digit_glyph false (n % base) ∷ acc)) more
+    digit_or (n / base == 0) (digit_glyph false (n % base) ∷ acc)
+    (digits_onto k base false (n / base) (digit_glyph false (n % base) ∷ acc)) more
     (onto k base (n / base) (digit_glyph false (n % base) ∷ acc) more)
 
 number : (n : ℕ) → IsLine (decimal n)
@@ -94,11 +97,14 @@ commas : (kind : Kind) (tuple : List PortValue) → IsLine (with_commas (map (po
 commas kind [] = none
 commas kind (p ∷ []) = port kind p
 commas kind (p ∷ q ∷ ps) =
-    join (port_text kind p ++ codes ",") (with_commas (map (port_text kind) (q ∷ ps))) (join (port_text kind p) (codes ",") (port kind p) (plain (codes ",") refl)) (commas kind (q ∷ ps))
+    join (port_text kind p ++ codes ",") (with_commas (map (port_text kind) (q ∷ ps)))
+    (join (port_text kind p) (codes ",") (port kind p) (plain (codes ",") refl)) (commas kind (q ∷ ps))
 
 tuple : (kind : Kind) (ps : List PortValue) → IsLine (tuple_text kind ps)
 tuple kind ps =
-    join (codes "(" ++ with_commas (map (port_text kind) ps)) (codes ")") (join (codes "(") (with_commas (map (port_text kind) ps)) (plain (codes "(") refl) (commas kind ps)) (plain (codes ")") refl)
+    join (codes "(" ++ with_commas (map (port_text kind) ps)) (codes ")")
+    (join (codes "(") (with_commas (map (port_text kind) ps)) (plain (codes "(") refl) (commas kind ps))
+    (plain (codes ")") refl)
 
 -- ---- components
 state : (b : BehaviourParts) (frame : Frame) (halt : Option Trap) → IsBehaviour b → IsLine (state_text b frame halt)
@@ -106,56 +112,81 @@ state b frame None rules = by (slice_get b.states frame.state) refl
   where
     by : (s : Option StateDecl) → slice_get b.states frame.state ≡ s → IsLine (state_name s)
     by None is = none
-    by (Some s) is = word s.name (at_element (λ t. has_word t ≡ true) b.states frame.state s (all_pass has_word b.states rules.names.states) is)
+    by (Some s) is =
+        word s.name (at_element (λ t. has_word t ≡ true) b.states frame.state s
+        (all_pass has_word b.states rules.names.states) is)
 state b frame (Some Overflow) rules = plain (codes "halted(overflow)") refl
 state b frame (Some ZeroDivisor) rules = plain (codes "halted(zero-divisor)") refl
 
 variable : (var : VarDecl) (v : ℤ) → IsLine var.name → IsLine (variable_text var v)
 variable var v named =
     join (codes " " ++ var.name ++ codes "=") (value_text var.kind v)
-    (join (codes " " ++ var.name) (codes "=") (join (codes " ") var.name (plain (codes " ") refl) named) (plain (codes "=") refl)) (value var.kind v)
+    (join (codes " " ++ var.name) (codes "=") (join (codes " ") var.name (plain (codes " ") refl) named)
+    (plain (codes "=") refl)) (value var.kind v)
 
-variables : (vars : List VarDecl) (values : List ℤ) → All (λ (var : VarDecl). IsLine var.name) vars → IsLine (vars_text vars values)
+variables : (vars : List VarDecl) (values : List ℤ) → All (λ (var : VarDecl). IsLine var.name) vars
+    → IsLine (vars_text vars values)
 variables [] values named = none
 variables (var ∷ vars) [] named = none
 variables (var ∷ vars) (v ∷ vs) named =
-    join (variable_text var v) (vars_text vars vs) (variable var v (All-head (λ (x : VarDecl). IsLine x.name) var vars named)) (variables vars vs (All-tail (λ (x : VarDecl). IsLine x.name) var vars named))
+    join (variable_text var v) (vars_text vars vs)
+    (variable var v (All-head (λ (x : VarDecl). IsLine x.name) var vars named))
+    (variables vars vs (All-tail (λ (x : VarDecl). IsLine x.name) var vars named))
 
 variables_named : (b : BehaviourParts) → IsBehaviour b → All (λ (var : VarDecl). IsLine var.name) b.vars
 variables_named b rules =
     let ports = map (λ (p : PortDecl). p.name) b.ins ++ map (λ (p : PortDecl). p.name) b.outs in
     let names = map (λ (v : VarDecl). v.name) b.vars in
-    let words = (and_parts (list_all is_word ports) (list_all is_word names) (sym (list_all-append is_word ports names) ∙ rules.names.values)).1 in
+    let words =
+    (and_parts (list_all is_word ports) (list_all is_word names)
+    (sym (list_all-append is_word ports names) ∙ rules.names.values)).1 in
     All-weaker (λ (v : VarDecl). is_word v.name ≡ true) (λ (v : VarDecl). IsLine v.name) (λ v is. word v.name is) b.vars
-    (all_pass (λ (v : VarDecl). is_word v.name) b.vars (sym (list_all-map is_word (λ (v : VarDecl). v.name) b.vars) ∙ words))
+    (all_pass (λ (v : VarDecl). is_word v.name) b.vars
+    (sym (list_all-map is_word (λ (v : VarDecl). v.name) b.vars) ∙ words))
 
-component : (name : List ℕ) (b : BehaviourParts) (frame : Frame) → IsLine name → IsBehaviour b → IsLine (component_line name b frame)
+component : (name : List ℕ) (b : BehaviourParts) (frame : Frame) → IsLine name → IsBehaviour b
+    → IsLine (component_line name b frame)
 component name b frame named rules =
     join (name ++ codes " " ++ state_text b frame frame.halt) (vars_text b.vars frame.vars)
-    (join (name ++ codes " ") (state_text b frame frame.halt) (join name (codes " ") named (plain (codes " ") refl)) (state b frame frame.halt rules))
+    (join (name ++ codes " ") (state_text b frame frame.halt) (join name (codes " ") named (plain (codes " ") refl))
+    (state b frame frame.halt rules))
     (variables b.vars frame.vars (variables_named b rules))
 
 tap : (kind : Kind) (t : Tap) (ps : List PortValue) → is_word t.name ≡ true → IsLine (tap_line kind t ps)
 tap kind t ps is =
-    join (codes "out " ++ t.name ++ codes " ") (tuple_text kind ps) (join (codes "out " ++ t.name) (codes " ") (join (codes "out ") t.name (plain (codes "out ") refl) (word t.name is)) (plain (codes " ") refl)) (tuple kind ps)
+    join (codes "out " ++ t.name ++ codes " ") (tuple_text kind ps)
+    (join (codes "out " ++ t.name) (codes " ")
+    (join (codes "out ") t.name (plain (codes "out ") refl) (word t.name is)) (plain (codes " ") refl))
+    (tuple kind ps)
 
 -- ---- rows
-component_lines : (period : ℕ) (part_of : ℕ → Option Part) (k : ℕ) (cs : List Component) → All (IsComponent period) cs → All IsLine (flat_map (λ numbered. part_lines numbered.1 (part_of numbered.0)) (enumerate_from k cs))
+component_lines : (period : ℕ) (part_of : ℕ → Option Part) (k : ℕ) (cs : List Component) → All (IsComponent period) cs
+    → All IsLine (flat_map (λ numbered. part_lines numbered.1 (part_of numbered.0)) (enumerate_from k cs))
 component_lines period part_of k [] sound = All-nil IsLine
 component_lines period part_of k (c ∷ cs) sound =
     let here : IsComponent period c = All-head (IsComponent period) c cs sound in
-    All-append IsLine (part_lines c (part_of k)) (flat_map (λ numbered. part_lines numbered.1 (part_of numbered.0)) (enumerate_from (k + 1) cs)) (by here (part_of k))
+    All-append IsLine (part_lines c (part_of k))
+    (flat_map (λ numbered. part_lines numbered.1 (part_of numbered.0)) (enumerate_from (k + 1) cs))
+    (by here (part_of k))
     (component_lines period part_of (k + 1) cs (All-tail (IsComponent period) c cs sound))
   where
     by : IsComponent period c → (o : Option Part) → All IsLine (part_lines c o)
     by here None = All-nil IsLine
-    by here (Some p) = All-cons IsLine (component_line c.path c.behaviour p.frame) [] (component c.path c.behaviour p.frame (path_without 10 c.path (λ same. absurd (omega (arith, same))) refl here.path) here.behaviour) (All-nil IsLine)
+    by here (Some p) =
+        All-cons IsLine (component_line c.path c.behaviour p.frame) []
+        (component c.path c.behaviour p.frame
+        (path_without 10 c.path (λ same. absurd (omega (arith, same))) refl here.path) here.behaviour)
+        (All-nil IsLine)
 
-taps_lines : (design : DesignParts) (part_of : ℕ → Option Part) (k : ℕ) (ts : List Tap) → All (IsTap design) ts → All IsLine (flat_map (λ numbered. tap_lines design numbered.0 numbered.1 (part_of numbered.1.source.0)) (enumerate_from k ts))
+taps_lines : (design : DesignParts) (part_of : ℕ → Option Part) (k : ℕ) (ts : List Tap) → All (IsTap design) ts
+    → All IsLine (flat_map (λ numbered. tap_lines design numbered.0 numbered.1 (part_of numbered.1.source.0))
+    (enumerate_from k ts))
 taps_lines design part_of k [] sound = All-nil IsLine
 taps_lines design part_of k (t ∷ ts) sound =
     let here : IsTap design t = All-head (IsTap design) t ts sound in
-    All-append IsLine (tap_lines design k t (part_of t.source.0)) (flat_map (λ numbered. tap_lines design numbered.0 numbered.1 (part_of numbered.1.source.0)) (enumerate_from (k + 1) ts)) (by here (part_of t.source.0))
+    All-append IsLine (tap_lines design k t (part_of t.source.0))
+    (flat_map (λ numbered. tap_lines design numbered.0 numbered.1 (part_of numbered.1.source.0))
+    (enumerate_from (k + 1) ts)) (by here (part_of t.source.0))
     (taps_lines design part_of (k + 1) ts (All-tail (IsTap design) t ts sound))
   where
     by : IsTap design t → (o : Option Part) → All IsLine (tap_lines design k t o)
@@ -164,15 +195,23 @@ taps_lines design part_of k (t ∷ ts) sound =
 
 pub row_has_lines : RowHasLines
 row_has_lines design part_of round rules =
-    let shown = flat_map (λ numbered. part_lines numbered.1 (part_of numbered.0)) (enumerate_from 0 design.components) in
-    let tapped = flat_map (λ numbered. tap_lines design numbered.0 numbered.1 (part_of numbered.1.source.0)) (enumerate_from 0 design.taps) in
-    All-cons IsLine (round_line round) (shown ++ tapped) (join (codes "round ") (decimal round) (plain (codes "round ") refl) (number round))
-    (All-append IsLine shown tapped (component_lines design.period part_of 0 design.components rules.components.each) (taps_lines design part_of 0 design.taps rules.taps.each))
+    let shown =
+    flat_map (λ numbered. part_lines numbered.1 (part_of numbered.0)) (enumerate_from 0 design.components) in
+    let tapped =
+    flat_map (λ numbered. tap_lines design numbered.0 numbered.1 (part_of numbered.1.source.0))
+    (enumerate_from 0 design.taps) in
+    All-cons IsLine (round_line round) (shown ++ tapped)
+    (join (codes "round ") (decimal round) (plain (codes "round ") refl) (number round))
+    (All-append IsLine shown tapped (component_lines design.period part_of 0 design.components rules.components.each)
+    (taps_lines design part_of 0 design.taps rules.taps.each))
 
-rows_have_lines : (design : DesignParts) (env : Env) (rounds : List ℕ) → IsDesign design → All IsLine (flat_map (composed_lines design env) rounds)
+rows_have_lines : (design : DesignParts) (env : Env) (rounds : List ℕ) → IsDesign design
+    → All IsLine (flat_map (composed_lines design env) rounds)
 rows_have_lines design env [] rules = All-nil IsLine
 rows_have_lines design env (round ∷ rounds) rules =
-    All-append IsLine (composed_lines design env round) (flat_map (composed_lines design env) rounds) (row_has_lines design (λ node. Some (part design env node round)) round rules) (rows_have_lines design env rounds rules)
+    All-append IsLine (composed_lines design env round) (flat_map (composed_lines design env) rounds)
+    (row_has_lines design (λ node. Some (part design env node round)) round rules)
+    (rows_have_lines design env rounds rules)
 
 pub report_has_lines : ReportHasLines
 report_has_lines design env n rules = rows_have_lines design env (upwards 0 n) rules
@@ -182,11 +221,15 @@ pub text_splits : TextSplits
 text_splits [] each = refl
 text_splits (line ∷ lines) each =
     ap (slice_split is_line_feed) (append_assoc line (10 ∷ []) (text_of lines))
-    ∙ slice_split_at is_line_feed line 10 (text_of lines) (All-weaker (λ byte. byte ≢ 10) (λ byte. is_line_feed byte ≡ false) (λ byte other. ne_eqb byte 10 other) line (All-head IsLine line lines each)) refl
+    ∙ slice_split_at is_line_feed line 10 (text_of lines)
+    (All-weaker (λ byte. byte ≢ 10) (λ byte. is_line_feed byte ≡ false) (λ byte other. ne_eqb byte 10 other) line
+    (All-head IsLine line lines each)) refl
     ∙ ap (λ rest. line ∷ rest) (text_splits lines (All-tail IsLine line lines each))
 
 pub row_splits : RowSplits
-row_splits design env round rules = text_splits (composed_lines design env round) (row_has_lines design (λ node. Some (part design env node round)) round rules)
+row_splits design env round rules =
+    text_splits (composed_lines design env round)
+    (row_has_lines design (λ node. Some (part design env node round)) round rules)
 
 pub report_splits : ReportSplits
 report_splits design env n rules = text_splits (report_lines design env n) (report_has_lines design env n rules)

@@ -33,46 +33,61 @@ use Rattle.pals_model.proofs.Lookups.{at_element}
 length-upwards : (n : ℕ) → length (upwards 0 n) ≡ n
 length-upwards n = sym (length-map (upwards 0 n) (λ at. column at [])) ∙ length-columns n []
 
-pub columns_have_lengths : (n m : ℕ) (lists : List (List PortValue)) → length lists ≡ m → All (λ list. length list ≡ m) (columns n lists)
+pub columns_have_lengths : (n m : ℕ) (lists : List (List PortValue)) → length lists ≡ m
+    → All (λ list. length list ≡ m) (columns n lists)
 columns_have_lengths n m lists size =
-    All-weaker (λ list. length list ≡ length lists) (λ list. length list ≡ m) (λ list is. is ∙ size) (columns n lists) (length-each_column n lists)
+    All-weaker (λ list. length list ≡ length lists) (λ list. length list ≡ m) (λ list is. is ∙ size) (columns n lists)
+    (length-each_column n lists)
 
-pub length-outputs : (b : BehaviourParts) (frame : Frame) (vectors : List (List PortValue)) → length (outputs b frame vectors) ≡ length vectors
+pub length-outputs : (b : BehaviourParts) (frame : Frame) (vectors : List (List PortValue))
+    → length (outputs b frame vectors) ≡ length vectors
 length-outputs b frame [] = refl
 length-outputs b frame (inputs ∷ vectors) = ap suc (length-outputs b (fire b frame inputs).frame vectors)
 
 -- ---- inputs
-inputs_are_vectors : (design : DesignParts) (values : List PortValue) (messages : List (List PortValue)) (node : ℕ) (c : Component) → AreVectors c (inputs_of design values messages node c)
+inputs_are_vectors : (design : DesignParts) (values : List PortValue) (messages : List (List PortValue)) (node : ℕ)
+    (c : Component) → AreVectors c (inputs_of design values messages node c)
 inputs_are_vectors design values messages node c =
     let ports = upwards 0 (length c.behaviour.ins) in
     let sources = sources_of design node c in
     let size : length (map (reading design values messages c.rate) sources) ≡ length c.behaviour.ins
-    = length-map sources (reading design values messages c.rate) ∙ length-map ports (λ port. source_of design node port) ∙ length-upwards (length c.behaviour.ins) in
+    =
+    length-map sources (reading design values messages c.rate)
+    ∙ length-map ports (λ port. source_of design node port) ∙ length-upwards (length c.behaviour.ins) in
     record {
       count = length-columns c.rate (map (reading design values messages c.rate) sources);
-      each = columns_have_lengths c.rate (length c.behaviour.ins) (map (reading design values messages c.rate) sources) size;
+      each =
+          columns_have_lengths c.rate (length c.behaviour.ins)
+          (map (reading design values messages c.rate) sources) size;
     }
 
 pub feed_has_vectors : FeedHasVectors
 unfolding feed
 feed_has_vectors design env messages node round c is_c =
-    subst (AreVectors c) (sym (ap (inputs_in design (values_at env round) messages node) is_c)) (inputs_are_vectors design (values_at env round) messages node c)
+    subst (AreVectors c) (sym (ap (inputs_in design (values_at env round) messages node) is_c))
+    (inputs_are_vectors design (values_at env round) messages node c)
 
 -- ---- frames
-pub steps_keep_shape : (b : BehaviourParts) (frame : Frame) (vectors : List (List PortValue)) → IsBehaviour b → HasShape b frame → HasShape b (frame_after b frame vectors)
+pub steps_keep_shape : (b : BehaviourParts) (frame : Frame) (vectors : List (List PortValue)) → IsBehaviour b
+    → HasShape b frame → HasShape b (frame_after b frame vectors)
 steps_keep_shape b frame [] rules shape = shape
-steps_keep_shape b frame (inputs ∷ vectors) rules shape = steps_keep_shape b (fire b frame inputs).frame vectors rules (fires_well b frame inputs rules shape).0
+steps_keep_shape b frame (inputs ∷ vectors) rules shape =
+    steps_keep_shape b (fire b frame inputs).frame vectors rules (fires_well b frame inputs rules shape).0
 
-pub is_behaviour : (design : DesignParts) (node : ℕ) (c : Component) → IsDesign design → slice_get design.components node ≡ Some c → IsBehaviour c.behaviour
+pub is_behaviour : (design : DesignParts) (node : ℕ) (c : Component) → IsDesign design
+    → slice_get design.components node ≡ Some c → IsBehaviour c.behaviour
 is_behaviour design node c rules is_c =
-    let component = at_element (IsComponent design.period) design.components node c rules.components.each is_c in component.behaviour
+    let component = at_element (IsComponent design.period) design.components node c rules.components.each is_c in
+    component.behaviour
 
 pub state_has_shape : StateHasShape
 state_has_shape design env node zero c rules is_c =
-    subst (HasShape c.behaviour) (sym (state_begins design env node c is_c)) (starts_well c.behaviour (is_behaviour design node c rules is_c))
+    subst (HasShape c.behaviour) (sym (state_begins design env node c is_c))
+    (starts_well c.behaviour (is_behaviour design node c rules is_c))
 state_has_shape design env node (suc round) c rules is_c =
     subst (HasShape c.behaviour) (sym (state_goes_on design env node round c is_c))
-    (steps_keep_shape c.behaviour (state design env node round) (feed design env (comp design env round).messages node round) (is_behaviour design node c rules is_c)
+    (steps_keep_shape c.behaviour (state design env node round)
+    (feed design env (comp design env round).messages node round) (is_behaviour design node c rules is_c)
     (state_has_shape design env node round c rules is_c))
 
 -- ---- outputs
@@ -86,16 +101,21 @@ steps_give_tuples design env node round c is_c =
     let outs = outputs c.behaviour frame vectors in
     record {
       count_is = length-columns (length c.behaviour.outs) outs;
-      each = columns_have_lengths (length c.behaviour.outs) c.rate outs (length-outputs c.behaviour frame vectors ∙ (feed_has_vectors design env (comp design env round).messages node round c is_c).count);
+      each =
+          columns_have_lengths (length c.behaviour.outs) c.rate outs
+          (length-outputs c.behaviour frame vectors
+          ∙ (feed_has_vectors design env (comp design env round).messages node round c is_c).count);
     }
 
 -- the tuple of an out port
-tuple_has_rate : (count rate port : ℕ) (tuples : List (List PortValue)) → AreTuples count rate tuples → port < count → length (slice_index_or tuples port []) ≡ rate
+tuple_has_rate : (count rate port : ℕ) (tuples : List (List PortValue)) → AreTuples count rate tuples → port < count
+    → length (slice_index_or tuples port []) ≡ rate
 tuple_has_rate count rate port tuples are within =
     let within' : port < length tuples = omega (arith, are.count_is) in
     All-get_or (λ tuple. length tuple ≡ rate) tuples port [] within' are.each
 
-pub component_at : (design : DesignParts) (node : ℕ) → node < length design.components → (c : Component) × (slice_get design.components node ≡ Some c)
+pub component_at : (design : DesignParts) (node : ℕ) → node < length design.components
+    → (c : Component) × (slice_get design.components node ≡ Some c)
 component_at design node within =
     elim (slice_get_cases design.components node).1 [
       | inl there ↦ (there.0, there.2)
@@ -106,38 +126,55 @@ pub message_has_rate : MessageHasRate
 message_has_rate design env number round link rules is_link =
     let sound = at_element (IsLink design) design.links number link rules.links.each is_link in
     let from = component_at design link.source.0 sound.source.node_is in
-    let within : link.out_port < length from.0.behaviour.outs = subst (λ o. link.out_port < outs_in o) from.1 sound.source.port_is in
+    let within : link.out_port < length from.0.behaviour.outs =
+    subst (λ o. link.out_port < outs_in o) from.1 sound.source.port_is in
     ap length (message_from_source design env number round link from.0 is_link from.1)
     ∙ length-cut _ (slice_index_or (own_steps design env link.source.0 round from.0).tuples link.out_port [])
-    ∙ tuple_has_rate (length from.0.behaviour.outs) from.0.rate link.out_port (own_steps design env link.source.0 round from.0).tuples (steps_give_tuples design env link.source.0 round from.0 from.1) within
+    ∙ tuple_has_rate (length from.0.behaviour.outs) from.0.rate link.out_port
+    (own_steps design env link.source.0 round from.0).tuples
+    (steps_give_tuples design env link.source.0 round from.0 from.1) within
     ∙ sym (ap rate_in from.1)
 
 pub waiting_message_has_rate : WaitingMessageHasRate
 unfolding comp msg
 waiting_message_has_rate design env number zero link rules is_link =
-    ap length (get_or_from_slice_get (map (λ (l : Link). replicate (rate_of design l.source.0) Absent) design.links) number (replicate (rate_of design link.source.0) Absent) []
-    (slice_get-map (λ (l : Link). replicate (rate_of design l.source.0) Absent) design.links number ∙ ap (option_map (λ (l : Link). replicate (rate_of design l.source.0) Absent)) is_link))
+    ap length (get_or_from_slice_get (map (λ (l : Link). replicate (rate_of design l.source.0) Absent) design.links)
+    number (replicate (rate_of design link.source.0) Absent) []
+    (slice_get-map (λ (l : Link). replicate (rate_of design l.source.0) Absent) design.links number
+    ∙ ap (option_map (λ (l : Link). replicate (rate_of design l.source.0) Absent)) is_link))
     ∙ length-replicate (rate_of design link.source.0) Absent
-waiting_message_has_rate design env number (suc round) link rules is_link = message_has_rate design env number round link rules is_link
+waiting_message_has_rate design env number (suc round) link rules is_link =
+    message_has_rate design env number round link rules is_link
 
 -- ---- parts
-taps_have_tuples : (design : DesignParts) (env : Env) (node round : ℕ) (c : Component) → IsDesign design → slice_get design.components node ≡ Some c
-    → All (λ tuple. length tuple ≡ c.rate) (map (λ (tap : Tap). slice_index_or (own_steps design env node round c).tuples tap.out_port []) (taps_of design node))
+taps_have_tuples : (design : DesignParts) (env : Env) (node round : ℕ) (c : Component) → IsDesign design
+    → slice_get design.components node ≡ Some c
+    → All (λ tuple. length tuple ≡ c.rate)
+    (map (λ (tap : Tap). slice_index_or (own_steps design env node round c).tuples tap.out_port [])
+    (taps_of design node))
 taps_have_tuples design env node round c rules is_c =
     let tuples = (own_steps design env node round c).tuples in
     let sound = All-filter (λ (tap : Tap). nat_eq tap.source.0 node) (IsTap design) design.taps rules.taps.each in
     let own = filter_passes (λ (tap : Tap). nat_eq tap.source.0 node) design.taps in
-    All-map (λ tuple. length tuple ≡ c.rate) (λ (tap : Tap). slice_index_or tuples tap.out_port []) (taps_of design node)
+    All-map (λ tuple. length tuple ≡ c.rate) (λ (tap : Tap). slice_index_or tuples tap.out_port [])
+    (taps_of design node)
     (λ k d within.
     let tap = get_or (taps_of design node) k d in
     let here : tap.source.0 ≡ node = eqb-true tap.source.0 node (own k d within) in
-    let inside : tap.out_port < length c.behaviour.outs = subst (λ o. tap.out_port < outs_in o) (ap (slice_get design.components) here ∙ is_c) (sound k d within).source.port_is in
-    tuple_has_rate (length c.behaviour.outs) c.rate tap.out_port tuples (steps_give_tuples design env node round c is_c) inside)
+    let inside : tap.out_port < length c.behaviour.outs =
+    subst (λ o. tap.out_port < outs_in o) (ap (slice_get design.components) here ∙ is_c)
+    (sound k d within).source.port_is in
+    tuple_has_rate (length c.behaviour.outs) c.rate tap.out_port tuples
+    (steps_give_tuples design env node round c is_c) inside)
 
 pub part_has_shape : PartHasShape
 part_has_shape design env node round c rules is_c =
     subst (IsPart design env node round c.rate) (sym (part_from_steps design env node round c is_c))
     (record {
       frame = sym (state_goes_on design env node round c is_c);
-      outs = record { count_is = length-map (taps_of design node) _; each = taps_have_tuples design env node round c rules is_c };
+      outs =
+          record {
+            count_is = length-map (taps_of design node) _;
+            each = taps_have_tuples design env node round c rules is_c;
+          };
     })

@@ -24,7 +24,8 @@ goes_there node port = ap₂ (λ a b. a && b) (eq-eqb node node refl) (eq-eqb po
 pub link_is_source : LinkIsSource
 link_is_source design number link rules is =
     ap (λ l. from_link l (from_feed design (position (feed_goes_to link.target.0 link.in_port) design.feeds)))
-    (first_at (link_goes_to link.target.0 link.in_port) design.links number link is (goes_there link.target.0 link.in_port)
+    (first_at (link_goes_to link.target.0 link.in_port) design.links number link is
+    (goes_there link.target.0 link.in_port)
     (λ k other below is_other.
     let order = AllPairs-slice_get LinkPrecedes design.links k number other link rules.links.order below is_other is in
     goes_elsewhere link.target.0 link.in_port other.target.0 other.in_port (ne_of_lt order)))
@@ -33,16 +34,20 @@ pub feed_is_source : FeedIsSource
 feed_is_source design number feed rules is =
     let apart = at_element (λ f. All (IsApart f) design.links) design.feeds number feed rules.feeds.apart is in
     let fed : position (feed_goes_to feed.target.0 feed.in_port) design.feeds ≡ Some number
-    = first_at (feed_goes_to feed.target.0 feed.in_port) design.feeds number feed is (goes_there feed.target.0 feed.in_port)
+    =
+    first_at (feed_goes_to feed.target.0 feed.in_port) design.feeds number feed is
+    (goes_there feed.target.0 feed.in_port)
     (λ k other below is_other.
     let order = AllPairs-slice_get FeedPrecedes design.feeds k number other feed rules.feeds.order below is_other is in
     goes_elsewhere feed.target.0 feed.in_port other.target.0 other.in_port (ne_of_lt order)) in
     ap (λ l. from_link l (from_feed design (position (feed_goes_to feed.target.0 feed.in_port) design.feeds)))
     (none_passes (link_goes_to feed.target.0 feed.in_port) design.links
-    (λ k d within. let link = get_or design.links k d in goes_elsewhere feed.target.0 feed.in_port link.target.0 link.in_port (λ same. apart k d within (sym same))))
+    (λ k d within. let link = get_or design.links k d in
+    goes_elsewhere feed.target.0 feed.in_port link.target.0 link.in_port (λ same. apart k d within (sym same))))
     ∙ ap (from_feed design) fed
 
 pub nothing_is_source : NothingIsSource
 nothing_is_source design node port no_link no_feed =
-    ap (λ l. from_link l (from_feed design (position (feed_goes_to node port) design.feeds))) (none_passes (link_goes_to node port) design.links no_link)
+    ap (λ l. from_link l (from_feed design (position (feed_goes_to node port) design.feeds)))
+    (none_passes (link_goes_to node port) design.links no_link)
     ∙ ap (from_feed design) (none_passes (feed_goes_to node port) design.feeds no_feed)

@@ -31,21 +31,28 @@ all_pass p (x ∷ xs) passes =
 pub word_without : (byte : ℕ) (word : List ℕ) → is_word_byte byte ≡ false → is_word word ≡ true → IsWithout byte word
 word_without byte word none is =
     let bytes = and_parts (nat_le (length word) NAME_BYTES && is_led_by_letter word) (list_all is_word_byte word) is in
-    All-weaker (λ b. is_word_byte b ≡ true) (λ b. b ≢ byte) (λ b passes same. true≢false (sym passes ∙ ap is_word_byte same ∙ none)) word (all_pass is_word_byte word bytes.1)
+    All-weaker (λ b. is_word_byte b ≡ true) (λ b. b ≢ byte)
+    (λ b passes same. true≢false (sym passes ∙ ap is_word_byte same ∙ none)) word
+    (all_pass is_word_byte word bytes.1)
 
-joined_without : (byte : ℕ) (words : List (List ℕ)) → 46 ≢ byte → All (IsWithout byte) words → IsWithout byte (join_with_byte 46 words)
+joined_without : (byte : ℕ) (words : List (List ℕ)) → 46 ≢ byte → All (IsWithout byte) words
+    → IsWithout byte (join_with_byte 46 words)
 joined_without byte [] other each = All-nil (λ b. b ≢ byte)
 joined_without byte (word ∷ []) other each = All-head (IsWithout byte) word [] each
 joined_without byte (word ∷ next ∷ words) other each =
-    All-append (λ b. b ≢ byte) word (46 ∷ join_with_byte 46 (next ∷ words)) (All-head (IsWithout byte) word (next ∷ words) each)
-    (All-cons (λ b. b ≢ byte) 46 (join_with_byte 46 (next ∷ words)) other (joined_without byte (next ∷ words) other (All-tail (IsWithout byte) word (next ∷ words) each)))
+    All-append (λ b. b ≢ byte) word (46 ∷ join_with_byte 46 (next ∷ words))
+    (All-head (IsWithout byte) word (next ∷ words) each)
+    (All-cons (λ b. b ≢ byte) 46 (join_with_byte 46 (next ∷ words)) other
+    (joined_without byte (next ∷ words) other (All-tail (IsWithout byte) word (next ∷ words) each)))
 
 -- a path has no byte that is neither a `.` nor one of a word
-pub path_without : (byte : ℕ) (path : List ℕ) → 46 ≢ byte → is_word_byte byte ≡ false → is_path path ≡ true → IsWithout byte path
+pub path_without : (byte : ℕ) (path : List ℕ) → 46 ≢ byte → is_word_byte byte ≡ false → is_path path ≡ true
+    → IsWithout byte path
 path_without byte path other none is =
     subst (IsWithout byte) (join_with_byte-slice_split 46 path)
     (joined_without byte (slice_split is_dot path) other
-    (All-weaker (λ w. is_word w ≡ true) (IsWithout byte) (λ w passes. word_without byte w none passes) (slice_split is_dot path) (all_pass is_word (slice_split is_dot path) is)))
+    (All-weaker (λ w. is_word w ≡ true) (IsWithout byte) (λ w passes. word_without byte w none passes)
+    (slice_split is_dot path) (all_pass is_word (slice_split is_dot path) is)))
 
 -- ---- the last separator
 has_separator : (byte : ℕ) (xs ys : List ℕ) → IsWithout byte (xs ++ byte ∷ ys) → ⊥
@@ -53,7 +60,8 @@ has_separator byte [] ys without = All-head (λ b. b ≢ byte) byte ys without r
 has_separator byte (x ∷ xs) ys without = has_separator byte xs ys (All-tail (λ b. b ≢ byte) x (xs ++ byte ∷ ys) without)
 
 -- where no separator stands behind it, a text splits at its last one in one way
-pub splits_at_last : (byte : ℕ) (xs ys us vs : List ℕ) → IsWithout byte ys → IsWithout byte vs → xs ++ byte ∷ ys ≡ us ++ byte ∷ vs → (xs ≡ us) × (ys ≡ vs)
+pub splits_at_last : (byte : ℕ) (xs ys us vs : List ℕ) → IsWithout byte ys → IsWithout byte vs
+    → xs ++ byte ∷ ys ≡ us ++ byte ∷ vs → (xs ≡ us) × (ys ≡ vs)
 splits_at_last byte [] ys [] vs left right same = (refl, cc)
 splits_at_last byte [] ys (u ∷ us) vs left right same =
     let tail : ys ≡ us ++ byte ∷ vs = cc in

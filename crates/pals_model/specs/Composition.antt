@@ -29,11 +29,13 @@ opening design = record {
 }
 
 -- the steps of a round of the components from number node on
-abbrev pub steps_from : DesignParts → List PortValue → List (List PortValue) → ℕ → List Component → List Frame → List Stepped
+abbrev pub steps_from : DesignParts → List PortValue → List (List PortValue) → ℕ → List Component → List Frame
+    → List Stepped
 steps_from design values messages node [] frames = []
 steps_from design values messages node (c ∷ cs) [] = []
 steps_from design values messages node (c ∷ cs) (frame ∷ frames) =
-    steps c.behaviour frame (inputs_of design values messages node c) ∷ steps_from design values messages (suc node) cs frames
+    steps c.behaviour frame (inputs_of design values messages node c)
+    ∷ steps_from design values messages (suc node) cs frames
 
 -- the steps of a round of all components
 abbrev pub all_steps : DesignParts → List PortValue → Configuration → List Stepped
@@ -49,10 +51,13 @@ tuple_of all node port = tuple_in (slice_get all node) port
 
 -- a link's message: the places of its source's tuple that end in time to be sent
 abbrev pub message_of : DesignParts → List Stepped → Link → List PortValue
-message_of design all link = cut (sent_steps design.gamma design.period (rate_of design link.source.0)) (tuple_of all link.source.0 link.out_port)
+message_of design all link =
+    cut (sent_steps design.gamma design.period (rate_of design link.source.0))
+    (tuple_of all link.source.0 link.out_port)
 
 abbrev pub after_steps : DesignParts → List Stepped → Configuration
-after_steps design all = record { frames = map (λ (s : Stepped). s.frame) all; messages = map (message_of design all) design.links }
+after_steps design all =
+    record { frames = map (λ (s : Stepped). s.frame) all; messages = map (message_of design all) design.links }
 
 -- one round, with these values of the root in ports
 abbrev pub next : DesignParts → List PortValue → Configuration → Configuration
@@ -95,9 +100,11 @@ part design env node round = part_of design (steps_of_round design env round) no
 
 -- in the midst of a round of `rate` steps, after those at these inputs: the frame, and the places that they filled
 abbrev pub under_way : BehaviourParts → Frame → ℕ → List (List PortValue) → Stepped
-under_way b frame rate vectors = record { frame = frame_after b frame vectors; tuples = so_far (length b.outs) rate (outputs b frame vectors) }
+under_way b frame rate vectors =
+    record { frame = frame_after b frame vectors; tuples = so_far (length b.outs) rate (outputs b frame vectors) }
 
 -- a component's own round, after its first steps
 abbrev pub own_steps_so_far : DesignParts → Env → ℕ → ℕ → Component → ℕ → Stepped
 own_steps_so_far design env node round c count =
-    under_way c.behaviour (state design env node round) c.rate (take count (feed design env (comp design env round).messages node round))
+    under_way c.behaviour (state design env node round) c.rate
+    (take count (feed design env (comp design env round).messages node round))

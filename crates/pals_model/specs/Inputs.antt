@@ -67,7 +67,9 @@ from_link (Some link) otherwise = source.Link link
 
 -- the link into an in port, or the feed into it, or nothing
 abbrev pub source_of : DesignParts → ℕ → ℕ → PortSource
-source_of design node port = from_link (position (link_goes_to node port) design.links) (from_feed design (position (feed_goes_to node port) design.feeds))
+source_of design node port =
+    from_link (position (link_goes_to node port) design.links)
+    (from_feed design (position (feed_goes_to node port) design.feeds))
 
 -- the sources of a component's in ports
 abbrev pub sources_of : DesignParts → ℕ → Component → List PortSource
@@ -79,10 +81,12 @@ all_sources design = map (λ numbered. sources_of design numbered.0 numbered.1) 
 
 -- the numbers of the links into a component, and of those from it, in their order
 abbrev pub links_into : DesignParts → ℕ → List ℕ
-links_into design node = map (λ numbered. numbered.0) (filter (λ numbered. nat_eq numbered.1.target.0 node) (enumerate_from 0 design.links))
+links_into design node =
+    map (λ numbered. numbered.0) (filter (λ numbered. nat_eq numbered.1.target.0 node) (enumerate_from 0 design.links))
 
 abbrev pub links_from : DesignParts → ℕ → List ℕ
-links_from design node = map (λ numbered. numbered.0) (filter (λ numbered. nat_eq numbered.1.source.0 node) (enumerate_from 0 design.links))
+links_from design node =
+    map (λ numbered. numbered.0) (filter (λ numbered. nat_eq numbered.1.source.0 node) (enumerate_from 0 design.links))
 
 -- ---- what it brings
 -- a root in port is read as a source of rate 1
@@ -97,20 +101,25 @@ read_link design rate message (Some link) = adapt link.adaptor (rate_of design l
 -- the tuple that an in port of a component of this rate brings, from the root in ports' values and the links' messages
 abbrev pub reading : DesignParts → List PortValue → List (List PortValue) → ℕ → PortSource → List PortValue
 reading design values messages rate source.Nothing = replicate rate Absent
-reading design values messages rate (source.Feed feed root) = read_feed (slice_index_or values root Absent) rate (slice_get design.feeds feed)
-reading design values messages rate (source.Link link) = read_link design rate (slice_index_or messages link []) (slice_get design.links link)
+reading design values messages rate (source.Feed feed root) =
+    read_feed (slice_index_or values root Absent) rate (slice_get design.feeds feed)
+reading design values messages rate (source.Link link) =
+    read_link design rate (slice_index_or messages link []) (slice_get design.links link)
 
 -- the input vectors of a component's round, one for each step: vector n has place n of each tuple
 abbrev pub inputs_of : DesignParts → List PortValue → List (List PortValue) → ℕ → Component → List (List PortValue)
-inputs_of design values messages node c = columns c.rate (map (reading design values messages c.rate) (sources_of design node c))
+inputs_of design values messages node c =
+    columns c.rate (map (reading design values messages c.rate) (sources_of design node c))
 
-abbrev pub inputs_in : DesignParts → List PortValue → List (List PortValue) → ℕ → Option Component → List (List PortValue)
+abbrev pub inputs_in : DesignParts → List PortValue → List (List PortValue) → ℕ → Option Component
+    → List (List PortValue)
 inputs_in design values messages node None = []
 inputs_in design values messages node (Some c) = inputs_of design values messages node c
 
 -- the input vectors of a component's round, by the component's number
 unfoldable pub feed : DesignParts → Env → List (List PortValue) → ℕ → ℕ → List (List PortValue)
-feed design env messages node round = inputs_in design (values_at env round) messages node (slice_get design.components node)
+feed design env messages node round =
+    inputs_in design (values_at env round) messages node (slice_get design.components node)
 
 abbrev pub no_env : Env
 no_env = record { lists = [] }

@@ -93,7 +93,8 @@ part_lines c (Some part) = component_line c.path c.behaviour part.frame ∷ []
 abbrev pub tap_lines : DesignParts → ℕ → Tap → Option Part → List (List ℕ)
 tap_lines design number tap None = []
 tap_lines design number tap (Some part) =
-    tap_line (out_kind (slice_get design.components tap.source.0) tap.out_port) tap (slice_index_or part.outs (taps_before design.taps number tap.source.0) []) ∷ []
+    tap_line (out_kind (slice_get design.components tap.source.0) tap.out_port) tap
+    (slice_index_or part.outs (taps_before design.taps number tap.source.0) []) ∷ []
 
 -- the row of a round, from the parts of those components that are shown: the round, a line for each of these components, and
 -- one for each root out port of theirs
@@ -101,7 +102,8 @@ abbrev pub row_lines : DesignParts → (ℕ → Option Part) → ℕ → List (L
 row_lines design part_of round =
     round_line round
     ∷ flat_map (λ numbered. part_lines numbered.1 (part_of numbered.0)) (enumerate_from 0 design.components)
-    ++ flat_map (λ numbered. tap_lines design numbered.0 numbered.1 (part_of numbered.1.source.0)) (enumerate_from 0 design.taps)
+    ++ flat_map (λ numbered. tap_lines design numbered.0 numbered.1 (part_of numbered.1.source.0))
+    (enumerate_from 0 design.taps)
 
 -- ---- the rounds of the composition
 abbrev pub composed_lines : DesignParts → Env → ℕ → List (List ℕ)

@@ -56,7 +56,8 @@ pub record IsLink (design : DesignParts) (link : Link) : Type 0 where
   pub target : IsTarget design link.target.0 link.in_port
   pub rates : IsTrue (divides_or_divided (rate_of design link.source.0) (rate_of design link.target.0))
   pub allowed : IsTrue (is_allowed link.adaptor (rate_of design link.source.0) (rate_of design link.target.0))
-  pub kinds : out_kind (slice_get design.components link.source.0) link.out_port ≡ in_kind (slice_get design.components link.target.0) link.in_port
+  pub kinds : out_kind (slice_get design.components link.source.0) link.out_port
+      ≡ in_kind (slice_get design.components link.target.0) link.in_port
   pub suits : IsTrue (suits_kind link.adaptor (in_kind (slice_get design.components link.target.0) link.in_port))
 
 pub record IsFeed (design : DesignParts) (feed : Feed) : Type 0 where

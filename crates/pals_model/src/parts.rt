@@ -5,7 +5,7 @@ ghost use Rattle.pals_model.specs.Ports.{kind_of, in_kind, out_kind};
 ghost use Rattle.pals_model.specs.Rules.{greatest_rate};
 
 use crate::design::{Component, DesignParts};
-use pals_base::{Kind, PortDecl, NodeNo};
+use pals_base::{Kind, NodeNo, PortDecl};
 
 impl DesignParts {
     /// The component of a number, or none past the end.

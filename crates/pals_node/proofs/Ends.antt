@@ -23,7 +23,8 @@ use Rattle.pals_node.proofs.Places.{length-with_places, places-with_places}
 use Rattle.pals_node.proofs.Programs.{fires, leaves_shape, leaves_outs}
 
 -- outputs with one more place have the sizes that they had
-pub outs_keep : (at count places : ℕ) (values : List PortValue) (tuples : List (List PortValue)) → AreTuples count places tuples
+pub outs_keep : (at count places : ℕ) (values : List PortValue) (tuples : List (List PortValue))
+    → AreTuples count places tuples
     → AreTuples count places (with_places at values tuples)
 outs_keep at count places values tuples are =
     record {
@@ -136,7 +137,8 @@ input_at f step inputs round is =
     is ∙ sym (get_or_from_slice_get f.vectors step (slice_index_or f.vectors step inputs) []
     (slice_get-get_or f.vectors step inputs (omega arith)))
 
-pub job_is : (f : Fields) (step : ℕ) (program : Program) (inputs : List PortValue) → IsOpen (arc_value f.plan).plan f step
+pub job_is : (f : Fields) (step : ℕ) (program : Program) (inputs : List PortValue)
+    → IsOpen (arc_value f.plan).plan f step
     → program ≡ arc_value f.plan → inputs ≡ slice_index_or f.vectors step inputs
     → job_value program (f.count - 1) step f.frame inputs ≡ job_at (value_of f) step
 job_is f step program inputs round same is =

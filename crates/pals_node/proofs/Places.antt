@@ -61,7 +61,8 @@ places-with_places at places (v ∷ vs) (t ∷ ts) all =
     (places-with_places at places vs ts (All-tail (λ tuple. length tuple ≡ places) t ts all))
 
 -- one more tuple has its place
-more_places : (at k : ℕ) (values : List PortValue) (tuples : List (List PortValue)) (d : List PortValue) (e : PortValue) → k < length values
+more_places : (at k : ℕ) (values : List PortValue) (tuples : List (List PortValue)) (d : List PortValue) (e : PortValue)
+    → k < length values
     → length values ≡ length tuples
     → slice_set (with_places at (take k values) tuples) k
     (slice_set (slice_index_or (with_places at (take k values) tuples) k d) at (slice_index_or values k e))
@@ -72,7 +73,8 @@ more_places at zero (v ∷ vs) (t ∷ ts) d e within same = refl
 more_places at (suc k) (v ∷ vs) (t ∷ ts) d e within same =
     ap (λ us. slice_set t at v ∷ us) (more_places at k vs ts d e (omega arith) (omega arith))
 
-pub places_more : (at k : ℕ) (values : List PortValue) (tuples : List (List PortValue)) (d : List PortValue) (e : PortValue)
+pub places_more : (at k : ℕ) (values : List PortValue) (tuples : List (List PortValue)) (d : List PortValue)
+    (e : PortValue)
     → k < length values → length values ≡ length tuples
     → slice_set (with_places at (take k values) tuples) k
     (slice_set (slice_index_or (with_places at (take k values) tuples) k d) at (slice_index_or values k e))

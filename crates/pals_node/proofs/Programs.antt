@@ -41,10 +41,12 @@ fires p frame inputs result rules shape size left =
     same_left result (fire p.plan.behaviour frame inputs) (sym left ∙ rules.means.steps frame inputs shape size)
 
 -- a step keeps the shape, and gives each out port a place
-pub leaves_shape : (p : Program) (frame : Frame) (inputs : List PortValue) → IsProgram p → HasShape p.plan.behaviour frame
+pub leaves_shape : (p : Program) (frame : Frame) (inputs : List PortValue) → IsProgram p
+    → HasShape p.plan.behaviour frame
     → HasShape p.plan.behaviour (fire p.plan.behaviour frame inputs).frame
 leaves_shape p frame inputs rules shape = (fires_well p.plan.behaviour frame inputs rules.plan.behaviour shape).0
 
-pub leaves_outs : (p : Program) (frame : Frame) (inputs : List PortValue) → IsProgram p → HasShape p.plan.behaviour frame
+pub leaves_outs : (p : Program) (frame : Frame) (inputs : List PortValue) → IsProgram p
+    → HasShape p.plan.behaviour frame
     → length (fire p.plan.behaviour frame inputs).outs ≡ length p.plan.behaviour.outs
 leaves_outs p frame inputs rules shape = (fires_well p.plan.behaviour frame inputs rules.plan.behaviour shape).1

@@ -57,7 +57,8 @@ part_room plan part frame outs = record {
 }
 
 -- ---- the value
-abbrev started_value : Fields → List (Option (List PortValue)) → List (List PortValue) → List (List PortValue) → List Part → NodeValue
+abbrev started_value : Fields → List (Option (List PortValue)) → List (List PortValue) → List (List PortValue)
+    → List Part → NodeValue
 started_value f slots vectors outs parts =
     with_state (value_of f) (record (state_of f) {
       count = f.count + 1;

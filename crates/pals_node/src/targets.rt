@@ -4,7 +4,7 @@ ghost use Rattle.pals_base.specs.declared.limits.TheConstants.{ROUNDS};
 ghost use Rattle.bus_machine.specs.Targets.{target, next_action, send_is_next};
 ghost use Rattle.pals_node.specs.proof.NodeInvariants.{IsPlan};
 
-use bus_machine::{NodeAction, Next, Plan};
+use bus_machine::{Next, NodeAction, Plan};
 use output_backoff::release_at;
 use pals_base::Nanos;
 use round_timer::{alarm, step_alarm};

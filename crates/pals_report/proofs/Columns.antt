@@ -8,4 +8,5 @@ behind_line_end bytes = suffix_len (λ byte. not (nat_eq byte 10)) bytes
 
 -- at most all of them
 pub behind_within : (text : List ℕ) (i : ℕ) → behind_line_end (take i text) ≤ i
-behind_within text i = omega (arith, suffix_len-le-length (λ (byte : ℕ). not (nat_eq byte 10)) (take i text), length-take i text)
+behind_within text i =
+    omega (arith, suffix_len-le-length (λ (byte : ℕ). not (nat_eq byte 10)) (take i text), length-take i text)

@@ -5,12 +5,16 @@ use Rattle.std.proofs.lemmas.List.{append-nil, take_all, take_rest}
 use Rattle.pals_runs.specs.Journal.{spaced}
 
 -- a space stands before each word but the first
-spaced-cons : {X : Type 0} (f : X → List ℕ) (x : X) (xs : List X) → spaced (map f (x ∷ xs)) ≡ f x ++ flat_map (λ y. codes " " ++ f y) xs
+spaced-cons : {X : Type 0} (f : X → List ℕ) (x : X) (xs : List X)
+    → spaced (map f (x ∷ xs)) ≡ f x ++ flat_map (λ y. codes " " ++ f y) xs
 spaced-cons f x [] = sym (append-nil (f x))
 spaced-cons f x (y ∷ ys) = ap (λ t. f x ++ (32 ∷ t)) (spaced-cons f y ys)
 
 -- the first word, and all that follow it
-pub spaced-all : {X : Type 0} (f : X → List ℕ) (d : X) (xs : List X) (i : ℕ) (old one out : List ℕ) → 1 ≤ length xs → length (take (length xs - 1) (drop 1 xs)) ≤ i → one ≡ old ++ f (get_or xs 0 d) → out ≡ one ++ flat_map (λ y. codes " " ++ f y) (take i (take (length xs - 1) (drop 1 xs))) → out ≡ old ++ spaced (map f xs)
+pub spaced-all : {X : Type 0} (f : X → List ℕ) (d : X) (xs : List X) (i : ℕ) (old one out : List ℕ) → 1 ≤ length xs
+    → length (take (length xs - 1) (drop 1 xs)) ≤ i → one ≡ old ++ f (get_or xs 0 d)
+    → out ≡ one ++ flat_map (λ y. codes " " ++ f y) (take i (take (length xs - 1) (drop 1 xs)))
+    → out ≡ old ++ spaced (map f xs)
 spaced-all f d [] i old one out long end first more = absurd (omega arith)
 spaced-all f d (x ∷ xs) i old one out long end first more =
     let rest : take (length (x ∷ xs) - 1) (drop 1 (x ∷ xs)) ≡ xs = take_rest (x ∷ xs) 1 in

@@ -42,11 +42,13 @@ component_line c = codes "component " ++ c.path ++ codes " rate " ++ decimal c.r
 
 abbrev pub link_line : DesignParts → Link → List ℕ
 link_line design link =
-    codes "link " ++ source_name design link.source.0 link.out_port ++ codes " -> " ++ link_name design link ++ and_adaptor link.adaptor
+    codes "link " ++ source_name design link.source.0 link.out_port ++ codes " -> " ++ link_name design link
+    ++ and_adaptor link.adaptor
 
 abbrev pub feed_line : DesignParts → Feed → List ℕ
 feed_line design feed =
-    codes "input " ++ feed.name ++ codes " -> " ++ target_name design feed.target.0 feed.in_port ++ and_adaptor feed.adaptor
+    codes "input " ++ feed.name ++ codes " -> " ++ target_name design feed.target.0 feed.in_port
+    ++ and_adaptor feed.adaptor
 
 abbrev pub tap_line : DesignParts → Tap → List ℕ
 tap_line design tap = codes "output " ++ source_name design tap.source.0 tap.out_port ++ codes " -> " ++ tap.name
@@ -63,7 +65,8 @@ rates design = map rate_of design.components
 
 -- the shortest period for these rates that the bound allows, or none where it would be longer than an hour
 abbrev pub IsShortest : DesignParts → Option ℕ → Type 0
-IsShortest design shortest = MatchOption shortest (HasNoMultiple design.gamma (rates design)) (IsLeastMultiple design.gamma (rates design))
+IsShortest design shortest =
+    MatchOption shortest (HasNoMultiple design.gamma (rates design)) (IsLeastMultiple design.gamma (rates design))
 
 -- a word and a time in nanoseconds
 unfoldable pub time_line : List ℕ → ℕ → List ℕ
@@ -75,13 +78,15 @@ shortest_word (Some period) = decimal period
 
 unfoldable pub period_lines : DesignParts → Option ℕ → List (List ℕ)
 period_lines design shortest =
-    codes "accepted" ∷ time_line (codes "period ") design.period ∷ time_line (codes "least ") (least_period design.gamma (greatest_rate design.components))
+    codes "accepted" ∷ time_line (codes "period ") design.period
+    ∷ time_line (codes "least ") (least_period design.gamma (greatest_rate design.components))
     ∷ (codes "shortest " ++ shortest_word shortest) ∷ time_line (codes "backoff ") (backoff design.gamma) ∷ []
 
 -- ---- the whole text
 abbrev pub check_lines : DesignParts → Option ℕ → List (List ℕ)
 check_lines design shortest =
-    period_lines design shortest ++ map component_line design.components ++ map (link_line design) design.links ++ map (feed_line design) design.feeds
+    period_lines design shortest ++ map component_line design.components ++ map (link_line design) design.links
+    ++ map (feed_line design) design.feeds
     ++ map (tap_line design) design.taps ++ map ignored_line design.ignored
 
 pub record IsCheckReport (design : DesignParts) (text : List ℕ) : Type 0 where

@@ -19,9 +19,11 @@ event_fault_words design LossOrRepeat = codes "LossOrRepeat" ∷ []
 event_fault_words design (TimeBack time) = codes "TimeBack" ∷ decimal time ∷ []
 event_fault_words design (ClockBack node reading) = codes "ClockBack" ∷ node_word design node.0 ∷ decimal reading ∷ []
 event_fault_words design (ClockApart node reading) = codes "ClockApart" ∷ node_word design node.0 ∷ decimal reading ∷ []
-event_fault_words design (PastDeadline which last) = codes "PastDeadline" ∷ which_words design which ++ decimal last ∷ []
+event_fault_words design (PastDeadline which last) =
+    codes "PastDeadline" ∷ which_words design which ++ decimal last ∷ []
 event_fault_words design (WrongPhase node) = codes "WrongPhase" ∷ node_word design node.0 ∷ []
-event_fault_words design (NoSuchMessage link round) = codes "NoSuchMessage" ∷ link_word design link.0 ∷ decimal round ∷ []
+event_fault_words design (NoSuchMessage link round) =
+    codes "NoSuchMessage" ∷ link_word design link.0 ∷ decimal round ∷ []
 event_fault_words design (NotDue node alarm reading) =
     codes "NotDue" ∷ node_word design node.0 ∷ decimal alarm ∷ decimal reading ∷ []
 event_fault_words design (TooSoon which earliest) = codes "TooSoon" ∷ which_words design which ++ decimal earliest ∷ []

@@ -32,5 +32,6 @@ stopped_words design (Some (stop.Missed link round reading cause)) = link_word d
 stopped_words design (Some (stop.Early link round reading)) = link_word design link.0 ∷ decimal round ∷ []
 
 abbrev pub verdict_line : DesignParts → Verdict → List ℕ
-verdict_line design (Sound rounds stop) = spaced (codes "sound" ∷ codes "rounds" ∷ decimal rounds ∷ codes "stop" ∷ stopped_words design stop)
+verdict_line design (Sound rounds stop) =
+    spaced (codes "sound" ∷ codes "rounds" ∷ decimal rounds ∷ codes "stop" ∷ stopped_words design stop)
 verdict_line design (Wrong index rule) = spaced (codes "wrong" ∷ decimal index ∷ rule_word rule ∷ [])

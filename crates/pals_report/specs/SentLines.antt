@@ -10,7 +10,9 @@ use Rattle.bus_machine.specs.States.{link_at}
 
 -- the type of the out port that a link comes from
 abbrev pub source_kind : DesignParts → ℕ → Kind
-source_kind design link = out_kind (slice_get design.components (link_at design link).source.0) (link_at design link).out_port
+source_kind design link =
+    out_kind (slice_get design.components (link_at design link).source.0) (link_at design link).out_port
 
 abbrev pub sent_line : DesignParts → ℕ → ℕ → List PortValue → List ℕ
-sent_line design link round tuple = spaced (codes "sent" ∷ link_word design link ∷ decimal round ∷ tuple_text (source_kind design link) tuple ∷ [])
+sent_line design link round tuple =
+    spaced (codes "sent" ∷ link_word design link ∷ decimal round ∷ tuple_text (source_kind design link) tuple ∷ [])

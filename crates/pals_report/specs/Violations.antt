@@ -9,8 +9,10 @@ abbrev pub rule_names : List (List ℕ)
 rule_names =
     codes "BadType" ∷ codes "NotPeriodic" ∷ codes "NoPeriod" ∷ codes "NotDivisor" ∷ codes "RateTooHigh"
     ∷ codes "RatesDontDivide" ∷ codes "NotDelayed" ∷ codes "DelayedRoot" ∷ codes "NoAdaptor" ∷ codes "StrayAdaptor"
-    ∷ codes "AdaptorOutOfRange" ∷ codes "NoInitial" ∷ codes "DispatchCount" ∷ codes "NoOtherwise" ∷ codes "CycleWithoutComplete"
-    ∷ codes "GammaMissing" ∷ codes "GammaOrder" ∷ codes "PeriodTooShort" ∷ codes "LoopTooLong" ∷ codes "NumberTooBig" ∷ []
+    ∷ codes "AdaptorOutOfRange" ∷ codes "NoInitial" ∷ codes "DispatchCount" ∷ codes "NoOtherwise"
+    ∷ codes "CycleWithoutComplete"
+    ∷ codes "GammaMissing" ∷ codes "GammaOrder" ∷ codes "PeriodTooShort" ∷ codes "LoopTooLong"
+    ∷ codes "NumberTooBig" ∷ []
 
 -- no rule has another number
 unfoldable pub rule_name : ℕ → List ℕ
@@ -24,7 +26,8 @@ details_text (byte ∷ bytes) = and_word (byte ∷ bytes)
 -- `LINE:COLUMN NUMBER NAME` and the details
 abbrev pub violation_line : List ℕ → Violation → List ℕ
 violation_line text found =
-    position_text text found.at ++ and_word (decimal found.number) ++ and_word (rule_name found.number) ++ details_text found.details
+    position_text text found.at ++ and_word (decimal found.number) ++ and_word (rule_name found.number)
+    ++ details_text found.details
 
 abbrev pub violation_lines : List ℕ → List Violation → List (List ℕ)
 violation_lines text found = map (violation_line text) found

@@ -20,5 +20,8 @@ pub fn add_code_fault(
     ensures err { OnErr result (out.new.items ≡ out.old.items) }
 {
     let node = node_word(design.parts(), node);
-    add_line(out, &[LineWord::Bytes(b"code"), node, LineWord::Number(length)])
+    add_line(
+        out,
+        &[LineWord::Bytes(b"code"), node, LineWord::Number(length)],
+    )
 }

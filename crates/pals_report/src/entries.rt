@@ -98,7 +98,11 @@ fn add_loss<'a>(
     let link = link_word(design, link);
     add_line(
         out,
-        &[LineWord::Bytes(change), link, LineWord::Number(u64::from(round))],
+        &[
+            LineWord::Bytes(change),
+            link,
+            LineWord::Number(u64::from(round)),
+        ],
     )
 }
 

@@ -68,7 +68,13 @@ fn add_message(
     let link = link_word(design, link);
     add_line(
         out,
-        &[event, index, fault, link, LineWord::Number(u64::from(round))],
+        &[
+            event,
+            index,
+            fault,
+            link,
+            LineWord::Number(u64::from(round)),
+        ],
     )
 }
 

@@ -5,7 +5,7 @@ ghost use Rattle.pals_report.specs.proof.Appended.{BeginsWith};
 ghost use Rattle.pals_report.specs.CheckReports.{adaptor_text, and_adaptor, source_name};
 
 use itoa::Buffer;
-use pals_base::{Adaptor, PortDecl, NoMemory, NodeNo};
+use pals_base::{Adaptor, NoMemory, NodeNo, PortDecl};
 use pals_model::DesignParts;
 
 // The name of a port, where there is one.

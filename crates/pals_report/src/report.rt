@@ -57,7 +57,12 @@ pub fn add_frame(
 
 /// Adds the line of a root out port of this type, which shows a tuple. If there is not enough
 /// memory, nothing is added.
-pub fn add_shown(out: &mut Vec<u8>, kind: Kind, tap: &Tap, tuple: &[PortValue]) -> Result<(), NoMemory>
+pub fn add_shown(
+    out: &mut Vec<u8>,
+    kind: Kind,
+    tap: &Tap,
+    tuple: &[PortValue],
+) -> Result<(), NoMemory>
     ensures ok { OnOk result
         (out.new.items ≡ out.old.items ++ tap_line kind tap.now tuple.now ++ line_end) }
     ensures err { OnErr result (out.new.items ≡ out.old.items) }

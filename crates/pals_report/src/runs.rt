@@ -59,7 +59,13 @@ fn add_sound(
     match stop {
         None => add_line(
             out,
-            &[first, rounds_word, rounds, stop_word, LineWord::Bytes(b"none")],
+            &[
+                first,
+                rounds_word,
+                rounds,
+                stop_word,
+                LineWord::Bytes(b"none"),
+            ],
         ),
         Some(Stop::Missed { link, round, .. } | Stop::Early { link, round, .. }) => {
             let link = link_word(design, link);

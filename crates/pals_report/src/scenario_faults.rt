@@ -17,7 +17,11 @@ fn add_named<'a>(out: &mut Vec<u8>, fault: &'a [u8], place: &'a Text) -> Result<
     let scenario = LineWord::Bytes(b"scenario");
     add_line(
         out,
-        &[scenario, LineWord::Bytes(fault), LineWord::Bytes(place.as_bytes())],
+        &[
+            scenario,
+            LineWord::Bytes(fault),
+            LineWord::Bytes(place.as_bytes()),
+        ],
     )
 }
 
@@ -37,7 +41,11 @@ pub fn add_scenario_fault(out: &mut Vec<u8>, fault: &ScenarioFault) -> Result<()
         ScenarioFault::OutOfRange { name } => add_named(out, b"OutOfRange", name),
         ScenarioFault::TooBig { cells } => add_line(
             out,
-            &[scenario, LineWord::Bytes(b"TooBig"), LineWord::Number(*cells)],
+            &[
+                scenario,
+                LineWord::Bytes(b"TooBig"),
+                LineWord::Number(*cells),
+            ],
         ),
         ScenarioFault::Memory => add_line(out, &[scenario, LineWord::Bytes(b"Memory")]),
     }

@@ -49,7 +49,8 @@ cause_word Lost = codes "lost"
 -- ---- lines
 abbrev pub stop_words : DesignParts → Stop → List (List ℕ)
 stop_words design (stop.Missed link round reading cause) =
-    codes "stop" ∷ codes "missed" ∷ link_word design link.0 ∷ decimal round ∷ reading_word reading ∷ cause_word cause ∷ []
+    codes "stop" ∷ codes "missed" ∷ link_word design link.0 ∷ decimal round ∷ reading_word reading
+    ∷ cause_word cause ∷ []
 stop_words design (stop.Early link round reading) =
     codes "stop" ∷ codes "early" ∷ link_word design link.0 ∷ decimal round ∷ reading_word reading ∷ []
 

@@ -11,7 +11,7 @@ ghost use Rattle.pals_top.specs.proof.Statuses.{status_of, text_of};
 use crate::answer::Answer;
 use crate::audit::answer_audit;
 use crate::budget::answer_budget;
-use crate::coded::{Coded, BundleMeaning, meaning_of};
+use crate::coded::{BundleMeaning, Coded, meaning_of};
 use crate::loose::answer_loose;
 use crate::world::answer_world;
 use pals_base::{NoMemory, Text};

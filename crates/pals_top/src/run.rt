@@ -12,7 +12,7 @@ ghost use Rattle.pals_top.specs.Run.{IsRunAnswer};
 ghost use Rattle.pals_top.specs.proof.Statuses.{status_of, text_of};
 
 use crate::answer::Answer;
-use crate::coded::{Coded, BundleMeaning, meaning_of};
+use crate::coded::{BundleMeaning, Coded, meaning_of};
 use crate::execution::Execution;
 use crate::host::Host;
 use crate::opening::opened;

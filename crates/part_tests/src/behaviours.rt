@@ -2,8 +2,8 @@
 //! variables `x` and `y`.
 use aadl_parse::parse;
 use aadl_tree::{AnnexContent, AnnexTree, Declaration, PackageTree};
-use annex_resolve::{DeclaredName, Meaning, Scope, DeclaredValues, resolve_annex};
-use pals_base::{Behaviour, BehaviourParts, Items, Kind, PortDecl, NoMemory, Text, VarDecl};
+use annex_resolve::{DeclaredName, DeclaredValues, Meaning, Scope, resolve_annex};
+use pals_base::{Behaviour, BehaviourParts, Items, Kind, NoMemory, PortDecl, Text, VarDecl};
 use std::alloc::Global;
 
 fn port(alloc: Global, name: &str) -> Result<Items<PortDecl>, NoMemory> {

@@ -81,7 +81,12 @@ const CASES: [RunCase; 4] = [
         PortValue::Present(2),
         (4, 2, Some(Trap::Overflow), PortValue::Absent),
     ),
-    (&LOOPS, None, PortValue::Absent, (34, 0, None, PortValue::Absent)),
+    (
+        &LOOPS,
+        None,
+        PortValue::Absent,
+        (34, 0, None, PortValue::Absent),
+    ),
     (
         &DIVISION,
         None,

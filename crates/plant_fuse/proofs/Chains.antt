@@ -25,10 +25,12 @@ table_map f from [] = refl
 table_map f from (x ∷ xs) = ap (λ ys. f x ∷ ys) (table_map f (from + 1) xs)
 
 -- before the first round
-pub opens : (design : DesignParts) (pairs : List Pair) (env : Env) (ins : Inputs) → IsDesign design → ArePairs design pairs → IsFused design pairs env 0 ins → fused design pairs 0 ins ≡ opening design
+pub opens : (design : DesignParts) (pairs : List Pair) (env : Env) (ins : Inputs) → IsDesign design
+    → ArePairs design pairs → IsFused design pairs env 0 ins → fused design pairs 0 ins ≡ opening design
 opens design pairs env ins sound are is =
     fused_is design pairs 0 ins
-    ∙ ap (λ (frames : List Frame). let at : Configuration = record { frames = frames; messages = messages_before design pairs ins 0 } in at)
+    ∙ ap (λ (frames : List Frame). let at : Configuration =
+    record { frames = frames; messages = messages_before design pairs ins 0 } in at)
     (table_same (frame_of ins) (λ place (c : Component). initial c.behaviour) design.components
     (λ node c is_c.
     let none : 0 * c.rate ≡ 0 = omega arith in
@@ -39,7 +41,8 @@ opens design pairs env ins sound are is =
     ∙ table_map (λ (c : Component). initial c.behaviour) 0 design.components)
 
 pub rounds_follow : RoundsFollow
-rounds_follow design pairs env at vectors zero ins sound are rounds is = rounds.begins ∙ sym (opens design pairs env ins sound are is)
+rounds_follow design pairs env at vectors zero ins sound are rounds is =
+    rounds.begins ∙ sym (opens design pairs env ins sound are is)
 rounds_follow design pairs env at vectors (suc n) ins sound are rounds is =
     let first = first_rounds design n ins in
     let fewer : AreRounds design pairs env n at vectors = record {
@@ -47,8 +50,14 @@ rounds_follow design pairs env at vectors (suc n) ins sound are rounds is =
       reads = λ round below. rounds.reads round (omega arith);
       leaves = λ round below. rounds.leaves round (omega arith);
     } in
-    let before = rounds_follow design pairs env at vectors n first sound are fewer (solution_goes_on design pairs env n ins sound are is) in
+    let before =
+    rounds_follow design pairs env at vectors n first sound are fewer
+    (solution_goes_on design pairs env n ins sound are is) in
     let last = rounds_go_on design pairs env n ins sound are is in
-    let reads = subst (λ (c : Configuration). IsFusedRound design pairs (values_at env n) c (vectors n)) before (rounds.reads n (omega arith)) in
-    let same = round_is_one design pairs (values_at env n) (fused design pairs n first) (vectors n) (last_round design n ins) are reads last.0 in
+    let reads =
+    subst (λ (c : Configuration). IsFusedRound design pairs (values_at env n) c (vectors n)) before
+    (rounds.reads n (omega arith)) in
+    let same =
+    round_is_one design pairs (values_at env n) (fused design pairs n first) (vectors n) (last_round design n ins)
+    are reads last.0 in
     rounds.leaves n (omega arith) ∙ ap₂ (after_round design pairs) before same ∙ sym last.1

@@ -18,10 +18,12 @@ unfolding fused fire
 fused_counters_count = (refl, refl, refl)
 
 abbrev linked : ℕ → ℕ → Link
-linked source target = record { source = record { 0 = source }; out_port = 0; target = record { 0 = target }; in_port = 0; adaptor = None }
+linked source target =
+    record { source = record { 0 = source }; out_port = 0; target = record { 0 = target }; in_port = 0; adaptor = None }
 
 links_go : (P : Link → Type 0) → P (linked 1 0) → P (linked 0 1) → All P two_counters.links
-links_go P first second = All-cons P (linked 1 0) (linked 0 1 ∷ []) first (All-cons P (linked 0 1) [] second (All-nil P))
+links_go P first second =
+    All-cons P (linked 1 0) (linked 0 1 ∷ []) first (All-cons P (linked 0 1) [] second (All-nil P))
 
 abbrev the_pair : Pair
 the_pair = record { plant = record { 0 = 0 }; controller = record { 0 = 1 } }
@@ -33,7 +35,8 @@ counters_are_pairs = record {
     controller = omega arith;
     two = λ same. omega (arith, same);
     rates = refl;
-    from_plant = links_go (λ link. link.source.0 ≡ 0 → link.target.0 ≡ 1) (λ is. absurd (omega (arith, is))) (λ is. refl);
+    from_plant =
+        links_go (λ link. link.source.0 ≡ 0 → link.target.0 ≡ 1) (λ is. absurd (omega (arith, is))) (λ is. refl);
     to_plant = links_go (λ link. link.target.0 ≡ 0 → link.source.0 ≡ 1) (λ is. refl) (λ is. absurd (omega (arith, is)));
   }) (All-nil (IsPair two_counters));
   apart = λ i j d less within. absurd (omega (arith, less, within));

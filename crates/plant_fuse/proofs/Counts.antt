@@ -19,10 +19,15 @@ use Rattle.plant_fuse.specs.proof.Tables.{AreTables}
 
 module _ (design : DesignParts) (pairs : List Pair) (tables : Tables) (are : AreTables design pairs tables) where
   pub count_of_sources : length tables.sources ≡ length design.components
-  count_of_sources = ap length are.sources_are ∙ length-map_enumerate_from (λ (numbered : ℕ × Component). sources_of design numbered.0 numbered.1) 0 design.components
+  count_of_sources =
+      ap length are.sources_are
+      ∙ length-map_enumerate_from (λ (numbered : ℕ × Component). sources_of design numbered.0 numbered.1) 0
+      design.components
 
   pub count_of_taps : length tables.taps ≡ length design.components
-  count_of_taps = ap length are.taps_are ∙ length-map_enumerate_from (λ (numbered : ℕ × Component). tap_ports design.taps numbered.0) 0 design.components
+  count_of_taps =
+      ap length are.taps_are ∙ length-map_enumerate_from
+      (λ (numbered : ℕ × Component). tap_ports design.taps numbered.0) 0 design.components
 
   pub count_of_partners : length tables.partners ≡ length design.components
   count_of_partners =
@@ -30,12 +35,15 @@ module _ (design : DesignParts) (pairs : List Pair) (tables : Tables) (are : Are
       ∙ length-map (upwards 0 (length design.components)) (partner_of pairs)
       ∙ length-upwards 0 (length design.components)
 
-pub count_of_parts : (design : DesignParts) (parts : List Part) → map part_size parts ≡ part_sizes design → length parts ≡ length design.components
+pub count_of_parts : (design : DesignParts) (parts : List Part) → map part_size parts ≡ part_sizes design
+    → length parts ≡ length design.components
 count_of_parts design parts fit =
     count_of_sized part_size parts (part_sizes design) fit
-    ∙ length-map_enumerate_from (λ (numbered : ℕ × Component). part_size_of numbered.1 (tap_ports design.taps numbered.0)) 0 design.components
+    ∙ length-map_enumerate_from
+    (λ (numbered : ℕ × Component). part_size_of numbered.1 (tap_ports design.taps numbered.0)) 0 design.components
 
-pub count_of_stages : (design : DesignParts) (stages : List Stage) → map stage_size stages ≡ stage_sizes design → length stages ≡ length design.components
+pub count_of_stages : (design : DesignParts) (stages : List Stage) → map stage_size stages ≡ stage_sizes design
+    → length stages ≡ length design.components
 count_of_stages design stages fit =
     count_of_sized stage_size stages (stage_sizes design) fit
     ∙ length-map design.components (λ (c : Component). stage_size_of (sent_steps design.gamma design.period c.rate) c)

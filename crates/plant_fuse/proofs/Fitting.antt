@@ -34,31 +34,41 @@ implies s p t c then =
       | false ↦ λ is. refl
     ]) refl
 
-pub from_plant : (pair : Pair) (links : List Link) → list_all (stays_inside pair) links ≡ true → All (FromPlant pair) links
+pub from_plant : (pair : Pair) (links : List Link) → list_all (stays_inside pair) links ≡ true
+    → All (FromPlant pair) links
 from_plant pair [] all = All-nil (FromPlant pair)
 from_plant pair (link ∷ links) all =
     let parts = and_parts (stays_inside pair link) (list_all (stays_inside pair) links) all in
-    let here = and_parts (not (nat_eq link.source.0 pair.plant.0) || nat_eq link.target.0 pair.controller.0) (not (nat_eq link.target.0 pair.plant.0) || nat_eq link.source.0 pair.controller.0) parts.0 in
-    All-cons (FromPlant pair) link links (implied link.source.0 pair.plant.0 link.target.0 pair.controller.0 here.0) (from_plant pair links parts.1)
+    let here =
+    and_parts (not (nat_eq link.source.0 pair.plant.0) || nat_eq link.target.0 pair.controller.0)
+    (not (nat_eq link.target.0 pair.plant.0) || nat_eq link.source.0 pair.controller.0) parts.0 in
+    All-cons (FromPlant pair) link links (implied link.source.0 pair.plant.0 link.target.0 pair.controller.0 here.0)
+    (from_plant pair links parts.1)
 
 pub to_plant : (pair : Pair) (links : List Link) → list_all (stays_inside pair) links ≡ true → All (ToPlant pair) links
 to_plant pair [] all = All-nil (ToPlant pair)
 to_plant pair (link ∷ links) all =
     let parts = and_parts (stays_inside pair link) (list_all (stays_inside pair) links) all in
-    let here = and_parts (not (nat_eq link.source.0 pair.plant.0) || nat_eq link.target.0 pair.controller.0) (not (nat_eq link.target.0 pair.plant.0) || nat_eq link.source.0 pair.controller.0) parts.0 in
-    All-cons (ToPlant pair) link links (implied link.target.0 pair.plant.0 link.source.0 pair.controller.0 here.1) (to_plant pair links parts.1)
+    let here =
+    and_parts (not (nat_eq link.source.0 pair.plant.0) || nat_eq link.target.0 pair.controller.0)
+    (not (nat_eq link.target.0 pair.plant.0) || nat_eq link.source.0 pair.controller.0) parts.0 in
+    All-cons (ToPlant pair) link links (implied link.target.0 pair.plant.0 link.source.0 pair.controller.0 here.1)
+    (to_plant pair links parts.1)
 
-pub all_inside : (pair : Pair) (links : List Link) → All (FromPlant pair) links → All (ToPlant pair) links → list_all (stays_inside pair) links ≡ true
+pub all_inside : (pair : Pair) (links : List Link) → All (FromPlant pair) links → All (ToPlant pair) links
+    → list_all (stays_inside pair) links ≡ true
 all_inside pair [] from to = refl
 all_inside pair (link ∷ links) from to =
     and_from (stays_inside pair link) (list_all (stays_inside pair) links)
-    (and_from (not (nat_eq link.source.0 pair.plant.0) || nat_eq link.target.0 pair.controller.0) (not (nat_eq link.target.0 pair.plant.0) || nat_eq link.source.0 pair.controller.0)
+    (and_from (not (nat_eq link.source.0 pair.plant.0) || nat_eq link.target.0 pair.controller.0)
+    (not (nat_eq link.target.0 pair.plant.0) || nat_eq link.source.0 pair.controller.0)
     (implies link.source.0 pair.plant.0 link.target.0 pair.controller.0 (All-head (FromPlant pair) link links from))
     (implies link.target.0 pair.plant.0 link.source.0 pair.controller.0 (All-head (ToPlant pair) link links to)))
     (all_inside pair links (All-tail (FromPlant pair) link links from) (All-tail (ToPlant pair) link links to))
 
 -- ---- one pair
-pub pair_by : (design : DesignParts) (pair : Pair) → AreTwo pair (length design.components) → rate_of design pair.plant.0 ≡ rate_of design pair.controller.0
+pub pair_by : (design : DesignParts) (pair : Pair) → AreTwo pair (length design.components)
+    → rate_of design pair.plant.0 ≡ rate_of design pair.controller.0
     → list_all (stays_inside pair) design.links ≡ true → IsPair design pair
 pair_by design pair two rates inside = record {
   plant = two.plant;
@@ -73,11 +83,13 @@ pub two_of : (design : DesignParts) (pair : Pair) → IsPair design pair → Are
 two_of design pair is = record { plant = is.plant; controller = is.controller; two = is.two }
 
 -- ---- all of them
-pub pairs_by : (design : DesignParts) (pairs : List Pair) → ((k : ℕ) → k < length pairs → CanBeFused design pairs k) → ArePairs design pairs
+pub pairs_by : (design : DesignParts) (pairs : List Pair) → ((k : ℕ) → k < length pairs → CanBeFused design pairs k)
+    → ArePairs design pairs
 pairs_by design pairs can = record {
   each = λ k d within. (can k within).pair (slice_index_or pairs k d) (slice_get-get_or pairs k d within);
   apart = λ i j d less within.
       (let first : i < length pairs = omega (arith, less, within) in
       let other : j ≢ i = λ same. omega (arith, same, less) in
-      (can i first).apart.others j (slice_index_or pairs i d) (slice_index_or pairs j d) other (slice_get-get_or pairs i d first) (slice_get-get_or pairs j d within));
+      (can i first).apart.others j (slice_index_or pairs i d) (slice_index_or pairs j d) other
+      (slice_get-get_or pairs i d first) (slice_get-get_or pairs j d within));
 }

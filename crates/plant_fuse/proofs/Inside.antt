@@ -24,7 +24,8 @@ module _ (design : DesignParts) (pairs : List Pair) (are : ArePairs design pairs
   pair_is k pair within is = subst (IsPair design) is (are.each k pair within)
 
   -- a link back has ends of one rate
-  pub back_rates : (link : Link) → is_back pairs link ≡ true → rate_of design link.source.0 ≡ rate_of design link.target.0
+  pub back_rates : (link : Link) → is_back pairs link ≡ true
+      → rate_of design link.source.0 ≡ rate_of design link.target.0
   back_rates link is =
       let found = Any-from_list_any (λ (pair : Pair). goes pair.controller.0 pair.plant.0 link) pairs is in
       let pair : Pair = found.1 in
@@ -33,7 +34,8 @@ module _ (design : DesignParts) (pairs : List Pair) (are : ArePairs design pairs
       ap (rate_of design) ends.0 ∙ sym rules.rates ∙ sym (ap (rate_of design) ends.1)
 
   -- a plant controls nothing
-  plant_is_none : (k : ℕ) (pair : Pair) → k < length pairs → slice_index_or pairs k pair ≡ pair → is_controller pairs pair.plant.0 ≡ false
+  plant_is_none : (k : ℕ) (pair : Pair) → k < length pairs → slice_index_or pairs k pair ≡ pair
+      → is_controller pairs pair.plant.0 ≡ false
   plant_is_none k pair within is =
       list_any_none (λ (other : Pair). nat_eq other.controller.0 pair.plant.0) pairs
       (λ j d inside. ne_eqb (slice_index_or pairs j d).controller.0 pair.plant.0 (λ same. none j d inside same))
@@ -44,10 +46,13 @@ module _ (design : DesignParts) (pairs : List Pair) (are : ArePairs design pairs
             | inl here ↦ (
                 let rules = are.each k d within in
                 let one : slice_index_or pairs k d ≡ pair = get_same k within d ∙ is in
-                rules.two (ap (λ (p : Pair). p.plant.0) one ∙ sym same ∙ ap (λ n. (slice_index_or pairs n d).controller.0) here))
+                rules.two (ap (λ (p : Pair). p.plant.0) one ∙ sym same
+                ∙ ap (λ n. (slice_index_or pairs n d).controller.0) here))
             | inr other ↦ elim other [
-              | inl before ↦ (are.apart j k d before within).second (same ∙ sym (ap (λ (p : Pair). p.plant.0) (get_same k within d ∙ is)))
-              | inr after ↦ (are.apart k j d after inside).first (ap (λ (p : Pair). p.plant.0) (get_same k within d ∙ is) ∙ sym same)
+              | inl before ↦ (are.apart j k d before within).second
+                  (same ∙ sym (ap (λ (p : Pair). p.plant.0) (get_same k within d ∙ is)))
+              | inr after ↦ (are.apart k j d after inside).first
+                  (ap (λ (p : Pair). p.plant.0) (get_same k within d ∙ is) ∙ sym same)
             ]
           ]
         where
@@ -78,16 +83,20 @@ feed_is_no_link : (design : DesignParts) (o : Option ℕ) (number : ℕ) → fro
 feed_is_no_link design None number is = absurd (cc)
 feed_is_no_link design (Some feed) number is = absurd (cc)
 
-target_by : (design : DesignParts) (node port number : ℕ) (link : Link) (o : Option ℕ) → position (link_goes_to node port) design.links ≡ o
-    → from_link o (from_feed design (position (feed_goes_to node port) design.feeds)) ≡ source.Link number → slice_get design.links number ≡ Some link → link.target.0 ≡ node
+target_by : (design : DesignParts) (node port number : ℕ) (link : Link) (o : Option ℕ)
+    → position (link_goes_to node port) design.links ≡ o
+    → from_link o (from_feed design (position (feed_goes_to node port) design.feeds)) ≡ source.Link number
+    → slice_get design.links number ≡ Some link → link.target.0 ≡ node
 target_by design node port number link None at is there = absurd (feed_is_no_link design _ number is)
 target_by design node port number link (Some k) at is there =
     let same : k ≡ number = cc in
     let found = position-Some (link_goes_to node port) design.links k link at in
-    let here : slice_index_or design.links k link ≡ link = ap (λ n. slice_index_or design.links n link) same ∙ get_or_from_slice_get design.links number link link there in
+    let here : slice_index_or design.links k link ≡ link = ap (λ n. slice_index_or design.links n link) same
+    ∙ get_or_from_slice_get design.links number link link there in
     let test : link_goes_to node port link ≡ true = sym (ap (link_goes_to node port) here) ∙ found.1 in
     eqb-true link.target.0 node (and_parts (nat_eq link.target.0 node) (nat_eq link.in_port port) test).0
 
-pub read_from_target : (design : DesignParts) (node port number : ℕ) (link : Link) → source_of design node port ≡ source.Link number → slice_get design.links number ≡ Some link → link.target.0 ≡ node
+pub read_from_target : (design : DesignParts) (node port number : ℕ) (link : Link)
+    → source_of design node port ≡ source.Link number → slice_get design.links number ≡ Some link → link.target.0 ≡ node
 read_from_target design node port number link is there =
     target_by design node port number link (position (link_goes_to node port) design.links) refl is there

@@ -25,7 +25,8 @@ use Rattle.plant_fuse.proofs.Causes.{same_tuple}
 use Rattle.plant_fuse.proofs.Prefixes.{begun, agree}
 use Rattle.plant_fuse.proofs.OneMoreRound as onward
 
-module _ (design : DesignParts) (pairs : List Pair) (env : Env) (rounds : ℕ) (ins : Inputs) (sound : IsDesign design) (are : ArePairs design pairs) (is : IsFused design pairs env (suc rounds) ins) where
+module _ (design : DesignParts) (pairs : List Pair) (env : Env) (rounds : ℕ) (ins : Inputs) (sound : IsDesign design)
+    (are : ArePairs design pairs) (is : IsFused design pairs env (suc rounds) ins) where
   abbrev first : Inputs
   first = onward.first design pairs env rounds ins sound are is
 
@@ -34,40 +35,59 @@ module _ (design : DesignParts) (pairs : List Pair) (env : Env) (rounds : ℕ) (
 
   -- ---- in the last round
   frame_is : (node : ℕ) (c : Component) → slice_get design.components node ≡ Some c
-      → (part_after design (onward.before design pairs env rounds ins sound are is) (onward.vectors design pairs env rounds ins sound are is) node c).frame ≡ frame_before ins node c (suc rounds * c.rate)
+      → (part_after design (onward.before design pairs env rounds ins sound are is)
+      (onward.vectors design pairs env rounds ins sound are is) node c).frame
+      ≡ frame_before ins node c (suc rounds * c.rate)
   frame_is node c is_c =
       let xs = inputs_to ins node in
       let n = rounds * c.rate in
       let size = onward.inputs_size design pairs env rounds ins sound are is node c is_c in
-      ap₂ (λ (f : Frame) ys. frame_after c.behaviour f ys) (onward.frame_is design pairs env rounds ins sound are is node c is_c) (onward.vectors_at design pairs env rounds ins sound are is node c is_c)
+      ap₂ (λ (f : Frame) ys. frame_after c.behaviour f ys)
+      (onward.frame_is design pairs env rounds ins sound are is node c is_c)
+      (onward.vectors_at design pairs env rounds ins sound are is node c is_c)
       ∙ sym (frame_after-append c.behaviour (initial c.behaviour) (take n xs) (drop n xs))
-      ∙ ap (frame_after c.behaviour (initial c.behaviour)) (take-append-drop n xs ∙ sym (take_all (suc rounds * c.rate) xs (omega (arith, size))))
+      ∙ ap (frame_after c.behaviour (initial c.behaviour))
+      (take-append-drop n xs ∙ sym (take_all (suc rounds * c.rate) xs (omega (arith, size))))
 
   last_part : (node : ℕ) (c : Component) → slice_get design.components node ≡ Some c
-      → part_after design (onward.before design pairs env rounds ins sound are is) (onward.vectors design pairs env rounds ins sound are is) node c ≡ fused_part design ins rounds node c
+      → part_after design (onward.before design pairs env rounds ins sound are is)
+      (onward.vectors design pairs env rounds ins sound are is) node c ≡ fused_part design ins rounds node c
   last_part node c is_c =
       ap₂ (λ (frame : Frame) (outs : List (List PortValue)). let p : Part = record { frame = frame; outs = outs } in p)
       (frame_is node c is_c)
       (map-same
-      (λ (tap : Tap). tuple_from design (onward.before design pairs env rounds ins sound are is) (onward.vectors design pairs env rounds ins sound are is) node tap.out_port)
+      (λ (tap : Tap). tuple_from design (onward.before design pairs env rounds ins sound are is)
+      (onward.vectors design pairs env rounds ins sound are is) node tap.out_port)
       (λ (tap : Tap). round_tuple design ins node tap.out_port rounds)
       (λ tap. sym (onward.same_tuple design pairs env rounds ins sound are is node tap.out_port)) (taps_of design node))
 
-  pub last_parts : parts_after design (onward.before design pairs env rounds ins sound are is) (onward.vectors design pairs env rounds ins sound are is) ≡ fused_parts design ins rounds
+  pub last_parts : parts_after design (onward.before design pairs env rounds ins sound are is)
+      (onward.vectors design pairs env rounds ins sound are is) ≡ fused_parts design ins rounds
   last_parts =
-      table_same (part_after design (onward.before design pairs env rounds ins sound are is) (onward.vectors design pairs env rounds ins sound are is)) (fused_part design ins rounds) design.components last_part
+      table_same (part_after design (onward.before design pairs env rounds ins sound are is)
+      (onward.vectors design pairs env rounds ins sound are is)) (fused_part design ins rounds)
+      design.components last_part
 
   -- ---- in earlier rounds the solution for these leaves the same
   module _ (round : ℕ) (below : round < rounds) where
-    earlier_part : (node : ℕ) (c : Component) → slice_get design.components node ≡ Some c → fused_part design first round node c ≡ fused_part design ins round node c
+    earlier_part : (node : ℕ) (c : Component) → slice_get design.components node ≡ Some c
+        → fused_part design first round node c ≡ fused_part design ins round node c
     earlier_part node c is_c =
         let xs = inputs_to ins node in
-        let less : suc round * c.rate ≤ rounds * c.rate = mul-le (suc round) c.rate rounds c.rate (omega (arith, below)) (omega arith) in
-        ap₂ (λ (frame : Frame) (outs : List (List PortValue)). let p : Part = record { frame = frame; outs = outs } in p)
-        (ap (λ ys. frame_after c.behaviour (initial c.behaviour) (take (suc round * c.rate) ys)) (table_at (begun design pairs env rounds ins sound are is) 0 design.components node node c [] (omega arith) is_c)
+        let less : suc round * c.rate ≤ rounds * c.rate =
+        mul-le (suc round) c.rate rounds c.rate (omega (arith, below)) (omega arith) in
+        ap₂ (λ (frame : Frame) (outs : List (List PortValue)). let p : Part =
+        record { frame = frame; outs = outs } in p)
+        (ap (λ ys. frame_after c.behaviour (initial c.behaviour) (take (suc round * c.rate) ys))
+        (table_at (begun design pairs env rounds ins sound are is) 0 design.components node node c []
+        (omega arith) is_c)
         ∙ ap (frame_after c.behaviour (initial c.behaviour)) (take-take (suc round * c.rate) (rounds * c.rate) xs less))
-        (map-same (λ (tap : Tap). round_tuple design first node tap.out_port round) (λ (tap : Tap). round_tuple design ins node tap.out_port round)
-        (λ tap. same_tuple design pairs sound are env (rounds * 128) first ins (agree design pairs env rounds ins sound are is) node tap.out_port round (omega (arith, below))) (taps_of design node))
+        (map-same (λ (tap : Tap). round_tuple design first node tap.out_port round)
+        (λ (tap : Tap). round_tuple design ins node tap.out_port round)
+        (λ tap. same_tuple design pairs sound are env (rounds * 128) first ins
+        (agree design pairs env rounds ins sound are is) node tap.out_port round (omega (arith, below)))
+        (taps_of design node))
 
     pub earlier_parts : fused_parts design first round ≡ fused_parts design ins round
-    earlier_parts = table_same (fused_part design first round) (fused_part design ins round) design.components earlier_part
+    earlier_parts =
+        table_same (fused_part design first round) (fused_part design ins round) design.components earlier_part

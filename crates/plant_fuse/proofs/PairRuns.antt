@@ -25,29 +25,38 @@ use Rattle.plant_fuse.specs.proof.Runs.{seat, IsGiven, HasWork, IsRun, StayBesid
 use Rattle.plant_fuse.proofs.Numbered.{counted_at}
 use Rattle.plant_fuse.proofs.TakenOut.{get_set_other}
 
-seat_is : (design : DesignParts) (parts : List Part) (node partner : ℕ) (side : PairedComponent) → IsGiven design parts node side.given → side.partner ≡ partner → seat_of side ≡ seat design node partner side.given.component.now
+seat_is : (design : DesignParts) (parts : List Part) (node partner : ℕ) (side : PairedComponent)
+    → IsGiven design parts node side.given → side.partner ≡ partner
+    → seat_of side ≡ seat design node partner side.given.component.now
 seat_is design parts node partner side is partner_is =
-    ap₂ (λ n ss. let s : Seat = record { partner = n; component = side.given.component.now; sources = ss } in s) partner_is is.sources_are
+    ap₂ (λ n ss. let s : Seat = record { partner = n; component = side.given.component.now; sources = ss } in s)
+    partner_is is.sources_are
 
-has_work : (design : DesignParts) (parts next : List Part) (stages : List Stage) (node : ℕ) (side : PairedComponent) (stage : Stage) (part : Part) → IsGiven design parts node side.given
-    → part.outs ≡ map (λ port. column port stage.rows) side.given.taps.now → slice_get next node ≡ Some part → slice_get stages node ≡ Some stage
+has_work : (design : DesignParts) (parts next : List Part) (stages : List Stage) (node : ℕ) (side : PairedComponent)
+    (stage : Stage) (part : Part) → IsGiven design parts node side.given
+    → part.outs ≡ map (λ port. column port stage.rows) side.given.taps.now → slice_get next node ≡ Some part
+    → slice_get stages node ≡ Some stage
     → HasWork design (frames_of parts) next stages node (side_work side stage part)
 has_work design parts next stages node side stage part is shows at_part at_stage = record {
   from_is = is.from_is;
   part_is =
       at_part
-      ∙ ap (λ (outs : List (List PortValue)). let p : Part = record { frame = part.frame; outs = outs } in Some p) (shows ∙ ap (map (λ port. column port stage.rows)) is.taps_are);
+      ∙ ap (λ (outs : List (List PortValue)). let p : Part = record { frame = part.frame; outs = outs } in Some p)
+      (shows ∙ ap (map (λ port. column port stage.rows)) is.taps_are);
   rows_are = slice_get-map (λ (s : Stage). s.rows) stages node ∙ ap (option_map (λ (s : Stage). s.rows)) at_stage;
 }
 
-pub pair_is_run : (round : RoundInputs) (parts next : List Part) (stages : List Stage) (pair : Pair) (plant controller : PairedComponent) (plant_stage controller_stage : Stage) (plant_part controller_part : Part)
-    → IsGiven round.design.now parts pair.plant.0 plant.given → IsGiven round.design.now parts pair.controller.0 controller.given
+pub pair_is_run : (round : RoundInputs) (parts next : List Part) (stages : List Stage) (pair : Pair)
+    (plant controller : PairedComponent) (plant_stage controller_stage : Stage) (plant_part controller_part : Part)
+    → IsGiven round.design.now parts pair.plant.0 plant.given
+    → IsGiven round.design.now parts pair.controller.0 controller.given
     → plant.partner ≡ pair.controller.0 → controller.partner ≡ pair.plant.0
     → slice_get next pair.plant.0 ≡ Some plant_part → slice_get next pair.controller.0 ≡ Some controller_part
     → slice_get stages pair.plant.0 ≡ Some plant_stage → slice_get stages pair.controller.0 ≡ Some controller_stage
     → AreSidesRun round plant controller plant_stage controller_stage plant_part controller_part
     → IsRun round (frames_of parts) next stages pair
-pair_is_run round parts next stages pair plant controller plant_stage controller_stage plant_part controller_part plant_is controller_is p_partner c_partner at_p at_c at_ps at_cs run =
+pair_is_run round parts next stages pair plant controller plant_stage controller_stage plant_part controller_part
+    plant_is controller_is p_partner c_partner at_p at_c at_ps at_cs run =
     let design = round.design.now in
     let p_work = side_work plant plant_stage plant_part in
     let c_work = side_work controller controller_stage controller_part in
@@ -58,17 +67,24 @@ pair_is_run round parts next stages pair plant controller plant_stage controller
       c_is = controller_is.component_is;
       p_work = p_work;
       c_work = c_work;
-      p_has = has_work design parts next stages pair.plant.0 plant plant_stage plant_part plant_is run.plant_shows at_p at_ps;
-      c_has = has_work design parts next stages pair.controller.0 controller controller_stage controller_part controller_is run.controller_shows at_c at_cs;
+      p_has =
+          has_work design parts next stages pair.plant.0 plant plant_stage plant_part plant_is
+          run.plant_shows at_p at_ps;
+      c_has =
+          has_work design parts next stages pair.controller.0 controller controller_stage controller_part controller_is
+          run.controller_shows at_c at_cs;
       made =
-          subst (λ (s : Seat). AreMade round s (seat design pair.controller.0 pair.plant.0 controller.given.component.now) plant.given.component.now.rate p_work c_work)
+          subst (λ (s : Seat). AreMade round s
+          (seat design pair.controller.0 pair.plant.0 controller.given.component.now) plant.given.component.now.rate
+          p_work c_work)
           (seat_is design parts pair.plant.0 pair.controller.0 plant plant_is p_partner)
           (subst (λ (s : Seat). AreMade round (seat_of plant) s plant.given.component.now.rate p_work c_work)
           (seat_is design parts pair.controller.0 pair.plant.0 controller controller_is c_partner) run.made);
     }
 
 -- ---- what stays
-pub work_stays : (design : DesignParts) (frames : List Frame) (parts parts' : List Part) (stages stages' : List Stage) (a b node : ℕ) (w : Work) → StayBeside a b parts parts' stages stages' → node ≢ a → node ≢ b
+pub work_stays : (design : DesignParts) (frames : List Frame) (parts parts' : List Part) (stages stages' : List Stage)
+    (a b node : ℕ) (w : Work) → StayBeside a b parts parts' stages stages' → node ≢ a → node ≢ b
     → HasWork design frames parts stages node w → HasWork design frames parts' stages' node w
 work_stays design frames parts parts' stages stages' a b node w stay not_a not_b has = record {
   from_is = has.from_is;
@@ -76,7 +92,8 @@ work_stays design frames parts parts' stages stages' a b node w stay not_a not_b
   rows_are = stay.rows_stay node not_a not_b ∙ has.rows_are;
 }
 
-pub run_stays : (round : RoundInputs) (frames : List Frame) (parts parts' : List Part) (stages stages' : List Stage) (a b : ℕ) (pair : Pair) → StayBeside a b parts parts' stages stages'
+pub run_stays : (round : RoundInputs) (frames : List Frame) (parts parts' : List Part) (stages stages' : List Stage)
+    (a b : ℕ) (pair : Pair) → StayBeside a b parts parts' stages stages'
     → pair.plant.0 ≢ a → pair.plant.0 ≢ b → pair.controller.0 ≢ a → pair.controller.0 ≢ b
     → IsRun round frames parts stages pair → IsRun round frames parts' stages' pair
 run_stays round frames parts parts' stages stages' a b pair stay p_a p_b c_a c_b run = record {
@@ -86,12 +103,16 @@ run_stays round frames parts parts' stages stages' a b pair stay p_a p_b c_a c_b
   c_is = run.c_is;
   p_work = run.p_work;
   c_work = run.c_work;
-  p_has = work_stays round.design.now frames parts parts' stages stages' a b pair.plant.0 run.p_work stay p_a p_b run.p_has;
-  c_has = work_stays round.design.now frames parts parts' stages stages' a b pair.controller.0 run.c_work stay c_a c_b run.c_has;
+  p_has =
+      work_stays round.design.now frames parts parts' stages stages' a b pair.plant.0 run.p_work stay p_a p_b run.p_has;
+  c_has =
+      work_stays round.design.now frames parts parts' stages stages' a b pair.controller.0 run.c_work stay c_a
+      c_b run.c_has;
   made = run.made;
 }
 
-pub stepped_stays : (round : RoundInputs) (frames : List Frame) (parts parts' : List Part) (stages stages' : List Stage) (a b node : ℕ) (c : Component) → StayBeside a b parts parts' stages stages' → node ≢ a → node ≢ b
+pub stepped_stays : (round : RoundInputs) (frames : List Frame) (parts parts' : List Part) (stages stages' : List Stage)
+    (a b node : ℕ) (c : Component) → StayBeside a b parts parts' stages stages' → node ≢ a → node ≢ b
     → IsStepped round frames parts stages node c → IsStepped round frames parts' stages' node c
 stepped_stays round frames parts parts' stages stages' a b node c stay not_a not_b stepped = record {
   part = stay.parts_stay node not_a not_b ∙ stepped.part;
@@ -99,16 +120,20 @@ stepped_stays round frames parts parts' stages stages' a b node c stay not_a not
 }
 
 -- ---- a component by itself
-pub alone_is_run : (round : RoundInputs) (parts next : List Part) (stages : List Stage) (node : ℕ) (given : StepContext) (part : Part) (stage : Stage) → IsGiven round.design.now parts node given
+pub alone_is_run : (round : RoundInputs) (parts next : List Part) (stages : List Stage) (node : ℕ) (given : StepContext)
+    (part : Part) (stage : Stage) → IsGiven round.design.now parts node given
     → node < length next → node < length stages
-    → part.frame ≡ frame_after given.component.now.behaviour given.from.now (vectors round given.component.now given.sources.now)
-    → stage.rows ≡ outputs given.component.now.behaviour given.from.now (vectors round given.component.now given.sources.now)
+    → part.frame ≡ frame_after given.component.now.behaviour given.from.now
+    (vectors round given.component.now given.sources.now)
+    → stage.rows ≡ outputs given.component.now.behaviour given.from.now
+    (vectors round given.component.now given.sources.now)
     → part.outs ≡ map (λ port. column port stage.rows) given.taps.now
     → IsRunAlone round (frames_of parts) node next (set next node part) stages (set stages node stage)
 alone_is_run round parts next stages node given part stage is in_next in_stages frame_is rows_are outs_are =
     let c = given.component.now in
     let rows_is : stage.rows ≡ own_rows round (frames_of parts) node c =
-    rows_are ∙ ap₂ (λ (f : Frame) (ss : List PortSource). outputs c.behaviour f (vectors round c ss)) is.from_is is.sources_are in
+    rows_are ∙ ap₂ (λ (f : Frame) (ss : List PortSource). outputs c.behaviour f (vectors round c ss)) is.from_is
+    is.sources_are in
     record {
       component = c;
       component_is = is.component_is;
@@ -116,8 +141,10 @@ alone_is_run round parts next stages node given part stage is in_next in_stages 
         part =
             slice_get-set_same next node part in_next
             ∙ ap₂ (λ (f : Frame) (os : List (List PortValue)). let p : Part = record { frame = f; outs = os } in Some p)
-            (frame_is ∙ ap₂ (λ (f : Frame) (ss : List PortSource). frame_after c.behaviour f (vectors round c ss)) is.from_is is.sources_are)
-            (outs_are ∙ ap₂ (λ (rs : List (List PortValue)) (ts : List ℕ). map (λ port. column port rs) ts) rows_is is.taps_are);
+            (frame_is ∙ ap₂ (λ (f : Frame) (ss : List PortSource). frame_after c.behaviour f (vectors round c ss))
+            is.from_is is.sources_are)
+            (outs_are ∙ ap₂ (λ (rs : List (List PortValue)) (ts : List ℕ). map (λ port. column port rs) ts) rows_is
+            is.taps_are);
         rows =
             slice_get-map (λ (s : Stage). s.rows) (set stages node stage) node
             ∙ ap (option_map (λ (s : Stage). s.rows)) (slice_get-set_same stages node stage in_stages)
@@ -133,7 +160,9 @@ alone_is_run round parts next stages node given part stage is in_next in_stages 
     }
 
 -- ---- the partner of a component in the tables
-pub partner_entry : (design : DesignParts) (pairs : List Pair) (tables : Tables) (node : ℕ) (partner : Option NodeNo) → AreTables design pairs tables → node < length design.components
+pub partner_entry : (design : DesignParts) (pairs : List Pair) (tables : Tables) (node : ℕ) (partner : Option NodeNo)
+    → AreTables design pairs tables → node < length design.components
     → partner ≡ slice_index_or tables.partners node partner → partner ≡ partner_of pairs node
 partner_entry design pairs tables node partner are within is =
-    entry_at tables.partners (all_partners design pairs) node partner (partner_of pairs node) are.partners_are (counted_at (partner_of pairs) (length design.components) node within) is
+    entry_at tables.partners (all_partners design pairs) node partner (partner_of pairs node) are.partners_are
+    (counted_at (partner_of pairs) (length design.components) node within) is

@@ -13,21 +13,26 @@ use Rattle.plant_fuse.specs.proof.Partners.{partner_of, is_inside}
 use Rattle.plant_fuse.proofs.Inside.{goes_parts}
 
 -- ---- one that stands in no pair
-none_by : (pair : Pair) (rest : Option NodeNo) (a b : Bool) → (if a then Some pair.controller else if b then Some pair.plant else rest) ≡ None → (a ≡ false) × ((b ≡ false) × (rest ≡ None))
+none_by : (pair : Pair) (rest : Option NodeNo) (a b : Bool)
+    → (if a then Some pair.controller else if b then Some pair.plant else rest) ≡ None
+    → (a ≡ false) × ((b ≡ false) × (rest ≡ None))
 none_by pair rest true b is = absurd (cc)
 none_by pair rest false true is = absurd (cc)
 none_by pair rest false false is = (refl, (refl, is))
 
-pub none_apart : (pairs : List Pair) (node k : ℕ) (pair : Pair) → partner_of pairs node ≡ None → slice_get pairs k ≡ Some pair → (pair.plant.0 ≢ node) × (pair.controller.0 ≢ node)
+pub none_apart : (pairs : List Pair) (node k : ℕ) (pair : Pair) → partner_of pairs node ≡ None
+    → slice_get pairs k ≡ Some pair → (pair.plant.0 ≢ node) × (pair.controller.0 ≢ node)
 none_apart [] node k pair none is = absurd (cc)
 none_apart (first ∷ pairs) node zero pair none is =
-    let parts = none_by first (partner_of pairs node) (nat_eq first.plant.0 node) (nat_eq first.controller.0 node) none in
+    let parts =
+    none_by first (partner_of pairs node) (nat_eq first.plant.0 node) (nat_eq first.controller.0 node) none in
     let same : first ≡ pair = same_Some first pair is in (
       eqb-false pair.plant.0 node (sym (ap (λ (p : Pair). nat_eq p.plant.0 node) same) ∙ parts.0),
       eqb-false pair.controller.0 node (sym (ap (λ (p : Pair). nat_eq p.controller.0 node) same) ∙ parts.1.0),
     )
 none_apart (first ∷ pairs) node (suc k) pair none is =
-    let parts = none_by first (partner_of pairs node) (nat_eq first.plant.0 node) (nat_eq first.controller.0 node) none in
+    let parts =
+    none_by first (partner_of pairs node) (nat_eq first.plant.0 node) (nat_eq first.controller.0 node) none in
     none_apart pairs node k pair parts.1.1 is
 
 -- ---- one that stands in a pair
@@ -35,31 +40,52 @@ pub record StandsIn (pairs : List Pair) (node : ℕ) (partner : NodeNo) : Type 0
   pub k : ℕ
   pub pair : Pair
   pub is_at : slice_get pairs k ≡ Some pair
-  pub side : ((pair.plant.0 ≡ node) × (pair.controller ≡ partner)) ⊎ ((pair.controller.0 ≡ node) × (pair.plant ≡ partner))
+  pub side : ((pair.plant.0 ≡ node) × (pair.controller ≡ partner))
+      ⊎ ((pair.controller.0 ≡ node) × (pair.plant ≡ partner))
 
-later : (first : Pair) (pairs : List Pair) (node : ℕ) (partner : NodeNo) → StandsIn pairs node partner → StandsIn (first ∷ pairs) node partner
-later first pairs node partner stands = record { k = suc stands.k; pair = stands.pair; is_at = stands.is_at; side = stands.side }
+later : (first : Pair) (pairs : List Pair) (node : ℕ) (partner : NodeNo) → StandsIn pairs node partner
+    → StandsIn (first ∷ pairs) node partner
+later first pairs node partner stands =
+    record { k = suc stands.k; pair = stands.pair; is_at = stands.is_at; side = stands.side }
 
-some_by : (first : Pair) (pairs : List Pair) (node : ℕ) (partner : NodeNo) (a b : Bool) → nat_eq first.plant.0 node ≡ a → nat_eq first.controller.0 node ≡ b
+some_by : (first : Pair) (pairs : List Pair) (node : ℕ) (partner : NodeNo) (a b : Bool) → nat_eq first.plant.0 node ≡ a
+    → nat_eq first.controller.0 node ≡ b
     → (if a then Some first.controller else if b then Some first.plant else partner_of pairs node) ≡ Some partner
     → (partner_of pairs node ≡ Some partner → StandsIn pairs node partner) → StandsIn (first ∷ pairs) node partner
-some_by first pairs node partner true b plant controller is rest = record { k = 0; pair = first; is_at = refl; side = inl (eqb-true first.plant.0 node plant, same_Some first.controller partner is) }
-some_by first pairs node partner false true plant controller is rest = record { k = 0; pair = first; is_at = refl; side = inr (eqb-true first.controller.0 node controller, same_Some first.plant partner is) }
+some_by first pairs node partner true b plant controller is rest =
+    record {
+      k = 0;
+      pair = first;
+      is_at = refl;
+      side = inl (eqb-true first.plant.0 node plant, same_Some first.controller partner is);
+    }
+some_by first pairs node partner false true plant controller is rest =
+    record {
+      k = 0;
+      pair = first;
+      is_at = refl;
+      side = inr (eqb-true first.controller.0 node controller, same_Some first.plant partner is);
+    }
 some_by first pairs node partner false false plant controller is rest = later first pairs node partner (rest is)
 
-pub some_stands : (pairs : List Pair) (node : ℕ) (partner : NodeNo) → partner_of pairs node ≡ Some partner → StandsIn pairs node partner
+pub some_stands : (pairs : List Pair) (node : ℕ) (partner : NodeNo) → partner_of pairs node ≡ Some partner
+    → StandsIn pairs node partner
 some_stands [] node partner is = absurd (cc)
 some_stands (first ∷ pairs) node partner is =
-    some_by first pairs node partner (nat_eq first.plant.0 node) (nat_eq first.controller.0 node) refl refl is (some_stands pairs node partner)
+    some_by first pairs node partner (nat_eq first.plant.0 node) (nat_eq first.controller.0 node) refl refl is
+    (some_stands pairs node partner)
 
 -- ---- no two pairs share a component
 module _ (design : DesignParts) (pairs : List Pair) (are : ArePairs design pairs) where
   pub pair_at : (k : ℕ) (pair : Pair) → slice_get pairs k ≡ Some pair → IsPair design pair
-  pair_at k pair is = subst (IsPair design) (get_or_from_slice_get pairs k pair pair is) (are.each k pair (slice_get_within pairs k pair is))
+  pair_at k pair is =
+      subst (IsPair design) (get_or_from_slice_get pairs k pair pair is)
+      (are.each k pair (slice_get_within pairs k pair is))
 
   before_apart : (j k : ℕ) (a b : Pair) → j < k → slice_get pairs j ≡ Some a → slice_get pairs k ≡ Some b → AreApart a b
   before_apart j k a b less is_a is_b =
-      subst₂ AreApart (get_or_from_slice_get pairs j a a is_a) (get_or_from_slice_get pairs k b a is_b) (are.apart j k a less (slice_get_within pairs k b is_b))
+      subst₂ AreApart (get_or_from_slice_get pairs j a a is_a) (get_or_from_slice_get pairs k b a is_b)
+      (are.apart j k a less (slice_get_within pairs k b is_b))
 
   turned : (a b : Pair) → AreApart a b → AreApart b a
   turned a b apart = record {
@@ -69,7 +95,8 @@ module _ (design : DesignParts) (pairs : List Pair) (are : ArePairs design pairs
     second = λ same. apart.first (sym same);
   }
 
-  pub others_apart : (j k : ℕ) (a b : Pair) → j ≢ k → slice_get pairs j ≡ Some a → slice_get pairs k ≡ Some b → AreApart a b
+  pub others_apart : (j k : ℕ) (a b : Pair) → j ≢ k → slice_get pairs j ≡ Some a → slice_get pairs k ≡ Some b
+      → AreApart a b
   others_apart j k a b other is_a is_b =
       elim (cases_order j k) [
         | inl same ↦ absurd (other same)
@@ -80,7 +107,8 @@ module _ (design : DesignParts) (pairs : List Pair) (are : ArePairs design pairs
       ]
 
   -- either one pair or two that are apart
-  one_or_apart : (j k : ℕ) (a b : Pair) → slice_get pairs j ≡ Some a → slice_get pairs k ≡ Some b → (a ≡ b) ⊎ AreApart a b
+  one_or_apart : (j k : ℕ) (a b : Pair) → slice_get pairs j ≡ Some a → slice_get pairs k ≡ Some b
+      → (a ≡ b) ⊎ AreApart a b
   one_or_apart j k a b is_a is_b =
       elim (cases_order j k) [
         | inl same ↦ inl (same_Some a b (sym is_a ∙ ap (slice_get pairs) same ∙ is_b))
@@ -91,7 +119,8 @@ module _ (design : DesignParts) (pairs : List Pair) (are : ArePairs design pairs
       ]
 
   -- a plant controls nothing
-  no_controller : (j k : ℕ) (a b : Pair) → slice_get pairs j ≡ Some a → slice_get pairs k ≡ Some b → a.controller.0 ≢ b.plant.0
+  no_controller : (j k : ℕ) (a b : Pair) → slice_get pairs j ≡ Some a → slice_get pairs k ≡ Some b
+      → a.controller.0 ≢ b.plant.0
   no_controller j k a b is_a is_b same =
       elim (one_or_apart j k a b is_a is_b) [
         | inl one ↦ (pair_at k b is_b).two (sym same ∙ ap (λ (p : Pair). p.controller.0) one)
@@ -99,10 +128,12 @@ module _ (design : DesignParts) (pairs : List Pair) (are : ArePairs design pairs
       ]
 
   -- ---- partners
-  pub plant_partner : (k : ℕ) (pair : Pair) → slice_get pairs k ≡ Some pair → partner_of pairs pair.plant.0 ≡ Some pair.controller
+  pub plant_partner : (k : ℕ) (pair : Pair) → slice_get pairs k ≡ Some pair
+      → partner_of pairs pair.plant.0 ≡ Some pair.controller
   plant_partner k pair is = by (partner_of pairs pair.plant.0) refl
     where
-      by : (o : Option NodeNo) → partner_of pairs pair.plant.0 ≡ o → partner_of pairs pair.plant.0 ≡ Some pair.controller
+      by : (o : Option NodeNo) → partner_of pairs pair.plant.0 ≡ o
+          → partner_of pairs pair.plant.0 ≡ Some pair.controller
       by None none = absurd ((none_apart pairs pair.plant.0 k pair none is).0 refl)
       by (Some partner) some =
           let stands = some_stands pairs pair.plant.0 partner some in
@@ -115,10 +146,12 @@ module _ (design : DesignParts) (pairs : List Pair) (are : ArePairs design pairs
             | inr controller ↦ absurd (no_controller stands.k k stands.pair pair stands.is_at is controller.0)
           ]
 
-  pub controller_partner : (k : ℕ) (pair : Pair) → slice_get pairs k ≡ Some pair → partner_of pairs pair.controller.0 ≡ Some pair.plant
+  pub controller_partner : (k : ℕ) (pair : Pair) → slice_get pairs k ≡ Some pair
+      → partner_of pairs pair.controller.0 ≡ Some pair.plant
   controller_partner k pair is = by (partner_of pairs pair.controller.0) refl
     where
-      by : (o : Option NodeNo) → partner_of pairs pair.controller.0 ≡ o → partner_of pairs pair.controller.0 ≡ Some pair.plant
+      by : (o : Option NodeNo) → partner_of pairs pair.controller.0 ≡ o
+          → partner_of pairs pair.controller.0 ≡ Some pair.plant
       by None none = absurd ((none_apart pairs pair.controller.0 k pair none is).1 refl)
       by (Some partner) some =
           let stands = some_stands pairs pair.controller.0 partner some in
@@ -138,7 +171,9 @@ module _ (design : DesignParts) (pairs : List Pair) (are : ArePairs design pairs
   and_both false b first second = first
 
   goes_by : (a b : ℕ) (link : Link) → link.source.0 ≡ a → link.target.0 ≡ b → goes a b link ≡ true
-  goes_by a b link source target = and_both (nat_eq link.source.0 a) (nat_eq link.target.0 b) (eq-eqb link.source.0 a source) (eq-eqb link.target.0 b target)
+  goes_by a b link source target =
+      and_both (nat_eq link.source.0 a) (nat_eq link.target.0 b) (eq-eqb link.source.0 a source)
+      (eq-eqb link.target.0 b target)
 
   pub record GoesBetween (link : Link) (from to : Pair → ℕ) : Type 0 where
     pub k : ℕ
@@ -147,33 +182,49 @@ module _ (design : DesignParts) (pairs : List Pair) (are : ArePairs design pairs
     pub source : link.source.0 ≡ from pair
     pub target : link.target.0 ≡ to pair
 
-  found : (link : Link) (from to : Pair → ℕ) → ((p : Pair) → goes (from p) (to p) link ≡ true → (link.source.0 ≡ from p) × (link.target.0 ≡ to p))
-      → (k : ℕ) (pair : Pair) → k < length pairs → slice_index_or pairs k pair ≡ pair → goes (from pair) (to pair) link ≡ true → GoesBetween link from to
+  found : (link : Link) (from to : Pair → ℕ)
+      → ((p : Pair) → goes (from p) (to p) link ≡ true → (link.source.0 ≡ from p) × (link.target.0 ≡ to p))
+      → (k : ℕ) (pair : Pair) → k < length pairs → slice_index_or pairs k pair ≡ pair
+      → goes (from pair) (to pair) link ≡ true → GoesBetween link from to
   found link from to ends k pair within is goes_there =
       let both = ends pair goes_there in
-      record { k = k; pair = pair; is_at = slice_get-get_or pairs k pair within ∙ ap Some is; source = both.0; target = both.1 }
+      record {
+        k = k;
+        pair = pair;
+        is_at = slice_get-get_or pairs k pair within ∙ ap Some is;
+        source = both.0;
+        target = both.1;
+      }
 
-  pub back_goes : (link : Link) → is_back pairs link ≡ true → GoesBetween link (λ (p : Pair). p.controller.0) (λ (p : Pair). p.plant.0)
+  pub back_goes : (link : Link) → is_back pairs link ≡ true
+      → GoesBetween link (λ (p : Pair). p.controller.0) (λ (p : Pair). p.plant.0)
   back_goes link is =
       let any = Any-from_list_any (λ (pair : Pair). goes pair.controller.0 pair.plant.0 link) pairs is in
-      found link (λ (p : Pair). p.controller.0) (λ (p : Pair). p.plant.0) (λ p. goes_parts p.controller.0 p.plant.0 link) any.0 any.1 any.2 any.3 any.4
+      found link (λ (p : Pair). p.controller.0) (λ (p : Pair). p.plant.0)
+      (λ p. goes_parts p.controller.0 p.plant.0 link) any.0 any.1 any.2 any.3 any.4
 
-  pub forth_goes : (link : Link) → is_forth pairs link ≡ true → GoesBetween link (λ (p : Pair). p.plant.0) (λ (p : Pair). p.controller.0)
+  pub forth_goes : (link : Link) → is_forth pairs link ≡ true
+      → GoesBetween link (λ (p : Pair). p.plant.0) (λ (p : Pair). p.controller.0)
   forth_goes link is =
       let any = Any-from_list_any (λ (pair : Pair). goes pair.plant.0 pair.controller.0 link) pairs is in
-      found link (λ (p : Pair). p.plant.0) (λ (p : Pair). p.controller.0) (λ p. goes_parts p.plant.0 p.controller.0 link) any.0 any.1 any.2 any.3 any.4
+      found link (λ (p : Pair). p.plant.0) (λ (p : Pair). p.controller.0)
+      (λ p. goes_parts p.plant.0 p.controller.0 link) any.0 any.1 any.2 any.3 any.4
 
-  back_by : (link : Link) (k : ℕ) (pair : Pair) → slice_get pairs k ≡ Some pair → link.source.0 ≡ pair.controller.0 → link.target.0 ≡ pair.plant.0 → is_back pairs link ≡ true
+  back_by : (link : Link) (k : ℕ) (pair : Pair) → slice_get pairs k ≡ Some pair → link.source.0 ≡ pair.controller.0
+      → link.target.0 ≡ pair.plant.0 → is_back pairs link ≡ true
   back_by link k pair is source target =
       let at = get_or_from_slice_get pairs k pair pair is in
       list_any_at (λ (p : Pair). goes p.controller.0 p.plant.0 link) pairs k pair (slice_get_within pairs k pair is)
-      (ap (λ (p : Pair). goes p.controller.0 p.plant.0 link) at ∙ goes_by pair.controller.0 pair.plant.0 link source target)
+      (ap (λ (p : Pair). goes p.controller.0 p.plant.0 link) at
+      ∙ goes_by pair.controller.0 pair.plant.0 link source target)
 
-  forth_by : (link : Link) (k : ℕ) (pair : Pair) → slice_get pairs k ≡ Some pair → link.source.0 ≡ pair.plant.0 → link.target.0 ≡ pair.controller.0 → is_forth pairs link ≡ true
+  forth_by : (link : Link) (k : ℕ) (pair : Pair) → slice_get pairs k ≡ Some pair → link.source.0 ≡ pair.plant.0
+      → link.target.0 ≡ pair.controller.0 → is_forth pairs link ≡ true
   forth_by link k pair is source target =
       let at = get_or_from_slice_get pairs k pair pair is in
       list_any_at (λ (p : Pair). goes p.plant.0 p.controller.0 link) pairs k pair (slice_get_within pairs k pair is)
-      (ap (λ (p : Pair). goes p.plant.0 p.controller.0 link) at ∙ goes_by pair.plant.0 pair.controller.0 link source target)
+      (ap (λ (p : Pair). goes p.plant.0 p.controller.0 link) at
+      ∙ goes_by pair.plant.0 pair.controller.0 link source target)
 
   not_true : (b : Bool) → (b ≡ true → ⊥) → b ≡ false
   not_true true never = absurd (never refl)
@@ -194,7 +245,8 @@ module _ (design : DesignParts) (pairs : List Pair) (are : ArePairs design pairs
           | inr other ↦ not_true (is_back pairs link)
               (λ back. (let goes_there = back_goes link back in
               elim (one_or_apart goes_there.k k goes_there.pair pair goes_there.is_at is) [
-                | inl one ↦ eqb-false link.source.0 pair.controller.0 other (goes_there.source ∙ ap (λ (p : Pair). p.controller.0) one)
+                | inl one ↦ eqb-false link.source.0 pair.controller.0 other
+                    (goes_there.source ∙ ap (λ (p : Pair). p.controller.0) one)
                 | inr apart ↦ apart.plants (sym goes_there.target ∙ target)
               ]))
               ∙ sym other
@@ -207,56 +259,72 @@ module _ (design : DesignParts) (pairs : List Pair) (are : ArePairs design pairs
         (λ back. (let goes_there = back_goes link back in
         no_controller k goes_there.k pair goes_there.pair is goes_there.is_at (sym target ∙ goes_there.target)))
 
-    pub to_controller_forth : link.target.0 ≡ pair.controller.0 → is_forth pairs link ≡ nat_eq link.source.0 pair.plant.0
+    pub to_controller_forth : link.target.0 ≡ pair.controller.0
+        → is_forth pairs link ≡ nat_eq link.source.0 pair.plant.0
     to_controller_forth target =
         elim (cases_Bool (nat_eq link.source.0 pair.plant.0)) [
           | inl same ↦ forth_by link k pair is (eqb-true link.source.0 pair.plant.0 same) target ∙ sym same
           | inr other ↦ not_true (is_forth pairs link)
               (λ forth. (let goes_there = forth_goes link forth in
               elim (one_or_apart goes_there.k k goes_there.pair pair goes_there.is_at is) [
-                | inl one ↦ eqb-false link.source.0 pair.plant.0 other (goes_there.source ∙ ap (λ (p : Pair). p.plant.0) one)
+                | inl one ↦ eqb-false link.source.0 pair.plant.0 other
+                    (goes_there.source ∙ ap (λ (p : Pair). p.plant.0) one)
                 | inr apart ↦ apart.controllers (sym goes_there.target ∙ target)
               ]))
               ∙ sym other
         ]
 
   -- a link to one that stands in no pair is outside all
-  pub to_alone_back : (node : ℕ) (link : Link) → partner_of pairs node ≡ None → link.target.0 ≡ node → is_back pairs link ≡ false
+  pub to_alone_back : (node : ℕ) (link : Link) → partner_of pairs node ≡ None → link.target.0 ≡ node
+      → is_back pairs link ≡ false
   to_alone_back node link none target =
       not_true (is_back pairs link)
-      (λ back. (let goes_there = back_goes link back in (none_apart pairs node goes_there.k goes_there.pair none goes_there.is_at).0 (sym goes_there.target ∙ target)))
+      (λ back. (let goes_there = back_goes link back in
+      (none_apart pairs node goes_there.k goes_there.pair none goes_there.is_at).0
+      (sym goes_there.target ∙ target)))
 
-  pub to_alone_forth : (node : ℕ) (link : Link) → partner_of pairs node ≡ None → link.target.0 ≡ node → is_forth pairs link ≡ false
+  pub to_alone_forth : (node : ℕ) (link : Link) → partner_of pairs node ≡ None → link.target.0 ≡ node
+      → is_forth pairs link ≡ false
   to_alone_forth node link none target =
       not_true (is_forth pairs link)
-      (λ forth. (let goes_there = forth_goes link forth in (none_apart pairs node goes_there.k goes_there.pair none goes_there.is_at).1 (sym goes_there.target ∙ target)))
+      (λ forth. (let goes_there = forth_goes link forth in
+      (none_apart pairs node goes_there.k goes_there.pair none goes_there.is_at).1
+      (sym goes_there.target ∙ target)))
 
   -- ---- a link goes to the partner of its source exactly where it is inside a pair
-  inside_by : (link : Link) (o : Option NodeNo) → partner_of pairs link.source.0 ≡ o → is_inside o link ≡ true → (is_back pairs link ≡ true) ⊎ (is_forth pairs link ≡ true)
+  inside_by : (link : Link) (o : Option NodeNo) → partner_of pairs link.source.0 ≡ o → is_inside o link ≡ true
+      → (is_back pairs link ≡ true) ⊎ (is_forth pairs link ≡ true)
   inside_by link None at is = absurd (cc)
   inside_by link (Some partner) at is =
       let stands = some_stands pairs link.source.0 partner at in
       let target = eqb-true partner.0 link.target.0 is in
       elim stands.side [
-        | inl plant ↦ inr (forth_by link stands.k stands.pair stands.is_at (sym plant.0) (sym target ∙ sym (ap (λ (n : NodeNo). n.0) plant.1)))
-        | inr controller ↦ inl (back_by link stands.k stands.pair stands.is_at (sym controller.0) (sym target ∙ sym (ap (λ (n : NodeNo). n.0) controller.1)))
+        | inl plant ↦ inr (forth_by link stands.k stands.pair stands.is_at (sym plant.0)
+            (sym target ∙ sym (ap (λ (n : NodeNo). n.0) plant.1)))
+        | inr controller ↦ inl (back_by link stands.k stands.pair stands.is_at (sym controller.0)
+            (sym target ∙ sym (ap (λ (n : NodeNo). n.0) controller.1)))
       ]
 
-  pub inside_goes : (link : Link) → is_inside (partner_of pairs link.source.0) link ≡ true → (is_back pairs link ≡ true) ⊎ (is_forth pairs link ≡ true)
+  pub inside_goes : (link : Link) → is_inside (partner_of pairs link.source.0) link ≡ true
+      → (is_back pairs link ≡ true) ⊎ (is_forth pairs link ≡ true)
   inside_goes link is = inside_by link (partner_of pairs link.source.0) refl is
 
-  pub outside_back : (link : Link) → is_inside (partner_of pairs link.source.0) link ≡ false → is_back pairs link ≡ false
+  pub outside_back : (link : Link) → is_inside (partner_of pairs link.source.0) link ≡ false
+      → is_back pairs link ≡ false
   outside_back link is =
       not_true (is_back pairs link)
       (λ back. (let goes_there = back_goes link back in
       let pair = goes_there.pair in
       let at = ap (partner_of pairs) goes_there.source ∙ controller_partner goes_there.k pair goes_there.is_at in
-      true≢false (sym (ap (λ o. is_inside o link) at ∙ eq-eqb pair.plant.0 link.target.0 (sym goes_there.target)) ∙ is)))
+      true≢false (sym (ap (λ o. is_inside o link) at
+      ∙ eq-eqb pair.plant.0 link.target.0 (sym goes_there.target)) ∙ is)))
 
-  pub outside_forth : (link : Link) → is_inside (partner_of pairs link.source.0) link ≡ false → is_forth pairs link ≡ false
+  pub outside_forth : (link : Link) → is_inside (partner_of pairs link.source.0) link ≡ false
+      → is_forth pairs link ≡ false
   outside_forth link is =
       not_true (is_forth pairs link)
       (λ forth. (let goes_there = forth_goes link forth in
       let pair = goes_there.pair in
       let at = ap (partner_of pairs) goes_there.source ∙ plant_partner goes_there.k pair goes_there.is_at in
-      true≢false (sym (ap (λ o. is_inside o link) at ∙ eq-eqb pair.controller.0 link.target.0 (sym goes_there.target)) ∙ is)))
+      true≢false (sym (ap (λ o. is_inside o link) at
+      ∙ eq-eqb pair.controller.0 link.target.0 (sym goes_there.target)) ∙ is)))

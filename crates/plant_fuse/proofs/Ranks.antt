@@ -41,7 +41,8 @@ later_round q m p n k less first second few =
       | inl same ↦ (let product : q * k ≡ p * k = ap (λ r. r * k) same in omega (arith, product, same, less))
       | inr other ↦ elim other [
         | inl before ↦ omega (arith, before, first, few)
-        | inr after ↦ (let product : (p + 1) * k ≤ q * k = mul-le (p + 1) k q k (omega arith) (omega arith) in absurd (omega (arith, product, less, second)))
+        | inr after ↦ (let product : (p + 1) * k ≤ q * k = mul-le (p + 1) k q k (omega arith) (omega arith) in
+            absurd (omega (arith, product, less, second)))
       ]
     ]
 
@@ -50,7 +51,8 @@ order_less k s t small less =
     let some = small.some in
     let first = div-add-mod' s k in
     let second = div-add-mod' t k in
-    later_round (s / k) (s % k) (t / k) (t % k) k (omega (arith, first, second, less)) (mod_below s k (omega arith)) (mod_below t k (omega arith)) small.few
+    later_round (s / k) (s % k) (t / k) (t % k) k (omega (arith, first, second, less)) (mod_below s k (omega arith))
+    (mod_below t k (omega arith)) small.few
 
 pub order_in_round : (k round i : ℕ) → IsSmall k → i < k → order_at k (round * k + i) + 2 ≤ (round + 1) * 128
 order_in_round k round i small below =
@@ -74,7 +76,8 @@ small_rate design node sound =
 -- ---- ranks
 module _ (design : DesignParts) (pairs : List Pair) (sound : IsDesign design) where
   pub rank_less : (node s t : ℕ) → s < t → rank design pairs node s < rank design pairs node t
-  rank_less node s t less = let order = order_less (rate_of design node) s t (small_rate design node sound) less in omega (arith, order)
+  rank_less node s t less = let order = order_less (rate_of design node) s t (small_rate design node sound) less in
+      omega (arith, order)
 
   pub rank_upto : (node s t : ℕ) → s ≤ t → rank design pairs node s ≤ rank design pairs node t
   rank_upto node s t below =
@@ -87,24 +90,29 @@ module _ (design : DesignParts) (pairs : List Pair) (sound : IsDesign design) wh
       ]
 
   -- an earlier step of another component of the same rate
-  pub rank_before : (source node s t : ℕ) → rate_of design source ≡ rate_of design node → s < t → rank design pairs source s < rank design pairs node t
+  pub rank_before : (source node s t : ℕ) → rate_of design source ≡ rate_of design node → s < t
+      → rank design pairs source s < rank design pairs node t
   rank_before source node s t rates less =
       let order = order_less (rate_of design node) s t (small_rate design node sound) less in
-      let equal : order_at (rate_of design source) s ≡ order_at (rate_of design node) s = ap (λ k. order_at k s) rates in
+      let equal : order_at (rate_of design source) s ≡ order_at (rate_of design node) s =
+      ap (λ k. order_at k s) rates in
       let more = bump_le (is_controller pairs source) in
       omega (arith, order, equal, more)
 
   -- the step of a plant before that of its controller
-  pub rank_beside : (source node step : ℕ) → rate_of design source ≡ rate_of design node → is_controller pairs source ≡ false → is_controller pairs node ≡ true
+  pub rank_beside : (source node step : ℕ) → rate_of design source ≡ rate_of design node
+      → is_controller pairs source ≡ false → is_controller pairs node ≡ true
       → rank design pairs source step < rank design pairs node step
   rank_beside source node step rates not_one one =
-      let equal : order_at (rate_of design source) step ≡ order_at (rate_of design node) step = ap (λ k. order_at k step) rates in
+      let equal : order_at (rate_of design source) step ≡ order_at (rate_of design node) step =
+      ap (λ k. order_at k step) rates in
       let low : bump (is_controller pairs source) ≡ 0 = ap bump not_one in
       let high : bump (is_controller pairs node) ≡ 1 = ap bump one in
       omega (arith, equal, low, high)
 
   -- the steps of a round
-  pub rank_in_round : (node round i : ℕ) → i < rate_of design node → rank design pairs node (round * rate_of design node + i) < (round + 1) * 128
+  pub rank_in_round : (node round i : ℕ) → i < rate_of design node
+      → rank design pairs node (round * rate_of design node + i) < (round + 1) * 128
   rank_in_round node round i below =
       let order = order_in_round (rate_of design node) round i (small_rate design node sound) below in
       let more = bump_le (is_controller pairs node) in
@@ -114,7 +122,8 @@ module _ (design : DesignParts) (pairs : List Pair) (sound : IsDesign design) wh
   rank_from_round node step = omega arith
 
   -- each step of the first rounds
-  pub rank_of_rounds : (node rounds step : ℕ) → step < rounds * rate_of design node → rank design pairs node step < rounds * 128
+  pub rank_of_rounds : (node rounds step : ℕ) → step < rounds * rate_of design node
+      → rank design pairs node step < rounds * 128
   rank_of_rounds node rounds step below =
       let small = small_rate design node sound in
       let some = small.some in
@@ -124,17 +133,21 @@ module _ (design : DesignParts) (pairs : List Pair) (sound : IsDesign design) wh
       let more = bump_le (is_controller pairs node) in
       elim (cases_lt (step / rate_of design node) rounds) [
         | inl within ↦ omega (arith, within, less, few, more)
-        | inr past ↦ (let product : rounds * rate_of design node ≤ step / rate_of design node * rate_of design node = mul-le rounds (rate_of design node) (step / rate_of design node) (rate_of design node) past (omega arith) in
+        | inr past ↦ (let product : rounds * rate_of design node ≤ step / rate_of design node * rate_of design node =
+            mul-le rounds (rate_of design node) (step / rate_of design node) (rate_of design node) past (omega arith) in
             absurd (omega (arith, product, whole, below)))
       ]
 
   -- and no other
-  pub rounds_of_rank : (node rounds step : ℕ) → rank design pairs node step < rounds * 128 → step < rounds * rate_of design node
+  pub rounds_of_rank : (node rounds step : ℕ) → rank design pairs node step < rounds * 128
+      → step < rounds * rate_of design node
   rounds_of_rank node rounds step low =
       let small = small_rate design node sound in
       let some = small.some in
       let whole = div-add-mod' step (rate_of design node) in
       let less = mod_below step (rate_of design node) (omega arith) in
       let within : step / rate_of design node < rounds = omega (arith, low) in
-      let product : (step / rate_of design node + 1) * rate_of design node ≤ rounds * rate_of design node = mul-le (step / rate_of design node + 1) (rate_of design node) rounds (rate_of design node) (omega (arith, within)) (omega arith) in
+      let product : (step / rate_of design node + 1) * rate_of design node ≤ rounds * rate_of design node =
+      mul-le (step / rate_of design node + 1) (rate_of design node) rounds (rate_of design node)
+      (omega (arith, within)) (omega arith) in
       omega (arith, whole, less, product)

@@ -18,20 +18,25 @@ use Rattle.plant_fuse.proofs.Solutions.{solution_exists, solution_is_one}
 use Rattle.plant_fuse.proofs.Prefixes.{solution_goes_on}
 use Rattle.plant_fuse.proofs.Leaving.{earlier_parts}
 
-pub rows_same : {X : Type 0} (f g : ℕ → List X) (from n : ℕ) → ((k : ℕ) → from ≤ k → k < from + n → f k ≡ g k) → flat_map f (upwards from n) ≡ flat_map g (upwards from n)
+pub rows_same : {X : Type 0} (f g : ℕ → List X) (from n : ℕ) → ((k : ℕ) → from ≤ k → k < from + n → f k ≡ g k)
+    → flat_map f (upwards from n) ≡ flat_map g (upwards from n)
 rows_same f g from zero same = refl
 rows_same f g from (suc n) same =
-    ap₂ (λ x xs. x ++ xs) (same from (omega arith) (omega arith)) (rows_same f g (suc from) n (λ k above below. same k (omega arith) (omega arith)))
+    ap₂ (λ x xs. x ++ xs) (same from (omega arith) (omega arith))
+    (rows_same f g (suc from) n (λ k above below. same k (omega arith) (omega arith)))
 
 -- one row more
-more : (f : ℕ → List (List ℕ)) (rounds : ℕ) → text_of (flat_map f (upwards 0 (suc rounds))) ≡ text_of (flat_map f (upwards 0 rounds)) ++ text_of (f rounds)
+more : (f : ℕ → List (List ℕ)) (rounds : ℕ)
+    → text_of (flat_map f (upwards 0 (suc rounds))) ≡ text_of (flat_map f (upwards 0 rounds)) ++ text_of (f rounds)
 more f rounds =
     ap (λ rs. text_of (flat_map f rs)) (upwards-more 0 rounds)
     ∙ ap text_of (flat_map-append f (upwards 0 rounds) ((0 + rounds) ∷ []))
     ∙ flat_map-append (λ line. line ++ line_end) (flat_map f (upwards 0 rounds)) (flat_map f ((0 + rounds) ∷ []))
-    ∙ ap (λ lines. text_of (flat_map f (upwards 0 rounds)) ++ text_of lines) (append-nil (f (0 + rounds)) ∙ ap f (zero-add rounds))
+    ∙ ap (λ lines. text_of (flat_map f (upwards 0 rounds)) ++ text_of lines)
+    (append-nil (f (0 + rounds)) ∙ ap f (zero-add rounds))
 
-module _ (design : DesignParts) (pairs : List Pair) (env : Env) (rounds : ℕ) (ins : Inputs) (sound : IsDesign design) (are : ArePairs design pairs) (solves : IsFused design pairs env (suc rounds) ins) where
+module _ (design : DesignParts) (pairs : List Pair) (env : Env) (rounds : ℕ) (ins : Inputs) (sound : IsDesign design)
+    (are : ArePairs design pairs) (solves : IsFused design pairs env (suc rounds) ins) where
   abbrev first : Inputs
   first = first_rounds design rounds ins
 
@@ -40,20 +45,29 @@ module _ (design : DesignParts) (pairs : List Pair) (env : Env) (rounds : ℕ) (
   earlier_rows =
       ap text_of
       (rows_same (fused_lines design first) (fused_lines design ins) 0 rounds
-      (λ round above below. ap (λ (parts : List Part). row_lines design (λ node. slice_get parts node) round) (earlier_parts design pairs env rounds ins sound are solves round (omega (arith, below)))))
+      (λ round above below. ap (λ (parts : List Part). row_lines design (λ node. slice_get parts node) round)
+      (earlier_parts design pairs env rounds ins sound are solves round (omega (arith, below)))))
 
-  pub report_goes_on : freport design ins (suc rounds) ≡ freport design first rounds ++ text_of (fused_lines design ins rounds)
-  report_goes_on = more (fused_lines design ins) rounds ∙ ap (λ t. t ++ text_of (fused_lines design ins rounds)) (sym earlier_rows)
+  pub report_goes_on : freport design ins (suc rounds)
+      ≡ freport design first rounds ++ text_of (fused_lines design ins rounds)
+  report_goes_on =
+      more (fused_lines design ins) rounds ∙ ap (λ t. t ++ text_of (fused_lines design ins rounds)) (sym earlier_rows)
 
 -- the report of one round more
-pub reported_more : (design : DesignParts) (pairs : List Pair) (env : Env) (rounds : ℕ) (before ins : Inputs) (text new : List ℕ) (parts : List Part) → IsDesign design → ArePairs design pairs
-    → IsFused design pairs env rounds before → IsFused design pairs env (suc rounds) ins → text ≡ freport design before rounds → parts ≡ fused_parts design ins rounds
-    → new ≡ text ++ text_of (row_lines design (λ node. slice_get parts node) rounds) → new ≡ freport design ins (suc rounds)
+pub reported_more : (design : DesignParts) (pairs : List Pair) (env : Env) (rounds : ℕ) (before ins : Inputs)
+    (text new : List ℕ) (parts : List Part) → IsDesign design → ArePairs design pairs
+    → IsFused design pairs env rounds before → IsFused design pairs env (suc rounds) ins
+    → text ≡ freport design before rounds → parts ≡ fused_parts design ins rounds
+    → new ≡ text ++ text_of (row_lines design (λ node. slice_get parts node) rounds)
+    → new ≡ freport design ins (suc rounds)
 reported_more design pairs env rounds before ins text new parts sound are solves_before solves says left added =
     let first = first_rounds design rounds ins in
-    let same : before ≡ first = solution_is_one design pairs env rounds before first sound are solves_before (solution_goes_on design pairs env rounds ins sound are solves) in
+    let same : before ≡ first =
+    solution_is_one design pairs env rounds before first sound are solves_before
+    (solution_goes_on design pairs env rounds ins sound are solves) in
     added
-    ∙ ap₂ (λ (t : List ℕ) (ps : List Part). t ++ text_of (row_lines design (λ node. slice_get ps node) rounds)) (says ∙ ap (λ (v : Inputs). freport design v rounds) same) left
+    ∙ ap₂ (λ (t : List ℕ) (ps : List Part). t ++ text_of (row_lines design (λ node. slice_get ps node) rounds))
+    (says ∙ ap (λ (v : Inputs). freport design v rounds) same) left
     ∙ sym (report_goes_on design pairs env rounds ins sound are solves)
 
 -- ---- there is one report
@@ -65,5 +79,6 @@ report_exists design pairs env rounds sound are =
 pub report_is_one : ReportIsOne
 report_is_one design pairs env rounds text other sound are is_text is_other =
     is_text.says
-    ∙ ap (λ (v : Inputs). freport design v rounds) (solution_is_one design pairs env rounds is_text.ins is_other.ins sound are is_text.solves is_other.solves)
+    ∙ ap (λ (v : Inputs). freport design v rounds)
+    (solution_is_one design pairs env rounds is_text.ins is_other.ins sound are is_text.solves is_other.solves)
     ∙ sym is_other.says

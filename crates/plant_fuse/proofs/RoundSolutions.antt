@@ -48,10 +48,19 @@ either_same t u false false (inl is) = absurd (cc)
 either_same t u false false (inr is) = absurd (cc)
 
 abbrev pub standing : DesignParts → List Pair → List Frame → List (List PortValue) → List Part → FuseState
-standing design pairs frames messages parts = record { design = design; pairs = pairs; configuration = record { frames = frames; messages = messages }; parts = parts }
+standing design pairs frames messages parts =
+    record {
+      design = design;
+      pairs = pairs;
+      configuration = record { frames = frames; messages = messages };
+      parts = parts;
+    }
 
-module _ (round : RoundInputs) (pairs : List Pair) (are : ArePairs round.design.now pairs) (frames : List Frame) (next : List Part) (stages : List Stage)
-    (run : AreRun round pairs frames next stages) (sound : IsDesign round.design.now) (fit : map stage_size stages ≡ stage_sizes round.design.now) (count : length next ≡ length round.design.now.components) where
+module _ (round : RoundInputs) (pairs : List Pair) (are : ArePairs round.design.now pairs) (frames : List Frame)
+    (next : List Part) (stages : List Stage)
+    (run : AreRun round pairs frames next stages) (sound : IsDesign round.design.now)
+    (fit : map stage_size stages ≡ stage_sizes round.design.now)
+    (count : length next ≡ length round.design.now.components) where
   abbrev design : DesignParts
   design = round.design.now
 
@@ -75,31 +84,40 @@ module _ (round : RoundInputs) (pairs : List Pair) (are : ArePairs round.design.
       ∙ ap length (inputs_at round pairs are frames next stages run node c is_c)
       ∙ length_map_upwards _ 0 c.rate
 
-  tuple_is : (node : ℕ) (c : Component) (port : ℕ) → slice_get design.components node ≡ Some c → tuple_from design at vs node port ≡ column port (rows node)
+  tuple_is : (node : ℕ) (c : Component) (port : ℕ) → slice_get design.components node ≡ Some c
+      → tuple_from design at vs node port ≡ column port (rows node)
   tuple_is node c port is_c =
       ap (λ n. map (left_in design at vs node port) (upwards 0 n)) (ap rate_in is_c ∙ sym (rows_size node c is_c))
-      ∙ by_place (λ (row : List PortValue). slice_index_or row port Absent) [] (rows node) (left_in design at vs node port) 0
+      ∙ by_place (λ (row : List PortValue). slice_index_or row port Absent) [] (rows node)
+      (left_in design at vs node port) 0
       (λ i below.
       let same : 0 + i ≡ i = omega arith in
       left_at_node round pairs are frames next stages run many node port (0 + i) ∙ ap (place_at (rows node) port) same)
 
   -- ---- frames and parts
-  part_is : (node : ℕ) (c : Component) → slice_get design.components node ≡ Some c → slice_get next node ≡ Some (part_after design at vs node c)
+  part_is : (node : ℕ) (c : Component) → slice_get design.components node ≡ Some c
+      → slice_get next node ≡ Some (part_after design at vs node c)
   part_is node c is_c =
       part_at_node round pairs are frames next stages run many node c is_c
-      ∙ ap (λ (outs : List (List PortValue)). let p : Part = record { frame = frame_after c.behaviour (frame_at at node) (inputs_to vs node); outs = outs } in Some p)
+      ∙ ap (λ (outs : List (List PortValue)). let p : Part =
+      record { frame = frame_after c.behaviour (frame_at at node) (inputs_to vs node); outs = outs } in Some p)
       (map_map (λ (tap : Tap). tap.out_port) (λ port. column port (rows node)) (taps_of design node)
-      ∙ map-same (λ (tap : Tap). column tap.out_port (rows node)) (λ (tap : Tap). tuple_from design at vs node tap.out_port) (λ tap. sym (tuple_is node c tap.out_port is_c)) (taps_of design node))
+      ∙ map-same (λ (tap : Tap). column tap.out_port (rows node))
+      (λ (tap : Tap). tuple_from design at vs node tap.out_port) (λ tap. sym (tuple_is node c tap.out_port is_c))
+      (taps_of design node))
 
   frames_stand : frames_of next ≡ (after_round design pairs at vs).frames
   frames_stand =
-      let f = λ (numbered : ℕ × Component). frame_after numbered.1.behaviour (frame_at at numbered.0) (inputs_to vs numbered.0) in
+      let f =
+      λ (numbered : ℕ × Component).
+      frame_after numbered.1.behaviour (frame_at at numbered.0) (inputs_to vs numbered.0) in
       let size = length-map next (λ (p : Part). p.frame) in
       let all = length-map_enumerate_from f 0 design.components in
       same_from_places (frames_of next) (map f (enumerate_from 0 design.components)) (size ∙ count ∙ sym all)
       (λ k within.
       elim (slice_get_cases design.components k).1 [
-        | inl found ↦ slice_get-map_some (λ (p : Part). p.frame) next k _ (part_is k found.0 found.2) ∙ sym (numbered-at f design.components k found.0 found.2)
+        | inl found ↦ slice_get-map_some (λ (p : Part). p.frame) next k _ (part_is k found.0 found.2)
+            ∙ sym (numbered-at f design.components k found.0 found.2)
         | inr past ↦ absurd (let low = past.0 in omega (arith, low, within, size, count))
       ])
 
@@ -125,41 +143,59 @@ module _ (round : RoundInputs) (pairs : List Pair) (are : ArePairs round.design.
       elim (slice_get_cases stages node).1 [
         | inl staged ↦ (
             let stage : Stage = staged.0 in
-            let rows_are : rows node ≡ stage.rows = get_or_from_slice_get (rows_of stages) node stage.rows [] (slice_get-map_some (λ (s : Stage). s.rows) stages node stage staged.2) in
+            let rows_are : rows node ≡ stage.rows =
+            get_or_from_slice_get (rows_of stages) node stage.rows []
+            (slice_get-map_some (λ (s : Stage). s.rows) stages node stage staged.2) in
             let sent = sent_steps design.gamma design.period c.rate in
             let room = sized_at stage_size stages (stage_sizes design) node stage (stage_size_of sent c) fit
-            (slice_get-map_some (λ (d : Component). stage_size_of (sent_steps design.gamma design.period d.rate) d) design.components node c is_c) (sym staged.3) in
-            let tuple : tuple_in design at vs link ≡ column port stage.rows = tuple_is node c port is_c ∙ ap (column port) rows_are in
+            (slice_get-map_some (λ (d : Component). stage_size_of (sent_steps design.gamma design.period d.rate) d)
+            design.components node c is_c) (sym staged.3) in
+            let tuple : tuple_in design at vs link ≡ column port stage.rows = tuple_is node c port is_c
+            ∙ ap (column port) rows_are in
             let inside = is_inside (partner_of pairs node) link in
             elim (cases_Bool inside) [
               | inl is ↦
                   ap₂ (λ b o. sent_from b o port) is staged.2
-                  ∙ cut_whole (length stage.rows) (column port stage.rows) (let size = length-column stage.rows port in omega (arith, size))
+                  ∙ cut_whole (length stage.rows) (column port stage.rows)
+                  (let size = length-column stage.rows port in omega (arith, size))
                   ∙ sym tuple
-                  ∙ sym (either_same (tuple_in design at vs link) (cut (sent_steps design.gamma design.period (rate_of design node)) (tuple_in design at vs link)) (is_back pairs link) (is_forth pairs link) (inside_goes design pairs are link is))
+                  ∙ sym (either_same (tuple_in design at vs link)
+                  (cut (sent_steps design.gamma design.period (rate_of design node)) (tuple_in design at vs link))
+                  (is_back pairs link) (is_forth pairs link) (inside_goes design pairs are link is))
               | inr not ↦
                   ap₂ (λ b o. sent_from b o port) not staged.2
-                  ∙ ap₂ cut (ap (λ (s : StageSize). s.sent) room ∙ ap (sent_steps design.gamma design.period) (sym (ap rate_in is_c))) (sym tuple)
+                  ∙ ap₂ cut (ap (λ (s : StageSize). s.sent) room
+                  ∙ ap (sent_steps design.gamma design.period) (sym (ap rate_in is_c))) (sym tuple)
                   ∙ sym
-                  (ap (λ b. if b then tuple_in design at vs link else if is_forth pairs link then tuple_in design at vs link else cut (sent_steps design.gamma design.period (rate_of design node)) (tuple_in design at vs link)) (outside_back design pairs are link not)
-                  ∙ ap (λ b. if b then tuple_in design at vs link else cut (sent_steps design.gamma design.period (rate_of design node)) (tuple_in design at vs link)) (outside_forth design pairs are link not))
+                  (ap (λ b. if b then tuple_in design at vs link else if is_forth pairs link then tuple_in design at vs
+                  link else cut (sent_steps design.gamma design.period (rate_of design node))
+                  (tuple_in design at vs link)) (outside_back design pairs are link not)
+                  ∙ ap (λ b. if b then tuple_in design at vs link else cut
+                  (sent_steps design.gamma design.period (rate_of design node)) (tuple_in design at vs link))
+                  (outside_forth design pairs are link not))
             ])
         | inr past ↦ absurd (let low = past.0 in let inside = kept.source.node_is in omega (arith, low, inside, many))
       ]
 
-  messages_are : (links : List Link) → All (IsLink design) links → map (sent_on pairs stages) links ≡ map (message_in design pairs at vs) links
+  messages_are : (links : List Link) → All (IsLink design) links
+      → map (sent_on pairs stages) links ≡ map (message_in design pairs at vs) links
   messages_are [] kept = refl
   messages_are (link ∷ links) kept =
-      ap₂ (λ m ms. m ∷ ms) (message_is link (All-head (IsLink design) link links kept)) (messages_are links (All-tail (IsLink design) link links kept))
+      ap₂ (λ m ms. m ∷ ms) (message_is link (All-head (IsLink design) link links kept))
+      (messages_are links (All-tail (IsLink design) link links kept))
 
   -- ---- the whole
-  pub advanced_by : (messages : List (List PortValue)) (parts : List Part) → messages ≡ map (sent_on pairs stages) design.links
-      → IsAdvanced (standing design pairs frames round.messages.now parts) round.values.now (standing design pairs (frames_of next) messages next)
+  pub advanced_by : (messages : List (List PortValue)) (parts : List Part)
+      → messages ≡ map (sent_on pairs stages) design.links
+      → IsAdvanced (standing design pairs frames round.messages.now parts) round.values.now
+      (standing design pairs (frames_of next) messages next)
   advanced_by messages parts sent = record {
     vectors = vs;
     reads = reads_round round pairs are frames next stages run many;
     leaves =
         ap (λ fs. standing design pairs fs messages next) frames_stand
-        ∙ ap (λ ms. standing design pairs (after_round design pairs at vs).frames ms next) (sent ∙ messages_are design.links sound.links.each)
-        ∙ ap (standing design pairs (after_round design pairs at vs).frames (after_round design pairs at vs).messages) parts_stand;
+        ∙ ap (λ ms. standing design pairs (after_round design pairs at vs).frames ms next)
+        (sent ∙ messages_are design.links sound.links.each)
+        ∙ ap (standing design pairs (after_round design pairs at vs).frames (after_round design pairs at vs).messages)
+        parts_stand;
   }

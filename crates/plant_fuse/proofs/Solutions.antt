@@ -8,7 +8,8 @@ use Rattle.plant_fuse.specs.Fused.{ArePairs, Inputs, reads, IsFused}
 use Rattle.plant_fuse.specs.proof.FusedLaws.{SolutionExists, SolutionIsOne}
 use Rattle.plant_fuse.proofs.Causes.{Agree, same_reads, next_agree}
 
-module _ (design : DesignParts) (pairs : List Pair) (env : Env) (rounds : ℕ) (sound : IsDesign design) (are : ArePairs design pairs) where
+module _ (design : DesignParts) (pairs : List Pair) (env : Env) (rounds : ℕ) (sound : IsDesign design)
+    (are : ArePairs design pairs) where
   -- ---- one that there is: the inputs read again and again
   again : ℕ → Inputs
   again zero = reads design pairs env rounds []
@@ -25,7 +26,8 @@ module _ (design : DesignParts) (pairs : List Pair) (env : Env) (rounds : ℕ) (
   unfolding again
   solution = (
     again (suc (rounds * 128)),
-    same_reads design pairs sound are env (rounds * 128) (again (rounds * 128)) (again (suc (rounds * 128))) (settles (rounds * 128)) rounds (omega arith),
+    same_reads design pairs sound are env (rounds * 128) (again (rounds * 128)) (again (suc (rounds * 128)))
+        (settles (rounds * 128)) rounds (omega arith),
   )
 
   -- ---- and no two
@@ -34,13 +36,18 @@ module _ (design : DesignParts) (pairs : List Pair) (env : Env) (rounds : ℕ) (
     agree_below zero = record {
       same = λ node step low. absurd (omega (arith, low));
     }
-    agree_below (suc m) = subst₂ (Agree design pairs (suc m)) (sym is_v) (sym is_w) (next_agree design pairs sound are env rounds m v w (agree_below m))
+    agree_below (suc m) =
+        subst₂ (Agree design pairs (suc m)) (sym is_v) (sym is_w)
+        (next_agree design pairs sound are env rounds m v w (agree_below m))
 
     pub one : v ≡ w
-    one = is_v ∙ same_reads design pairs sound are env (rounds * 128) v w (agree_below (rounds * 128)) rounds (omega arith) ∙ sym is_w
+    one =
+        is_v ∙ same_reads design pairs sound are env (rounds * 128) v w (agree_below (rounds * 128)) rounds
+        (omega arith) ∙ sym is_w
 
 pub solution_exists : SolutionExists
 solution_exists design pairs env rounds sound are = solution design pairs env rounds sound are
 
 pub solution_is_one : SolutionIsOne
-solution_is_one design pairs env rounds ins other sound are is_ins is_other = one design pairs env rounds sound are ins other is_ins is_other
+solution_is_one design pairs env rounds ins other sound are is_ins is_other =
+    one design pairs env rounds sound are ins other is_ins is_other

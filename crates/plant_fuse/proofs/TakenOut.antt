@@ -17,7 +17,8 @@ get_set_other (x ∷ xs) (suc i) (suc k) y other = get_set_other xs i k y (λ sa
 
 -- ---- one that is taken out
 -- the others stay
-pub kept_get : {X : Type 0} (old new : List X) (i k : ℕ) (x y : X) → TakenFrom old new i x → k ≢ i → k < length old → y ≡ slice_index_or new k y → slice_get old k ≡ Some y
+pub kept_get : {X : Type 0} (old new : List X) (i k : ℕ) (x y : X) → TakenFrom old new i x → k ≢ i → k < length old
+    → y ≡ slice_index_or new k y → slice_get old k ≡ Some y
 kept_get old new i k x y taken other within is =
     let size : length new ≡ length old = ap length taken.now_is ∙ length-set old i taken.other in
     let inside : k < length new = omega (arith, within, size) in
@@ -29,7 +30,8 @@ pub kept_length : {X : Type 0} (old new : List X) (i : ℕ) (x : X) → TakenFro
 kept_length old new i x taken = ap length taken.now_is ∙ length-set old i taken.other
 
 -- ---- and put back
-module _ {X : Type 0} (old new last : List X) (i j : ℕ) (was x y : X) (taken : TakenFrom old new i was) (last_is : last ≡ set (set new j y) i x) (apart : i ≢ j) (in_i : i < length old) (in_j : j < length old) where
+module _ {X : Type 0} (old new last : List X) (i j : ℕ) (was x y : X) (taken : TakenFrom old new i was)
+    (last_is : last ≡ set (set new j y) i x) (apart : i ≢ j) (in_i : i < length old) (in_j : j < length old) where
   pub length_back : length last ≡ length old
   length_back = ap length last_is ∙ length-set (set new j y) i x ∙ length-set new j y ∙ kept_length old new i was taken
 
@@ -54,7 +56,8 @@ module _ {X : Type 0} (old new last : List X) (i j : ℕ) (was x y : X) (taken :
       ∙ get_set_other old i k taken.other not_i
 
   -- what is seen of the elements stays where it is the same of both
-  module _ {S : Type 0} (size : X → S) (second : X) (at_second : slice_get old j ≡ Some second) (size_x : size x ≡ size was) (size_y : size y ≡ size second) where
+  module _ {S : Type 0} (size : X → S) (second : X) (at_second : slice_get old j ≡ Some second)
+      (size_x : size x ≡ size was) (size_y : size y ≡ size second) where
     seen_at : (k : ℕ) → slice_get (map size last) k ≡ slice_get (map size old) k
     seen_at k =
         slice_get-map size last k

@@ -89,18 +89,21 @@ abbrev pub message_on : DesignParts → List Pair → Inputs → ℕ → Link �
 message_on design pairs ins round link =
     if is_back pairs link then round_tuple design ins link.source.0 link.out_port round
     else if is_forth pairs link then round_tuple design ins link.source.0 link.out_port round
-    else cut (sent_steps design.gamma design.period (rate_of design link.source.0)) (round_tuple design ins link.source.0 link.out_port round)
+    else cut (sent_steps design.gamma design.period (rate_of design link.source.0))
+    (round_tuple design ins link.source.0 link.out_port round)
 
 -- the messages of the round before, which are absent tuples before the first
 abbrev pub messages_before : DesignParts → List Pair → Inputs → ℕ → List (List PortValue)
-messages_before design pairs ins zero = map (λ (link : Link). replicate (rate_of design link.source.0) Absent) design.links
+messages_before design pairs ins zero =
+    map (λ (link : Link). replicate (rate_of design link.source.0) Absent) design.links
 messages_before design pairs ins (suc round) = map (message_on design pairs ins round) design.links
 
 -- ---- what a step reads
 -- as in the composition: the step's place of what its round brings
 abbrev pub from_round : DesignParts → List Pair → Env → Inputs → ℕ → ℕ → PortSource → PortValue
 from_round design pairs env ins rate step source =
-    slice_index_or (reading design (values_at env (step / rate)) (messages_before design pairs ins (step / rate)) rate source) (step % rate) Absent
+    slice_index_or (reading design (values_at env (step / rate)) (messages_before design pairs ins (step / rate)) rate
+    source) (step % rate) Absent
 
 -- a plant reads on a link from its controller what the controller's step before left; a controller reads on a link from its
 -- plant what the plant's step of this number left
@@ -113,12 +116,15 @@ value_on design pairs env ins rate step number (Some link) =
 
 abbrev pub value_read : DesignParts → List Pair → Env → Inputs → ℕ → ℕ → PortSource → PortValue
 value_read design pairs env ins rate step source.Nothing = from_round design pairs env ins rate step source.Nothing
-value_read design pairs env ins rate step (source.Feed feed root) = from_round design pairs env ins rate step (source.Feed feed root)
-value_read design pairs env ins rate step (source.Link number) = value_on design pairs env ins rate step number (slice_get design.links number)
+value_read design pairs env ins rate step (source.Feed feed root) =
+    from_round design pairs env ins rate step (source.Feed feed root)
+value_read design pairs env ins rate step (source.Link number) =
+    value_on design pairs env ins rate step number (slice_get design.links number)
 
 -- the input vector of a step
 abbrev pub vector_of : DesignParts → List Pair → Env → Inputs → ℕ → Component → ℕ → List PortValue
-vector_of design pairs env ins node c step = map (value_read design pairs env ins c.rate step) (sources_of design node c)
+vector_of design pairs env ins node c step =
+    map (value_read design pairs env ins c.rate step) (sources_of design node c)
 
 -- ---- steps
 -- a component's frame before a step, and what the step makes of it
@@ -129,7 +135,8 @@ frame_before ins node c step = frame_after c.behaviour (initial c.behaviour) (ta
 -- what all steps of the first rounds read, where they leave what they leave at these inputs
 unfoldable pub reads : DesignParts → List Pair → Env → ℕ → Inputs → Inputs
 reads design pairs env rounds ins =
-    map (λ numbered. map (vector_of design pairs env ins numbered.0 numbered.1) (upwards 0 (rounds * numbered.1.rate))) (enumerate_from 0 design.components)
+    map (λ numbered. map (vector_of design pairs env ins numbered.0 numbered.1) (upwards 0 (rounds * numbered.1.rate)))
+    (enumerate_from 0 design.components)
 
 -- the inputs of the first rounds are those that are read where they are the inputs
 abbrev pub IsFused : DesignParts → List Pair → Env → ℕ → Inputs → Type 0

@@ -21,7 +21,8 @@ fused_part design ins round node c = record {
 
 -- what all of them leave
 abbrev pub fused_parts : DesignParts → Inputs → ℕ → List Part
-fused_parts design ins round = map (λ numbered. fused_part design ins round numbered.0 numbered.1) (enumerate_from 0 design.components)
+fused_parts design ins round =
+    map (λ numbered. fused_part design ins round numbered.0 numbered.1) (enumerate_from 0 design.components)
 
 -- the row of a round
 abbrev pub fused_lines : DesignParts → Inputs → ℕ → List (List ℕ)
@@ -32,7 +33,8 @@ abbrev pub freport : DesignParts → Inputs → ℕ → List ℕ
 freport design ins rounds = text_of (flat_map (fused_lines design ins) (upwards 0 rounds))
 
 -- a text is the report of the first rounds of fused composition: that of a solution of its equations for these rounds
-pub record IsFusedReport (design : DesignParts) (pairs : List Pair) (env : Env) (rounds : ℕ) (text : List ℕ) : Type 0 where
+pub record IsFusedReport (design : DesignParts) (pairs : List Pair) (env : Env) (rounds : ℕ)
+    (text : List ℕ) : Type 0 where
   pub ins : Inputs
   pub solves : IsFused design pairs env rounds ins
   pub says : text ≡ freport design ins rounds

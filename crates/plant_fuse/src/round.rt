@@ -7,7 +7,7 @@ ghost use Rattle.plant_fuse.specs.proof.Tables.{AreTables};
 ghost use Rattle.plant_fuse.specs.proof.Runs.{IsGiven, IsRunAlone, AreAlone, IsRun, AreRun, StayBeside};
 
 use crate::rooms::{put_stage, take_part, take_stage};
-use crate::sides::{StepContext, PairedComponent, run_sides};
+use crate::sides::{PairedComponent, StepContext, run_sides};
 use crate::tables::Tables;
 use pals_base::{Items, NoMemory};
 use pals_model::{Design, Part};
@@ -146,7 +146,12 @@ fn run_pair(
 }
 
 // What is given to the steps of a component.
-fn given<'a>(design: &'a Design, tables: &'a Tables, parts: &'a [Part], node: usize) -> StepContext<'a>
+fn given<'a>(
+    design: &'a Design,
+    tables: &'a Tables,
+    parts: &'a [Part],
+    node: usize,
+) -> StepContext<'a>
     requires tables { AreTables design.now tables.now.pairs tables.now }
     requires parts { map part_size parts.now ≡ part_sizes design.now }
     requires node { node < length design.now.components }

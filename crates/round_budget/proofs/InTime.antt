@@ -134,7 +134,8 @@ module _ (gap : ℕ) (w : ℕ → ℕ) (members : List ℕ) (cost : Release → 
             omega (arith, idle, more, here) in (
               (let bound : max x.time free + cost x ≤ x.time + gap = omega (arith, done_in, whole, few) in bound),
               in_time x.time (begins free x + cost x) (with_one x.node none) xs done_in
-                  (AllByRecursion-weaker (IsApart gap x) (ComesLater gap x.time (with_one x.node none)) (anew x) xs apart.0)
+                  (AllByRecursion-weaker (IsApart gap x) (ComesLater gap x.time (with_one x.node none))
+                  (anew x) xs apart.0)
                   apart.1 weighed.1,
             ))
       ]

@@ -137,7 +137,8 @@ module _ (design : DesignParts) (members : List ℕ) (sound : IsDesign design) (
       (every_upwards (λ round. Every (IsRelease design members) (releases_in design members round)) 0 rounds
       (λ round above below.
       every_flat_map (IsRelease design members) (releases_of design round) members
-      (AllByRecursion-weaker (IsOne design members) (λ node. Every (IsRelease design members) (releases_of design round node))
+      (AllByRecursion-weaker (IsOne design members)
+      (λ node. Every (IsRelease design members) (releases_of design round node))
       (λ node one.
       AllByRecursion-map (IsRelease design members) (release_of design round node) (upwards 0 (rate_of design node))
       (every_upwards (λ step. IsRelease design members (release_of design round node step)) 0 (rate_of design node)
@@ -162,7 +163,8 @@ module _ (design : DesignParts) (members : List ℕ) (sound : IsDesign design) (
       (every_upwards (λ i. Every (AreFar design (release_of design round a i)) (releases_of design round b)) 0
       (rate_of design a)
       (λ i low high.
-      AllByRecursion-map (AreFar design (release_of design round a i)) (release_of design round b) (upwards 0 (rate_of design b))
+      AllByRecursion-map (AreFar design (release_of design round a i)) (release_of design round b)
+      (upwards 0 (rate_of design b))
       (every_upwards (λ j. AreFar design (release_of design round a i) (release_of design round b j)) 0
       (rate_of design b)
       (λ j under over. record { far = λ same. absurd (omega (arith, same, less)) }))))

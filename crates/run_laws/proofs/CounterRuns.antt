@@ -27,34 +27,48 @@ use Rattle.run_laws.proofs.Clauses.{link_is}
 
 -- ---- what a test tells
 abbrev no_less : Run → BusState → ℕ → Bool
-no_less run s at = list_all (λ k. option_map_or (nat_le at) (target_of run s k) true) (upwards 0 (length run.design.components))
+no_less run s at =
+    list_all (λ k. option_map_or (nat_le at) (target_of run s k) true) (upwards 0 (length run.design.components))
 
 least_by : (run : Run) (s : BusState) (at : ℕ) → no_less run s at ≡ true → IsLeast run s at
 least_by run s at passes = λ other least within is.
     let here : 0 + other ≡ other = omega arith in
-    let test = at_element (λ k. option_map_or (nat_le at) (target_of run s k) true ≡ true) (upwards 0 (length run.design.components)) other other (all_pass (λ k. option_map_or (nat_le at) (target_of run s k) true) (upwards 0 (length run.design.components)) passes) (upwards_get 0 (length run.design.components) other within ∙ ap Some here) in
+    let test =
+    at_element (λ k. option_map_or (nat_le at) (target_of run s k) true ≡ true)
+    (upwards 0 (length run.design.components)) other other
+    (all_pass (λ k. option_map_or (nat_le at) (target_of run s k) true) (upwards 0 (length run.design.components))
+    passes) (upwards_get 0 (length run.design.components) other within ∙ ap Some here) in
     leb-true at least (sym (ap (λ o. option_map_or (nat_le at) o true) is) ∙ test)
 
 abbrev none_on : BusState → Option ℕ → ℕ → Bool
 none_on s reading k = list_all (λ c. not (is_due reading c)) (flight_at s k)
 
 abbrev none_is : Run → BusState → ℕ → Option ℕ → Bool
-none_is run s node reading = list_all (λ k. cond (nat_eq (link_at run.design k).target.0 node) (none_on s reading k) true) (upwards 0 (length run.design.links))
+none_is run s node reading =
+    list_all (λ k. cond (nat_eq (link_at run.design k).target.0 node) (none_on s reading k) true)
+    (upwards 0 (length run.design.links))
 
 then_on : (x y : Bool) → x ≡ true → cond x y true ≡ true → y ≡ true
 then_on true y is passes = passes
 then_on false y is passes = absurd (cc)
 
-none_by : (run : Run) (s : BusState) (node : ℕ) (reading : Option ℕ) → none_is run s node reading ≡ true → NoneDue run s node reading
+none_by : (run : Run) (s : BusState) (node : ℕ) (reading : Option ℕ) → none_is run s node reading ≡ true
+    → NoneDue run s node reading
 none_by run s node reading passes = λ link l is to.
     let within = slice_get_within run.design.links link l is in
     let here : 0 + link ≡ link = omega arith in
     let each = λ (k : ℕ). cond (nat_eq (link_at run.design k).target.0 node) (none_on s reading k) true in
-    let test = at_element (λ k. each k ≡ true) (upwards 0 (length run.design.links)) link link (all_pass each (upwards 0 (length run.design.links)) passes) (upwards_get 0 (length run.design.links) link within ∙ ap Some here) in
-    let target : (link_at run.design link).target.0 ≡ node = ap (λ (m : Link). m.target.0) (link_is run link l is) ∙ to in
+    let test =
+    at_element (λ k. each k ≡ true) (upwards 0 (length run.design.links)) link link
+    (all_pass each (upwards 0 (length run.design.links)) passes)
+    (upwards_get 0 (length run.design.links) link within ∙ ap Some here) in
+    let target : (link_at run.design link).target.0 ≡ node =
+    ap (λ (m : Link). m.target.0) (link_is run link l is) ∙ to in
     let own : nat_eq (link_at run.design link).target.0 node ≡ true = grind (arith, common_steps) in
-    All-weaker (λ c. not (is_due reading c) ≡ true) (λ c. is_due reading c ≡ false) (λ c fails. not-true (is_due reading c) fails) (flight_at s link)
-    (all_pass (λ c. not (is_due reading c)) (flight_at s link) (then_on (nat_eq (link_at run.design link).target.0 node) (none_on s reading link) own test))
+    All-weaker (λ c. not (is_due reading c) ≡ true) (λ c. is_due reading c ≡ false)
+    (λ c fails. not-true (is_due reading c) fails) (flight_at s link)
+    (all_pass (λ c. not (is_due reading c)) (flight_at s link)
+    (then_on (nat_eq (link_at run.design link).target.0 node) (none_on s reading link) own test))
 
 -- ---- a meeting
 abbrev one : Run
@@ -81,12 +95,57 @@ m6 = after one m5 (Send b (Some 10000000))
 meeting_goes : (journal : List JournalEntry) × Runs one Meet journal m6
 meeting_goes =
     let r0 : Runs one Meet [] (opening one) = opens Meet tt in
-    let r1 = goes_on {t = m1} (Start a (Some 9000000)) r0 (record { does = record { within = omega arith; next = refl; at = 9000000; reading_is = refl; shows = (refl, least_by one (opening one) 9000000 refl) }; taken = none_by one (opening one) 0 (Some 9000000) refl; awaited = tt }) (record { going = refl; allowed = refl; state = refl }) in
-    let r2 = goes_on {t = m2} (Start b (Some 9000000)) r1 (record { does = record { within = omega arith; next = refl; at = 9000000; reading_is = refl; shows = (refl, least_by one m1 9000000 refl) }; taken = none_by one m1 1 (Some 9000000) refl; awaited = tt }) (record { going = refl; allowed = refl; state = refl }) in
+    let r1 =
+    goes_on {t = m1} (Start a (Some 9000000)) r0
+    (record {
+      does = record {
+        within = omega arith;
+        next = refl;
+        at = 9000000;
+        reading_is = refl;
+        shows = (refl, least_by one (opening one) 9000000 refl);
+      };
+      taken = none_by one (opening one) 0 (Some 9000000) refl;
+      awaited = tt;
+    })
+    (record { going = refl; allowed = refl; state = refl }) in
+    let r2 =
+    goes_on {t = m2} (Start b (Some 9000000)) r1
+    (record {
+      does = record {
+        within = omega arith;
+        next = refl;
+        at = 9000000;
+        reading_is = refl;
+        shows = (refl, least_by one m1 9000000 refl);
+      };
+      taken = none_by one m1 1 (Some 9000000) refl;
+      awaited = tt;
+    }) (record { going = refl; allowed = refl; state = refl }) in
     let r3 = goes_on {t = m3} (Finish a) r2 (omega arith) (record { going = refl; allowed = refl; state = refl }) in
     let r4 = goes_on {t = m4} (Finish b) r3 (omega arith) (record { going = refl; allowed = refl; state = refl }) in
-    let r5 = goes_on {t = m5} (Send a (Some 10000000)) r4 (0, record { within = omega arith; next = refl; at = 10000000; reading_is = refl; shows = (refl, least_by one m4 10000000 refl) }) (record { going = refl; allowed = refl; state = refl }) in
-    let r6 = goes_on {t = m6} (Send b (Some 10000000)) r5 (0, record { within = omega arith; next = refl; at = 10000000; reading_is = refl; shows = (refl, least_by one m5 10000000 refl) }) (record { going = refl; allowed = refl; state = refl }) in
+    let r5 =
+    goes_on {t = m5} (Send a (Some 10000000)) r4 (
+      0,
+      record {
+        within = omega arith;
+        next = refl;
+        at = 10000000;
+        reading_is = refl;
+        shows = (refl, least_by one m4 10000000 refl);
+      },
+    ) (record { going = refl; allowed = refl; state = refl }) in
+    let r6 =
+    goes_on {t = m6} (Send b (Some 10000000)) r5 (
+      0,
+      record {
+        within = omega arith;
+        next = refl;
+        at = 10000000;
+        reading_is = refl;
+        shows = (refl, least_by one m5 10000000 refl);
+      },
+    ) (record { going = refl; allowed = refl; state = refl }) in
     (_, r6)
 
 all_done : (node : ℕ) → node < 2 → (node_at m6 node).phase ≡ Done
@@ -142,7 +201,8 @@ few_rise n (suc i) (suc j) d le within = absurd (omega arith)
 
 more_rise : (n m : ℕ) (ns : List ℕ) → n ≤ m → IsNonDecreasing (m ∷ ns) → IsNonDecreasing (n ∷ m ∷ ns)
 more_rise n m ns less order zero zero d le within = omega arith
-more_rise n m ns less order zero (suc j) d le within = let first = order 0 j d (omega arith) (omega arith) in omega arith
+more_rise n m ns less order zero (suc j) d le within = let first =
+    order 0 j d (omega arith) (omega arith) in omega arith
 more_rise n m ns less order (suc i) zero d le within = absurd (omega arith)
 more_rise n m ns less order (suc i) (suc j) d le within = order i j d (omega arith) (omega arith)
 
@@ -153,11 +213,15 @@ lefts (suc (suc node)) within = absurd (omega arith)
 
 orders : (node : ℕ) → node < 2 → IsNonDecreasing (clock_at c0 node).readings
 orders zero within = few_rise 9000000
-orders (suc zero) within = more_rise 9000000 10000000 (18000000 ∷ 19000000 ∷ []) (omega arith) (more_rise 10000000 18000000 (19000000 ∷ []) (omega arith) (more_rise 18000000 19000000 [] (omega arith) (few_rise 19000000)))
+orders (suc zero) within =
+    more_rise 9000000 10000000 (18000000 ∷ 19000000 ∷ []) (omega arith)
+    (more_rise 10000000 18000000 (19000000 ∷ []) (omega arith)
+    (more_rise 18000000 19000000 [] (omega arith) (few_rise 19000000)))
 orders (suc (suc node)) within = absurd (omega arith)
 
 -- nothing has been started before: each source has sent what is awaited
-none_awaited : (s : BusState) (node : ℕ) (clocks : List ClockState) → (node_at s node).count ≡ 0 → IsAwaited two (Lists clocks) s node
+none_awaited : (s : BusState) (node : ℕ) (clocks : List ClockState) → (node_at s node).count ≡ 0
+    → IsAwaited two (Lists clocks) s node
 none_awaited s node clocks none = λ link l is to. inl (omega arith)
 
 abbrev target_in : Option Link → ℕ
@@ -171,20 +235,67 @@ source_in (Some l) = l.source.0
 -- the source of the link into the second counter is at its list's end
 a_ended : IsAwaited two (Lists c2) l5 1
 a_ended zero l is to = absurd (let target : 0 ≡ l.target.0 = ap (λ (o : Option Link). target_in o) is in omega arith)
-a_ended (suc zero) l is to = inr (subst (HasEnded two c2 l5) (ap (λ (o : Option Link). source_in o) is) (action.Send 0, refl, refl))
+a_ended (suc zero) l is to =
+    inr (subst (HasEnded two c2 l5) (ap (λ (o : Option Link). source_in o) is) (action.Send 0, refl, refl))
 a_ended (suc (suc link)) l is to = absurd (cc)
 
 list_goes : (journal : List JournalEntry) × Runs two (Lists c2) journal l6
 list_goes =
-    let r0 : Runs two (Lists c0) [] (opening two) = opens (Lists c0) (record { count = refl; each = lefts; order = orders }) in
-    let r1 = goes_on {t = l1} (Start a (Some 9000000)) r0 (record { does = record { within = omega arith; next = refl; at = 9000000; reading_is = refl; shows = (refl, omega arith) }; taken = none_by two (opening two) 0 (Some 9000000) refl; awaited = none_awaited (opening two) 0 c0 refl }) (record { going = refl; allowed = refl; state = refl }) in
-    let r2 = goes_on {t = l2} (Start b (Some 9000000)) r1 (record { does = record { within = omega arith; next = refl; at = 9000000; reading_is = refl; shows = (refl, omega arith) }; taken = none_by two l1 1 (Some 9000000) refl; awaited = none_awaited l1 1 c0 refl }) (record { going = refl; allowed = refl; state = refl }) in
+    let r0 : Runs two (Lists c0) [] (opening two) =
+    opens (Lists c0) (record { count = refl; each = lefts; order = orders }) in
+    let r1 =
+    goes_on {t = l1} (Start a (Some 9000000)) r0
+    (record {
+      does = record {
+        within = omega arith;
+        next = refl;
+        at = 9000000;
+        reading_is = refl;
+        shows = (refl, omega arith);
+      };
+      taken = none_by two (opening two) 0 (Some 9000000) refl;
+      awaited = none_awaited (opening two) 0 c0 refl;
+    })
+    (record { going = refl; allowed = refl; state = refl }) in
+    let r2 =
+    goes_on {t = l2} (Start b (Some 9000000)) r1
+    (record {
+      does = record {
+        within = omega arith;
+        next = refl;
+        at = 9000000;
+        reading_is = refl;
+        shows = (refl, omega arith);
+      };
+      taken = none_by two l1 1 (Some 9000000) refl;
+      awaited = none_awaited l1 1 c0 refl;
+    }) (record { going = refl; allowed = refl; state = refl }) in
     let r3 = goes_on {t = l3} (Finish a) r2 (omega arith) (record { going = refl; allowed = refl; state = refl }) in
     let r4 = goes_on {t = l4} (Finish b) r3 (omega arith) (record { going = refl; allowed = refl; state = refl }) in
-    let p1 = picks_for {later = c1} 1 r4 (record { within = omega arith; action = action.Send 0; next = refl; clocks_are = refl }) in
-    let r5 = goes_on {t = l5} (Send b (Some 10000000)) p1 (0, record { within = omega arith; next = refl; at = 10000000; reading_is = refl; shows = (refl, omega arith) }) (record { going = refl; allowed = refl; state = refl }) in
-    let p2 = picks_for {later = c2} 1 r5 (record { within = omega arith; action = action.Start 1; next = refl; clocks_are = refl }) in
-    let r6 = goes_on {t = l6} (Start b (Some 18000000)) p2 (record { does = record { within = omega arith; next = refl; at = 18000000; reading_is = refl; shows = (refl, omega arith) }; taken = none_by two l5 1 (Some 18000000) refl; awaited = a_ended }) (record { going = refl; allowed = refl; state = refl }) in
+    let p1 =
+    picks_for {later = c1} 1 r4
+    (record { within = omega arith; action = action.Send 0; next = refl; clocks_are = refl }) in
+    let r5 =
+    goes_on {t = l5} (Send b (Some 10000000)) p1
+    (0, record { within = omega arith; next = refl; at = 10000000; reading_is = refl; shows = (refl, omega arith) })
+    (record { going = refl; allowed = refl; state = refl }) in
+    let p2 =
+    picks_for {later = c2} 1 r5
+    (record { within = omega arith; action = action.Start 1; next = refl; clocks_are = refl }) in
+    let r6 =
+    goes_on {t = l6} (Start b (Some 18000000)) p2
+    (record {
+      does = record {
+        within = omega arith;
+        next = refl;
+        at = 18000000;
+        reading_is = refl;
+        shows = (refl, omega arith);
+      };
+      taken = none_by two l5 1 (Some 18000000) refl;
+      awaited = a_ended;
+    })
+    (record { going = refl; allowed = refl; state = refl }) in
     (_, r6)
 
 pub some_list_ends : SomeListEnds

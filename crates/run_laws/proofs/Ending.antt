@@ -40,14 +40,16 @@ use Rattle.run_laws.proofs.NodesGoOn.{CanGo, acts, finishes}
 
 -- ---- with a meeting
 -- a node runs a step, or its next action is the one that its target is for
-runs_or_next : (plan : Plan) (n : NodeState) (p : Phase) → ((step : ℕ) × (p ≡ Running step)) ⊎ (next_in plan n p ≡ action_in plan n p)
+runs_or_next : (plan : Plan) (n : NodeState) (p : Phase)
+    → ((step : ℕ) × (p ≡ Running step)) ⊎ (next_in plan n p ≡ action_in plan n p)
 runs_or_next plan n Waiting = inr refl
 runs_or_next plan n (Running step) = inl (step, refl)
 runs_or_next plan n (Between steps) = inr refl
 runs_or_next plan n Holding = inr refl
 runs_or_next plan n Done = inr refl
 
-acts_or_done : (plan : Plan) (n : NodeState) (p : Phase) → ((action : NodeAction) × (action_in plan n p ≡ Some action)) ⊎ (p ≡ Done)
+acts_or_done : (plan : Plan) (n : NodeState) (p : Phase)
+    → ((action : NodeAction) × (action_in plan n p ≡ Some action)) ⊎ (p ≡ Done)
 acts_or_done plan n Waiting = inl (_, refl)
 acts_or_done plan n (Running step) = inl (_, refl)
 acts_or_done plan n (Between steps) = inl (_, refl)
@@ -59,30 +61,38 @@ abbrev goal_of : Run → BusState → ℕ → ℕ
 goal_of run s node = unwrap_or (target_of run s node) 0
 
 abbrev IsActing : Run → BusState → ℕ → Type 0
-IsActing run s node = (action : NodeAction) × (action_in (plan_of run.design node) (node_at s node) (node_at s node).phase ≡ Some action)
+IsActing run s node =
+    (action : NodeAction) × (action_in (plan_of run.design node) (node_at s node) (node_at s node).phase ≡ Some action)
 
 abbrev IsDone : BusState → ℕ → Type 0
 IsDone s node = (node_at s node).phase ≡ Done
 
 abbrev CanGoFrom : Run → Clocks → List JournalEntry → BusState → Type 0
-CanGoFrom run clocks journal s = (later : Clocks) × Runs run later journal s × (lists_in later ≡ lists_in clocks) × CanGo run later s
+CanGoFrom run clocks journal s =
+    (later : Clocks) × Runs run later journal s × (lists_in later ≡ lists_in clocks) × CanGo run later s
 
-not_less : (run : Run) (s : BusState) (k least goal : ℕ) → target_of run s k ≡ Some least → IsDone s k ⊎ (goal ≤ goal_of run s k) → goal ≤ least
+not_less : (run : Run) (s : BusState) (k least goal : ℕ) → target_of run s k ≡ Some least
+    → IsDone s k ⊎ (goal ≤ goal_of run s k) → goal ≤ least
 not_less run s k least goal is (inl done) =
-    let both : Some least ≡ None = sym is ∙ ap (λ p. option_map (target (plan_of run.design k)) (action_in (plan_of run.design k) (node_at s k) p)) done in
+    let both : Some least ≡ None = sym is
+    ∙ ap (λ p. option_map (target (plan_of run.design k))
+    (action_in (plan_of run.design k) (node_at s k) p)) done in
     absurd (cc)
-not_less run s k least goal is (inr most) = let same : goal_of run s k ≡ least = ap (λ o. unwrap_or o 0) is in omega arith
+not_less run s k least goal is (inr most) = let same : goal_of run s k ≡ least =
+    ap (λ o. unwrap_or o 0) is in omega arith
 
 meeting_goes : (run : Run) (journal : List JournalEntry) (s : BusState) → IsRunOf run → Runs run Meet journal s
     → CanGoFrom run Meet journal s ⊎ AllDone run s
 meeting_goes run journal s rules runs =
-    elim (least_or_none (IsActing run s) (IsDone s) (goal_of run s) (length run.design.components) (λ k within. acts_or_done (plan_of run.design k) (node_at s k) (node_at s k).phase)) [
+    elim (least_or_none (IsActing run s) (IsDone s) (goal_of run s) (length run.design.components)
+    (λ k within. acts_or_done (plan_of run.design k) (node_at s k) (node_at s k).phase)) [
       | inl least ↦
           let node = least.place in
           let plan = plan_of run.design node in
           let n = node_at s node in
           let action = least.found.0 in
-          let goal : goal_of run s node ≡ target plan action = ap (λ o. unwrap_or (option_map (target plan) o) 0) least.found.1 in
+          let goal : goal_of run s node ≡ target plan action =
+          ap (λ o. unwrap_or (option_map (target plan) o) 0) least.found.1 in
           inl (
             Meet,
             runs,
@@ -133,9 +143,11 @@ left_by : (run : Run) (clocks : List ClockState) (s : BusState) (node : ℕ) (ac
     → upcoming (plan_of run.design node) (node_at s node) ≡ Some action → left_for run clocks node action ≡ left
     → IsGoing run clocks s node ⊎ IsOver run clocks s node
 left_by run clocks s node action [] next is = inr (inr (action, next, is))
-left_by run clocks s node action (at ∷ later) next is = inl (inr (record { action = action; next = next; at = at; later = later; left = is }))
+left_by run clocks s node action (at ∷ later) next is =
+    inl (inr (record { action = action; next = next; at = at; later = later; left = is }))
 
-goes_or_over : (run : Run) (clocks : List ClockState) (s : BusState) (node : ℕ) → IsGoing run clocks s node ⊎ IsOver run clocks s node
+goes_or_over : (run : Run) (clocks : List ClockState) (s : BusState) (node : ℕ)
+    → IsGoing run clocks s node ⊎ IsOver run clocks s node
 goes_or_over run clocks s node = elim (next_or_not (plan_of run.design node) (node_at s node) (node_at s node).phase) [
   | inl runs_step ↦ inl (inl runs_step)
   | inr other ↦ elim other [
@@ -145,7 +157,8 @@ goes_or_over run clocks s node = elim (next_or_not (plan_of run.design node) (no
 ]
 
 -- what is left after a target begins with a reading that is no less
-first_by : (goal r at : ℕ) (rs later : List ℕ) (b : Bool) → nat_lt r goal ≡ b → cond b (reached rs goal) (r ∷ rs) ≡ at ∷ later
+first_by : (goal r at : ℕ) (rs later : List ℕ) (b : Bool) → nat_lt r goal ≡ b
+    → cond b (reached rs goal) (r ∷ rs) ≡ at ∷ later
     → (reached rs goal ≡ at ∷ later → goal ≤ at) → goal ≤ at
 first_by goal r at rs later true is same rest = rest same
 first_by goal r at rs later false is same rest =
@@ -158,7 +171,8 @@ first_left [] goal at later is = absurd (cc)
 first_left (r ∷ rs) goal at later is = first_by goal r at rs later (nat_lt r goal) refl is (first_left rs goal at later)
 
 same_readings : (clocks : List ClockState) (node : ℕ) (left : List ℕ)
-    → map (λ (c : ClockState). c.readings) (slice_set clocks node (standing_at (clock_at clocks node) left)) ≡ map (λ (c : ClockState). c.readings) clocks
+    → map (λ (c : ClockState). c.readings) (slice_set clocks node (standing_at (clock_at clocks node) left))
+    ≡ map (λ (c : ClockState). c.readings) clocks
 same_readings [] node left = refl
 same_readings (c ∷ cs) zero left = refl
 same_readings (c ∷ cs) (suc node) left = ap (λ rs. c.readings ∷ rs) (same_readings cs node left)
@@ -166,11 +180,14 @@ same_readings (c ∷ cs) (suc node) left = ap (λ rs. c.readings ∷ rs) (same_r
 -- a source has sent as many rounds, or has come to its list's end
 source_sent : (run : Run) (clocks : List ClockState) (s : BusState) (node source : ℕ) → IsRunOf run → Agrees run s
     → node < length run.design.components → source < length run.design.components
-    → (node_at s node).phase ≡ Waiting → IsOver run clocks s source ⊎ (sent_rounds (node_at s node) ≤ sent_rounds (node_at s source))
+    → (node_at s node).phase ≡ Waiting
+    → IsOver run clocks s source ⊎ (sent_rounds (node_at s node) ≤ sent_rounds (node_at s source))
     → ((node_at s node).count ≤ sent_rounds (node_at s source)) ⊎ HasEnded run clocks s source
 source_sent run clocks s node source rules agree within there waits (inl (inl done)) =
     let m = node_at s source in
-    let rest = subst (PhaseAgrees run source (component_at run.design source) m) done (node_agrees run s source agree there).phase in
+    let rest =
+    subst (PhaseAgrees run source (component_at run.design source) m) done
+    (node_agrees run s source agree there).phase in
     let all = sent_true m rest.0.sent in
     let count = rest.1 in
     let most = (node_agrees run s node agree within).rounds in
@@ -178,14 +195,18 @@ source_sent run clocks s node source rules agree within there waits (inl (inl do
 source_sent run clocks s node source rules agree within there waits (inl (inr ended)) = inr ended
 source_sent run clocks s node source rules agree within there waits (inr most) =
     let n = node_at s node in
-    let rest = subst (PhaseAgrees run node (component_at run.design node) n) waits (node_agrees run s node agree within).phase in
+    let rest =
+    subst (PhaseAgrees run node (component_at run.design node) n) waits
+    (node_agrees run s node agree within).phase in
     let all = sent_true n rest.0.sent in
     inl (omega arith)
 
-lists_go : (run : Run) (clocks : List ClockState) (journal : List JournalEntry) (s : BusState) → IsRunOf run → Runs run (Lists clocks) journal s
+lists_go : (run : Run) (clocks : List ClockState) (journal : List JournalEntry) (s : BusState) → IsRunOf run
+    → Runs run (Lists clocks) journal s
     → CanGoFrom run (Lists clocks) journal s ⊎ AllOver run clocks s
 lists_go run clocks journal s rules runs =
-    elim (least_or_none (IsGoing run clocks s) (IsOver run clocks s) (λ k. sent_rounds (node_at s k)) (length run.design.components) (λ k within. goes_or_over run clocks s k)) [
+    elim (least_or_none (IsGoing run clocks s) (IsOver run clocks s) (λ k. sent_rounds (node_at s k))
+    (length run.design.components) (λ k within. goes_or_over run clocks s k)) [
       | inl least ↦ inl (by_going least.place least.within least.least least.found)
       | inr over ↦ inr over
     ]
@@ -194,18 +215,23 @@ lists_go run clocks journal s rules runs =
     many = many_clocks run (Lists clocks) journal s runs
 
     by_going : (node : ℕ) → node < length run.design.components
-        → ((k : ℕ) → k < length run.design.components → IsOver run clocks s k ⊎ (sent_rounds (node_at s node) ≤ sent_rounds (node_at s k)))
+        → ((k : ℕ) → k < length run.design.components
+        → IsOver run clocks s k ⊎ (sent_rounds (node_at s node) ≤ sent_rounds (node_at s k)))
         → IsGoing run clocks s node → CanGoFrom run (Lists clocks) journal s
-    by_going node within least (inl step) = (Lists clocks, runs, refl, finishes run (Lists clocks) s node step.0 within step.1)
+    by_going node within least (inl step) =
+        (Lists clocks, runs, refl, finishes run (Lists clocks) s node step.0 within step.1)
     by_going node within least (inr ready) =
         let left = left_for run clocks node ready.action in
         let later = slice_set clocks node (standing_at (clock_at clocks node) left) in
-        let picks : Picks run clocks s node later = record { within = within; action = ready.action; next = ready.next; clocks_are = refl } in
+        let picks : Picks run clocks s node later =
+        record { within = within; action = ready.action; next = ready.next; clocks_are = refl } in
         let goes : Runs run (Lists later) journal s = picks_for node runs picks in
         let size = many in
         let clock = standing_at (clock_at clocks node) left in
-        let stands : (clock_at later node).left ≡ left = ap (λ (c : ClockState). c.left) (get_or-set_at clocks node node clock no_clock refl (omega arith)) in
-        let first : slice_get (clock_at later node).left 0 ≡ Some ready.at = ap (λ xs. slice_get xs 0) (stands ∙ ready.left) in
+        let stands : (clock_at later node).left ≡ left =
+        ap (λ (c : ClockState). c.left) (get_or-set_at clocks node node clock no_clock refl (omega arith)) in
+        let first : slice_get (clock_at later node).left 0 ≡ Some ready.at =
+        ap (λ xs. slice_get xs 0) (stands ∙ ready.left) in
         let agree = runs_agree run (Lists clocks) journal s rules runs in (
           Lists later,
           goes,
@@ -216,24 +242,31 @@ lists_go run clocks journal s rules runs =
                 next = ready.next;
                 at = ready.at;
                 reading_is = refl;
-                shows = (first, first_left (clock_at clocks node).left (target (plan_of run.design node) ready.action) ready.at ready.later ready.left);
+                shows = (
+                  first,
+                  first_left (clock_at clocks node).left (target (plan_of run.design node) ready.action)
+                      ready.at ready.later ready.left,
+                );
               })
               (λ waits number link is to.
               let rule = at_element (IsLink run.design) run.design.links number link rules.design.links.each is in
               let there = rule.source.node_is in
-              elim (source_sent run clocks s node link.source.0 rules agree within there waits (least link.source.0 there)) [
+              elim (source_sent run clocks s node link.source.0 rules agree within there waits
+              (least link.source.0 there)) [
                 | inl enough ↦ inl enough
                 | inr ended ↦ inr (ended_still run clocks later s node link.source.0 many picks ended)
               ]),
         )
 
 -- ---- from where a run has come
-goes_from : (run : Run) (clocks : Clocks) (journal : List JournalEntry) (s : BusState) → IsRunOf run → Runs run clocks journal s
+goes_from : (run : Run) (clocks : Clocks) (journal : List JournalEntry) (s : BusState) → IsRunOf run
+    → Runs run clocks journal s
     → CanGoFrom run clocks journal s ⊎ AllAtEnd run clocks s
 goes_from run Meet journal s rules runs = meeting_goes run journal s rules runs
 goes_from run (Lists clocks) journal s rules runs = lists_go run clocks journal s rules runs
 
-stays : (run : Run) (clocks : Clocks) (journal : List JournalEntry) (s : BusState) → Runs run clocks journal s → HasCome run clocks s
+stays : (run : Run) (clocks : Clocks) (journal : List JournalEntry) (s : BusState) → Runs run clocks journal s
+    → HasCome run clocks s
     → IsEnding run clocks journal
 stays run clocks journal s runs come = record {
   later = clocks;
@@ -258,16 +291,20 @@ goes run clocks later journal told same e = record {
 
 -- where less is left it ends, so it does
 abbrev EndsBelow : Run → ℕ → Type 0
-EndsBelow run left = (clocks : Clocks) (journal : List JournalEntry) (s : BusState) → Runs run clocks journal s → work_left run s < left → IsEnding run clocks journal
+EndsBelow run left =
+    (clocks : Clocks) (journal : List JournalEntry) (s : BusState) → Runs run clocks journal s → work_left run s < left
+    → IsEnding run clocks journal
 
 can_go_on : (run : Run) (clocks : Clocks) (journal : List JournalEntry) (s : BusState) → IsRunOf run → s.stop ≡ None
-    → Runs run clocks journal s → (go : CanGo run clocks s) → (o : Option Stop) → (after run s go.event).stop ≡ o → EndsBelow run (work_left run s)
+    → Runs run clocks journal s → (go : CanGo run clocks s) → (o : Option Stop) → (after run s go.event).stop ≡ o
+    → EndsBelow run (work_left run s)
     → IsEnding run clocks (journal ++ entries run s go.event)
 can_go_on run clocks journal s rules going runs go (Some why) is below =
     let e = go.event in
     let on : Runs run clocks (journal ++ entries run s e) (after run s e) =
     goes_on e runs go.keeps (record { going = going; allowed = go.allowed; state = refl }) in
-    stays run clocks (journal ++ entries run s e) (after run s e) on (inl (λ none. let both : Some why ≡ None = sym is ∙ none in absurd (cc)))
+    stays run clocks (journal ++ entries run s e) (after run s e) on
+    (inl (λ none. let both : Some why ≡ None = sym is ∙ none in absurd (cc)))
 can_go_on run clocks journal s rules going runs go None is below =
     let e = go.event in
     let on : Runs run clocks (journal ++ entries run s e) (after run s e) =
@@ -277,9 +314,11 @@ can_go_on run clocks journal s rules going runs go None is below =
     let some = some_lines run s e in
     below clocks (journal ++ entries run s e) (after run s e) on (omega arith)
 
-ends_by : (run : Run) (clocks : Clocks) (journal : List JournalEntry) (s : BusState) (o : Option Stop) → IsRunOf run → s.stop ≡ o
+ends_by : (run : Run) (clocks : Clocks) (journal : List JournalEntry) (s : BusState) (o : Option Stop) → IsRunOf run
+    → s.stop ≡ o
     → Runs run clocks journal s → EndsBelow run (work_left run s) → IsEnding run clocks journal
-ends_by run clocks journal s (Some why) rules is runs below = stays run clocks journal s runs (inl (λ none. let both : Some why ≡ None = sym is ∙ none in absurd (cc)))
+ends_by run clocks journal s (Some why) rules is runs below =
+    stays run clocks journal s runs (inl (λ none. let both : Some why ≡ None = sym is ∙ none in absurd (cc)))
 ends_by run clocks journal s None rules is runs below = elim (goes_from run clocks journal s rules runs) [
   | inl go ↦
       let on = can_go_on run go.0 journal s rules is go.1 go.3 (after run s go.3.event).stop refl below in
@@ -290,25 +329,31 @@ ends_by run clocks journal s None rules is runs below = elim (goes_from run cloc
 ends_below : (run : Run) (left : ℕ) → IsRunOf run → EndsBelow run left
 ends_below run zero rules clocks journal s runs below = absurd (omega arith)
 ends_below run (suc left) rules clocks journal s runs below =
-    ends_by run clocks journal s s.stop rules refl runs (λ clocks' journal' t runs' less. ends_below run left rules clocks' journal' t runs' (omega arith))
+    ends_by run clocks journal s s.stop rules refl runs
+    (λ clocks' journal' t runs' less. ends_below run left rules clocks' journal' t runs' (omega arith))
 
 pub each_goes_on : EachGoesOn
-each_goes_on run clocks journal s rules runs = ends_below run (suc (work_left run s)) rules clocks journal s runs (omega arith)
+each_goes_on run clocks journal s rules runs =
+    ends_below run (suc (work_left run s)) rules clocks journal s runs (omega arith)
 
 pub each_run_ends : EachRunEnds
-each_run_ends run clocks rules begin = ends_below run (suc (work_left run (opening run))) rules clocks [] (opening run) (opens clocks begin) (omega arith)
+each_run_ends run clocks rules begin =
+    ends_below run (suc (work_left run (opening run))) rules clocks [] (opening run) (opens clocks begin) (omega arith)
 
 -- ---- no journal grows without end
-few_so_far : (run : Run) (clocks : Clocks) (journal : List JournalEntry) (s : BusState) → IsRunOf run → Runs run clocks journal s
+few_so_far : (run : Run) (clocks : Clocks) (journal : List JournalEntry) (s : BusState) → IsRunOf run
+    → Runs run clocks journal s
     → length journal + work_left run s ≤ work_left run (opening run) + stop_lines s.stop
 few_so_far run clocks journal s rules (opens clocks' begin) = omega arith
-few_so_far run clocks journal s rules (picks_for {clocks = before} node runs picks) = few_so_far run (Lists before) journal s rules runs
+few_so_far run clocks journal s rules (picks_for {clocks = before} node runs picks) =
+    few_so_far run (Lists before) journal s rules runs
 few_so_far run clocks journal s rules (goes_on {journal = before} {s = t} e runs keeps step) =
     let old = few_so_far run clocks before t rules runs in
     let none : stop_lines t.stop ≡ 0 = ap stop_lines step.going in
     let less = event_lessens run clocks t e rules (runs_agree run clocks before t rules runs) keeps step.allowed in
     let size = length-append before (entries run t e) in
-    subst (λ u. length (before ++ entries run t e) + work_left run u ≤ work_left run (opening run) + stop_lines u.stop) (sym step.state) (omega arith)
+    subst (λ u. length (before ++ entries run t e) + work_left run u ≤ work_left run (opening run) + stop_lines u.stop)
+    (sym step.state) (omega arith)
 
 one_stop : (o : Option Stop) → stop_lines o ≤ 1
 one_stop None = omega arith
@@ -322,13 +367,15 @@ journals_end run clocks journal s rules runs =
     omega arith
 
 -- ---- a list that is too short
-over_or_done : (run : Run) (clocks : List ClockState) (s : BusState) (k : ℕ) → IsOver run clocks s k → HasEnded run clocks s k ⊎ IsDone s k
+over_or_done : (run : Run) (clocks : List ClockState) (s : BusState) (k : ℕ) → IsOver run clocks s k
+    → HasEnded run clocks s k ⊎ IsDone s k
 over_or_done run clocks s k (inl done) = inr done
 over_or_done run clocks s k (inr ended) = inl ended
 
 pub ends_are_named : EndsAreNamed
 ends_are_named run clocks journal s rules runs over =
-    elim (first_or_none (HasEnded run clocks s) (IsDone s) (length run.design.components) (λ k within. over_or_done run clocks s k (over k within))) [
+    elim (first_or_none (HasEnded run clocks s) (IsDone s) (length run.design.components)
+    (λ k within. over_or_done run clocks s k (over k within))) [
       | inl first ↦ inr (first.place, record { within = first.within; ended = first.found; before = first.before })
       | inr done ↦ inl done
     ]

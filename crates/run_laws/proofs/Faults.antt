@@ -24,11 +24,13 @@ pub none_if : (b : Bool) (why : EventFault) → found_if b why ≡ None → b �
 none_if true why none = absurd (cc)
 none_if false why none = refl
 
-named_by : (b : Bool) (o : Option EventFault) (why : EventFault) → (if b then o else Some why) ≡ None → (b ≡ true) × (o ≡ None)
+named_by : (b : Bool) (o : Option EventFault) (why : EventFault) → (if b then o else Some why) ≡ None
+    → (b ≡ true) × (o ≡ None)
 named_by true o why none = (refl, none)
 named_by false o why none = absurd (cc)
 
-pub named : (run : Run) (w : World) (e : Event) → fault_of run w e ≡ None → (is_named run e ≡ true) × (event_fault run w e ≡ None)
+pub named : (run : Run) (w : World) (e : Event) → fault_of run w e ≡ None
+    → (is_named run e ≡ true) × (event_fault run w e ≡ None)
 named run w e none = named_by (is_named run e) (event_fault run w e) fault.BadName none
 
 -- ---- each event
@@ -37,23 +39,30 @@ pub record StartsInTime (run : Run) (w : World) (node : NodeNo) : Type 0 where
   pub waits : is_waiting (node_at w.bus node.0).phase ≡ true
   pub due : start_alarm (plan_of run.design node.0) (node_at w.bus node.0) ≤ reading_at w node.0
 
-pub starts_in_time : (run : Run) (w : World) (node : NodeNo) → fault_of run w (event.Start node) ≡ None → StartsInTime run w node
+pub starts_in_time : (run : Run) (w : World) (node : NodeNo) → fault_of run w (event.Start node) ≡ None
+    → StartsInTime run w node
 starts_in_time run w node none =
     let parts = named run w (event.Start node) none in
     let alarm = start_alarm (plan_of run.design node.0) (node_at w.bus node.0) in
     let both = both_none (wrong_phase run w node (Start node None)) (not_due w node alarm) parts.1 in
     record {
       within = ltb-true node.0 (length run.design.components) parts.0;
-      waits = not-false (is_waiting (node_at w.bus node.0).phase) (none_if (not (is_waiting (node_at w.bus node.0).phase)) (fault.WrongPhase node) both.0);
-      due = ltb-false (reading_at w node.0) alarm (none_if (nat_lt (reading_at w node.0) alarm) (fault.NotDue node alarm (reading_at w node.0)) both.1);
+      waits =
+          not-false (is_waiting (node_at w.bus node.0).phase)
+          (none_if (not (is_waiting (node_at w.bus node.0).phase)) (fault.WrongPhase node) both.0);
+      due =
+          ltb-false (reading_at w node.0) alarm
+          (none_if (nat_lt (reading_at w node.0) alarm) (fault.NotDue node alarm (reading_at w node.0)) both.1);
     }
 
 pub record StepsInTime (run : Run) (w : World) (node : NodeNo) : Type 0 where
   pub within : node.0 < length run.design.components
   pub waits : is_some (next_step (node_at w.bus node.0).phase) ≡ true
-  pub due : step_alarm (plan_of run.design node.0) (node_at w.bus node.0) (unwrap_or (next_step (node_at w.bus node.0).phase) 0) ≤ reading_at w node.0
+  pub due : step_alarm (plan_of run.design node.0) (node_at w.bus node.0)
+      (unwrap_or (next_step (node_at w.bus node.0).phase) 0) ≤ reading_at w node.0
 
-pub steps_in_time : (run : Run) (w : World) (node : NodeNo) → fault_of run w (event.Step node) ≡ None → StepsInTime run w node
+pub steps_in_time : (run : Run) (w : World) (node : NodeNo) → fault_of run w (event.Step node) ≡ None
+    → StepsInTime run w node
 steps_in_time run w node none =
     let parts = named run w (event.Step node) none in
     let next = next_step (node_at w.bus node.0).phase in
@@ -62,18 +71,23 @@ steps_in_time run w node none =
     record {
       within = ltb-true node.0 (length run.design.components) parts.0;
       waits = not-false (is_some next) (none_if (not (is_some next)) (fault.WrongPhase node) both.0);
-      due = ltb-false (reading_at w node.0) alarm (none_if (nat_lt (reading_at w node.0) alarm) (fault.NotDue node alarm (reading_at w node.0)) both.1);
+      due =
+          ltb-false (reading_at w node.0) alarm
+          (none_if (nat_lt (reading_at w node.0) alarm) (fault.NotDue node alarm (reading_at w node.0)) both.1);
     }
 
 pub record FinishesInTime (run : Run) (w : World) (node : NodeNo) : Type 0 where
   pub within : node.0 < length run.design.components
   pub runs : is_some (running_step (node_at w.bus node.0).phase) ≡ true
 
-pub finishes_in_time : (run : Run) (w : World) (node : NodeNo) → fault_of run w (event.Finish node) ≡ None → FinishesInTime run w node
+pub finishes_in_time : (run : Run) (w : World) (node : NodeNo) → fault_of run w (event.Finish node) ≡ None
+    → FinishesInTime run w node
 finishes_in_time run w node none =
     let parts = named run w (event.Finish node) none in
     let step = running_step (node_at w.bus node.0).phase in
-    let both = both_none (wrong_phase run w node (Finish node)) (too_soon w (which.Node node) (since_at w node.0 + run.design.gamma.alpha_min)) parts.1 in
+    let both =
+    both_none (wrong_phase run w node (Finish node))
+    (too_soon w (which.Node node) (since_at w node.0 + run.design.gamma.alpha_min)) parts.1 in
     record {
       within = ltb-true node.0 (length run.design.components) parts.0;
       runs = not-false (is_some step) (none_if (not (is_some step)) (fault.WrongPhase node) both.0);
@@ -84,7 +98,8 @@ pub record SendsInTime (run : Run) (w : World) (node : NodeNo) : Type 0 where
   pub may : may_send (plan_of run.design node.0) (node_at w.bus node.0) ≡ true
   pub due : release_alarm (plan_of run.design node.0) (node_at w.bus node.0) ≤ reading_at w node.0
 
-pub sends_in_time : (run : Run) (w : World) (node : NodeNo) → fault_of run w (event.Send node) ≡ None → SendsInTime run w node
+pub sends_in_time : (run : Run) (w : World) (node : NodeNo) → fault_of run w (event.Send node) ≡ None
+    → SendsInTime run w node
 sends_in_time run w node none =
     let parts = named run w (event.Send node) none in
     let may = may_send (plan_of run.design node.0) (node_at w.bus node.0) in
@@ -93,7 +108,9 @@ sends_in_time run w node none =
     record {
       within = ltb-true node.0 (length run.design.components) parts.0;
       may = not-false may (none_if (not may) (fault.WrongPhase node) both.0);
-      due = ltb-false (reading_at w node.0) alarm (none_if (nat_lt (reading_at w node.0) alarm) (fault.NotDue node alarm (reading_at w node.0)) both.1);
+      due =
+          ltb-false (reading_at w node.0) alarm
+          (none_if (nat_lt (reading_at w node.0) alarm) (fault.NotDue node alarm (reading_at w node.0)) both.1);
     }
 
 pub record ArrivesInTime (run : Run) (w : World) (link : LinkNo) (round : ℕ) : Type 0 where
@@ -101,7 +118,8 @@ pub record ArrivesInTime (run : Run) (w : World) (link : LinkNo) (round : ℕ) :
   pub flies : is_in_flight round (flight_at w.bus link.0) ≡ true
   pub carried : flight_since run w link.0 round + run.design.gamma.mu_min ≤ w.time
 
-pub arrives_in_time : (run : Run) (w : World) (link : LinkNo) (round : ℕ) → fault_of run w (event.Arrive link round) ≡ None → ArrivesInTime run w link round
+pub arrives_in_time : (run : Run) (w : World) (link : LinkNo) (round : ℕ)
+    → fault_of run w (event.Arrive link round) ≡ None → ArrivesInTime run w link round
 arrives_in_time run w link round none =
     let parts = named run w (event.Arrive link round) none in
     let flies = is_in_flight round (flight_at w.bus link.0) in
@@ -110,5 +128,7 @@ arrives_in_time run w link round none =
     record {
       within = ltb-true link.0 (length run.design.links) parts.0;
       flies = not-false flies (none_if (not flies) (fault.NoSuchMessage link round) both.0);
-      carried = ltb-false w.time earliest (none_if (nat_lt w.time earliest) (fault.TooSoon (which.Message link round) earliest) both.1);
+      carried =
+          ltb-false w.time earliest
+          (none_if (nat_lt w.time earliest) (fault.TooSoon (which.Message link round) earliest) both.1);
     }

@@ -30,12 +30,15 @@ start_leaves : (run : Run) (s : BusState) (node : NodeNo) (reading m : Option �
 start_leaves run s node reading None = refl
 start_leaves run s node reading (Some link) = refl
 
-arrive_leaves : (run : Run) (s : BusState) (link : LinkNo) (round : ℕ) (reading : Option ℕ) (a : Arrived) → arrival run s link round ≡ a
-    → fold (left_by run) s (entry.Arrive link round reading a ∷ stop_entry (early_stop link round reading a)) ≡ after_arrive run s link round reading
+arrive_leaves : (run : Run) (s : BusState) (link : LinkNo) (round : ℕ) (reading : Option ℕ) (a : Arrived)
+    → arrival run s link round ≡ a
+    → fold (left_by run) s (entry.Arrive link round reading a ∷ stop_entry (early_stop link round reading a))
+    ≡ after_arrive run s link round reading
 arrive_leaves run s link round reading Kept is = refl
 arrive_leaves run s link round reading Ignored is = refl
 arrive_leaves run s link round reading Early is =
-    ap (λ (a : Arrived). record (after_arrive run s link round reading) { stop = early_stop link round reading a }) (sym is)
+    ap (λ (a : Arrived). record (after_arrive run s link round reading)
+    { stop = early_stop link round reading a }) (sym is)
 
 entries_leave : (run : Run) (s : BusState) (e : BusEvent) → fold (left_by run) s (entries run s e) ≡ after run s e
 entries_leave run s (Start node reading) = start_leaves run s node reading (missing_link run s node.0)
@@ -47,7 +50,8 @@ entries_leave run s (Drop link round) = refl
 entries_leave run s (Repeat link round) = refl
 
 -- ---- so a journal leaves one state
-journal_leaves : (run : Run) (journal : List JournalEntry) (s : BusState) → Replays run journal s → s ≡ fold (left_by run) (opening run) journal
+journal_leaves : (run : Run) (journal : List JournalEntry) (s : BusState) → Replays run journal s
+    → s ≡ fold (left_by run) (opening run) journal
 journal_leaves run journal s opens = refl
 journal_leaves run journal s (goes_on {journal = before} {s = t} e replays step) =
     step.state
@@ -55,12 +59,16 @@ journal_leaves run journal s (goes_on {journal = before} {s = t} e replays step)
     ∙ (ap (λ (b : BusState). fold (left_by run) b (entries run t e)) (journal_leaves run before t replays)
     ∙ sym (fold-append (left_by run) (opening run) before (entries run t e))))
 
-pub one_replay : (run : Run) (journal : List JournalEntry) (s t : BusState) → Replays run journal s → Replays run journal t → s ≡ t
+pub one_replay : (run : Run) (journal : List JournalEntry) (s t : BusState) → Replays run journal s
+    → Replays run journal t → s ≡ t
 one_replay run journal s t x y = journal_leaves run journal s x ∙ sym (journal_leaves run journal t y)
 
 -- ---- and the entries of a step leave one state
-step_leaves : (run : Run) (s t : BusState) (e : BusEvent) → IsStep run s e t → t ≡ fold (left_by run) s (entries run s e)
+step_leaves : (run : Run) (s t : BusState) (e : BusEvent) → IsStep run s e t
+    → t ≡ fold (left_by run) s (entries run s e)
 step_leaves run s t e step = step.state ∙ sym (entries_leave run s e)
 
-pub one_step : (run : Run) (s t u : BusState) (e f : BusEvent) → IsStep run s e t → IsStep run s f u → entries run s e ≡ entries run s f → t ≡ u
-one_step run s t u e f x y same = step_leaves run s t e x ∙ (ap (fold (left_by run) s) same ∙ sym (step_leaves run s u f y))
+pub one_step : (run : Run) (s t u : BusState) (e f : BusEvent) → IsStep run s e t → IsStep run s f u
+    → entries run s e ≡ entries run s f → t ≡ u
+one_step run s t u e f x y same =
+    step_leaves run s t e x ∙ (ap (fold (left_by run) s) same ∙ sym (step_leaves run s u f y))

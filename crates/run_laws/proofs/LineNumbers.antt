@@ -20,12 +20,14 @@ spelled_on n word = fold (λ m digit. m * 10 + (digit - 48)) n word
 
 spelled_decimal : (n : ℕ) → n < 2 ^ 64 → spelled (decimal n) ≡ n
 spelled_decimal n small =
-    digits_value-decimal (numerals_by_fold (AllDigits 10) tells_digits spelled_on (record { empty = λ m. refl; more = λ m c cs k. refl })) n small
+    digits_value-decimal (numerals_by_fold (AllDigits 10) tells_digits spelled_on
+    (record { empty = λ m. refl; more = λ m c cs k. refl })) n small
 
 number_is : (most n : ℕ) → n ≤ most → n < 2 ^ 64 → number_up_to most (decimal n) ≡ Some n
 number_is most n le small =
     let same = spelled_decimal n small in
-    let here : is (decimal n) (decimal (spelled (decimal n))) ≡ true = ap (λ m. is (decimal n) (decimal m)) same ∙ same_bytes (decimal n) in
+    let here : is (decimal n) (decimal (spelled (decimal n))) ≡ true = ap (λ m. is (decimal n) (decimal m)) same
+    ∙ same_bytes (decimal n) in
     let within : nat_le (spelled (decimal n)) most ≡ true = ap (λ m. nat_le m most) same ∙ le-leb n most le in
     ap₂ (λ a b. cond (a && b) (Some (spelled (decimal n))) None) here within ∙ ap Some same
 
@@ -36,7 +38,8 @@ round_is n le = number_is ROUNDS n le (omega arith)
 no_underscore : (n : ℕ) → n < 2 ^ 64 → is (decimal n) (codes "_") ≡ false
 no_underscore n small =
     other_bytes (decimal n) (codes "_")
-    (λ same. let digits : AllDigits 10 (codes "_") = subst (AllDigits 10) same (decimal_is_IsNumeral n small).0.1 in absurd (omega (arith, digits.0)))
+    (λ same. let digits : AllDigits 10 (codes "_") = subst (AllDigits 10) same (decimal_is_IsNumeral n small).0.1 in
+    absurd (omega (arith, digits.0)))
 
 pub reading_is : (reading : Option ℕ) → IsReading reading → reading_in (reading_word reading) ≡ Some reading
 reading_is None within = refl
@@ -51,7 +54,8 @@ digits_inner [] digits = refl
 digits_inner (digit ∷ word) digits =
     let range = digit_from_value digit digits.0 in
     ap₂ (λ a b. a && b)
-    (inner digit (λ same. let space : digit ≡ 32 = same in absurd (omega (arith, range))) (λ same. let feed : digit ≡ 10 = same in absurd (omega (arith, range))))
+    (inner digit (λ same. let space : digit ≡ 32 = same in absurd (omega (arith, range)))
+    (λ same. let feed : digit ≡ 10 = same in absurd (omega (arith, range))))
     (digits_inner word digits.1)
 
 there_if : (word : List ℕ) → 0 < length word → is_there word ≡ true

@@ -38,87 +38,116 @@ use Rattle.run_laws.proofs.Reading.{Told, none_told, is_told, event_tells, lates
 use Rattle.run_laws.proofs.Counting.{is_waiting_phase}
 
 -- ---- each event raises targets
-one_aim : (run : Run) (s : BusState) (j k : ℕ) (m : NodeState) → j < length s.nodes → Rises (aim (plan_of run.design j) (node_at s j)) (aim (plan_of run.design j) m) → Rises (target_of run s k) (target_of run (with_node s j m) k)
+one_aim : (run : Run) (s : BusState) (j k : ℕ) (m : NodeState) → j < length s.nodes
+    → Rises (aim (plan_of run.design j) (node_at s j)) (aim (plan_of run.design j) m)
+    → Rises (target_of run s k) (target_of run (with_node s j m) k)
 one_aim run s j k m within rises = elim (cases_eq k j) [
   | inl same ↦
-      subst (λ n. Rises (target_of run s k) (aim (plan_of run.design k) n)) (sym (get_or-set_at s.nodes j k m no_node same within))
+      subst (λ n. Rises (target_of run s k) (aim (plan_of run.design k) n))
+      (sym (get_or-set_at s.nodes j k m no_node same within))
       (subst (λ i. Rises (aim (plan_of run.design i) (node_at s i)) (aim (plan_of run.design i) m)) (sym same) rises)
-  | inr other ↦ same_aim (target_of run s k) (target_of run (with_node s j m) k) (ap (aim (plan_of run.design k)) (node_stays s j k m other))
+  | inr other ↦ same_aim (target_of run s k) (target_of run (with_node s j m) k)
+      (ap (aim (plan_of run.design k)) (node_stays s j k m other))
 ]
 
 pub times_of : (run : Run) (j : ℕ) → IsRunOf run → j < length run.design.components → IsTimedPlan (plan_of run.design j)
 times_of run j rules within = plan_times run j rules within (component_is run j within)
 
-steps_by : (run : Run) (j : ℕ) (n : NodeState) (p : Phase) → PhaseAgrees run j (component_at run.design j) n p → Steps (plan_of run.design j) n p
+steps_by : (run : Run) (j : ℕ) (n : NodeState) (p : Phase) → PhaseAgrees run j (component_at run.design j) n p
+    → Steps (plan_of run.design j) n p
 steps_by run j n Waiting agree = tt
 steps_by run j n (Running i) agree = agree.within
 steps_by run j n (Between i) agree = agree.0.within
 steps_by run j n Holding agree = tt
 steps_by run j n Done agree = tt
 
-start_aims : (run : Run) (clocks : Clocks) (s : BusState) (node : NodeNo) (reading m : Option ℕ) (k : ℕ) → Agrees run s → node.0 < length run.design.components → is_waiting (node_at s node.0).phase ≡ true → Rises (target_of run s k) (target_of run (after_start run s node reading m) k)
+start_aims : (run : Run) (clocks : Clocks) (s : BusState) (node : NodeNo) (reading m : Option ℕ) (k : ℕ) → Agrees run s
+    → node.0 < length run.design.components → is_waiting (node_at s node.0).phase ≡ true
+    → Rises (target_of run s k) (target_of run (after_start run s node reading m) k)
 start_aims run clocks s node reading (Some link) k agree within waits = same_aim _ _ refl
 start_aims run clocks s node reading None k agree within waits =
     let n = node_at s node.0 in
-    one_aim run s node.0 k (started (plan_of run.design node.0) (values_at run.env n.count) n) (below_nodes run s node.0 agree within)
+    one_aim run s node.0 k (started (plan_of run.design node.0) (values_at run.env n.count) n)
+    (below_nodes run s node.0 agree within)
     (start_rises (plan_of run.design node.0) n (values_at run.env n.count) (is_waiting_phase n.phase waits))
 
-step_aims : (run : Run) (clocks : Clocks) (s : BusState) (node : NodeNo) (reading : Option ℕ) (round step : ℕ) (p : Phase) (k : ℕ) → Agrees run s → Does run clocks s node reading (action.Step round step) → (node_at s node.0).phase ≡ p
-    → Rises (target_of run s k) (target_of run (on_step (next_step p) s (λ i. with_node s node.0 (stepped i (node_at s node.0)))) k)
+step_aims : (run : Run) (clocks : Clocks) (s : BusState) (node : NodeNo) (reading : Option ℕ) (round step : ℕ)
+    (p : Phase) (k : ℕ) → Agrees run s → Does run clocks s node reading (action.Step round step)
+    → (node_at s node.0).phase ≡ p
+    → Rises (target_of run s k)
+    (target_of run (on_step (next_step p) s (λ i. with_node s node.0 (stepped i (node_at s node.0)))) k)
 step_aims run clocks s node reading round step Waiting k agree does is = same_aim _ _ refl
 step_aims run clocks s node reading round step (Running i) k agree does is = same_aim _ _ refl
 step_aims run clocks s node reading round step (Between i) k agree does is =
-    one_aim run s node.0 k (stepped i (node_at s node.0)) (below_nodes run s node.0 agree does.within) (step_rises (plan_of run.design node.0) (node_at s node.0) i round step is does.next)
+    one_aim run s node.0 k (stepped i (node_at s node.0)) (below_nodes run s node.0 agree does.within)
+    (step_rises (plan_of run.design node.0) (node_at s node.0) i round step is does.next)
 step_aims run clocks s node reading round step Holding k agree does is = same_aim _ _ refl
 step_aims run clocks s node reading round step Done k agree does is = same_aim _ _ refl
 
 counted : (round count : ℕ) → count ≡ suc round → 1 ≤ count
 counted round count is = omega arith
 
-finish_aims : (run : Run) (s : BusState) (node : NodeNo) (p : Phase) (k : ℕ) → IsRunOf run → Agrees run s → node.0 < length run.design.components → (node_at s node.0).phase ≡ p → HasDone run node.0 (node_at s node.0)
-    → Rises (target_of run s k) (target_of run (on_step (running_step p) s (λ i. with_node s node.0 (finished (plan_of run.design node.0) run.rounds i (node_at s node.0)))) k)
+finish_aims : (run : Run) (s : BusState) (node : NodeNo) (p : Phase) (k : ℕ) → IsRunOf run → Agrees run s
+    → node.0 < length run.design.components → (node_at s node.0).phase ≡ p → HasDone run node.0 (node_at s node.0)
+    → Rises (target_of run s k)
+    (target_of run (on_step (running_step p) s
+    (λ i. with_node s node.0 (finished (plan_of run.design node.0) run.rounds i (node_at s node.0)))) k)
 finish_aims run s node Waiting k rules agree within is done = same_aim _ _ refl
 finish_aims run s node (Running i) k rules agree within is done =
     let n = node_at s node.0 in
     let plan = plan_of run.design node.0 in
-    let round = subst (PhaseAgrees run node.0 (component_at run.design node.0) n) is (node_agrees run s node.0 agree within).phase in
+    let round =
+    subst (PhaseAgrees run node.0 (component_at run.design node.0) n) is
+    (node_agrees run s node.0 agree within).phase in
     let times = times_of run node.0 rules within in
     one_aim run s node.0 k (finished plan run.rounds i n) (below_nodes run s node.0 agree within)
-    (finish_rises plan run.rounds n i times (counted round.under_way.round n.count round.under_way.count) round.within is (step_was plan done.0 n i times done.1 is))
+    (finish_rises plan run.rounds n i times (counted round.under_way.round n.count round.under_way.count) round.within
+    is (step_was plan done.0 n i times done.1 is))
 finish_aims run s node (Between i) k rules agree within is done = same_aim _ _ refl
 finish_aims run s node Holding k rules agree within is done = same_aim _ _ refl
 finish_aims run s node Done k rules agree within is done = same_aim _ _ refl
 
-some_round : (run : Run) (j : ℕ) (n : NodeState) (p : Phase) (round : ℕ) → PhaseAgrees run j (component_at run.design j) n p → next_in (plan_of run.design j) n p ≡ Some (action.Send round) → 1 ≤ n.count
-some_round run j n Waiting round agree is = absurd (let both : action.Start n.count ≡ action.Send round = same_Some _ _ is in cc)
+some_round : (run : Run) (j : ℕ) (n : NodeState) (p : Phase) (round : ℕ)
+    → PhaseAgrees run j (component_at run.design j) n p → next_in (plan_of run.design j) n p ≡ Some (action.Send round)
+    → 1 ≤ n.count
+some_round run j n Waiting round agree is =
+    absurd (let both : action.Start n.count ≡ action.Send round = same_Some _ _ is in cc)
 some_round run j n (Running i) round agree is = absurd (cc)
 some_round run j n (Between i) round agree is = counted agree.0.under_way.round n.count agree.0.under_way.count
 some_round run j n Holding round agree is = counted agree.under_way.round n.count agree.under_way.count
 some_round run j n Done round agree is = absurd (cc)
 
-kept_aim : (plan : Plan) (n : NodeState) (port : ℕ) (tuple : List PortValue) (p : Phase) → aim_in plan (with_message n port tuple Kept) p ≡ aim_in plan n p
+kept_aim : (plan : Plan) (n : NodeState) (port : ℕ) (tuple : List PortValue) (p : Phase)
+    → aim_in plan (with_message n port tuple Kept) p ≡ aim_in plan n p
 kept_aim plan n port tuple Waiting = refl
 kept_aim plan n port tuple (Running i) = refl
 kept_aim plan n port tuple (Between i) = refl
 kept_aim plan n port tuple Holding = refl
 kept_aim plan n port tuple Done = refl
 
-message_aim : (plan : Plan) (n : NodeState) (port : ℕ) (tuple : List PortValue) (a : Arrived) → aim plan (with_message n port tuple a) ≡ aim plan n
+message_aim : (plan : Plan) (n : NodeState) (port : ℕ) (tuple : List PortValue) (a : Arrived)
+    → aim plan (with_message n port tuple a) ≡ aim plan n
 message_aim plan n port tuple Kept = kept_aim plan n port tuple n.phase
 message_aim plan n port tuple Ignored = refl
 message_aim plan n port tuple Early = refl
 
-pub event_aims : (run : Run) (clocks : Clocks) (s : BusState) (e : BusEvent) (k : ℕ) → IsRunOf run → Agrees run s → KeepsTo run clocks s e → is_allowed run s e ≡ true → ((j : ℕ) → j < length run.design.components → HasDone run j (node_at s j))
+pub event_aims : (run : Run) (clocks : Clocks) (s : BusState) (e : BusEvent) (k : ℕ) → IsRunOf run → Agrees run s
+    → KeepsTo run clocks s e → is_allowed run s e ≡ true
+    → ((j : ℕ) → j < length run.design.components → HasDone run j (node_at s j))
     → Rises (target_of run s k) (target_of run (after run s e) k)
-event_aims run clocks s (Start node reading) k rules agree keeps may done = start_aims run clocks s node reading (missing_link run s node.0) k agree keeps.does.within may
-event_aims run clocks s (Step node reading) k rules agree keeps may done = step_aims run clocks s node reading keeps.0 keeps.1 (node_at s node.0).phase k agree keeps.2 refl
-event_aims run clocks s (Finish node) k rules agree keeps may done = finish_aims run s node (node_at s node.0).phase k rules agree keeps refl (done node.0 keeps)
+event_aims run clocks s (Start node reading) k rules agree keeps may done =
+    start_aims run clocks s node reading (missing_link run s node.0) k agree keeps.does.within may
+event_aims run clocks s (Step node reading) k rules agree keeps may done =
+    step_aims run clocks s node reading keeps.0 keeps.1 (node_at s node.0).phase k agree keeps.2 refl
+event_aims run clocks s (Finish node) k rules agree keeps may done =
+    finish_aims run s node (node_at s node.0).phase k rules agree keeps refl (done node.0 keeps)
 event_aims run clocks s (Send node reading) k rules agree keeps may done =
     let n = node_at s node.0 in
     let does = keeps.1 in
     let here = (node_agrees run s node.0 agree does.within).phase in
     one_aim run s node.0 k (sent_from run.rounds n) (below_nodes run s node.0 agree does.within)
-    (send_rises (plan_of run.design node.0) run.rounds n keeps.0 (times_of run node.0 rules does.within) (some_round run node.0 n n.phase keeps.0 here does.next) (steps_by run node.0 n n.phase here) does.next)
+    (send_rises (plan_of run.design node.0) run.rounds n keeps.0 (times_of run node.0 rules does.within)
+    (some_round run node.0 n n.phase keeps.0 here does.next) (steps_by run node.0 n n.phase here) does.next)
 event_aims run clocks s (Arrive link round reading) k rules agree keeps may done =
     let l = link_at run.design link.0 in
     let n = node_at s l.target.0 in
@@ -130,14 +159,17 @@ event_aims run clocks s (Repeat link round) k rules agree keeps may done = absur
 
 -- ---- no reading is later than a target
 abbrev pub HourIn : Run → Clocks → List JournalEntry → BusState → Type 0
-HourIn run Meet journal s = (k j least : ℕ) → j < length run.design.components → target_of run s j ≡ Some least → latest run.design k journal ≤ least
+HourIn run Meet journal s =
+    (k j least : ℕ) → j < length run.design.components → target_of run s j ≡ Some least
+    → latest run.design k journal ≤ least
 HourIn run (Lists clocks) journal s = Unit {0}
 
 opens_hour : (run : Run) (clocks : Clocks) → HourIn run clocks [] (opening run)
 opens_hour run Meet = λ k j least within is. omega arith
 opens_hour run (Lists clocks) = tt
 
-told_hour : (run : Run) (s : BusState) (e : BusEvent) (journal : List JournalEntry) → Told run Meet s e → ((k : ℕ) → Rises (target_of run s k) (target_of run (after run s e) k)) → HourIn run Meet journal s
+told_hour : (run : Run) (s : BusState) (e : BusEvent) (journal : List JournalEntry) → Told run Meet s e
+    → ((k : ℕ) → Rises (target_of run s k) (target_of run (after run s e) k)) → HourIn run Meet journal s
     → HourIn run Meet (journal ++ entries run s e) (after run s e)
 told_hour run s e journal (none_told tells) rises before = λ k j least within is.
     let old = rises j least is in
@@ -149,36 +181,46 @@ told_hour run s e journal (is_told i at reads tells) rises before = λ k j least
     let old = rises j least is in
     let most = before k j old.0 within old.1 in
     let hour : at ≤ old.0 = reads.shows.1 j old.0 within old.1 in
-    let same : latest run.design k (journal ++ entries run s e) ≡ cond (nat_eq i k) at (latest run.design k journal) = latest_after run.design k journal (entries run s e) ∙ tells k (latest run.design k journal) in
+    let same : latest run.design k (journal ++ entries run s e) ≡ cond (nat_eq i k) at (latest run.design k journal) =
+    latest_after run.design k journal (entries run s e) ∙ tells k (latest run.design k journal) in
     let greater_rate = old.2 in
-    let either : cond (nat_eq i k) at (latest run.design k journal) ≤ old.0 = both (nat_eq i k) at (latest run.design k journal) old.0 hour most in
+    let either : cond (nat_eq i k) at (latest run.design k journal) ≤ old.0 =
+    both (nat_eq i k) at (latest run.design k journal) old.0 hour most in
     omega arith
   where
     both : (b : Bool) (x y z : ℕ) → x ≤ z → y ≤ z → cond b x y ≤ z
     both true x y z p q = p
     both false x y z p q = q
 
-event_hour : (run : Run) (clocks : Clocks) (s : BusState) (e : BusEvent) (journal : List JournalEntry) → IsRunOf run → Agrees run s → KeepsTo run clocks s e → is_allowed run s e ≡ true → ((j : ℕ) → j < length run.design.components → HasDone run j (node_at s j))
+event_hour : (run : Run) (clocks : Clocks) (s : BusState) (e : BusEvent) (journal : List JournalEntry) → IsRunOf run
+    → Agrees run s → KeepsTo run clocks s e → is_allowed run s e ≡ true
+    → ((j : ℕ) → j < length run.design.components → HasDone run j (node_at s j))
     → HourIn run clocks journal s → HourIn run clocks (journal ++ entries run s e) (after run s e)
-event_hour run Meet s e journal rules agree keeps may done before = told_hour run s e journal (event_tells run Meet s e keeps) (λ k. event_aims run Meet s e k rules agree keeps may done) before
+event_hour run Meet s e journal rules agree keeps may done before =
+    told_hour run s e journal (event_tells run Meet s e keeps)
+    (λ k. event_aims run Meet s e k rules agree keeps may done) before
 event_hour run (Lists clocks) s e journal rules agree keeps may done before = tt
 
-pub hour_in : (run : Run) (clocks : Clocks) (journal : List JournalEntry) (s : BusState) → IsRunOf run → Runs run clocks journal s → HourIn run clocks journal s
+pub hour_in : (run : Run) (clocks : Clocks) (journal : List JournalEntry) (s : BusState) → IsRunOf run
+    → Runs run clocks journal s → HourIn run clocks journal s
 hour_in run clocks journal s rules (opens clocks' begin) = opens_hour run clocks
 hour_in run clocks journal s rules (picks_for {later = after'} j runs picks) = tt
 hour_in run clocks journal s rules (goes_on {journal = before} {s = t} e runs keeps step) =
     subst (HourIn run clocks (before ++ entries run t e)) (sym step.state)
-    (event_hour run clocks t e before rules (runs_agree run clocks before t rules runs) keeps step.allowed (λ j within. follows_in run clocks before t j rules runs within) (hour_in run clocks before t rules runs))
+    (event_hour run clocks t e before rules (runs_agree run clocks before t rules runs) keeps step.allowed
+    (λ j within. follows_in run clocks before t j rules runs within) (hour_in run clocks before t rules runs))
 
 -- ---- so no reading falls
-next_acts : (plan : Plan) (n : NodeState) (p : Phase) (action : NodeAction) → next_in plan n p ≡ Some action → action_in plan n p ≡ Some action
+next_acts : (plan : Plan) (n : NodeState) (p : Phase) (action : NodeAction) → next_in plan n p ≡ Some action
+    → action_in plan n p ≡ Some action
 next_acts plan n Waiting action is = is
 next_acts plan n (Running i) action is = absurd (cc)
 next_acts plan n (Between i) action is = is
 next_acts plan n Holding action is = is
 next_acts plan n Done action is = absurd (cc)
 
-pub no_fall : (run : Run) → IsRunOf run → (clocks : Clocks) (journal : List JournalEntry) (s : BusState) → Runs run clocks journal s → NoFall run clocks journal s
+pub no_fall : (run : Run) → IsRunOf run → (clocks : Clocks) (journal : List JournalEntry) (s : BusState)
+    → Runs run clocks journal s → NoFall run clocks journal s
 no_fall run rules (Lists clocks) journal s runs = lists_no_fall run clocks journal s runs
 no_fall run rules Meet journal s runs = λ j at reads.
     let n = node_at s j in

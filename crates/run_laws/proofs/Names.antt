@@ -31,7 +31,8 @@ word_inner word is = all_inner word (word_without 32 word refl is) (word_without
 
 path_inner : (path : List ℕ) → is_path path ≡ true → list_all is_inner path ≡ true
 path_inner path is =
-    all_inner path (path_without 32 path (λ same. absurd (omega (arith, same))) refl is) (path_without 10 path (λ same. absurd (omega (arith, same))) refl is)
+    all_inner path (path_without 32 path (λ same. absurd (omega (arith, same))) refl is)
+    (path_without 10 path (λ same. absurd (omega (arith, same))) refl is)
 
 path_there : (path : List ℕ) → is_path path ≡ true → is_there path ≡ true
 path_there [] is = absurd (false≢true is)
@@ -42,16 +43,20 @@ longer_there [] byte back = there_cons byte back
 longer_there (first ∷ front) byte back = there_cons first (front ++ byte ∷ back)
 
 -- ---- components
-path_of : (design : DesignParts) (node : ℕ) (c : Component) → IsDesign design → slice_get design.components node ≡ Some c → is_path c.path ≡ true
-path_of design node c rules is = (at_element (IsComponent design.period) design.components node c rules.components.each is).path
+path_of : (design : DesignParts) (node : ℕ) (c : Component) → IsDesign design
+    → slice_get design.components node ≡ Some c → is_path c.path ≡ true
+path_of design node c rules is =
+    (at_element (IsComponent design.period) design.components node c rules.components.each is).path
 
-pub node_plain : (design : DesignParts) (node : ℕ) → IsDesign design → node < length design.components → is_plain (node_word design node) ≡ true
+pub node_plain : (design : DesignParts) (node : ℕ) → IsDesign design → node < length design.components
+    → is_plain (node_word design node) ≡ true
 node_plain design node rules within =
     let c = component_at design node within in
     let path = path_of design node c.0 rules c.1 in
     ap (λ o. is_plain (path_in o)) c.1 ∙ ap₂ (λ a b. a && b) (path_inner c.0.path path) (path_there c.0.path path)
 
-pub node_found : (design : DesignParts) (node : ℕ) → IsDesign design → node < length design.components → node_named design (node_word design node) ≡ Some node
+pub node_found : (design : DesignParts) (node : ℕ) → IsDesign design → node < length design.components
+    → node_named design (node_word design node) ≡ Some node
 node_found design node rules within =
     let c = component_at design node within in
     ap (λ o. node_named design (path_in o)) c.1 ∙ node_is_found design node c.0 rules c.1
@@ -69,40 +74,54 @@ ins_are_words b rules =
     let ins = map (λ (p : PortDecl). p.name) b.ins in
     let outs = map (λ (p : PortDecl). p.name) b.outs in
     let vars = map (λ (v : VarDecl). v.name) b.vars in
-    let ports = (and_parts (list_all is_word (ins ++ outs)) (list_all is_word vars) (sym (list_all-append is_word (ins ++ outs) vars) ∙ rules.names.values)).0 in
-    let words = (and_parts (list_all is_word ins) (list_all is_word outs) (sym (list_all-append is_word ins outs) ∙ ports)).0 in
-    all_pass (λ (p : PortDecl). is_word p.name) b.ins (sym (list_all-map is_word (λ (p : PortDecl). p.name) b.ins) ∙ words)
+    let ports =
+    (and_parts (list_all is_word (ins ++ outs)) (list_all is_word vars)
+    (sym (list_all-append is_word (ins ++ outs) vars) ∙ rules.names.values)).0 in
+    let words =
+    (and_parts (list_all is_word ins) (list_all is_word outs) (sym (list_all-append is_word ins outs) ∙ ports)).0 in
+    all_pass (λ (p : PortDecl). is_word p.name) b.ins
+    (sym (list_all-map is_word (λ (p : PortDecl). p.name) b.ins) ∙ words)
 
 abbrev MadeOf : DesignParts → Link → Type 0
-MadeOf design link = (path word : List ℕ) × (link_name design link ≡ path ++ 46 ∷ word) × (is_path path ≡ true) × (is_word word ≡ true)
+MadeOf design link =
+    (path word : List ℕ) × (link_name design link ≡ path ++ 46 ∷ word) × (is_path path ≡ true) × (is_word word ≡ true)
 
 made_of : (design : DesignParts) (link : Link) → IsDesign design → IsLink design link → MadeOf design link
 made_of design link rules rule =
     let node = link.target.0 in
     let c = component_at design node rule.target.node_is in
-    let within : link.in_port < length c.0.behaviour.ins = subst (λ o. link.in_port < ins_in o) c.1 rule.target.port_is in
+    let within : link.in_port < length c.0.behaviour.ins =
+    subst (λ o. link.in_port < ins_in o) c.1 rule.target.port_is in
     let p = port_at c.0.behaviour.ins link.in_port within in (
       c.0.path,
       p.0.name,
-      ap (λ o. in_port_name o link.in_port) c.1 ∙ ap (λ o. c.0.path ++ codes "." ++ port_name o) p.1 ∙ append_assoc c.0.path (46 ∷ []) p.0.name,
+      ap (λ o. in_port_name o link.in_port) c.1 ∙ ap (λ o. c.0.path ++ codes "." ++ port_name o) p.1
+          ∙ append_assoc c.0.path (46 ∷ []) p.0.name,
       path_of design node c.0 rules c.1,
-      at_element (λ (q : PortDecl). is_word q.name ≡ true) c.0.behaviour.ins link.in_port p.0 (ins_are_words c.0.behaviour (is_behaviour design node c.0 rules c.1)) p.1,
+      at_element (λ (q : PortDecl). is_word q.name ≡ true) c.0.behaviour.ins link.in_port p.0
+          (ins_are_words c.0.behaviour (is_behaviour design node c.0 rules c.1)) p.1,
     )
 
-link_there : (design : DesignParts) (link : ℕ) → link < length design.links → slice_get design.links link ≡ Some (link_at design link)
+link_there : (design : DesignParts) (link : ℕ) → link < length design.links
+    → slice_get design.links link ≡ Some (link_at design link)
 link_there design link within = slice_get-get_or design.links link no_link within
 
-pub link_plain : (design : DesignParts) (link : ℕ) → IsDesign design → link < length design.links → is_plain (link_word design link) ≡ true
+pub link_plain : (design : DesignParts) (link : ℕ) → IsDesign design → link < length design.links
+    → is_plain (link_word design link) ≡ true
 link_plain design link rules within =
     let is = link_there design link within in
-    let made = made_of design (link_at design link) rules (at_element (IsLink design) design.links link (link_at design link) rules.links.each is) in
+    let made =
+    made_of design (link_at design link) rules
+    (at_element (IsLink design) design.links link (link_at design link) rules.links.each is) in
     ap (λ o. is_plain (name_in design o)) is
     ∙ ap is_plain made.2
     ∙ ap₂ (λ a b. a && b)
-    (list_all-append is_inner made.0 (46 ∷ made.1) ∙ ap₂ (λ a b. a && b) (path_inner made.0 made.3) (word_inner made.1 made.4))
+    (list_all-append is_inner made.0 (46 ∷ made.1)
+    ∙ ap₂ (λ a b. a && b) (path_inner made.0 made.3) (word_inner made.1 made.4))
     (longer_there made.0 46 made.1)
 
-pub link_found : (design : DesignParts) (link : ℕ) → IsDesign design → link < length design.links → link_named design (link_word design link) ≡ Some link
+pub link_found : (design : DesignParts) (link : ℕ) → IsDesign design → link < length design.links
+    → link_named design (link_word design link) ≡ Some link
 link_found design link rules within =
     let is = link_there design link within in
     ap (λ o. link_named design (name_in design o)) is ∙ link_is_found design link (link_at design link) rules is

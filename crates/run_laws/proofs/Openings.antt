@@ -31,7 +31,8 @@ use Rattle.run_laws.proofs.Links.{rule_of, one_of_false}
 abbrev pub no_time : ℕ
 no_time = 0
 
-pub zero_at : (cs : List Component) (node : ℕ) → slice_index_or (map (λ (_ : Component). no_time) cs) node no_time ≡ no_time
+pub zero_at : (cs : List Component) (node : ℕ)
+    → slice_index_or (map (λ (_ : Component). no_time) cs) node no_time ≡ no_time
 zero_at [] node = refl
 zero_at (c ∷ cs) zero = refl
 zero_at (c ∷ cs) (suc node) = zero_at cs node
@@ -39,7 +40,8 @@ zero_at (c ∷ cs) (suc node) = zero_at cs node
 abbrev pub no_moments : List ℕ
 no_moments = []
 
-pub nothing_sent : (cs : List Component) (node : ℕ) → slice_index_or (map (λ (_ : Component). no_moments) cs) node no_moments ≡ no_moments
+pub nothing_sent : (cs : List Component) (node : ℕ)
+    → slice_index_or (map (λ (_ : Component). no_moments) cs) node no_moments ≡ no_moments
 nothing_sent [] node = refl
 nothing_sent (c ∷ cs) zero = refl
 nothing_sent (c ∷ cs) (suc node) = nothing_sent cs node
@@ -47,7 +49,8 @@ nothing_sent (c ∷ cs) (suc node) = nothing_sent cs node
 abbrev pub no_copies : List FlightCopy
 no_copies = []
 
-pub nothing_flies : (ls : List Link) (number : ℕ) → slice_index_or (map (λ (_ : Link). no_copies) ls) number no_copies ≡ no_copies
+pub nothing_flies : (ls : List Link) (number : ℕ)
+    → slice_index_or (map (λ (_ : Link). no_copies) ls) number no_copies ≡ no_copies
 nothing_flies [] number = refl
 nothing_flies (l ∷ ls) zero = refl
 nothing_flies (l ∷ ls) (suc number) = nothing_flies ls number
@@ -55,24 +58,31 @@ nothing_flies (l ∷ ls) (suc number) = nothing_flies ls number
 abbrev no_slot : Option (List PortValue)
 no_slot = None
 
-nothing_waits : (inputs : List Input) (port : ℕ) → slice_index_or (map (λ (_ : Input). no_slot) inputs) port no_slot ≡ no_slot
+nothing_waits : (inputs : List Input) (port : ℕ)
+    → slice_index_or (map (λ (_ : Input). no_slot) inputs) port no_slot ≡ no_slot
 nothing_waits [] port = refl
 nothing_waits (i ∷ inputs) zero = refl
 nothing_waits (i ∷ inputs) (suc port) = nothing_waits inputs port
 
-pub opens_at : (run : Run) (node : ℕ) → node < length run.design.components → node_at (opening run) node ≡ opening_node (plan_of run.design node)
+pub opens_at : (run : Run) (node : ℕ) → node < length run.design.components
+    → node_at (opening run) node ≡ opening_node (plan_of run.design node)
 opens_at run node within =
     let f : ℕ → NodeState = λ k. opening_node (plan_of run.design k) in
     let nodes = upwards 0 (length run.design.components) in
-    get_or_from_slice_get (map f nodes) node (f node) no_node (slice_get-map f nodes node ∙ ap (option_map f) (upwards_at (length run.design.components) node within))
+    get_or_from_slice_get (map f nodes) node (f node) no_node
+    (slice_get-map f nodes node ∙ ap (option_map f) (upwards_at (length run.design.components) node within))
 
 -- ---- a link
-none_once : (slot : Option (List PortValue)) (flight : List FlightCopy) (count sent round : ℕ) → slot ≡ None → flight ≡ [] → count ≡ 0 → sent ≡ 0 → IsOnce count slot sent flight round
+none_once : (slot : Option (List PortValue)) (flight : List FlightCopy) (count sent round : ℕ) → slot ≡ None
+    → flight ≡ [] → count ≡ 0 → sent ≡ 0 → IsOnce count slot sent flight round
 none_once slot flight count sent round no_message none_flies none_started none_sent =
     let flying : copies round flight ≡ 0 = ap (copies round) none_flies in
     let waiting : one_if (waits count slot round) ≡ 0 =
-    one_of_false (waits count slot round) (and_right (nat_eq count (round + 1)) (is_some slot) (ap (λ (o : Option (List PortValue)). is_some o) no_message)) in
-    let not_taken : one_if (taken count round) ≡ 0 = one_of_false (taken count round) (le-ltb (round + 1) count (omega arith)) in
+    one_of_false (waits count slot round)
+    (and_right (nat_eq count (round + 1)) (is_some slot)
+    (ap (λ (o : Option (List PortValue)). is_some o) no_message)) in
+    let not_taken : one_if (taken count round) ≡ 0 =
+    one_of_false (taken count round) (le-ltb (round + 1) count (omega arith)) in
     let unsent : one_if (nat_lt round sent) ≡ 0 = one_of_false (nat_lt round sent) (le-ltb round sent (omega arith)) in
     let all : copies round flight + one_if (waits count slot round) + one_if (taken count round) ≡ one_if (nat_lt round sent) = omega arith in
     all
@@ -102,11 +112,13 @@ module _ (run : Run) (rules : IsRunOf run) where
       let cs = run.design.components in
       let one = subst (λ (m : NodeState). Stands g plan m 0 0 0 0 []) (sym (opens_at run node within)) stands in
       let two = subst (λ k. Stands g plan (node_at (opening run) node) k 0 k k []) (sym (zero_at cs node)) one in
-      subst (λ l. Stands g plan (node_at (opening run) node) (reading_at (opening_world run) node) 0 (since_at (opening_world run) node) (ready_at (opening_world run) node) l)
+      subst (λ l. Stands g plan (node_at (opening run) node) (reading_at (opening_world run) node) 0
+      (since_at (opening_world run) node) (ready_at (opening_world run) node) l)
       (sym (nothing_sent cs node)) two
 
   opening_link : (number : ℕ) → number < length run.design.links
-      → KeepsLink run (opening_world run) number (link_at run.design number).target.0 (link_at run.design number).in_port
+      → KeepsLink run (opening_world run) number (link_at run.design number).target.0
+      (link_at run.design number).in_port
   opening_link number within =
       let link = link_at run.design number in
       let s = opening run in
@@ -116,8 +128,10 @@ module _ (run : Run) (rules : IsRunOf run) where
       let flies : flight_at s number ≡ [] = nothing_flies run.design.links number in
       record {
         once = λ round.
-            none_once (slot_at (node_at s link.target.0) link.in_port) (flight_at s number) (node_at s link.target.0).count (rounds_sent_on run s number) round
-            (ap (λ (n : NodeState). slot_at n link.in_port) to ∙ nothing_waits (plan_of run.design link.target.0).inputs link.in_port)
+            none_once (slot_at (node_at s link.target.0) link.in_port) (flight_at s number)
+            (node_at s link.target.0).count (rounds_sent_on run s number) round
+            (ap (λ (n : NodeState). slot_at n link.in_port) to
+            ∙ nothing_waits (plan_of run.design link.target.0).inputs link.in_port)
             flies (ap (λ (n : NodeState). n.count) to) (ap (λ (n : NodeState). sent_rounds n) from);
         in_time = λ round is. omega arith;
       }

@@ -28,14 +28,17 @@ use Rattle.run_laws.proofs.Faults.{named, none_if}
 -- ---- what the fault says
 none_past : (time : ℕ) (which : EventSubject) (last : Option ℕ) → past time which last ≡ None → IsInTime time last
 none_past time which None none = tt
-none_past time which (Some last) none = ltb-false last time (none_if (nat_lt last time) (fault.PastDeadline which last) none)
+none_past time which (Some last) none =
+    ltb-false last time (none_if (nat_lt last time) (fault.PastDeadline which last) none)
 
 pub record PassesInTime (run : Run) (w : World) (time : ℕ) (readings : List ℕ) : Type 0 where
   pub many : length readings ≡ length run.design.components
   pub forward : w.time ≤ time
-  pub clocks : (node : ℕ) → node < length run.design.components → IsNear run.design.gamma time (slice_index_or readings node 0)
+  pub clocks : (node : ℕ) → node < length run.design.components
+      → IsNear run.design.gamma time (slice_index_or readings node 0)
   pub in_time : (node : ℕ) → node < length run.design.components → IsInTime time (node_deadline run w node)
-  pub arrive : (number round : ℕ) → number < length run.design.links → is_in_flight round (flight_at w.bus number) ≡ true → time ≤ message_deadline run w number round
+  pub arrive : (number round : ℕ) → number < length run.design.links
+      → is_in_flight round (flight_at w.bus number) ≡ true → time ≤ message_deadline run w number round
 
 module _ (run : Run) (w : World) (time : ℕ) (readings : List ℕ) where
   near : (node : ℕ) → node < length readings → first_of (map (clock_apart run time) (enumerate_from 0 readings)) ≡ None
@@ -45,19 +48,24 @@ module _ (run : Run) (w : World) (time : ℕ) (readings : List ℕ) where
       let eps = run.design.gamma.eps in
       let at = enumerated_at readings node reading (slice_get-get_or readings node 0 within) in
       let one = none_first (clock_apart run time) (enumerate_from 0 readings) node (node, reading) none at in
-      let few : apart reading time < eps = leb-false eps (apart reading time) (none_if (nat_le eps (apart reading time)) (fault.ClockApart (record { 0 = node }) reading) one) in
+      let few : apart reading time < eps =
+      leb-false eps (apart reading time)
+      (none_if (nat_le eps (apart reading time)) (fault.ClockApart (record { 0 = node }) reading) one) in
       let close : (reading - time) + (time - reading) < eps = few in
       record { slow = omega arith; fast = omega arith }
 
-  copy_in_time : (number round : ℕ) (o : Option FlightCopy) → oldest round (flight_at w.bus number) ≡ o → is_some o ≡ true
+  copy_in_time : (number round : ℕ) (o : Option FlightCopy) → oldest round (flight_at w.bus number) ≡ o
+      → is_some o ≡ true
       → link_past run w time number ≡ None → time ≤ message_deadline run w number round
   copy_in_time number round None is some none = absurd (false≢true some)
   copy_in_time number round (Some copy) is some none =
       let flight = flight_at w.bus number in
-      let at : slice_get flight (position_or_len (is_of round) flight) ≡ Some copy = sym (find_at (is_of round) flight) ∙ is in
+      let at : slice_get flight (position_or_len (is_of round) flight) ≡ Some copy =
+      sym (find_at (is_of round) flight) ∙ is in
       let one = none_first (copy_past run w time number) flight (position_or_len (is_of round) flight) copy none at in
       let in_time : time ≤ message_deadline run w number copy.round =
-      none_past time (which.Message (record { 0 = number }) copy.round) (Some (message_deadline run w number copy.round)) one in
+      none_past time (which.Message (record { 0 = number }) copy.round)
+      (Some (message_deadline run w number copy.round)) one in
       let same : copy.round ≡ round = eqb-true copy.round round (find-passes (is_of round) flight copy is) in
       subst (λ r. time ≤ message_deadline run w number r) same in_time
 
@@ -77,33 +85,39 @@ module _ (run : Run) (w : World) (time : ℕ) (readings : List ℕ) where
       let three = both_none aparts (first_of (pasts ∷ carried ∷ [])) two.1 in
       let four = both_none pasts (first_of (carried ∷ [])) three.1 in
       let five = both_none carried (first_of []) four.1 in
-      let many : length readings ≡ length run.design.components = eqb-true (length readings) (length run.design.components) parts.0 in
+      let many : length readings ≡ length run.design.components =
+      eqb-true (length readings) (length run.design.components) parts.0 in
       record {
         many = many;
         forward = ltb-false time w.time (none_if (nat_lt time w.time) (fault.TimeBack time) one.0);
         clocks = λ node within. near node (subst (λ n. node < n) (sym many) within) three.0;
         in_time = λ node within.
             none_past time (which.Node (record { 0 = node })) (node_deadline run w node)
-            (none_first (node_past run w time) nodes node node four.0 (upwards_at (length run.design.components) node within));
+            (none_first (node_past run w time) nodes node node four.0
+            (upwards_at (length run.design.components) node within));
         arrive = λ number round within flies.
             copy_in_time number round (oldest round (flight_at w.bus number)) refl flies
-            (none_first (link_past run w time) links number number five.0 (upwards_at (length run.design.links) number within));
+            (none_first (link_past run w time) links number number five.0
+            (upwards_at (length run.design.links) number within));
       }
 
 -- ---- what it keeps
-module _ (run : Run) (w : World) (time : ℕ) (readings : List ℕ) (keeps : KeepsTime run w) (fine : PassesInTime run w time readings) where
+module _ (run : Run) (w : World) (time : ℕ) (readings : List ℕ) (keeps : KeepsTime run w)
+    (fine : PassesInTime run w time readings) where
   abbrev passed : World
   passed = record w { time = time; readings = readings }
 
   node_later : (node : ℕ) → node < length run.design.components
-      → KeepsNode run.design.gamma (plan_of run.design node) (node_at w.bus node) time (since_at w node) (ready_at w node)
+      → KeepsNode run.design.gamma (plan_of run.design node) (node_at w.bus node) time (since_at w node)
+      (ready_at w node)
   node_later node within =
       let before = keeps.nodes node within in
       let forward = fine.forward in
       record {
         started = λ some. let at = before.started some in omega arith;
         finished = λ step is. let at = before.finished step is in omega arith;
-        running = λ step is. let at = before.running step is in record { due = at.due; prompt = at.prompt; past = omega arith };
+        running = λ step is. let at = before.running step is in
+            record { due = at.due; prompt = at.prompt; past = omega arith };
         unsent = λ may. let at = before.unsent may in record { prompt = at.prompt; past = omega arith };
       }
 
@@ -114,7 +128,8 @@ module _ (run : Run) (w : World) (time : ℕ) (readings : List ℕ) (keeps : Kee
       let forward = fine.forward in
       record {
         each = before.each;
-        sent = λ round is. let at = before.sent round is in record { due = at.due; prompt = at.prompt; past = omega arith };
+        sent = λ round is. let at = before.sent round is in
+            record { due = at.due; prompt = at.prompt; past = omega arith };
       }
 
   pub pass_keeps_time : KeepsTime run (world_after run w (event.Pass time readings))
@@ -126,8 +141,13 @@ module _ (run : Run) (w : World) (time : ℕ) (readings : List ℕ) (keeps : Kee
         moments = record { readings = fine.many; since = sizes.since; ready = sizes.ready; sent_at = sizes.sent_at };
         clocks = fine.clocks;
         in_time = λ node within.
-            subst (IsInTime time) (sym (deadline_is run passed node)) (subst (IsInTime time) (deadline_is run w node) (fine.in_time node within));
+            subst (IsInTime time) (sym (deadline_is run passed node))
+            (subst (IsInTime time) (deadline_is run w node) (fine.in_time node within));
         nodes = node_later;
         sends = sends_later;
-        links = λ number within. record { once = (keeps.links number within).once; in_time = λ round flies. fine.arrive number round within flies };
+        links =
+            λ number within. record {
+              once = (keeps.links number within).once;
+              in_time = λ round flies. fine.arrive number round within flies;
+            };
       }

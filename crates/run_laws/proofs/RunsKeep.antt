@@ -14,7 +14,8 @@ use Rattle.run_laws.proofs.ListClauses.{ends_are_timely, done_are_picked, ended_
 use Rattle.run_laws.proofs.MeetingLines.{meetings_show_targets}
 use Rattle.run_laws.proofs.Clauses.{meetings_stop, meetings_end, no_meeting_stops, stops_are_bounded}
 
-keeps_clocks : (run : Run) (clocks : Clocks) (journal : List JournalEntry) (s : BusState) → IsRunOf run → Runs run clocks journal s → KeepsClocks run clocks journal s
+keeps_clocks : (run : Run) (clocks : Clocks) (journal : List JournalEntry) (s : BusState) → IsRunOf run
+    → Runs run clocks journal s → KeepsClocks run clocks journal s
 keeps_clocks run Meet journal s rules runs = record {
   lines = meetings_show_targets run journal s rules runs;
   stop = meetings_stop run journal s rules runs;

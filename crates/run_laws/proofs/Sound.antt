@@ -20,10 +20,12 @@ use Rattle.run_laws.proofs.RunHistories.{runs_are_histories}
 use Rattle.run_laws.proofs.HistoryVerdicts.{traces_are_sound}
 
 -- ---- the lines of a journal
-journal_has_lines : (design : DesignParts) (journal : List JournalEntry) → IsDesign design → All (IsEntryIn design) journal → All IsLine (map (entry_line design) journal)
+journal_has_lines : (design : DesignParts) (journal : List JournalEntry) → IsDesign design
+    → All (IsEntryIn design) journal → All IsLine (map (entry_line design) journal)
 journal_has_lines design [] rules fit = All-nil IsLine
 journal_has_lines design (e ∷ es) rules fit =
-    All-cons IsLine (entry_line design e) (map (entry_line design) es) (entries_have_lines design e rules (All-head (IsEntryIn design) e es fit))
+    All-cons IsLine (entry_line design e) (map (entry_line design) es)
+    (entries_have_lines design e rules (All-head (IsEntryIn design) e es fit))
     (journal_has_lines design es rules (All-tail (IsEntryIn design) e es fit))
 
 -- ---- each run
@@ -42,11 +44,14 @@ runs_are_traces run clocks journal s rules runs few readings over = record {
 
 pub runs_are_sound : RunsAreSound
 runs_are_sound run clocks journal s rules runs few readings over =
-    traces_are_sound run (trace_of run journal s) (finished_by_all run s) s.stop rules (runs_are_traces run clocks journal s rules runs few readings over)
+    traces_are_sound run (trace_of run journal s) (finished_by_all run s) s.stop rules
+    (runs_are_traces run clocks journal s rules runs few readings over)
 
 pub traces_are_texts : TracesAreTexts
 traces_are_texts run clocks journal s rules runs few readings =
     let report = report_lines run.design run.env (finished_by_all run s) in
     let fit = entries_fit run clocks journal s rules few readings runs in
     texts_have_lines (trace_of run journal s)
-    (All-append IsLine report (map (entry_line run.design) journal) (report_has_lines run.design run.env (finished_by_all run s) rules.design) (journal_has_lines run.design journal rules.design fit))
+    (All-append IsLine report (map (entry_line run.design) journal)
+    (report_has_lines run.design run.env (finished_by_all run s) rules.design)
+    (journal_has_lines run.design journal rules.design fit))

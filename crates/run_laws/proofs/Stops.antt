@@ -37,13 +37,15 @@ behind_first (x ∷ more) = more
 -- a list that has a stop is none of these
 has_stop : (front back : List JournalEntry) (why : Stop) → All IsNoStop (front ++ entry.Stopped why ∷ back) → ⊥
 has_stop [] back why none = none-some why (sym (All-head IsNoStop (entry.Stopped why) back none))
-has_stop (x ∷ front) back why none = has_stop front back why (All-tail IsNoStop x (front ++ entry.Stopped why ∷ back) none)
+has_stop (x ∷ front) back why none =
+    has_stop front back why (All-tail IsNoStop x (front ++ entry.Stopped why ∷ back) none)
 
 -- where such entries stand before the last one, no stop but that one is there, and nothing behind it
 one_stop : (before front back : List JournalEntry) (other why : Stop) → All IsNoStop before
     → front ++ entry.Stopped why ∷ back ≡ before ++ entry.Stopped other ∷ [] → (back ≡ []) × (other ≡ why)
 one_stop [] [] back other why none same = (ap behind_first same, same_Some other why (sym (ap first_stop same)))
-one_stop [] (y ∷ front) back other why none same = absurd (has_stop front back why (subst (All IsNoStop) (sym (ap behind_first same)) (All-nil IsNoStop)))
+one_stop [] (y ∷ front) back other why none same =
+    absurd (has_stop front back why (subst (All IsNoStop) (sym (ap behind_first same)) (All-nil IsNoStop)))
 one_stop (x ∷ before) [] back other why none same =
     absurd (none-some why (sym (ap first_stop same ∙ All-head IsNoStop x before none)))
 one_stop (x ∷ before) (y ∷ front) back other why none same =
@@ -62,7 +64,8 @@ goes : (stop : Option Stop) (x : JournalEntry) → IsNoStop x → stop ≡ None 
 goes stop x none going = subst (λ (o : Option Stop). EndAt o (x ∷ [])) (sym going) (alone x none)
 
 -- more entries behind some that tell no stop
-end_more : (stop : Option Stop) (before more : List JournalEntry) → All IsNoStop before → EndAt stop more → EndAt stop (before ++ more)
+end_more : (stop : Option Stop) (before more : List JournalEntry) → All IsNoStop before → EndAt stop more
+    → EndAt stop (before ++ more)
 end_more None before more none ends = All-append IsNoStop before more none ends
 end_more (Some why) before more none ends = (
   before ++ ends.0,
@@ -76,21 +79,25 @@ start_ends : (run : Run) (s : BusState) (node : NodeNo) (reading m : Option ℕ)
 start_ends run s node reading None going = goes s.stop (start_entry run s node reading None) refl going
 start_ends run s node reading (Some link) going = ([], All-nil IsNoStop, refl)
 
-step_keeps : (step : Option ℕ) (s : BusState) (go : ℕ → BusState) → ((n : ℕ) → (go n).stop ≡ s.stop) → (on_step step s go).stop ≡ s.stop
+step_keeps : (step : Option ℕ) (s : BusState) (go : ℕ → BusState) → ((n : ℕ) → (go n).stop ≡ s.stop)
+    → (on_step step s go).stop ≡ s.stop
 step_keeps None s go keeps = refl
 step_keeps (Some step) s go keeps = keeps step
 
 arrive_ends : (link : LinkNo) (round : ℕ) (reading : Option ℕ) (a : Arrived)
-    → EndAt (early_stop link round reading a) (entry.Arrive link round reading a ∷ stop_entry (early_stop link round reading a))
+    → EndAt (early_stop link round reading a)
+    (entry.Arrive link round reading a ∷ stop_entry (early_stop link round reading a))
 arrive_ends link round reading Kept = alone (entry.Arrive link round reading Kept) refl
 arrive_ends link round reading Ignored = alone (entry.Arrive link round reading Ignored) refl
-arrive_ends link round reading Early = (entry.Arrive link round reading Early ∷ [], alone (entry.Arrive link round reading Early) refl, refl)
+arrive_ends link round reading Early =
+    (entry.Arrive link round reading Early ∷ [], alone (entry.Arrive link round reading Early) refl, refl)
 
 event_ends : (run : Run) (s : BusState) (e : BusEvent) → s.stop ≡ None → EndAt (after run s e).stop (entries run s e)
 event_ends run s (Start node reading) going = start_ends run s node reading (missing_link run s node.0) going
 event_ends run s (Step node reading) going =
     let n = node_at s node.0 in
-    goes _ _ refl (step_keeps (next_step n.phase) s (λ step. with_node s node.0 (stepped step n)) (λ step. refl) ∙ going)
+    goes _ _ refl (step_keeps (next_step n.phase) s (λ step. with_node s node.0 (stepped step n))
+    (λ step. refl) ∙ going)
 event_ends run s (Finish node) going =
     let n = node_at s node.0 in
     let go = λ (step : ℕ). with_node s node.0 (finished (plan_of run.design node.0) run.rounds step n) in
@@ -104,22 +111,27 @@ event_ends run s (Repeat link round) going = goes _ _ refl going
 journal_ends : (run : Run) (journal : List JournalEntry) (s : BusState) → Replays run journal s → EndAt s.stop journal
 journal_ends run journal s opens = All-nil IsNoStop
 journal_ends run journal s (goes_on {journal = before} {s = t} e replays step) =
-    let none : All IsNoStop before = subst (λ (o : Option Stop). EndAt o before) step.going (journal_ends run before t replays) in
+    let none : All IsNoStop before =
+    subst (λ (o : Option Stop). EndAt o before) step.going (journal_ends run before t replays) in
     let ends = end_more (after run t e).stop before (entries run t e) none (event_ends run t e step.going) in
     subst (λ (b : BusState). EndAt b.stop (before ++ entries run t e)) (sym step.state) ends
 
-ended : (stop : Option Stop) (front back : List JournalEntry) (why : Stop) → EndAt stop (front ++ entry.Stopped why ∷ back)
+ended : (stop : Option Stop) (front back : List JournalEntry) (why : Stop)
+    → EndAt stop (front ++ entry.Stopped why ∷ back)
     → (back ≡ []) × (stop ≡ Some why)
 ended None front back why ends = absurd (has_stop front back why ends)
 ended (Some other) front back why ends =
     let one = one_stop ends.0 front back other why ends.1 ends.2 in
     (one.0, ap Some one.1)
 
-pub nothing_behind : (run : Run) (front back : List JournalEntry) (why : Stop) (s : BusState) → Replays run (front ++ entry.Stopped why ∷ back) s
+pub nothing_behind : (run : Run) (front back : List JournalEntry) (why : Stop) (s : BusState)
+    → Replays run (front ++ entry.Stopped why ∷ back) s
     → (back ≡ []) × (s.stop ≡ Some why)
-nothing_behind run front back why s replays = ended s.stop front back why (journal_ends run (front ++ entry.Stopped why ∷ back) s replays)
+nothing_behind run front back why s replays =
+    ended s.stop front back why (journal_ends run (front ++ entry.Stopped why ∷ back) s replays)
 
-pub told : (run : Run) (journal : List JournalEntry) (why : Stop) (s : BusState) → Replays run journal s → s.stop ≡ Some why
+pub told : (run : Run) (journal : List JournalEntry) (why : Stop) (s : BusState) → Replays run journal s
+    → s.stop ≡ Some why
     → (front : List JournalEntry) × (journal ≡ front ++ entry.Stopped why ∷ [])
 told run journal why s replays stands =
     let ends = subst (λ (o : Option Stop). EndAt o journal) stands (journal_ends run journal s replays) in

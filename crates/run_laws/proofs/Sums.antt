@@ -21,7 +21,8 @@ sum_stays f g (suc n) most =
     omega arith
 
 -- where each term rises by no more than another
-pub sum_rises : (f g h : ℕ → ℕ) (n : ℕ) → ((k : ℕ) → k < n → g k ≤ f k + h k) → sum_below g n ≤ sum_below f n + sum_below h n
+pub sum_rises : (f g h : ℕ → ℕ) (n : ℕ) → ((k : ℕ) → k < n → g k ≤ f k + h k)
+    → sum_below g n ≤ sum_below f n + sum_below h n
 sum_rises f g h zero most = omega arith
 sum_rises f g h (suc n) most =
     let rest = sum_rises f g h n (λ k below. most k (omega arith)) in
@@ -58,7 +59,8 @@ sum_both f g zero = refl
 sum_both f g (suc n) = let rest = sum_both f g n in omega arith
 
 -- where no column of a table has more than one, the whole has no more than there are columns
-pub sum_columns : (h : ℕ → ℕ → ℕ) (n m : ℕ) → ((i : ℕ) → i < m → sum_below (λ k. h k i) n ≤ 1) → sum_below (λ k. sum_below (h k) m) n ≤ m
+pub sum_columns : (h : ℕ → ℕ → ℕ) (n m : ℕ) → ((i : ℕ) → i < m → sum_below (λ k. h k i) n ≤ 1)
+    → sum_below (λ k. sum_below (h k) m) n ≤ m
 sum_columns h n zero one = let none = sum_none n in omega arith
 sum_columns h n (suc m) one =
     let rest = sum_columns h n m (λ i below. one i (omega arith)) in
@@ -102,5 +104,6 @@ sum_front f xs d (suc n) within =
     let last = ap (λ i. sum_by f (take i xs)) next in
     omega arith
 
-pub sum_list : {X : Type 0} (f : X → ℕ) (xs : List X) (d : X) → sum_below (λ k. f (slice_index_or xs k d)) (length xs) ≡ sum_by f xs
+pub sum_list : {X : Type 0} (f : X → ℕ) (xs : List X) (d : X)
+    → sum_below (λ k. f (slice_index_or xs k d)) (length xs) ≡ sum_by f xs
 sum_list f xs d = sum_front f xs d (length xs) (omega arith) ∙ ap (sum_by f) (take_all (length xs) xs (omega arith))

@@ -22,7 +22,8 @@ abbrev pub NoSpace : List ℕ → Type 0
 NoSpace word = All (λ byte. nat_eq 32 byte ≡ false) word
 
 pub inner : (byte : ℕ) → byte ≢ 32 → byte ≢ 10 → is_inner byte ≡ true
-inner byte space feed = ap₂ (λ a b. not a && not b) (ne_eqb 32 byte (λ same. space (sym same))) (ne_eqb 10 byte (λ same. feed (sym same)))
+inner byte space feed =
+    ap₂ (λ a b. not a && not b) (ne_eqb 32 byte (λ same. space (sym same))) (ne_eqb 10 byte (λ same. feed (sym same)))
 
 pub all_inner : (word : List ℕ) → IsWithout 32 word → IsWithout 10 word → list_all is_inner word ≡ true
 all_inner [] spaces feeds = refl
@@ -42,10 +43,12 @@ not_space byte passes = not-true (nat_eq 32 byte) (and_parts (not (nat_eq 32 byt
 
 not_feed : (byte : ℕ) → is_inner byte ≡ true → byte ≢ 10
 not_feed byte passes same =
-    eqb-false 10 byte (not-true (nat_eq 10 byte) (and_parts (not (nat_eq 32 byte)) (not (nat_eq 10 byte)) passes).1) (sym same)
+    eqb-false 10 byte (not-true (nat_eq 10 byte)
+    (and_parts (not (nat_eq 32 byte)) (not (nat_eq 10 byte)) passes).1) (sym same)
 
 pub no_space : (word : List ℕ) → list_all is_inner word ≡ true → NoSpace word
-no_space word passes = All-weaker (λ b. is_inner b ≡ true) (λ b. nat_eq 32 b ≡ false) not_space word (all_pass is_inner word passes)
+no_space word passes =
+    All-weaker (λ b. is_inner b ≡ true) (λ b. nat_eq 32 b ≡ false) not_space word (all_pass is_inner word passes)
 
 no_feed : (word : List ℕ) → list_all is_inner word ≡ true → IsLine word
 no_feed word passes = All-weaker (λ b. is_inner b ≡ true) (λ b. b ≢ 10) not_feed word (all_pass is_inner word passes)
@@ -56,7 +59,8 @@ pub data ArePlain : List (List ℕ) → Type 0 where
   before : {word : List ℕ} {words : List (List ℕ)} → is_plain word ≡ true → ArePlain words → ArePlain (word ∷ words)
 
 -- the words between the spaces are these
-pub words_are : (word : List ℕ) (words : List (List ℕ)) → ArePlain (word ∷ words) → words_of (spaced (word ∷ words)) ≡ word ∷ words
+pub words_are : (word : List ℕ) (words : List (List ℕ)) → ArePlain (word ∷ words)
+    → words_of (spaced (word ∷ words)) ≡ word ∷ words
 words_are word [] (before plain rest) =
     let parts = and_parts (list_all is_inner word) (is_there word) plain in
     slice_split_none (nat_eq 32) word (no_space word parts.0)
@@ -77,5 +81,7 @@ pub is_one_line : (words : List (List ℕ)) → ArePlain words → IsLine (space
 is_one_line [] end = All-nil (λ b. b ≢ 10)
 is_one_line (word ∷ []) (before plain rest) = no_feed word (and_parts (list_all is_inner word) (is_there word) plain).0
 is_one_line (word ∷ next ∷ words) (before plain rest) =
-    All-append (λ b. b ≢ 10) word (32 ∷ join_with_byte 32 (next ∷ words)) (no_feed word (and_parts (list_all is_inner word) (is_there word) plain).0)
-    (All-cons (λ b. b ≢ 10) 32 (join_with_byte 32 (next ∷ words)) (λ same. absurd (omega (arith, same))) (is_one_line (next ∷ words) rest))
+    All-append (λ b. b ≢ 10) word (32 ∷ join_with_byte 32 (next ∷ words))
+    (no_feed word (and_parts (list_all is_inner word) (is_there word) plain).0)
+    (All-cons (λ b. b ≢ 10) 32 (join_with_byte 32 (next ∷ words)) (λ same. absurd (omega (arith, same)))
+    (is_one_line (next ∷ words) rest))

@@ -66,12 +66,14 @@ abbrev node_left : Plan → ℕ → ℕ → NodeState → ℕ
 node_left plan rounds send n = left_of plan.rate rounds send n.count n.phase n.sent
 
 -- ---- each event of it
-one_round_less : (rounds count each : ℕ) → count < rounds → (rounds - count) * each ≡ (rounds - (count + 1)) * each + each
+one_round_less : (rounds count each : ℕ) → count < rounds
+    → (rounds - count) * each ≡ (rounds - (count + 1)) * each + each
 one_round_less rounds count each below =
     let one : rounds - count ≡ (rounds - (count + 1)) + 1 = omega arith in
     ap (λ r. r * each) one ∙ omega arith
 
-start_less : (plan : Plan) (rounds send : ℕ) (n : NodeState) (values : List PortValue) → 1 ≤ plan.rate → n.count < rounds
+start_less : (plan : Plan) (rounds send : ℕ) (n : NodeState) (values : List PortValue) → 1 ≤ plan.rate
+    → n.count < rounds
     → node_left plan rounds send (started plan values n) + 1 ≤ node_left plan rounds send n
 start_less plan rounds send n values rate below =
     let more = one_round_less rounds n.count (2 * plan.rate + send) below in
@@ -80,35 +82,46 @@ start_less plan rounds send n values rate below =
 step_less : (plan : Plan) (rounds send i : ℕ) (n : NodeState) → n.phase ≡ Between i → i < plan.rate
     → node_left plan rounds send (stepped i n) + 1 ≤ node_left plan rounds send n
 step_less plan rounds send i n between below =
-    let was : round_left plan.rate send n.sent n.phase ≡ 2 * (plan.rate - i) + send_left send n.sent = ap (round_left plan.rate send n.sent) between in
+    let was : round_left plan.rate send n.sent n.phase ≡ 2 * (plan.rate - i) + send_left send n.sent =
+    ap (round_left plan.rate send n.sent) between in
     omega arith
 
-rest_left : (rate send : ℕ) (own sent b : Bool) → round_left rate send own (if sent then at_rest b else Holding) ≤ send_left send own
+rest_left : (rate send : ℕ) (own sent b : Bool)
+    → round_left rate send own (if sent then at_rest b else Holding) ≤ send_left send own
 rest_left rate send own true true = omega arith
 rest_left rate send own true false = omega arith
 rest_left rate send own false b = omega arith
 
-finish_by : (plan : Plan) (rounds send i : ℕ) (n x y : NodeState) (b : Bool) → nat_lt (i + 1) plan.rate ≡ b → i < plan.rate → n.phase ≡ Running i
-    → x.count ≡ n.count → x.sent ≡ n.sent → x.phase ≡ Between (i + 1) → y.count ≡ n.count → y.sent ≡ n.sent → y.phase ≡ after_round rounds n
+finish_by : (plan : Plan) (rounds send i : ℕ) (n x y : NodeState) (b : Bool) → nat_lt (i + 1) plan.rate ≡ b
+    → i < plan.rate → n.phase ≡ Running i
+    → x.count ≡ n.count → x.sent ≡ n.sent → x.phase ≡ Between (i + 1) → y.count ≡ n.count → y.sent ≡ n.sent
+    → y.phase ≡ after_round rounds n
     → node_left plan rounds send (cond b x y) + 1 ≤ node_left plan rounds send n
 finish_by plan rounds send i n x y true is below runs xc xs xp yc ys yp =
-    let was : round_left plan.rate send n.sent n.phase ≡ 2 * (plan.rate - i) - 1 + send_left send n.sent = ap (round_left plan.rate send n.sent) runs in
-    let now : round_left plan.rate send x.sent x.phase ≡ 2 * (plan.rate - (i + 1)) + send_left send x.sent = ap (round_left plan.rate send x.sent) xp in
+    let was : round_left plan.rate send n.sent n.phase ≡ 2 * (plan.rate - i) - 1 + send_left send n.sent =
+    ap (round_left plan.rate send n.sent) runs in
+    let now : round_left plan.rate send x.sent x.phase ≡ 2 * (plan.rate - (i + 1)) + send_left send x.sent =
+    ap (round_left plan.rate send x.sent) xp in
     let unsent : send_left send x.sent ≡ send_left send n.sent = ap (send_left send) xs in
-    let more : (rounds - x.count) * (2 * plan.rate + send) ≡ (rounds - n.count) * (2 * plan.rate + send) = ap (λ c. (rounds - c) * (2 * plan.rate + send)) xc in
+    let more : (rounds - x.count) * (2 * plan.rate + send) ≡ (rounds - n.count) * (2 * plan.rate + send) =
+    ap (λ c. (rounds - c) * (2 * plan.rate + send)) xc in
     let last = ltb-true (i + 1) plan.rate is in
     omega arith
 finish_by plan rounds send i n x y false is below runs xc xs xp yc ys yp =
-    let was : round_left plan.rate send n.sent n.phase ≡ 2 * (plan.rate - i) - 1 + send_left send n.sent = ap (round_left plan.rate send n.sent) runs in
-    let now : round_left plan.rate send y.sent y.phase ≡ round_left plan.rate send y.sent (after_round rounds n) = ap (round_left plan.rate send y.sent) yp in
+    let was : round_left plan.rate send n.sent n.phase ≡ 2 * (plan.rate - i) - 1 + send_left send n.sent =
+    ap (round_left plan.rate send n.sent) runs in
+    let now : round_left plan.rate send y.sent y.phase ≡ round_left plan.rate send y.sent (after_round rounds n) =
+    ap (round_left plan.rate send y.sent) yp in
     let rest = rest_left plan.rate send y.sent n.sent (nat_eq n.count rounds) in
     let unsent : send_left send y.sent ≡ send_left send n.sent = ap (send_left send) ys in
-    let more : (rounds - y.count) * (2 * plan.rate + send) ≡ (rounds - n.count) * (2 * plan.rate + send) = ap (λ c. (rounds - c) * (2 * plan.rate + send)) yc in
+    let more : (rounds - y.count) * (2 * plan.rate + send) ≡ (rounds - n.count) * (2 * plan.rate + send) =
+    ap (λ c. (rounds - c) * (2 * plan.rate + send)) yc in
     omega arith
 
 finish_less : (plan : Plan) (rounds send i : ℕ) (n : NodeState) → i < plan.rate → n.phase ≡ Running i
     → node_left plan rounds send (finished plan rounds i n) + 1 ≤ node_left plan rounds send n
-finish_less plan rounds send i n below runs = finish_by plan rounds send i n _ _ (nat_lt (i + 1) plan.rate) refl below runs refl refl refl refl refl refl
+finish_less plan rounds send i n below runs =
+    finish_by plan rounds send i n _ _ (nat_lt (i + 1) plan.rate) refl below runs refl refl refl refl refl refl
 
 ended_left : (rate send : ℕ) (b : Bool) → round_left rate send true (at_rest b) ≡ 0
 ended_left rate send true = refl
@@ -120,13 +133,15 @@ send_by : (plan : Plan) (rounds send : ℕ) (n : NodeState) (p : Phase) → send
 send_by plan rounds send n Waiting all enough = absurd (false≢true enough)
 send_by plan rounds send n (Running step) all enough = omega arith
 send_by plan rounds send n (Between steps) all enough = omega arith
-send_by plan rounds send n Holding all enough = let none = ended_left plan.rate send (nat_eq n.count rounds) in omega arith
+send_by plan rounds send n Holding all enough = let none =
+    ended_left plan.rate send (nat_eq n.count rounds) in omega arith
 send_by plan rounds send n Done all enough = absurd (false≢true enough)
 
 send_less : (plan : Plan) (rounds send : ℕ) (n : NodeState) → may_send plan n ≡ true
     → node_left plan rounds send (sent_from rounds n) + send ≤ node_left plan rounds send n
 send_less plan rounds send n may =
-    let parts = and_parts (not n.sent) (option_map_or (nat_le plan.sent_steps) (finished_steps plan.rate n.phase) false) may in
+    let parts =
+    and_parts (not n.sent) (option_map_or (nat_le plan.sent_steps) (finished_steps plan.rate n.phase) false) may in
     let all : send_left send n.sent ≡ send = ap (send_left send) (not-true n.sent parts.0) in
     let less = send_by plan rounds send n n.phase all parts.1 in
     omega arith
@@ -134,7 +149,8 @@ send_less plan rounds send n may =
 -- ---- of a run: what is left of its nodes, and the copies in flight
 -- how many links a node sends on
 abbrev links_of : Run → ℕ → ℕ
-links_of run node = sum_below (λ number. one_if (nat_eq (link_at run.design number).source.0 node)) (length run.design.links)
+links_of run node =
+    sum_below (λ number. one_if (nat_eq (link_at run.design number).source.0 node)) (length run.design.links)
 
 abbrev work_at : Run → BusState → ℕ → ℕ
 work_at run s node = node_left (plan_of run.design node) run.rounds (links_of run node + 1) (node_at s node)
@@ -152,7 +168,8 @@ abbrev pub work_left : Run → BusState → ℕ
 work_left run s = nodes_left run s + all_flying run s
 
 -- where one node has less left
-one_node_less : (run : Run) (s : BusState) (j less : ℕ) (m : NodeState) → Agrees run s → j < length run.design.components
+one_node_less : (run : Run) (s : BusState) (j less : ℕ) (m : NodeState) → Agrees run s
+    → j < length run.design.components
     → node_left (plan_of run.design j) run.rounds (links_of run j + 1) m + less ≤ work_at run s j
     → nodes_left run (with_node s j m) + less ≤ nodes_left run s
 one_node_less run s j less m agree within falls =
@@ -174,11 +191,13 @@ abbrev pub Lessens : Run → BusState → BusState → ℕ → Type 0
 Lessens run s t lines = lines + work_left run t ≤ work_left run s + stop_lines t.stop
 
 one_less : (run : Run) (s : BusState) (j : ℕ) (m : NodeState) → Agrees run s → j < length run.design.components
-    → node_left (plan_of run.design j) run.rounds (links_of run j + 1) m + 1 ≤ work_at run s j → Lessens run s (with_node s j m) 1
+    → node_left (plan_of run.design j) run.rounds (links_of run j + 1) m + 1 ≤ work_at run s j
+    → Lessens run s (with_node s j m) 1
 one_less run s j m agree within falls = let less = one_node_less run s j 1 m agree within falls in omega arith
 
 start_lessens : (run : Run) (s : BusState) (node : NodeNo) (reading m : Option ℕ) → IsRunOf run → Agrees run s
-    → node.0 < length run.design.components → is_waiting (node_at s node.0).phase ≡ true → Lessens run s (after_start run s node reading m) 1
+    → node.0 < length run.design.components → is_waiting (node_at s node.0).phase ≡ true
+    → Lessens run s (after_start run s node reading m) 1
 start_lessens run s node reading (Some link) rules agree within waits = omega arith
 start_lessens run s node reading None rules agree within waits =
     let n = node_at s node.0 in
@@ -186,29 +205,37 @@ start_lessens run s node reading None rules agree within waits =
     let here = subst (PhaseAgrees run node.0 (component_at run.design node.0) n) (is_waiting_phase n.phase waits)
     (node_agrees run s node.0 agree within).phase in
     one_less run s node.0 (started plan (values_at run.env n.count) n) agree within
-    (start_less plan run.rounds (links_of run node.0 + 1) n (values_at run.env n.count) (plan_rules run node.0 rules within).rate here.1)
+    (start_less plan run.rounds (links_of run node.0 + 1) n (values_at run.env n.count)
+    (plan_rules run node.0 rules within).rate here.1)
 
-step_lessens : (run : Run) (s : BusState) (node : NodeNo) (p : Phase) → Agrees run s → node.0 < length run.design.components
+step_lessens : (run : Run) (s : BusState) (node : NodeNo) (p : Phase) → Agrees run s
+    → node.0 < length run.design.components
     → (node_at s node.0).phase ≡ p → is_some (next_step p) ≡ true
     → Lessens run s (on_step (next_step p) s (λ i. with_node s node.0 (stepped i (node_at s node.0)))) 1
 step_lessens run s node Waiting agree within is may = absurd (false≢true may)
 step_lessens run s node (Running i) agree within is may = absurd (false≢true may)
 step_lessens run s node (Between i) agree within is may =
     let n = node_at s node.0 in
-    let here = subst (PhaseAgrees run node.0 (component_at run.design node.0) n) is (node_agrees run s node.0 agree within).phase in
+    let here =
+    subst (PhaseAgrees run node.0 (component_at run.design node.0) n) is
+    (node_agrees run s node.0 agree within).phase in
     one_less run s node.0 (stepped i n) agree within
     (step_less (plan_of run.design node.0) run.rounds (links_of run node.0 + 1) i n is here.0.within)
 step_lessens run s node Holding agree within is may = absurd (false≢true may)
 step_lessens run s node Done agree within is may = absurd (false≢true may)
 
-finish_lessens : (run : Run) (s : BusState) (node : NodeNo) (p : Phase) → Agrees run s → node.0 < length run.design.components
+finish_lessens : (run : Run) (s : BusState) (node : NodeNo) (p : Phase) → Agrees run s
+    → node.0 < length run.design.components
     → (node_at s node.0).phase ≡ p → is_some (running_step p) ≡ true
-    → Lessens run s (on_step (running_step p) s (λ i. with_node s node.0 (finished (plan_of run.design node.0) run.rounds i (node_at s node.0)))) 1
+    → Lessens run s (on_step (running_step p) s
+    (λ i. with_node s node.0 (finished (plan_of run.design node.0) run.rounds i (node_at s node.0)))) 1
 finish_lessens run s node Waiting agree within is may = absurd (false≢true may)
 finish_lessens run s node (Running i) agree within is may =
     let n = node_at s node.0 in
     let plan = plan_of run.design node.0 in
-    let here = subst (PhaseAgrees run node.0 (component_at run.design node.0) n) is (node_agrees run s node.0 agree within).phase in
+    let here =
+    subst (PhaseAgrees run node.0 (component_at run.design node.0) n) is
+    (node_agrees run s node.0 agree within).phase in
     one_less run s node.0 (finished plan run.rounds i n) agree within
     (finish_less plan run.rounds (links_of run node.0 + 1) i n here.within is)
 finish_lessens run s node (Between i) agree within is may = absurd (false≢true may)
@@ -221,28 +248,36 @@ one_copy_by : (flight : List FlightCopy) (copy : FlightCopy) (b : Bool)
 one_copy_by flight copy true = let size = length-append flight (copy ∷ []) in omega arith
 one_copy_by flight copy false = omega arith
 
-one_copy : (run : Run) (s : BusState) (node : NodeNo) (reading : Option ℕ) (number : ℕ) → number < length run.design.links
-    → flying (after_send run s node reading) number ≤ flying s number + one_if (nat_eq (link_at run.design number).source.0 node.0)
+one_copy : (run : Run) (s : BusState) (node : NodeNo) (reading : Option ℕ) (number : ℕ)
+    → number < length run.design.links
+    → flying (after_send run s node reading) number
+    ≤ flying s number + one_if (nat_eq (link_at run.design number).source.0 node.0)
 one_copy run s node reading number within =
     let n = node_at s node.0 in
     let link = link_at run.design number in
     let is : slice_get run.design.links number ≡ Some link = slice_get-get_or run.design.links number no_link within in
     let same : flight_at (after_send run s node reading) number ≡ flight_after_send run s node reading number link =
-    numbered_at (λ (numbered : ℕ × Link). flight_after_send run s node reading numbered.0 numbered.1) run.design.links number link [] is in
-    let copy = sent_copy (round_of n) reading (delay_of run.delays number (round_of n)) (message_from (plan_of run.design node.0) n link.out_port) in
+    numbered_at (λ (numbered : ℕ × Link). flight_after_send run s node reading numbered.0 numbered.1) run.design.links
+    number link [] is in
+    let copy =
+    sent_copy (round_of n) reading (delay_of run.delays number (round_of n))
+    (message_from (plan_of run.design node.0) n link.out_port) in
     let few = one_copy_by (flight_at s number) copy (nat_eq link.source.0 node.0) in
     let size = ap length same in
     omega arith
 
-send_lessens : (run : Run) (s : BusState) (node : NodeNo) (reading : Option ℕ) → Agrees run s → node.0 < length run.design.components
+send_lessens : (run : Run) (s : BusState) (node : NodeNo) (reading : Option ℕ) → Agrees run s
+    → node.0 < length run.design.components
     → may_send (plan_of run.design node.0) (node_at s node.0) ≡ true → Lessens run s (after_send run s node reading) 1
 send_lessens run s node reading agree within may =
     let n = node_at s node.0 in
     let send = links_of run node.0 + 1 in
     let less : nodes_left run (after_send run s node reading) + send ≤ nodes_left run s =
-    one_node_less run s node.0 send (sent_from run.rounds n) agree within (send_less (plan_of run.design node.0) run.rounds send n may) in
+    one_node_less run s node.0 send (sent_from run.rounds n) agree within
+    (send_less (plan_of run.design node.0) run.rounds send n may) in
     let more = sum_rises (flying s) (flying (after_send run s node reading))
-    (λ number. one_if (nat_eq (link_at run.design number).source.0 node.0)) (length run.design.links) (one_copy run s node reading) in
+    (λ number. one_if (nat_eq (link_at run.design number).source.0 node.0)) (length run.design.links)
+    (one_copy run s node reading) in
     omega arith
 
 -- an arrival takes a copy out of its flight
@@ -252,7 +287,8 @@ fewer_by : (round : ℕ) (c : FlightCopy) (cs : List FlightCopy) (b : Bool) → 
 fewer_by round c cs true some rest = omega arith
 fewer_by round c cs false some rest = let fewer = rest some in omega arith
 
-fewer_left : (round : ℕ) (flight : List FlightCopy) → oldest round flight ≢ None → length (without_oldest round flight) + 1 ≤ length flight
+fewer_left : (round : ℕ) (flight : List FlightCopy) → oldest round flight ≢ None
+    → length (without_oldest round flight) + 1 ≤ length flight
 fewer_left round [] some = absurd (some refl)
 fewer_left round (c ∷ cs) some =
     subst (λ f. length f + 1 ≤ length (c ∷ cs)) (sym (without_by round c cs (is_of round c) refl))
@@ -264,7 +300,8 @@ stop_entries link round reading Kept = refl
 stop_entries link round reading Ignored = refl
 stop_entries link round reading Early = refl
 
-arrive_lessens : (run : Run) (s : BusState) (link : LinkNo) (round : ℕ) (reading : Option ℕ) (copy : FlightCopy) → Agrees run s
+arrive_lessens : (run : Run) (s : BusState) (link : LinkNo) (round : ℕ) (reading : Option ℕ) (copy : FlightCopy)
+    → Agrees run s
     → link.0 < length run.design.links → (link_at run.design link.0).target.0 < length run.design.components
     → oldest round (flight_at s link.0) ≡ Some copy
     → Lessens run s (after_arrive run s link round reading) (length (entries run s (Arrive link round reading)))
@@ -282,7 +319,8 @@ arrive_lessens run s link round reading copy agree within node is =
     let nodes : nodes_left run t + 0 ≤ nodes_left run s = one_node_less run s l.target.0 0 m agree node (omega arith) in
     let count = agree.flight_count in
     let there : link.0 < length s.flights = omega arith in
-    let fewer = fewer_left round (flight_at s link.0) (λ none. let both : None ≡ Some copy = sym none ∙ is in absurd (cc)) in
+    let fewer =
+    fewer_left round (flight_at s link.0) (λ none. let both : None ≡ Some copy = sym none ∙ is in absurd (cc)) in
     let here : flight_at t link.0 ≡ flight = get_or-set_at s.flights link.0 link.0 flight [] refl there in
     let size = ap length here in
     let flights : all_flying run t + 1 ≤ all_flying run s =
@@ -299,8 +337,10 @@ event_lessens run clocks s (Start node reading) rules agree keeps may =
     start_lessens run s node reading (missing_link run s node.0) rules agree keeps.does.within may
 event_lessens run clocks s (Step node reading) rules agree keeps may =
     step_lessens run s node (node_at s node.0).phase agree keeps.2.within refl may
-event_lessens run clocks s (Finish node) rules agree keeps may = finish_lessens run s node (node_at s node.0).phase agree keeps refl may
-event_lessens run clocks s (Send node reading) rules agree keeps may = send_lessens run s node reading agree keeps.1.within may
+event_lessens run clocks s (Finish node) rules agree keeps may =
+    finish_lessens run s node (node_at s node.0).phase agree keeps refl may
+event_lessens run clocks s (Send node reading) rules agree keeps may =
+    send_lessens run s node reading agree keeps.1.within may
 event_lessens run clocks s (Arrive link round reading) rules agree keeps may =
     arrive_lessens run s link round reading keeps.copy agree keeps.within keeps.does.within keeps.is_copy
 event_lessens run clocks s (Drop link round) rules agree keeps may = absurd keeps
@@ -342,7 +382,8 @@ most_left run =
     (λ k below. let same = opening_work run k below in omega arith) in
     let scaled = sum_scale (λ k. steps k + links_of run k) run.rounds nodes in
     let both = sum_both steps (links_of run) nodes in
-    let links = sum_columns (λ k number. one_if (nat_eq (link_at run.design number).source.0 k)) nodes (length run.design.links)
+    let links =
+    sum_columns (λ k number. one_if (nat_eq (link_at run.design number).source.0 k)) nodes (length run.design.links)
     (λ number below. one_is (link_at run.design number).source.0 nodes) in
     let list = sum_list (λ (c : Component). 2 * c.rate + 1) run.design.components no_component in
     let flights = sum_stays (λ k. 0) (flying (opening run)) (length run.design.links)

@@ -34,7 +34,8 @@ left_small : (a : ℕ) (b : Option ℕ) (last most : ℕ) → a ≤ most → les
 left_small a None last most below is = let same : a ≡ last = same_Some a last is in omega arith
 left_small a (Some b) last most below is = let same : min a b ≡ last = same_Some (min a b) last is in omega arith
 
-right_small : (b : Option ℕ) (last most : ℕ) → ((x : ℕ) → b ≡ Some x → x ≤ most) → lesser None b ≡ Some last → last ≤ most
+right_small : (b : Option ℕ) (last most : ℕ) → ((x : ℕ) → b ≡ Some x → x ≤ most) → lesser None b ≡ Some last
+    → last ≤ most
 right_small b last most below is = below last is
 
 send_small : (may : Bool) (a x most : ℕ) → (may ≡ true → a ≤ most) → (if may then Some a else None) ≡ Some x → x ≤ most
@@ -42,10 +43,14 @@ send_small true a x most below is = let same : a ≡ x = same_Some a x is in let
 send_small false a x most below is = absurd (none-some x is)
 
 module _ (run : Run) (w : World) (rules : IsRunOf run) (few : run.rounds ≤ ROUNDS) (keeps : KeepsTime run w) where
-  alarms_small : (node : ℕ) → node < length run.design.components → alarm run.design.period (node_at w.bus node).count + 4 * HOUR ≤ READING
-  alarms_small node within = small run.design.period run.rounds (node_at w.bus node).count rules.design.period.1 few (rounds_at_most run w rules keeps node within)
+  alarms_small : (node : ℕ) → node < length run.design.components
+      → alarm run.design.period (node_at w.bus node).count + 4 * HOUR ≤ READING
+  alarms_small node within =
+      small run.design.period run.rounds (node_at w.bus node).count rules.design.period.1 few
+      (rounds_at_most run w rules keeps node within)
 
-  clocks_small : (node : ℕ) → node < length run.design.components → (node_at w.bus node).phase ≢ Done → reading_at w node ≤ READING
+  clocks_small : (node : ℕ) → node < length run.design.components → (node_at w.bus node).phase ≢ Done
+      → reading_at w node ≤ READING
   clocks_small node within busy =
       let last = late run w rules keeps node within busy in
       let clock = keeps.clocks node within in
@@ -58,23 +63,27 @@ module _ (run : Run) (w : World) (rules : IsRunOf run) (few : run.rounds ≤ ROU
     here = node_at w.bus node
 
     -- a step that is out, or waited for
-    step_small : (i round : ℕ) → here.count ≡ suc round → i < (plan_of run.design node).rate → step_alarm (plan_of run.design node) here i + 4 * HOUR ≤ READING
+    step_small : (i round : ℕ) → here.count ≡ suc round → i < (plan_of run.design node).rate
+        → step_alarm (plan_of run.design node) here i + 4 * HOUR ≤ READING
     step_small i round is below =
         let fit = fits_at run node rules within in
         let most = alarms_small node within in
-        let next : alarm run.design.period here.count ≡ alarm run.design.period (here.count - 1) + run.design.period = next_alarm run.design.period here.count round is in
+        let next : alarm run.design.period here.count ≡ alarm run.design.period (here.count - 1) + run.design.period =
+        next_alarm run.design.period here.count round is in
         let more : i * (plan_of run.design node).step_period ≤ (plan_of run.design node).rate * (plan_of run.design node).step_period = mul-le i _ (plan_of run.design node).rate _ (omega arith) (omega arith) in
         let all = fit.steps in
         omega arith
 
     release_small : may_send (plan_of run.design node) here ≡ true
-        → max (ready_at w node) (last_before (release_alarm (plan_of run.design node) here) run.design.gamma.eps) ≤ READING
+        → max (ready_at w node) (last_before (release_alarm (plan_of run.design node) here)
+        run.design.gamma.eps) ≤ READING
     release_small may =
         let plan = plan_of run.design node in
         let fit = fits_at run node rules within in
         let ready = (keeps.nodes node within).unsent may in
         let most = alarms_small node within in
-        let before : alarm run.design.period (here.count - 1) ≤ alarm run.design.period here.count = alarm_more run.design.period (here.count - 1) here.count (omega arith) in
+        let before : alarm run.design.period (here.count - 1) ≤ alarm run.design.period here.count =
+        alarm_more run.design.period (here.count - 1) here.count (omega arith) in
         let r = fit.release in
         let x = fit.executed in
         let hour = rules.design.period.1 in
@@ -82,11 +91,13 @@ module _ (run : Run) (w : World) (rules : IsRunOf run) (few : run.rounds ≤ ROU
         omega arith
 
     last_small : (p : Phase) → here.phase ≡ p → PhaseAgrees run node (component_at run.design node) here p → (last : ℕ)
-        → lesser (phase_last run.design.gamma (plan_of run.design node) here (since_at w node) p) (send_last run.design.gamma (plan_of run.design node) here (ready_at w node)) ≡ Some last → last ≤ READING
+        → lesser (phase_last run.design.gamma (plan_of run.design node) here (since_at w node) p)
+        (send_last run.design.gamma (plan_of run.design node) here (ready_at w node)) ≡ Some last → last ≤ READING
     last_small Waiting is agrees last same =
         let most = alarms_small node within in
         let skew = rules.design.gamma.skew.1 in
-        left_small (last_before (start_alarm (plan_of run.design node) here) run.design.gamma.eps) _ last READING (omega arith) same
+        left_small (last_before (start_alarm (plan_of run.design node) here) run.design.gamma.eps) _ last READING
+        (omega arith) same
     last_small (Running step) is agrees last same =
         let out = (keeps.nodes node within).running step is in
         let most = step_small step agrees.under_way.round agrees.under_way.count agrees.within in
@@ -96,13 +107,15 @@ module _ (run : Run) (w : World) (rules : IsRunOf run) (few : run.rounds ≤ ROU
     last_small (Between steps) is agrees last same =
         let most = step_small steps agrees.0.under_way.round agrees.0.under_way.count agrees.0.within in
         let skew = rules.design.gamma.skew.1 in
-        left_small (last_before (step_alarm (plan_of run.design node) here steps) run.design.gamma.eps) _ last READING (omega arith) same
+        left_small (last_before (step_alarm (plan_of run.design node) here steps) run.design.gamma.eps) _ last READING
+        (omega arith) same
     last_small Holding is agrees last same =
         send_small (may_send (plan_of run.design node) here) _ last READING release_small same
     last_small Done is agrees last same =
         send_small (may_send (plan_of run.design node) here) _ last READING release_small same
 
-  message_small : (number round : ℕ) → number < length run.design.links → round < rounds_sent_on run w.bus number → message_deadline run w number round ≤ READING
+  message_small : (number round : ℕ) → number < length run.design.links → round < rounds_sent_on run w.bus number
+      → message_deadline run w number round ≤ READING
   message_small number round within sent =
       let source = (link_at run.design number).source.0 in
       let from : source < length run.design.components = (rule_of run number rules within).source.node_is in
@@ -110,7 +123,8 @@ module _ (run : Run) (w : World) (rules : IsRunOf run) (few : run.rounds ≤ ROU
       let moment = (keeps.sends source from).sent round (omega arith) in
       let fit = fits_at run source rules from in
       let most = rounds_at_most run w rules keeps source from in
-      let fewer : sent_rounds (node_at w.bus source) ≤ (node_at w.bus source).count = sent_most (node_at w.bus source).sent (node_at w.bus source).count in
+      let fewer : sent_rounds (node_at w.bus source) ≤ (node_at w.bus source).count =
+      sent_most (node_at w.bus source).sent (node_at w.bus source).count in
       let bound = small run.design.period run.rounds round rules.design.period.1 few (omega arith) in
       let r = fit.release in
       let x = fit.executed in
@@ -123,7 +137,8 @@ module _ (run : Run) (w : World) (rules : IsRunOf run) (few : run.rounds ≤ ROU
 pub times_are_readings : TimesAreReadings
 times_are_readings run w rules few keeps = record {
   nodes = λ node last within is.
-      last_small run w rules few keeps node within (node_at w.bus node).phase refl (phase_agrees run w rules keeps node within) last (sym (deadline_is run w node) ∙ is);
+      last_small run w rules few keeps node within (node_at w.bus node).phase refl
+      (phase_agrees run w rules keeps node within) last (sym (deadline_is run w node) ∙ is);
   messages = message_small run w rules few keeps;
   clocks = clocks_small run w rules few keeps;
 }

@@ -29,7 +29,8 @@ pub record KeepsLists (run : Run) (clocks : List ClockState) (journal : List Jou
   -- where each node is done or has come to its list's end, each round of each link is in time
   pub timely : AllOver run clocks s → EachLink run (λ number. (round : ℕ) → IsTimely run clocks number round)
   -- a node is done then exactly where its picks reach its last target
-  pub done : EachNode run (λ node. IsOver run clocks s node → ((node_at s node).phase ≡ Done) ↔ PicksAll run clocks node)
+  pub done : EachNode run (λ node. IsOver run clocks s node
+      → ((node_at s node).phase ≡ Done) ↔ PicksAll run clocks node)
   -- and else they end at the target that it waits for
   pub ended : EachNode run (λ node. (ended : HasEnded run clocks s node)
       → PicksEndAt run clocks node (target (plan_of run.design node) ended.0))

@@ -14,9 +14,11 @@ last_before reading eps = reading + eps - 1
 
 -- by its phase: a round, or a step of it, is to start once its alarm is due; a step is to be finished
 abbrev pub phase_deadline : Run → World → ℕ → Phase → Option ℕ
-phase_deadline run w node Waiting = Some (last_before (start_alarm (plan_of run.design node) (node_at w.bus node)) run.design.gamma.eps)
+phase_deadline run w node Waiting =
+    Some (last_before (start_alarm (plan_of run.design node) (node_at w.bus node)) run.design.gamma.eps)
 phase_deadline run w node (Running step) = Some (since_at w node + run.design.gamma.alpha_max)
-phase_deadline run w node (Between steps) = Some (last_before (step_alarm (plan_of run.design node) (node_at w.bus node) steps) run.design.gamma.eps)
+phase_deadline run w node (Between steps) =
+    Some (last_before (step_alarm (plan_of run.design node) (node_at w.bus node) steps) run.design.gamma.eps)
 phase_deadline run w node Holding = None
 phase_deadline run w node Done = None
 
@@ -25,7 +27,8 @@ abbrev pub send_deadline : Run → World → ℕ → Option ℕ
 send_deadline run w node =
     let plan = plan_of run.design node in
     let n = node_at w.bus node in
-    if may_send plan n then Some (max (ready_at w node) (last_before (release_alarm plan n) run.design.gamma.eps)) else None
+    if may_send plan n then Some
+    (max (ready_at w node) (last_before (release_alarm plan n) run.design.gamma.eps)) else None
 
 -- where there are two, the lesser counts
 abbrev pub lesser : Option ℕ → Option ℕ → Option ℕ

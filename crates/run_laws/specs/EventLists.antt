@@ -22,6 +22,8 @@ pub record IsInStep (run : Run) (w : World) : Type 0 where
 
 -- from the opening on it stands so after each first part of these events, and each message that arrives is kept
 pub record GoRight (run : Run) (events : List Event) : Type 0 where
-  pub in_step : (before later : List Event) → events ≡ before ++ later → IsInStep run (world_left run (opening_world run) before)
-  pub kept : (before later : List Event) (link : LinkNo) (round : ℕ) → events ≡ before ++ event.Arrive link round ∷ later
+  pub in_step : (before later : List Event) → events ≡ before ++ later
+      → IsInStep run (world_left run (opening_world run) before)
+  pub kept : (before later : List Event) (link : LinkNo) (round : ℕ)
+      → events ≡ before ++ event.Arrive link round ∷ later
       → arrival run (world_left run (opening_world run) before).bus link round ≡ Kept

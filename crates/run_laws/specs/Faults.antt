@@ -61,7 +61,8 @@ abbrev pub clock_back : World → Reading → Option EventFault
 clock_back w at = found_if (nat_lt at.1 (reading_at w at.0)) (fault.ClockBack (record { 0 = at.0 }) at.1)
 
 abbrev pub clock_apart : Run → ℕ → Reading → Option EventFault
-clock_apart run time at = found_if (nat_le run.design.gamma.eps (apart at.1 time)) (fault.ClockApart (record { 0 = at.0 }) at.1)
+clock_apart run time at =
+    found_if (nat_le run.design.gamma.eps (apart at.1 time)) (fault.ClockApart (record { 0 = at.0 }) at.1)
 
 -- the time is past the last time that a node or a message allows
 abbrev pub past : ℕ → EventSubject → Option ℕ → Option EventFault
@@ -72,7 +73,8 @@ abbrev pub node_past : Run → World → ℕ → ℕ → Option EventFault
 node_past run w time node = past time (which.Node (record { 0 = node })) (node_deadline run w node)
 
 abbrev pub copy_past : Run → World → ℕ → ℕ → FlightCopy → Option EventFault
-copy_past run w time link copy = past time (which.Message (record { 0 = link }) copy.round) (Some (message_deadline run w link copy.round))
+copy_past run w time link copy =
+    past time (which.Message (record { 0 = link }) copy.round) (Some (message_deadline run w link copy.round))
 
 abbrev pub link_past : Run → World → ℕ → ℕ → Option EventFault
 link_past run w time link = first_of (map (copy_past run w time link) (flight_at w.bus link))
@@ -95,7 +97,8 @@ abbrev pub wrong_phase : Run → World → NodeNo → BusEvent → Option EventF
 wrong_phase run w node e = found_if (not (is_allowed run w.bus e)) (fault.WrongPhase node)
 
 abbrev pub no_message : Run → World → LinkNo → ℕ → Option EventFault
-no_message run w link round = found_if (not (is_allowed run w.bus (Arrive link round None))) (fault.NoSuchMessage link round)
+no_message run w link round =
+    found_if (not (is_allowed run w.bus (Arrive link round None))) (fault.NoSuchMessage link round)
 
 -- the reading is below this alarm
 abbrev pub not_due : World → NodeNo → ℕ → Option EventFault
@@ -107,16 +110,21 @@ too_soon w which earliest = found_if (nat_lt w.time earliest) (fault.TooSoon whi
 abbrev pub event_fault : Run → World → Event → Option EventFault
 event_fault run w (event.Pass time readings) = pass_fault run w time readings
 event_fault run w (event.Start node) =
-    or_else (wrong_phase run w node (Start node None)) (not_due w node (start_alarm (plan_of run.design node.0) (node_at w.bus node.0)))
+    or_else (wrong_phase run w node (Start node None))
+    (not_due w node (start_alarm (plan_of run.design node.0) (node_at w.bus node.0)))
 event_fault run w (event.Step node) =
     or_else (wrong_phase run w node (Step node None))
-    (not_due w node (step_alarm (plan_of run.design node.0) (node_at w.bus node.0) (unwrap_or (next_step (node_at w.bus node.0).phase) 0)))
+    (not_due w node (step_alarm (plan_of run.design node.0) (node_at w.bus node.0)
+    (unwrap_or (next_step (node_at w.bus node.0).phase) 0)))
 event_fault run w (event.Finish node) =
-    or_else (wrong_phase run w node (Finish node)) (too_soon w (which.Node node) (since_at w node.0 + run.design.gamma.alpha_min))
+    or_else (wrong_phase run w node (Finish node))
+    (too_soon w (which.Node node) (since_at w node.0 + run.design.gamma.alpha_min))
 event_fault run w (event.Send node) =
-    or_else (wrong_phase run w node (Send node None)) (not_due w node (release_alarm (plan_of run.design node.0) (node_at w.bus node.0)))
+    or_else (wrong_phase run w node (Send node None))
+    (not_due w node (release_alarm (plan_of run.design node.0) (node_at w.bus node.0)))
 event_fault run w (event.Arrive link round) =
-    or_else (no_message run w link round) (too_soon w (which.Message link round) (flight_since run w link.0 round + run.design.gamma.mu_min))
+    or_else (no_message run w link round)
+    (too_soon w (which.Message link round) (flight_since run w link.0 round + run.design.gamma.mu_min))
 event_fault run w (event.Drop link round) = Some fault.LossOrRepeat
 event_fault run w (event.Repeat link round) = Some fault.LossOrRepeat
 

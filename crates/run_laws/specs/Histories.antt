@@ -28,18 +28,21 @@ pub record IsRead (run : Run) (journal : List JournalEntry) (node : ℕ) (readin
 
 -- ---- events
 -- a step is not before its own time in the round
-pub record StepsInTime (run : Run) (journal : List JournalEntry) (s : BusState) (node : ℕ) (reading : Option ℕ) : Type 0 where
+pub record StepsInTime (run : Run) (journal : List JournalEntry) (s : BusState) (node : ℕ)
+    (reading : Option ℕ) : Type 0 where
   pub step : ℕ
   pub next : next_step (node_at s node).phase ≡ Some step
   pub read : IsRead run journal node reading (step_alarm (plan_of run.design node) (node_at s node) step)
 
 -- a start is not before its round's alarm, and all messages that are due to the node have arrived
-pub record StartsInTime (run : Run) (journal : List JournalEntry) (s : BusState) (node : ℕ) (reading : Option ℕ) : Type 0 where
+pub record StartsInTime (run : Run) (journal : List JournalEntry) (s : BusState) (node : ℕ)
+    (reading : Option ℕ) : Type 0 where
   pub read : IsRead run journal node reading (start_alarm (plan_of run.design node) (node_at s node))
   pub taken : NoneDue run s node reading
 
 -- an arrival is read from its target's clock, and the message is due by then
-pub record ArrivesInTime (run : Run) (journal : List JournalEntry) (s : BusState) (link round : ℕ) (reading : Option ℕ) : Type 0 where
+pub record ArrivesInTime (run : Run) (journal : List JournalEntry) (s : BusState) (link round : ℕ)
+    (reading : Option ℕ) : Type 0 where
   pub read : IsRead run journal (link_at run.design link).target.0 reading 0
   pub copy : FlightCopy
   pub is_copy : oldest round (flight_at s link) ≡ Some copy
@@ -50,7 +53,8 @@ abbrev pub IsInTime : Run → List JournalEntry → BusState → BusEvent → Ty
 IsInTime run journal s (Start node reading) = StartsInTime run journal s node.0 reading
 IsInTime run journal s (Step node reading) = StepsInTime run journal s node.0 reading
 IsInTime run journal s (Finish node) = Unit {0}
-IsInTime run journal s (Send node reading) = IsRead run journal node.0 reading (release_alarm (plan_of run.design node.0) (node_at s node.0))
+IsInTime run journal s (Send node reading) =
+    IsRead run journal node.0 reading (release_alarm (plan_of run.design node.0) (node_at s node.0))
 IsInTime run journal s (Arrive link round reading) = ArrivesInTime run journal s link.0 round reading
 IsInTime run journal s (Drop link round) = ⊥
 IsInTime run journal s (Repeat link round) = ⊥
@@ -59,7 +63,8 @@ IsInTime run journal s (Repeat link round) = ⊥
 -- the journal and the state that events leave, one after another, from the opening on: each is allowed by the machine, and in time
 pub data History (run : Run) : List JournalEntry → BusState → Type 0 where
   opens : History run [] (opening run)
-  goes_on : {journal : List JournalEntry} {s t : BusState} (e : BusEvent) → History run journal s → IsStep run s e t → IsInTime run journal s e
+  goes_on : {journal : List JournalEntry} {s t : BusState} (e : BusEvent) → History run journal s → IsStep run s e t
+      → IsInTime run journal s e
       → History run (journal ++ entries run s e) t
 
 -- ---- traces

@@ -29,7 +29,8 @@ spelled word = fold (λ n digit. n * 10 + (digit - 48)) 0 word
 
 -- a number up to this one, in decimal digits without a leading zero
 abbrev pub number_up_to : ℕ → List ℕ → Option ℕ
-number_up_to most word = if is word (decimal (spelled word)) && nat_le (spelled word) most then Some (spelled word) else None
+number_up_to most word =
+    if is word (decimal (spelled word)) && nat_le (spelled word) most then Some (spelled word) else None
 
 abbrev pub round_in : List ℕ → Option ℕ
 round_in word = number_up_to ROUNDS word
@@ -83,10 +84,12 @@ with_step name round (step ∷ rest) =
 -- ---- what follows the first word of each line
 abbrev pub arrive_line : List (List ℕ) → Option Form
 arrive_line words =
-    named words (λ name round more. read more (λ reading left. with_result left (λ result. ArriveLine name round reading result)))
+    named words (λ name round more.
+    read more (λ reading left. with_result left (λ result. ArriveLine name round reading result)))
 
 abbrev pub start_line : List (List ℕ) → Option Form
-start_line words = named words (λ name round more. read more (λ reading left. at_end (StartLine name round reading) left))
+start_line words =
+    named words (λ name round more. read more (λ reading left. at_end (StartLine name round reading) left))
 
 abbrev pub step_line : List (List ℕ) → Option Form
 step_line words = named words with_step
@@ -104,11 +107,13 @@ abbrev pub repeat_line : List (List ℕ) → Option Form
 repeat_line words = named words (λ name round left. at_end (RepeatLine name round) left)
 
 abbrev pub early_line : List (List ℕ) → Option Form
-early_line words = named words (λ name round more. read more (λ reading left. at_end (EarlyLine name round reading) left))
+early_line words =
+    named words (λ name round more. read more (λ reading left. at_end (EarlyLine name round reading) left))
 
 abbrev pub missed_line : List (List ℕ) → Option Form
 missed_line words =
-    named words (λ name round more. read more (λ reading left. with_cause left (λ cause. MissedLine name round reading cause)))
+    named words (λ name round more.
+    read more (λ reading left. with_cause left (λ cause. MissedLine name round reading cause)))
 
 abbrev pub stop_line : List (List ℕ) → Option Form
 stop_line [] = None

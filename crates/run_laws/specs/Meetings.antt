@@ -17,7 +17,8 @@ use Rattle.pals_runs.specs.declared.journal.JournalEntry.TheVariants as entry
 -- ---- what lines show
 -- an arrival and a stop show the alarm of the round that their link's target starts next
 abbrev pub AtNext : Run → List JournalEntry → LinkNo → Option ℕ → Type 0
-AtNext run front link reading = reading ≡ Some (alarm run.design.period (length (starts (link_at run.design link.0).target.0 front)))
+AtNext run front link reading =
+    reading ≡ Some (alarm run.design.period (length (starts (link_at run.design link.0).target.0 front)))
 
 abbrev pub StopShows : Run → List JournalEntry → Stop → Type 0
 StopShows run front (stop.Missed link round reading cause) = AtNext run front link reading
@@ -63,4 +64,5 @@ MeetingStop run (stop.Early link round reading) =
 -- each delay is between the least and the greatest of the bounds
 abbrev pub DelaysFit : Run → Type 0
 DelaysFit run = (number round : ℕ) → number < length run.design.links
-    → (run.design.gamma.mu_min ≤ delay_of run.delays number round) × (delay_of run.delays number round ≤ run.design.gamma.mu_max)
+    → (run.design.gamma.mu_min ≤ delay_of run.delays number round)
+    × (delay_of run.delays number round ≤ run.design.gamma.mu_max)

@@ -17,7 +17,8 @@ abbrev pub first_turn : Turn
 first_turn = record { before = record { round = 0; steps = 0; sent = false }; action = action.Start 0 }
 
 abbrev pub next_turn : Plan → Turn → Turn
-next_turn plan t = record { before = progress_after t.before t.action; action = next_action plan (progress_after t.before t.action) }
+next_turn plan t =
+    record { before = progress_after t.before t.action; action = next_action plan (progress_after t.before t.action) }
 
 -- the turn after n others
 abbrev pub turns : Plan → ℕ → Turn → Turn

@@ -53,7 +53,8 @@ action_shown design front (entry.Stopped why) = Some (stop_action design front w
 
 -- a line's reading is its node's pick for the action that it shows, which is the first that the lines before it don't show, and
 -- it is no less than that action's target
-pub record ShowsPick (run : Run) (clocks : List ClockState) (front : List JournalEntry) (e : JournalEntry) (t : Timed) : Type 0 where
+pub record ShowsPick (run : Run) (clocks : List ClockState) (front : List JournalEntry) (e : JournalEntry)
+    (t : Timed) : Type 0 where
   pub action : NodeAction
   pub at : ℕ
   pub shows : action_shown run.design front e ≡ Some action
@@ -66,4 +67,5 @@ pub record ShowsPick (run : Run) (clocks : List ClockState) (front : List Journa
 abbrev pub LinesAre : Run → List ClockState → List JournalEntry → List JournalEntry → Type 0
 LinesAre run clocks front [] = Unit {0}
 LinesAre run clocks front (e ∷ es) =
-    ((t : Timed) → timed run.design e ≡ Some t → ShowsPick run clocks front e t) × LinesAre run clocks (front ++ e ∷ []) es
+    ((t : Timed) → timed run.design e ≡ Some t → ShowsPick run clocks front e t)
+    × LinesAre run clocks (front ++ e ∷ []) es

@@ -41,7 +41,8 @@ left_for run clocks node action = reached (clock_at clocks node).left (target (p
 
 -- the reading that a node waits for, or works at; none where it is done
 abbrev pub target_of : Run → BusState → ℕ → Option ℕ
-target_of run s node = option_map (target (plan_of run.design node)) (action_of (plan_of run.design node) (node_at s node))
+target_of run s node =
+    option_map (target (plan_of run.design node)) (action_of (plan_of run.design node) (node_at s node))
 
 -- no node that is not done has a lesser target
 abbrev pub IsLeast : Run → BusState → ℕ → Type 0
@@ -57,10 +58,12 @@ Shows run (Lists clocks) s node target at = (slice_get (clock_at clocks node).le
 -- a node's list holds no reading for its next target
 abbrev pub HasEnded : Run → List ClockState → BusState → ℕ → Type 0
 HasEnded run clocks s node =
-    (action : NodeAction) × (upcoming (plan_of run.design node) (node_at s node) ≡ Some action) × (left_for run clocks node action ≡ [])
+    (action : NodeAction) × (upcoming (plan_of run.design node) (node_at s node) ≡ Some action)
+    × (left_for run clocks node action ≡ [])
 
 -- a node's list picks for its next action
-pub record Picks (run : Run) (clocks : List ClockState) (s : BusState) (node : ℕ) (later : List ClockState) : Type 0 where
+pub record Picks (run : Run) (clocks : List ClockState) (s : BusState) (node : ℕ)
+    (later : List ClockState) : Type 0 where
   pub within : node < length run.design.components
   pub action : NodeAction
   pub next : upcoming (plan_of run.design node) (node_at s node) ≡ Some action
@@ -68,7 +71,8 @@ pub record Picks (run : Run) (clocks : List ClockState) (s : BusState) (node : �
 
 -- ---- events
 -- a node does its next action
-pub record Does (run : Run) (clocks : Clocks) (s : BusState) (node : NodeNo) (reading : Option ℕ) (action : NodeAction) : Type 0 where
+pub record Does (run : Run) (clocks : Clocks) (s : BusState) (node : NodeNo) (reading : Option ℕ)
+    (action : NodeAction) : Type 0 where
   pub within : node.0 < length run.design.components
   pub next : upcoming (plan_of run.design node.0) (node_at s node.0) ≡ Some action
   pub at : ℕ
@@ -99,7 +103,8 @@ pub record Begins (run : Run) (clocks : Clocks) (s : BusState) (node : NodeNo) (
   pub awaited : IsAwaited run clocks s node.0
 
 -- a message that is due to a node that is to start arrives
-pub record Takes (run : Run) (clocks : Clocks) (s : BusState) (link : LinkNo) (round : ℕ) (reading : Option ℕ) : Type 0 where
+pub record Takes (run : Run) (clocks : Clocks) (s : BusState) (link : LinkNo) (round : ℕ)
+    (reading : Option ℕ) : Type 0 where
   pub within : link.0 < length run.design.links
   pub does : let node = (link_at run.design link.0).target in Does run clocks s node reading (next_start s node)
   pub waits : is_waiting (node_at s (link_at run.design link.0).target.0).phase ≡ true

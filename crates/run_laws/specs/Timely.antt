@@ -23,7 +23,8 @@ use Rattle.bus_machine.specs.declared.action.NodeAction.TheVariants as action
 abbrev pub IsTimely : Run → List ClockState → ℕ → ℕ → Type 0
 IsTimely run clocks number round = let link = link_at run.design number in
     (start : ℕ) → round + 1 < run.rounds → IsPickFor run clocks link.target.0 (action.Start (round + 1)) start
-    → (send : ℕ) × IsPickFor run clocks link.source.0 (action.Send round) send × (send + delay_of run.delays number round ≤ start)
+    → (send : ℕ) × IsPickFor run clocks link.source.0 (action.Send round) send
+    × (send + delay_of run.delays number round ≤ start)
 
 -- ---- where a node has come to its end
 -- all its rounds are done, or its list has no reading for its next target
@@ -51,14 +52,17 @@ pub record StandsAt (run : Run) (clocks : List ClockState) (number begins : ℕ)
 
 -- a message that is missed, at the start of the round after its own, is not in time, and it is not lost; where it was not sent, its
 -- source's picks end before its send
-pub record MissesInput (run : Run) (clocks : List ClockState) (number round : ℕ) (reading : Option ℕ) (cause : Cause) : Type 0 where
+pub record MissesInput (run : Run) (clocks : List ClockState) (number round : ℕ) (reading : Option ℕ)
+    (cause : Cause) : Type 0 where
   pub stands : StandsAt run clocks number (round + 1) reading
   pub late : IsTimely run clocks number round → ⊥
   pub not_lost : cause ≢ Lost
-  pub unsent : cause ≡ NotSent → (at : ℕ) → IsPickFor run clocks (link_at run.design number).source.0 (action.Send round) at → ⊥
+  pub unsent : cause ≡ NotSent → (at : ℕ)
+      → IsPickFor run clocks (link_at run.design number).source.0 (action.Send round) at → ⊥
 
 -- one that comes early is of the round that its target is to start, or of a later one, and it was due by the pick of that very start
-pub record ComesEarly (run : Run) (clocks : List ClockState) (begins number round : ℕ) (reading : Option ℕ) : Type 0 where
+pub record ComesEarly (run : Run) (clocks : List ClockState) (begins number round : ℕ)
+    (reading : Option ℕ) : Type 0 where
   pub stands : StandsAt run clocks number begins reading
   pub not_before : begins ≤ round
   pub send : ℕ

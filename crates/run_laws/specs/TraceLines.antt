@@ -21,15 +21,18 @@ of_link design name go = option_map (λ n. go (record { 0 = n })) (link_named de
 
 -- the entry that a form tells, where its name is the design's
 abbrev pub entry_of : DesignParts → Form → Option JournalEntry
-entry_of design (ArriveLine name round reading result) = of_link design name (λ link. entry.Arrive link round reading result)
+entry_of design (ArriveLine name round reading result) =
+    of_link design name (λ link. entry.Arrive link round reading result)
 entry_of design (StartLine name round reading) = of_node design name (λ node. entry.Start node round reading)
 entry_of design (StepLine name round step reading) = of_node design name (λ node. entry.Step node round step reading)
 entry_of design (FinishLine name round) = of_node design name (λ node. entry.Finish node round)
 entry_of design (SendLine name round reading) = of_node design name (λ node. entry.Send node round reading)
 entry_of design (DropLine name round) = of_link design name (λ link. entry.Drop link round)
 entry_of design (RepeatLine name round) = of_link design name (λ link. entry.Repeat link round)
-entry_of design (EarlyLine name round reading) = of_link design name (λ link. entry.Stopped (stop.Early link round reading))
-entry_of design (MissedLine name round reading cause) = of_link design name (λ link. entry.Stopped (stop.Missed link round reading cause))
+entry_of design (EarlyLine name round reading) =
+    of_link design name (λ link. entry.Stopped (stop.Early link round reading))
+entry_of design (MissedLine name round reading cause) =
+    of_link design name (λ link. entry.Stopped (stop.Missed link round reading cause))
 
 abbrev pub told : DesignParts → List ℕ → Option JournalEntry
 told design line = option_and_then (entry_of design) (form_of line)

@@ -33,14 +33,16 @@ same_result a b = false
 
 -- a missed stop is at the start of the round after its message's
 abbrev pub stop_fits : Run → BusState → Stop → Bool
-stop_fits run s (stop.Missed link round reading cause) = nat_eq (round + 1) (node_at s (link_at run.design link.0).target.0).count
+stop_fits run s (stop.Missed link round reading cause) =
+    nat_eq (round + 1) (node_at s (link_at run.design link.0).target.0).count
 stop_fits run s (stop.Early link round reading) = true
 
 -- the numbers and the result of an entry are those of the machine; no run has a loss or a repeat
 abbrev pub fits : Run → BusState → JournalEntry → Bool
 fits run s (entry.Arrive link round reading result) = same_result result (arrival run s link round)
 fits run s (entry.Start node round reading) = nat_eq round (node_at s node.0).count
-fits run s (entry.Step node round step reading) = nat_eq round (round_of (node_at s node.0)) && nat_eq step (unwrap_or (next_step (node_at s node.0).phase) 0)
+fits run s (entry.Step node round step reading) =
+    nat_eq round (round_of (node_at s node.0)) && nat_eq step (unwrap_or (next_step (node_at s node.0).phase) 0)
 fits run s (entry.Finish node round) = nat_eq round (round_of (node_at s node.0))
 fits run s (entry.Send node round reading) = nat_eq round (round_of (node_at s node.0))
 fits run s (entry.Drop link round) = false
@@ -66,15 +68,19 @@ abbrev pub alarm_at : Run → BusState → ℕ → ℕ
 alarm_at run s node = start_alarm (plan_of run.design node) (node_at s node)
 
 abbrev pub stop_alarm : Run → BusState → Stop → Option TraceRule
-stop_alarm run s (stop.Missed link round reading cause) = if is_before reading (alarm_at run s (link_at run.design link.0).target.0) then Some rule.Alarm else None
+stop_alarm run s (stop.Missed link round reading cause) =
+    if is_before reading (alarm_at run s (link_at run.design link.0).target.0) then Some rule.Alarm else None
 stop_alarm run s (stop.Early link round reading) = None
 
 abbrev pub too_early : Run → BusState → JournalEntry → Option TraceRule
 too_early run s (entry.Arrive link round reading result) = None
-too_early run s (entry.Start node round reading) = if is_before reading (alarm_at run s node.0) then Some rule.Alarm else None
-too_early run s (entry.Step node round step reading) = if is_before reading (step_alarm (plan_of run.design node.0) (node_at s node.0) step) then Some rule.Alarm else None
+too_early run s (entry.Start node round reading) =
+    if is_before reading (alarm_at run s node.0) then Some rule.Alarm else None
+too_early run s (entry.Step node round step reading) =
+    if is_before reading (step_alarm (plan_of run.design node.0) (node_at s node.0) step) then Some rule.Alarm else None
 too_early run s (entry.Finish node round) = None
-too_early run s (entry.Send node round reading) = if is_before reading (release_alarm (plan_of run.design node.0) (node_at s node.0)) then Some rule.Release else None
+too_early run s (entry.Send node round reading) =
+    if is_before reading (release_alarm (plan_of run.design node.0) (node_at s node.0)) then Some rule.Release else None
 too_early run s (entry.Drop link round) = None
 too_early run s (entry.Repeat link round) = None
 too_early run s (entry.Stopped why) = stop_alarm run s why
@@ -84,14 +90,16 @@ abbrev pub is_due : Option ℕ → FlightCopy → Bool
 is_due reading copy = option_map_or (λ due. nat_le due (unwrap_or reading 0)) copy.due false
 
 abbrev pub has_due : Run → BusState → ℕ → Option ℕ → Bool
-has_due run s node reading = list_any (λ link. list_any (is_due reading) (flight_at s link)) (links_into run.design node)
+has_due run s node reading =
+    list_any (λ link. list_any (is_due reading) (flight_at s link)) (links_into run.design node)
 
 abbrev pub stop_waits : Run → BusState → Stop → Bool
 stop_waits run s (stop.Missed link round reading cause) = has_due run s (link_at run.design link.0).target.0 reading
 stop_waits run s (stop.Early link round reading) = false
 
 abbrev pub waits : Run → BusState → JournalEntry → Bool
-waits run s (entry.Arrive link round reading result) = not (option_map_or (is_due reading) (oldest round (flight_at s link.0)) false)
+waits run s (entry.Arrive link round reading result) =
+    not (option_map_or (is_due reading) (oldest round (flight_at s link.0)) false)
 waits run s (entry.Start node round reading) = has_due run s node.0 reading
 waits run s (entry.Step node round step reading) = false
 waits run s (entry.Finish node round) = false

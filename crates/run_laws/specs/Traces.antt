@@ -36,7 +36,8 @@ line_at design env at = slice_index_or (composed_lines design env (at / row_size
 -- the first line of the report that is another, or the line after it where its last row is not whole
 abbrev pub wrong_row : DesignParts → Env → List (List ℕ) → Option ℕ
 wrong_row design env report =
-    let other : Option ℕ = position (λ numbered. not (bytes_eq numbered.1 (line_at design env numbered.0))) (enumerate_from 0 report) in
+    let other : Option ℕ = position (λ numbered. not (bytes_eq numbered.1 (line_at design env numbered.0)))
+    (enumerate_from 0 report) in
     if is_some other then other else if nat_eq (length report % row_size design) 0 then None else Some (length report)
 
 -- ---- the journal, line by line
@@ -60,11 +61,13 @@ second_entry (e ∷ other ∷ es) = Some other
 
 abbrev pub audit_event : Run → Audit → List ℕ → Option BusEvent → Audit
 audit_event run a readings None = record a { readings = readings; owed = None }
-audit_event run a readings (Some e) = record { bus = after run a.bus e; readings = readings; owed = second_entry (entries run a.bus e) }
+audit_event run a readings (Some e) =
+    record { bus = after run a.bus e; readings = readings; owed = second_entry (entries run a.bus e) }
 
 -- a stop that is owed has had its event
 abbrev pub audit_after : Run → Audit → JournalEntry → Audit
-audit_after run a e = audit_event run a (noted a.readings (timed run.design e)) (if is_some a.owed then None else event_of run.design e)
+audit_after run a e =
+    audit_event run a (noted a.readings (timed run.design e)) (if is_some a.owed then None else event_of run.design e)
 
 -- the first rule that a line breaks
 abbrev pub line_broken : Run → Audit → Option JournalEntry → Option TraceRule
@@ -85,7 +88,8 @@ is_done Done = true
 abbrev pub end_broken : Run → ℕ → Audit → Option TraceRule
 end_broken run rows a =
     if is_some a.owed then Some rule.Stop
-    else if is_none a.bus.stop && not (list_all (λ (n : NodeState). is_done n.phase) a.bus.nodes) then Some rule.Unfinished
+    else if is_none a.bus.stop
+    && not (list_all (λ (n : NodeState). is_done n.phase) a.bus.nodes) then Some rule.Unfinished
     else if nat_eq rows (finished_by_all run a.bus) then None
     else Some rule.Count
 
@@ -106,7 +110,9 @@ journal_verdict run rows index a (line ∷ lines) =
 -- ---- the whole
 abbrev pub trace_verdict : Run → ℕ → Option ℕ → List (List ℕ) → Verdict
 trace_verdict run size (Some index) lines = Wrong index rule.Row
-trace_verdict run size None lines = journal_verdict run (size / row_size run.design) size (opening_audit run) (drop size lines)
+trace_verdict run size None lines =
+    journal_verdict run (size / row_size run.design) size (opening_audit run) (drop size lines)
 
 abbrev pub verdict : Run → List (List ℕ) → Verdict
-verdict run lines = trace_verdict run (report_size lines) (wrong_row run.design run.env (take (report_size lines) lines)) lines
+verdict run lines =
+    trace_verdict run (report_size lines) (wrong_row run.design run.env (take (report_size lines) lines)) lines

@@ -105,11 +105,14 @@ world_after run w (event.Start node) = record w {
   bus = bus_after run w (bus_event w (event.Start node));
   since = moved (is_none (missing_link run w.bus node.0)) w.since node.0 w.time;
 }
-world_after run w (event.Step node) = record w { bus = bus_after run w (bus_event w (event.Step node)); since = slice_set w.since node.0 w.time }
+world_after run w (event.Step node) =
+    record w { bus = bus_after run w (bus_event w (event.Step node)); since = slice_set w.since node.0 w.time }
 world_after run w (event.Finish node) = record w {
   bus = bus_after run w (bus_event w (event.Finish node));
   since = slice_set w.since node.0 w.time;
-  ready = moved (is_last_sent (plan_of run.design node.0).sent_steps (running_step (node_at w.bus node.0).phase)) w.ready node.0 w.time;
+  ready =
+      moved (is_last_sent (plan_of run.design node.0).sent_steps (running_step (node_at w.bus node.0).phase)) w.ready
+      node.0 w.time;
 }
 world_after run w (event.Send node) = record w {
   bus = bus_after run w (bus_event w (event.Send node));

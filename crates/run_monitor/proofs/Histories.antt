@@ -38,7 +38,8 @@ halted node row = is_some (frame_in row node).halt
 -- ---- rounds that follow
 pub past_stays : PastStays
 unfolding holds
-past_stays (Var node variable op number) h more n within = ap (compared node variable op number) (get_or_append_left h more [] n within)
+past_stays (Var node variable op number) h more n within =
+    ap (compared node variable op number) (get_or_append_left h more [] n within)
 past_stays (Halted node) h more n within = ap (halted node) (get_or_append_left h more [] n within)
 past_stays (Not f) h more n within = ap not (past_stays f h more n within)
 past_stays (And f g) h more n within = ap₂ (λ a b. a && b) (past_stays f h more n within) (past_stays g h more n within)
@@ -63,7 +64,8 @@ continued before p q = (before && p) || q
 
 pub one_bit_each : OneBitEach
 unfolding holds
-one_bit_each (Var node variable op number) h row = sym (ap (compared node variable op number) (get_or-append_seam h row [] []))
+one_bit_each (Var node variable op number) h row =
+    sym (ap (compared node variable op number) (get_or-append_seam h row [] []))
 one_bit_each (Halted node) h row = sym (ap (halted node) (get_or-append_seam h row [] []))
 one_bit_each (Not f) h row = ap not (one_bit_each f h row)
 one_bit_each (And f g) h row = ap₂ (λ a b. a && b) (one_bit_each f h row) (one_bit_each g h row)
@@ -80,7 +82,9 @@ one_bit_each (Historically f) (first ∷ h) row =
     ∙ sym (always-next (holds f (first ∷ h ++ row ∷ [])) (length h))
 one_bit_each (Since f g) [] row = one_bit_each g [] row ∙ sym (since-first (holds f (row ∷ [])) (holds g (row ∷ [])))
 one_bit_each (Since f g) (first ∷ h) row =
-    ap₂ (λ b p. continued b p (further (bits_after (first ∷ h)) row g)) (last_stays (Since f g) first h row) (one_bit_each f (first ∷ h) row)
-    ∙ ap (continued (since (holds f (first ∷ h ++ row ∷ [])) (holds g (first ∷ h ++ row ∷ [])) (length h)) (holds f (first ∷ h ++ row ∷ []) (suc (length h))))
+    ap₂ (λ b p. continued b p (further (bits_after (first ∷ h)) row g)) (last_stays (Since f g) first h row)
+    (one_bit_each f (first ∷ h) row)
+    ∙ ap (continued (since (holds f (first ∷ h ++ row ∷ [])) (holds g (first ∷ h ++ row ∷ [])) (length h))
+    (holds f (first ∷ h ++ row ∷ []) (suc (length h))))
     (one_bit_each g (first ∷ h) row)
     ∙ sym (since-next (holds f (first ∷ h ++ row ∷ [])) (holds g (first ∷ h ++ row ∷ [])) (length h))

@@ -30,8 +30,10 @@ pub record GoneTo (old new : List MonitorState) (row : List Frame) (at : ℕ) : 
   pub done : (k : ℕ) (d : MonitorState) → k < at → k < length old → GoesOn (get_or old k d) (get_or new k d) row
   pub rest : (k : ℕ) (d : MonitorState) → at ≤ k → get_or new k d ≡ get_or old k d
 
-pub gone_more : (old now new : List MonitorState) (row : List Frame) (at : ℕ) (m n : MonitorState) → GoneTo old now row at → at < length now
-    → m ≡ get_or now at m → GoesOn m n row → length new ≡ length now → new ≡ slice_set now at n → GoneTo old new row (at + 1)
+pub gone_more : (old now new : List MonitorState) (row : List Frame) (at : ℕ) (m n : MonitorState)
+    → GoneTo old now row at → at < length now
+    → m ≡ get_or now at m → GoesOn m n row → length new ≡ length now → new ≡ slice_set now at n
+    → GoneTo old new row (at + 1)
 gone_more old now new row at m n gone within item on size is = record {
   size = size ∙ gone.size;
   done = λ k d below inside. (
@@ -45,11 +47,13 @@ gone_more old now new row at m n gone within item on size is = record {
             subst (λ (x : MonitorState). GoesOn x (get_or (slice_set now at n) k d) row) was
             (subst (λ (y : MonitorState). GoesOn m y row) is_now on)
         | inr less ↦
-            subst (λ (y : MonitorState). GoesOn (get_or old k d) y row) (sym (get_or-set_other now at k n d (λ same. omega (arith, same, less))))
+            subst (λ (y : MonitorState). GoesOn (get_or old k d) y row)
+            (sym (get_or-set_other now at k n d (λ same. omega (arith, same, less))))
             (gone.done k d less inside)
       ]));
   rest = λ k d above.
-      ap (λ (ms : List MonitorState). get_or ms k d) is ∙ get_or-set_other now at k n d (λ same. omega (arith, same, above))
+      ap (λ (ms : List MonitorState). get_or ms k d) is
+      ∙ get_or-set_other now at k n d (λ same. omega (arith, same, above))
       ∙ gone.rest k d (omega (arith, above));
 }
   where
@@ -58,7 +62,8 @@ gone_more old now new row at m n gone within item on size is = record {
     default (m ∷ ms) zero x y within = refl
     default (m ∷ ms) (suc k) x y within = default ms k x y (omega arith)
 
-pub gone_all : (old new : List MonitorState) (row : List Frame) (at : ℕ) → GoneTo old new row at → length old ≤ at → EachGoesOn old new row
+pub gone_all : (old new : List MonitorState) (row : List Frame) (at : ℕ) → GoneTo old new row at → length old ≤ at
+    → EachGoesOn old new row
 gone_all old new row at gone past = record {
   size = gone.size;
   each = λ k d within. gone.done k d (omega (arith, within, past)) within;
@@ -71,16 +76,19 @@ all-same f g [] [] size same = refl
 all-same f g [] (y ∷ ys) size same = absurd (omega arith)
 all-same f g (x ∷ xs) [] size same = absurd (omega arith)
 all-same f g (x ∷ xs) (y ∷ ys) size same =
-    ap₂ (λ a bs. a ∷ bs) (same 0 (omega arith)) (all-same f g xs ys (omega arith) (λ k within. same (suc k) (omega arith)))
+    ap₂ (λ a bs. a ∷ bs) (same 0 (omega arith))
+    (all-same f g xs ys (omega arith) (λ k within. same (suc k) (omega arith)))
 
-module _ (old new : List MonitorState) (fs : List Formula) (h : List (List Frame)) (row : List Frame) (each : EachGoesOn old new row)
+module _ (old new : List MonitorState) (fs : List Formula) (h : List (List Frame)) (row : List Frame)
+    (each : EachGoesOn old new row)
     (formulas : map whole old ≡ fs) (stand : All (λ m. StandsFor m h) old) where
   abbrev longer : List (List Frame)
   longer = h ++ row ∷ []
 
   pub formulas_stay : map whole new ≡ fs
   formulas_stay =
-      all-same whole whole old new each.size (λ k within. (let on = each.each k no_monitor within in on.formula)) ∙ formulas
+      all-same whole whole old new each.size
+      (λ k within. (let on = each.each k no_monitor within in on.formula)) ∙ formulas
 
   pub all_stand : All (λ m. StandsFor m longer) new
   all_stand k d within =
@@ -103,12 +111,15 @@ none_watched m no_monitors no_violation = record {
   first = no_violation;
 }
 
-pub one_more : (old new : MonitorsState) (m : MonitorState) (fs : List Formula) (f : Formula) → new.monitors ≡ old.monitors ++ m ∷ []
+pub one_more : (old new : MonitorsState) (m : MonitorState) (fs : List Formula) (f : Formula)
+    → new.monitors ≡ old.monitors ++ m ∷ []
     → new.violation ≡ old.violation → IsNew f m → HasWatched old fs [] → HasWatched new (fs ++ f ∷ []) []
 one_more old new m fs f added same is_new watched = record {
   formulas = ap (map whole) added ∙ map-append whole old.monitors (m ∷ [])
       ∙ ap₂ (λ gs g. gs ++ g ∷ []) watched.formulas is_new.formula;
-  stand = subst (All (λ m. StandsFor m [])) (sym added) (All-push (λ m. StandsFor m []) old.monitors m watched.stand is_new.stands);
+  stand =
+      subst (All (λ m. StandsFor m [])) (sym added)
+      (All-push (λ m. StandsFor m []) old.monitors m watched.stand is_new.stands);
   first = same ∙ watched.first;
 }
 
@@ -118,7 +129,8 @@ image-from : {X Y : Type 0} (p : Y → Bool) (f : X → Y) (from : ℕ) (xs : Li
 image-from p f from [] = refl
 image-from p f from (x ∷ xs) = ap (cond (p (f x)) (Some from)) (image-from p f (from + 1) xs)
 
-image-position : {X Y : Type 0} (p : Y → Bool) (f : X → Y) (xs : List X) → position (λ x. p (f x)) xs ≡ position p (map f xs)
+image-position : {X Y : Type 0} (p : Y → Bool) (f : X → Y) (xs : List X)
+    → position (λ x. p (f x)) xs ≡ position p (map f xs)
 image-position p f xs =
     position_from-zero (λ x. p (f x)) xs ∙ image-from p f 0 xs ∙ sym (position_from-zero p (map f xs))
 
@@ -130,7 +142,8 @@ abbrev pub false_in : MonitorsState → ℕ → Option FalseProperty
 false_in m round = at_round round (position (λ n. not (said n)) m.monitors)
 
 pub watch_on : (old new : MonitorsState) (round : ℕ) (row : List Frame) → EachGoesOn old.monitors new.monitors row
-    → new.violation ≡ option_or old.violation (false_in new round) → (fs : List Formula) (h : List (List Frame)) → HasWatched old fs h
+    → new.violation ≡ option_or old.violation (false_in new round) → (fs : List Formula) (h : List (List Frame))
+    → HasWatched old fs h
     → round ≡ length h
     → WatchesOn new fs h row
 watch_on old new round row each first fs h watched at =
@@ -141,19 +154,23 @@ watch_on old new round row each first fs h watched at =
         stand = all_stand old.monitors new.monitors fs h row each watched.formulas watched.stand;
         first = first
             ∙ ap₂ option_or watched.first
-            (ap (false_in new) at ∙ ap (at_round (length h)) (image-position not said new.monitors ∙ ap (position not) says))
+            (ap (false_in new) at ∙ ap (at_round (length h))
+            (image-position not said new.monitors ∙ ap (position not) says))
             ∙ sym (violation-more fs h row);
       };
       says = says;
     }
 
-pub watch_round : (new : MonitorsState) (design : DesignParts) (env : Env) (fs : List Formula) (round : ℕ) (row : List Frame)
-    → row ≡ (comp design env (round + 1)).frames → WatchesOn new fs (history design env round) row → WatchesRound new design env fs round
+pub watch_round : (new : MonitorsState) (design : DesignParts) (env : Env) (fs : List Formula) (round : ℕ)
+    (row : List Frame)
+    → row ≡ (comp design env (round + 1)).frames → WatchesOn new fs (history design env round) row
+    → WatchesRound new design env fs round
 watch_round new design env fs round row is on =
     let h = history design env round in
     let next : history design env (round + 1) ≡ h ++ row ∷ [] =
     ap (history design env) (add-one round) ∙ history_goes_on design env round
-    ∙ ap (λ n. h ++ (comp design env n).frames ∷ []) (sym (add-one round)) ∙ ap (λ (r : List Frame). h ++ r ∷ []) (sym is) in
+    ∙ ap (λ n. h ++ (comp design env n).frames ∷ []) (sym (add-one round))
+    ∙ ap (λ (r : List Frame). h ++ r ∷ []) (sym is) in
     record {
       watched = subst (HasWatched new fs) (sym next) on.watched;
       says = on.says ∙ ap₂ (verdicts fs) (sym next) (history_has_rounds design env round);

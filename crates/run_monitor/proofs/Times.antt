@@ -27,14 +27,16 @@ once-first p = or-false (p 0)
 
 pub once-next : (p : ℕ → Bool) (n : ℕ) → once p (suc n) ≡ (once p n || p (suc n))
 once-next p n =
-    ap (list_any p) (rounds-more n) ∙ list_any-append p (rounds_to n) (suc n ∷ []) ∙ ap (λ b. once p n || b) (or-false (p (suc n)))
+    ap (list_any p) (rounds-more n) ∙ list_any-append p (rounds_to n) (suc n ∷ [])
+    ∙ ap (λ b. once p n || b) (or-false (p (suc n)))
 
 pub always-first : (p : ℕ → Bool) → always p 0 ≡ p 0
 always-first p = and-true (p 0)
 
 pub always-next : (p : ℕ → Bool) (n : ℕ) → always p (suc n) ≡ (always p n && p (suc n))
 always-next p n =
-    ap (list_all p) (rounds-more n) ∙ list_all-append p (rounds_to n) (suc n ∷ []) ∙ ap (λ b. always p n && b) (and-true (p (suc n)))
+    ap (list_all p) (rounds-more n) ∙ list_all-append p (rounds_to n) (suc n ∷ [])
+    ∙ ap (λ b. always p n && b) (and-true (p (suc n)))
 
 -- the rounds after m are one more, where m is not the last
 after-more : (m n : ℕ) → m ≤ n → rounds_after m (suc n) ≡ rounds_after m n ++ suc n ∷ []
@@ -52,14 +54,16 @@ held_since p q n m = q m && list_all p (rounds_after m n)
 held-more : (p q : ℕ → Bool) (m n : ℕ) → m ≤ n → held_since p q (suc n) m ≡ (held_since p q n m && p (suc n))
 held-more p q m n within =
     ap (λ ks. q m && list_all p ks) (after-more m n within)
-    ∙ ap (λ b. q m && b) (list_all-append p (rounds_after m n) (suc n ∷ []) ∙ ap (λ b. list_all p (rounds_after m n) && b) (and-true (p (suc n))))
+    ∙ ap (λ b. q m && b) (list_all-append p (rounds_after m n) (suc n ∷ [])
+    ∙ ap (λ b. list_all p (rounds_after m n) && b) (and-true (p (suc n))))
     ∙ and_assoc_left (q m) (list_all p (rounds_after m n)) (p (suc n))
 
 held-now : (p q : ℕ → Bool) (n : ℕ) → held_since p q n n ≡ q n
 held-now p q n = ap (λ ks. q n && list_all p ks) (after-none n) ∙ and-true (q n)
 
 any-more : (p q : ℕ → Bool) (n from count : ℕ) → from + count ≤ suc n
-    → list_any (held_since p q (suc n)) (upwards from count) ≡ (list_any (held_since p q n) (upwards from count) && p (suc n))
+    → list_any (held_since p q (suc n)) (upwards from count)
+    ≡ (list_any (held_since p q n) (upwards from count) && p (suc n))
 any-more p q n from zero within = refl
 any-more p q n from (suc count) within =
     ap₂ (λ a b. a || b) (held-more p q from n (omega arith)) (any-more p q n (suc from) count (omega arith))
@@ -72,7 +76,8 @@ pub since-next : (p q : ℕ → Bool) (n : ℕ) → since p q (suc n) ≡ ((sinc
 since-next p q n =
     ap (list_any (held_since p q (suc n))) (rounds-more n)
     ∙ list_any-append (held_since p q (suc n)) (rounds_to n) (suc n ∷ [])
-    ∙ ap₂ (λ a b. a || b) (any-more p q n 0 (suc n) (omega arith)) (or-false (held_since p q (suc n) (suc n)) ∙ held-now p q (suc n))
+    ∙ ap₂ (λ a b. a || b) (any-more p q n 0 (suc n) (omega arith))
+    (or-false (held_since p q (suc n) (suc n)) ∙ held-now p q (suc n))
 
 -- ---- what they say of the rounds up to one is all that they look at
 abbrev pub AgreeTo : (ℕ → Bool) → (ℕ → Bool) → ℕ → Type 0
@@ -88,12 +93,14 @@ previously-same p q (suc n) same = same n (omega arith)
 pub once-same : (p q : ℕ → Bool) (n : ℕ) → AgreeTo p q n → once p n ≡ once q n
 once-same p q zero same = once-first p ∙ same 0 (omega arith) ∙ sym (once-first q)
 once-same p q (suc n) same =
-    once-next p n ∙ ap₂ (λ a b. a || b) (once-same p q n (fewer p q n same)) (same (suc n) (omega arith)) ∙ sym (once-next q n)
+    once-next p n ∙ ap₂ (λ a b. a || b) (once-same p q n (fewer p q n same)) (same (suc n) (omega arith))
+    ∙ sym (once-next q n)
 
 pub always-same : (p q : ℕ → Bool) (n : ℕ) → AgreeTo p q n → always p n ≡ always q n
 always-same p q zero same = always-first p ∙ same 0 (omega arith) ∙ sym (always-first q)
 always-same p q (suc n) same =
-    always-next p n ∙ ap₂ (λ a b. a && b) (always-same p q n (fewer p q n same)) (same (suc n) (omega arith)) ∙ sym (always-next q n)
+    always-next p n ∙ ap₂ (λ a b. a && b) (always-same p q n (fewer p q n same)) (same (suc n) (omega arith))
+    ∙ sym (always-next q n)
 
 abbrev continued : Bool → Bool → Bool → Bool
 continued before p q = (before && p) || q
@@ -102,28 +109,34 @@ pub since-same : (p q r s : ℕ → Bool) (n : ℕ) → AgreeTo p r n → AgreeT
 since-same p q r s zero first second = since-first p q ∙ second 0 (omega arith) ∙ sym (since-first r s)
 since-same p q r s (suc n) first second =
     since-next p q n
-    ∙ ap₂ (λ b c. continued b c (q (suc n))) (since-same p q r s n (fewer p r n first) (fewer q s n second)) (first (suc n) (omega arith))
+    ∙ ap₂ (λ b c. continued b c (q (suc n))) (since-same p q r s n (fewer p r n first) (fewer q s n second))
+    (first (suc n) (omega arith))
     ∙ ap (continued (since r s n) (r (suc n))) (second (suc n) (omega arith))
     ∙ sym (since-next r s n)
 
 -- ---- read in words
-some_at : (p : ℕ → Bool) (from count : ℕ) → list_any p (upwards from count) ≡ true → (m : ℕ) × (from ≤ m) × (m < from + count) × (p m ≡ true)
+some_at : (p : ℕ → Bool) (from count : ℕ) → list_any p (upwards from count) ≡ true
+    → (m : ℕ) × (from ≤ m) × (m < from + count) × (p m ≡ true)
 some_at p from zero is = absurd (cc)
 some_at p from (suc count) is =
     elim (or_cases (p from) (list_any p (upwards (suc from) count)) is) [
       | inl here ↦ (from, omega arith, omega arith, here)
-      | inr later ↦ let rest = some_at p (suc from) count later in (rest.0, omega (arith, rest.1), omega (arith, rest.2), rest.3)
+      | inr later ↦ let rest = some_at p (suc from) count later in
+          (rest.0, omega (arith, rest.1), omega (arith, rest.2), rest.3)
     ]
 
-at_some : (p : ℕ → Bool) (from count m : ℕ) → from ≤ m → m < from + count → p m ≡ true → list_any p (upwards from count) ≡ true
+at_some : (p : ℕ → Bool) (from count m : ℕ) → from ≤ m → m < from + count → p m ≡ true
+    → list_any p (upwards from count) ≡ true
 at_some p from zero m low high is = absurd (omega arith)
 at_some p from (suc count) m low high is =
     elim (eq-or-lt_of_le low) [
       | inl here ↦ or_left (p from) (list_any p (upwards (suc from) count)) (ap p here ∙ is)
-      | inr above ↦ or_right (p from) (list_any p (upwards (suc from) count)) (at_some p (suc from) count m (omega arith) (omega arith) is)
+      | inr above ↦ or_right (p from) (list_any p (upwards (suc from) count))
+          (at_some p (suc from) count m (omega arith) (omega arith) is)
     ]
 
-all_at : (p : ℕ → Bool) (from count : ℕ) → list_all p (upwards from count) ≡ true → (m : ℕ) → from ≤ m → m < from + count → p m ≡ true
+all_at : (p : ℕ → Bool) (from count : ℕ) → list_all p (upwards from count) ≡ true → (m : ℕ) → from ≤ m
+    → m < from + count → p m ≡ true
 all_at p from zero is m low high = absurd (omega arith)
 all_at p from (suc count) is m low high =
     let halves = and_parts (p from) (list_all p (upwards (suc from) count)) is in
@@ -132,7 +145,8 @@ all_at p from (suc count) is m low high =
       | inr above ↦ all_at p (suc from) count halves.1 m (omega arith) (omega arith)
     ]
 
-at_all : (p : ℕ → Bool) (from count : ℕ) → ((m : ℕ) → from ≤ m → m < from + count → p m ≡ true) → list_all p (upwards from count) ≡ true
+at_all : (p : ℕ → Bool) (from count : ℕ) → ((m : ℕ) → from ≤ m → m < from + count → p m ≡ true)
+    → list_all p (upwards from count) ≡ true
 at_all p from zero each = refl
 at_all p from (suc count) each =
     and_from (p from) (list_all p (upwards (suc from) count)) (each from (omega arith) (omega arith))
@@ -157,7 +171,8 @@ always-reads p n = (
 abbrev HoldsSince : (ℕ → Bool) → (ℕ → Bool) → ℕ → Type 0
 HoldsSince p q n = (m : ℕ) × (m ≤ n) × (q m ≡ true) × ((i : ℕ) → m < i → i ≤ n → p i ≡ true)
 
-pub since-reads : (p q : ℕ → Bool) (n : ℕ) → since p q n ≡ true ↔ ((m : ℕ) × (m ≤ n) × (q m ≡ true) × ((i : ℕ) → m < i → i ≤ n → p i ≡ true))
+pub since-reads : (p q : ℕ → Bool) (n : ℕ)
+    → since p q n ≡ true ↔ ((m : ℕ) × (m ≤ n) × (q m ≡ true) × ((i : ℕ) → m < i → i ≤ n → p i ≡ true))
 since-reads p q n = (there, back)
   where
     there : since p q n ≡ true → HoldsSince p q n
@@ -172,4 +187,5 @@ since-reads p q n = (there, back)
         let m = at.0 in
         let within : m ≤ n = at.1 in
         at_some (held_since p q n) 0 (suc n) m (omega arith) (omega arith)
-        (and_from (q m) (list_all p (rounds_after m n)) at.2 (at_all p (suc m) (n - m) (λ i low high. at.3 i (omega arith) (omega arith))))
+        (and_from (q m) (list_all p (rounds_after m n)) at.2
+        (at_all p (suc m) (n - m) (λ i low high. at.3 i (omega arith) (omega arith))))

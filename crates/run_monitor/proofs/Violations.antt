@@ -55,7 +55,8 @@ find_false from (true ∷ bs) =
     true_and bs each zero b is = cc
     true_and bs each (suc k) b is = each k b is
 
-    true_before : (bs : List Bool) (at : ℕ) → ((j : ℕ) (b : Bool) → j < at → slice_get bs j ≡ Some b → b ≡ true) → (j : ℕ) (b : Bool) → j < suc at
+    true_before : (bs : List Bool) (at : ℕ) → ((j : ℕ) (b : Bool) → j < at → slice_get bs j ≡ Some b → b ≡ true)
+        → (j : ℕ) (b : Bool) → j < suc at
         → slice_get (true ∷ bs) j ≡ Some b → b ≡ true
     true_before bs at before zero b below is = cc
     true_before bs at before (suc j) b below is = before j b (omega arith) is
@@ -108,9 +109,11 @@ module _ (fs : List Formula) (h : List (List Frame)) where
   a_violation : (round : ℕ) (found : OneFalse 0 (verdicts fs h round))
       → violation_at fs h round ≡ Some (record { property = found.at; round = round })
   a_violation round found =
-      ap (option_map (λ k. record { property = k; round = round })) (position-is (verdicts fs h round) ∙ found.finds ∙ ap Some (zero-add found.at))
+      ap (option_map (λ k. record { property = k; round = round }))
+      (position-is (verdicts fs h round) ∙ found.finds ∙ ap Some (zero-add found.at))
 
-  from_later : (from r : ℕ) → Holds from → ((round : ℕ) → suc from ≤ round → round < r → Holds round) → (round : ℕ) → from ≤ round
+  from_later : (from r : ℕ) → Holds from → ((round : ℕ) → suc from ≤ round → round < r → Holds round) → (round : ℕ)
+      → from ≤ round
       → round < r → Holds round
   from_later from r here later round low high =
       elim (eq-or-lt_of_le low) [
@@ -139,7 +142,9 @@ module _ (fs : List Formula) (h : List (List Frame)) where
         any = or_left (violated_at from) (list_any violated_at (upwards (suc from) count)) found.any;
       })
   round-by from count (inl none) (inl rest) = inl (record {
-    all = λ round low high. from_later from (from + suc count) (all_hold from none) (λ r above below. rest.all r above (omega arith)) round low high;
+    all =
+        λ round low high. from_later from (from + suc count) (all_hold from none)
+        (λ r above below. rest.all r above (omega arith)) round low high;
     none = ap (λ o. option_or o (later from count)) (no_violation from none) ∙ rest.none;
     not_any = or_from (violated_at from) (list_any violated_at (upwards (suc from) count)) none.not_any rest.not_any;
   })
@@ -158,7 +163,8 @@ module _ (fs : List Formula) (h : List (List Frame)) where
 
   rounds_search : (from count : ℕ) → NoRound from count ⊎ SomeRound from count
   rounds_search from zero = inl (record { all = λ round low high. absurd (omega arith); none = refl; not_any = refl })
-  rounds_search from (suc count) = round-by from count (find_false 0 (verdicts fs h from)) (rounds_search (suc from) count)
+  rounds_search from (suc count) =
+      round-by from count (find_false 0 (verdicts fs h from)) (rounds_search (suc from) count)
 
 -- ---- of a design
 pub violated_is_first : ViolatedIsFirst
@@ -190,7 +196,8 @@ others_hold design env rounds fs fine =
 pub verdicts-stay : (fs : List Formula) (h more : List (List Frame)) (round : ℕ) → round < length h
     → verdicts fs (h ++ more) round ≡ verdicts fs h round
 verdicts-stay [] h more round within = refl
-verdicts-stay (f ∷ fs) h more round within = ap₂ (λ b bs. b ∷ bs) (past_stays f h more round within) (verdicts-stay fs h more round within)
+verdicts-stay (f ∷ fs) h more round within =
+    ap₂ (λ b bs. b ∷ bs) (past_stays f h more round within) (verdicts-stay fs h more round within)
 
 abbrev violation_of : ℕ → List Bool → Option FalseProperty
 violation_of round bs = option_map (λ k. record { property = k; round = round }) (position not bs)
@@ -199,7 +206,8 @@ violations-stay : (fs : List Formula) (h more : List (List Frame)) (from count :
     → violation_in fs (h ++ more) (upwards from count) ≡ violation_in fs h (upwards from count)
 violations-stay fs h more from zero within = refl
 violations-stay fs h more from (suc count) within =
-    ap₂ option_or (ap (violation_of from) (verdicts-stay fs h more from (omega arith))) (violations-stay fs h more (suc from) count (omega arith))
+    ap₂ option_or (ap (violation_of from) (verdicts-stay fs h more from (omega arith)))
+    (violations-stay fs h more (suc from) count (omega arith))
 
 or_assoc : (a b c : Option FalseProperty) → option_or a (option_or b c) ≡ option_or (option_or a b) c
 or_assoc None b c = refl
@@ -213,14 +221,18 @@ violation-append : (fs : List Formula) (h : List (List Frame)) (xs ys : List ℕ
     → violation_in fs h (xs ++ ys) ≡ option_or (violation_in fs h xs) (violation_in fs h ys)
 violation-append fs h [] ys = refl
 violation-append fs h (x ∷ xs) ys =
-    ap (option_or (violation_at fs h x)) (violation-append fs h xs ys) ∙ or_assoc (violation_at fs h x) (violation_in fs h xs) (violation_in fs h ys)
+    ap (option_or (violation_at fs h x)) (violation-append fs h xs ys)
+    ∙ or_assoc (violation_at fs h x) (violation_in fs h xs) (violation_in fs h ys)
 
 pub violation-more : (fs : List Formula) (h : List (List Frame)) (row : List Frame)
-    → violation fs (h ++ row ∷ []) (length (h ++ row ∷ [])) ≡ option_or (violation fs h (length h)) (violation_at fs (h ++ row ∷ []) (length h))
+    → violation fs (h ++ row ∷ []) (length (h ++ row ∷ []))
+    ≡ option_or (violation fs h (length h)) (violation_at fs (h ++ row ∷ []) (length h))
 violation-more fs h row =
     let longer = h ++ row ∷ [] in
     let size : length longer ≡ suc (length h) = length-append h (row ∷ []) ∙ omega arith in
     ap (violation fs longer) size
-    ∙ ap (violation_in fs longer) (upwards-more 0 (length h) ∙ ap (λ k. upwards 0 (length h) ++ k ∷ []) (zero-add (length h)))
+    ∙ ap (violation_in fs longer)
+    (upwards-more 0 (length h) ∙ ap (λ k. upwards 0 (length h) ++ k ∷ []) (zero-add (length h)))
     ∙ violation-append fs longer (upwards 0 (length h)) (length h ∷ [])
-    ∙ ap₂ option_or (violations-stay fs h (row ∷ []) 0 (length h) (omega arith)) (or_none (violation_at fs longer (length h)))
+    ∙ ap₂ option_or (violations-stay fs h (row ∷ []) 0 (length h) (omega arith))
+    (or_none (violation_at fs longer (length h)))

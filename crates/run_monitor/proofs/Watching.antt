@@ -10,14 +10,16 @@ use Rattle.run_monitor.proofs.Histories.{past_stays}
 
 pub history_goes_on : HistoryGoesOn
 history_goes_on design env rounds =
-    ap (history design env) (sym (add-one rounds)) ∙ map_upwards_more (λ round. (comp design env (suc round)).frames) rounds
+    ap (history design env) (sym (add-one rounds))
+    ∙ map_upwards_more (λ round. (comp design env (suc round)).frames) rounds
 
 pub history_has_rounds : HistoryHasRounds
 history_has_rounds design env zero = refl
 history_has_rounds design env (suc rounds) =
     let before = history_has_rounds design env rounds in
     let row : List (List Frame) = (comp design env (suc rounds)).frames ∷ [] in
-    ap length (history_goes_on design env rounds) ∙ length-append (history design env rounds) row ∙ omega (arith, before)
+    ap length (history_goes_on design env rounds) ∙ length-append (history design env rounds) row
+    ∙ omega (arith, before)
 
 pub said_at_once : SaidAtOnce
 said_at_once f design env round zero within = absurd (omega arith)
@@ -28,6 +30,7 @@ said_at_once f design env round (suc rounds) within =
       | inr less ↦
           let size = history_has_rounds design env rounds in
           ap (λ (h : List (List Frame)). holds f h round) (history_goes_on design env rounds)
-          ∙ past_stays f (history design env rounds) ((comp design env (suc rounds)).frames ∷ []) round (omega (arith, size, less))
+          ∙ past_stays f (history design env rounds) ((comp design env (suc rounds)).frames ∷ []) round
+          (omega (arith, size, less))
           ∙ said_at_once f design env round rounds less
     ]

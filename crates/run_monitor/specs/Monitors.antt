@@ -25,7 +25,8 @@ compares Ge a b = int_le b a
 
 -- ---- formulas
 unfoldable pub holds : Formula → List (List Frame) → ℕ → Bool
-holds (Var node variable op number) h n = compares op (variable_in (frame_in (slice_index_or h n []) node) variable) number
+holds (Var node variable op number) h n =
+    compares op (variable_in (frame_in (slice_index_or h n []) node) variable) number
 holds (Halted node) h n = is_some (frame_in (slice_index_or h n []) node).halt
 holds (Not f) h n = not (holds f h n)
 holds (And f g) h n = holds f h n && holds g h n

@@ -34,4 +34,5 @@ violation fs h rounds = violation_in fs h (upwards 0 rounds)
 
 -- one is false at some of the first rounds of a design
 abbrev pub is_violated : DesignParts → Env → ℕ → List Formula → Bool
-is_violated design env rounds fs = list_any (λ round. list_any not (verdicts fs (history design env rounds) round)) (upwards 0 rounds)
+is_violated design env rounds fs =
+    list_any (λ round. list_any not (verdicts fs (history design env rounds) round)) (upwards 0 rounds)

@@ -39,9 +39,11 @@ last_line rounds first = codes "watch rounds " ++ decimal rounds ++ codes " firs
 -- ---- all of it
 -- the rows of the first rounds
 abbrev pub watched_rows : DesignParts → Env → ℕ → List (List ℕ × Formula) → List ℕ
-watched_rows design env rounds properties = text_of (flat_map (watched_lines properties (history design env rounds)) (upwards 0 rounds))
+watched_rows design env rounds properties =
+    text_of (flat_map (watched_lines properties (history design env rounds)) (upwards 0 rounds))
 
 abbrev pub watch_text : DesignParts → Env → ℕ → List (List ℕ × Formula) → List ℕ
 watch_text design env rounds properties =
     let first = violation (formulas_of properties) (history design env rounds) rounds in
-    watched_rows design env rounds properties ++ text_of (last_line rounds (violation_text (names_of properties) first) ∷ [])
+    watched_rows design env rounds properties
+    ++ text_of (last_line rounds (violation_text (names_of properties) first) ∷ [])

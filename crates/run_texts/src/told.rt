@@ -89,7 +89,9 @@ fn tell_end(alloc: Global, bus: &Bus, ends: &[NodeEnd], trace: bool) -> Result<R
         return Ok(RunReport::Stopped(traced_text(alloc, bus, true)?));
     }
     match first_ended(ends)? {
-        Some((node, target)) => Ok(RunReport::ClockEnded(clock_end_text(alloc, bus, node, target)?)),
+        Some((node, target)) => Ok(RunReport::ClockEnded(clock_end_text(
+            alloc, bus, node, target,
+        )?)),
         None => Ok(RunReport::Completed(traced_text(alloc, bus, trace)?)),
     }
 }

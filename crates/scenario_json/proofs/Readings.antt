@@ -13,7 +13,10 @@ last_push xs y = grind (arith, common_steps)
 
 pub order_push : (xs : List ℕ) (y : ℕ) → IsNonDecreasing xs → last_of xs ≤ y → IsNonDecreasing (xs ++ y ∷ [])
 order_push xs y order last =
-    IsNonDecreasingBy-push (λ x. x) xs y order (λ d some. let same = get_or_default_zero xs (length xs - 1) d (omega arith) in grind (arith, same))
+    IsNonDecreasingBy-push (λ x. x) xs y order
+    (λ d some. let same = get_or_default_zero xs (length xs - 1) d (omega arith) in grind (arith, same))
 
 pub range_push : (xs : List ℕ) (y : ℕ) → AreReadings xs → y ≤ READING → AreReadings (xs ++ y ∷ [])
-range_push xs y range most = All-append (λ reading. reading ≤ READING) xs (y ∷ []) range (All-cons (λ reading. reading ≤ READING) y [] most (All-nil (λ reading. reading ≤ READING)))
+range_push xs y range most =
+    All-append (λ reading. reading ≤ READING) xs (y ∷ []) range
+    (All-cons (λ reading. reading ≤ READING) y [] most (All-nil (λ reading. reading ≤ READING)))

@@ -19,7 +19,8 @@ last_of readings = slice_index readings (length readings - 1)
 
 -- one more reading, which is not below the one before it
 abbrev pub with_reading : List ℕ → List ℕ → Data → Result (List ℕ) ScenarioFault
-with_reading place readings d = whole (inside place (decimal (length readings))) (last_of readings) READING d >>= λ n. Ok (readings ++ n ∷ [])
+with_reading place readings d =
+    whole (inside place (decimal (length readings))) (last_of readings) READING d >>= λ n. Ok (readings ++ n ∷ [])
 
 unfoldable pub reading_list : List ℕ → Data → Result (List ℕ) ScenarioFault
 reading_list place d = short_list place LIST_ITEMS d >>= λ ds. through (with_reading place) [] ds
@@ -28,12 +29,15 @@ reading_list place d = short_list place LIST_ITEMS d >>= λ ds. through (with_re
 unfoldable pub with_clock : DesignParts → List ClockState → List ℕ × Data → Result (List ClockState) ScenarioFault
 with_clock design clocks entry =
     let place = inside (codes "clocks") entry.0 in
-    node_at place design entry.0 >>= λ node. reading_list place entry.1 >>= λ readings. Ok (slice_set clocks node (unpicked readings))
+    node_at place design entry.0 >>= λ node. reading_list place entry.1 >>= λ readings.
+    Ok (slice_set clocks node (unpicked readings))
 
 -- a list for each node, empty where it is not named
 unfoldable pub clock_lists : DesignParts → Data → Result Clocks ScenarioFault
 clock_lists design d =
-    entries (codes "clocks") d >>= λ es. through (with_clock design) (replicate (length design.components) (unpicked [])) es >>= λ clocks. Ok (Lists clocks)
+    entries (codes "clocks") d >>= λ es.
+    through (with_clock design) (replicate (length design.components) (unpicked [])) es >>= λ clocks.
+    Ok (Lists clocks)
 
 abbrev pub is_meet : Data → Bool
 is_meet d = unwrap_or (option_map (bytes_eq (codes "meet")) (as_str d)) false

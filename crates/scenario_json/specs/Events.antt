@@ -27,7 +27,8 @@ word_of name =
     if bytes_eq name (codes "pass") then Some Pass else if bytes_eq name (codes "start") then Some Start
     else if bytes_eq name (codes "step") then Some Step else if bytes_eq name (codes "finish") then Some Finish
     else if bytes_eq name (codes "send") then Some Send else if bytes_eq name (codes "arrive") then Some Arrive
-    else if bytes_eq name (codes "drop") then Some Drop else if bytes_eq name (codes "repeat") then Some Repeat else None
+    else if bytes_eq name (codes "drop") then Some Drop else if bytes_eq name (codes "repeat") then Some
+    Repeat else None
 
 -- time stands still in a loose world, and nothing is lost or doubled in another; the events of other commands may be any
 abbrev pub is_usual : Command → EventWord → Bool
@@ -78,7 +79,8 @@ event_of design place Repeat ds = link_parts design place ds >>= λ p. Ok (event
 -- the word that an event begins with, where this command's events may have it
 unfoldable pub usual_word : Command → List ℕ → Data → Result EventWord ScenarioFault
 usual_word command place d =
-    given (WrongKind place) (option_and_then word_of (as_str d)) >>= λ word. only_if (is_usual command word) (WrongKind place) (Ok word)
+    given (WrongKind place) (option_and_then word_of (as_str d)) >>= λ word.
+    only_if (is_usual command word) (WrongKind place) (Ok word)
 
 abbrev pub event_from : DesignParts → Command → List ℕ → List Data → Result Event ScenarioFault
 event_from design command place [] = Err (WrongKind place)
@@ -88,7 +90,9 @@ unfoldable pub event_in : DesignParts → Command → List ℕ → Data → Resu
 event_in design command place d = elements place d >>= λ ds. event_from design command place ds
 
 abbrev pub with_event : DesignParts → Command → List Event → Data → Result (List Event) ScenarioFault
-with_event design command events d = event_in design command (inside (codes "events") (decimal (length events))) d >>= λ e. Ok (events ++ e ∷ [])
+with_event design command events d =
+    event_in design command (inside (codes "events") (decimal (length events))) d >>= λ e. Ok (events ++ e ∷ [])
 
 unfoldable pub events_in : DesignParts → Command → Data → Result (List Event) ScenarioFault
-events_in design command d = short_list (codes "events") LIST_ITEMS d >>= λ ds. through (with_event design command) [] ds
+events_in design command d =
+    short_list (codes "events") LIST_ITEMS d >>= λ ds. through (with_event design command) [] ds

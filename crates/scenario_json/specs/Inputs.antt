@@ -17,13 +17,15 @@ use Rattle.scenario_values.specs.Names.{link_at, root_at}
 -- ---- inputs
 -- one more value of a list, whose place ends with its index
 abbrev pub with_value : Kind → List ℕ → List PortValue → Data → Result (List PortValue) ScenarioFault
-with_value kind place values d = port_value kind (inside place (decimal (length values))) d >>= λ v. Ok (values ++ v ∷ [])
+with_value kind place values d =
+    port_value kind (inside place (decimal (length values))) d >>= λ v. Ok (values ++ v ∷ [])
 
 unfoldable pub value_list : Kind → List ℕ → Data → Result (List PortValue) ScenarioFault
 value_list kind place d = elements place d >>= λ ds. through (with_value kind place) [] ds
 
 -- the list of one root in port, in its place
-unfoldable pub with_input : DesignParts → List (List PortValue) → List ℕ × Data → Result (List (List PortValue)) ScenarioFault
+unfoldable pub with_input : DesignParts → List (List PortValue) → List ℕ × Data
+    → Result (List (List PortValue)) ScenarioFault
 with_input design lists entry =
     let place = inside (codes "inputs") entry.0 in
     root_at place design entry.0 >>= λ root.
@@ -52,4 +54,5 @@ with_link_delays design lists entry =
 -- a list for each link, of the least delay of the network where it is not named
 unfoldable pub delays_in : DesignParts → Data → Result (List (List ℕ)) ScenarioFault
 delays_in design d =
-    entries (codes "delays") d >>= λ es. through (with_link_delays design) (replicate (length design.links) (design.gamma.mu_min ∷ [])) es
+    entries (codes "delays") d >>= λ es.
+    through (with_link_delays design) (replicate (length design.links) (design.gamma.mu_min ∷ [])) es

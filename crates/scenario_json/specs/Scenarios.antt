@@ -36,7 +36,8 @@ use Rattle.analysis_fields.specs.Processors.{processors_in}
 -- ---- fields
 abbrev pub fields : List (List ℕ)
 fields =
-    codes "rounds" ∷ codes "inputs" ∷ codes "events" ∷ codes "clocks" ∷ codes "delays" ∷ codes "trace" ∷ codes "properties"
+    codes "rounds" ∷ codes "inputs" ∷ codes "events" ∷ codes "clocks" ∷ codes "delays" ∷ codes "trace"
+    ∷ codes "properties"
     ∷ codes "replicas" ∷ codes "faults" ∷ codes "plants" ∷ codes "processors" ∷ []
 
 abbrev pub is_field : List ℕ → Bool
@@ -48,7 +49,8 @@ only_known None next = next
 only_known (Some entry) next = Err (Unknown entry.0)
 
 -- a field that is there, or what stands in its place; a command may need it
-abbrev pub field : {A : Type 0} → List ℕ → Bool → A → (Data → Result A ScenarioFault) → Option Data → Result A ScenarioFault
+abbrev pub field : {A : Type 0} → List ℕ → Bool → A → (Data → Result A ScenarioFault) → Option Data
+    → Result A ScenarioFault
 field name needed otherwise read None = if needed then Err (Field name) else Ok otherwise
 field name needed otherwise read (Some d) = read d
 
@@ -81,10 +83,13 @@ rounds_in design d =
 -- ---- the other fields, each by its name
 -- none for each root input, where they are absent
 abbrev pub inputs_field : DesignParts → Data → Result (List (List PortValue)) ScenarioFault
-inputs_field design d = field (codes "inputs") false (replicate (length (root_inputs design)) []) (inputs_in design) (get (codes "inputs") d)
+inputs_field design d =
+    field (codes "inputs") false (replicate (length (root_inputs design)) []) (inputs_in design)
+    (get (codes "inputs") d)
 
 abbrev pub events_field : DesignParts → Command → Data → Result (List Event) ScenarioFault
-events_field design command d = field (codes "events") (needs_events command) [] (events_in design command) (get (codes "events") d)
+events_field design command d =
+    field (codes "events") (needs_events command) [] (events_in design command) (get (codes "events") d)
 
 -- clocks that meet, where they are absent
 abbrev pub clocks_field : DesignParts → Data → Result Clocks ScenarioFault
@@ -92,13 +97,16 @@ clocks_field design d = field (codes "clocks") false Meet (clocks_in design) (ge
 
 -- the least delay for each link, where they are absent
 abbrev pub delays_field : DesignParts → Data → Result (List (List ℕ)) ScenarioFault
-delays_field design d = field (codes "delays") false (replicate (length design.links) (design.gamma.mu_min ∷ [])) (delays_in design) (get (codes "delays") d)
+delays_field design d =
+    field (codes "delays") false (replicate (length design.links) (design.gamma.mu_min ∷ [])) (delays_in design)
+    (get (codes "delays") d)
 
 abbrev pub trace_field : Command → Data → Result (List (List ℕ)) ScenarioFault
 trace_field command d = field (codes "trace") (needs_trace command) [] trace_in (get (codes "trace") d)
 
 abbrev pub properties_field : DesignParts → Command → Data → Result (List PropertyValue) ScenarioFault
-properties_field design command d = field (codes "properties") (needs_properties command) [] (properties_in design) (get (codes "properties") d)
+properties_field design command d =
+    field (codes "properties") (needs_properties command) [] (properties_in design) (get (codes "properties") d)
 
 abbrev pub replicas_field : DesignParts → Data → Result (List NodeNo) ScenarioFault
 replicas_field design d = field (codes "replicas") false [] (replicas_in design) (get (codes "replicas") d)
@@ -110,7 +118,8 @@ abbrev pub plants_field : DesignParts → Data → Result (List Pair) ScenarioFa
 plants_field design d = field (codes "plants") false [] (plants_in design) (get (codes "plants") d)
 
 abbrev pub processors_field : DesignParts → Command → Data → Result (List Processor) ScenarioFault
-processors_field design command d = field (codes "processors") (needs_processors command) [] (processors_in design) (get (codes "processors") d)
+processors_field design command d =
+    field (codes "processors") (needs_processors command) [] (processors_in design) (get (codes "processors") d)
 
 -- ---- the whole
 unfoldable pub fields_in : Data → DesignParts → Command → Result Scenario ScenarioFault
@@ -141,7 +150,8 @@ fields_in d design command =
     })
 
 unfoldable pub scen : Data → DesignParts → Command → Result Scenario ScenarioFault
-scen d design command = entries (codes "scenario") d >>= λ es. only_known (find (λ e. not (is_field e.0)) es) (fields_in d design command)
+scen d design command =
+    entries (codes "scenario") d >>= λ es. only_known (find (λ e. not (is_field e.0)) es) (fields_in d design command)
 
 -- ---- bytes
 -- the JSON value that bytes are
@@ -151,9 +161,11 @@ IsValue bytes d = IsUtf8 bytes × (read bytes ≡ Some d)
 -- what bytes mean: what their value means, or that they are no JSON
 abbrev pub Means : List ℕ → DesignParts → Command → Result Scenario ScenarioFault → Type 0
 Means bytes design command meant =
-    ((d : Data) × IsValue bytes d × (scen d design command ≡ meant)) ⊎ (((d : Data) → IsValue bytes d → ⊥) × (meant ≡ Err NotJson))
+    ((d : Data) × IsValue bytes d × (scen d design command ≡ meant))
+    ⊎ (((d : Data) → IsValue bytes d → ⊥) × (meant ≡ Err NotJson))
 
 -- an answer is what the bytes mean, unless there was not enough memory
 abbrev pub IsAnswer : List ℕ → DesignParts → Command → Result Scenario ScenarioFault → Type 0
 IsAnswer bytes design command answer =
-    MatchResult answer (λ s. Means bytes design command (Ok s)) (λ fault. fault ≢ Memory → Means bytes design command (Err fault))
+    MatchResult answer (λ s. Means bytes design command (Ok s))
+    (λ fault. fault ≢ Memory → Means bytes design command (Err fault))

@@ -67,7 +67,11 @@ fn empty_clocks(alloc: Global, count: usize) -> Result<Items<ListClock>, NoMemor
 
 // A list for each node, empty where it is not named.
 #[tactic(auto, unfolding(crate::specs::Clocks::clock_lists))]
-fn clock_lists(alloc: Global, names: &DesignNames<'_>, value: &Value) -> Result<Clocks, ScenarioFault>
+fn clock_lists(
+    alloc: Global,
+    names: &DesignNames<'_>,
+    value: &Value,
+) -> Result<Clocks, ScenarioFault>
     ensures { Answers (clock_lists names.now (view value.now)) result }
 {
     let members = entries(alloc, Place::Field("clocks"), value)?;
@@ -89,7 +93,11 @@ fn is_meet(value: &Value) -> bool
 
 /// The hour on which all nodes meet, or a list of readings for each node.
 #[tactic(auto, unfolding(crate::specs::Clocks::clocks_in))]
-pub fn read_clocks(alloc: Global, names: &DesignNames<'_>, value: &Value) -> Result<Clocks, ScenarioFault>
+pub fn read_clocks(
+    alloc: Global,
+    names: &DesignNames<'_>,
+    value: &Value,
+) -> Result<Clocks, ScenarioFault>
     ensures { Answers (clocks_in names.now (view value.now)) result }
 {
     if is_meet(value) {

@@ -107,7 +107,11 @@ fn rounds_in(alloc: Global, design: &Design, value: &Value) -> Result<u32, Scena
     Ok(rounds as u32)
 }
 
-fn inputs_in(alloc: Global, names: &DesignNames<'_>, value: &Value) -> Result<Items<Tuple>, ScenarioFault>
+fn inputs_in(
+    alloc: Global,
+    names: &DesignNames<'_>,
+    value: &Value,
+) -> Result<Items<Tuple>, ScenarioFault>
     ensures { Answers (inputs_field names.now (view value.now)) result }
 {
     match value.get("inputs") {
@@ -211,7 +215,11 @@ fn faults_in(
     }
 }
 
-fn plants_in(alloc: Global, names: &DesignNames<'_>, value: &Value) -> Result<Items<Pair>, ScenarioFault>
+fn plants_in(
+    alloc: Global,
+    names: &DesignNames<'_>,
+    value: &Value,
+) -> Result<Items<Pair>, ScenarioFault>
     ensures { Answers (plants_field names.now (view value.now)) result }
 {
     match value.get("plants") {

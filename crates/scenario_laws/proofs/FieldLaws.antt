@@ -20,35 +20,44 @@ use Rattle.scenario_laws.proofs.EventLists.{events_few, events_loose}
 use Rattle.scenario_laws.proofs.TraceLists.{trace_few}
 use Rattle.scenario_laws.proofs.PairLists.{no_pairs, pairs_fit}
 
-pub events_are_few : (bytes : List ℕ) (command : Command) (design : DesignParts) (s : Scenario) → Means bytes design command (Ok s)
+pub events_are_few : (bytes : List ℕ) (command : Command) (design : DesignParts) (s : Scenario)
+    → Means bytes design command (Ok s)
     → length s.events ≤ LIST_ITEMS
 events_are_few bytes command design s means =
     let read = means_read bytes design command s means in
-    field_keeps (codes "events") (needs_events command) [] (events_in design command) (get (codes "events") read.0) (λ v. length v ≤ LIST_ITEMS)
+    field_keeps (codes "events") (needs_events command) [] (events_in design command) (get (codes "events") read.0)
+    (λ v. length v ≤ LIST_ITEMS)
     (λ free. omega arith) (events_few design command) s.events read.1.events
 
-pub traces_are_few : (bytes : List ℕ) (command : Command) (design : DesignParts) (s : Scenario) → Means bytes design command (Ok s)
+pub traces_are_few : (bytes : List ℕ) (command : Command) (design : DesignParts) (s : Scenario)
+    → Means bytes design command (Ok s)
     → length s.trace ≤ LIST_ITEMS
 traces_are_few bytes command design s means =
     let read = means_read bytes design command s means in
-    field_keeps (codes "trace") (needs_trace command) [] trace_in (get (codes "trace") read.0) (λ t. length t ≤ LIST_ITEMS)
+    field_keeps (codes "trace") (needs_trace command) [] trace_in (get (codes "trace") read.0)
+    (λ t. length t ≤ LIST_ITEMS)
     (λ free. omega arith) trace_few s.trace read.1.trace
 
-pub events_are_loose : (bytes root : List ℕ) (design : DesignParts) (s : Scenario) → Means bytes design (loosely root) (Ok s)
+pub events_are_loose : (bytes root : List ℕ) (design : DesignParts) (s : Scenario)
+    → Means bytes design (loosely root) (Ok s)
     → AreLooseEvents design s.events
 events_are_loose bytes root design s means =
     let read = means_read bytes design (loosely root) s means in
-    field_keeps (codes "events") true [] (events_in design (loosely root)) (get (codes "events") read.0) (AreLooseEvents design)
+    field_keeps (codes "events") true [] (events_in design (loosely root)) (get (codes "events") read.0)
+    (AreLooseEvents design)
     (λ free. absurd (false≢true (sym free))) (events_loose design root) s.events read.1.events
 
-pub pairs_can_be_fused : (bytes : List ℕ) (command : Command) (design : DesignParts) (s : Scenario) → Means bytes design command (Ok s)
+pub pairs_can_be_fused : (bytes : List ℕ) (command : Command) (design : DesignParts) (s : Scenario)
+    → Means bytes design command (Ok s)
     → ArePairs design s.plants
 pairs_can_be_fused bytes command design s means =
     let read = means_read bytes design command s means in
     field_keeps (codes "plants") false [] (plants_in design) (get (codes "plants") read.0) (ArePairs design)
     (λ free. no_pairs design) (pairs_fit design) s.plants read.1.plants
 
-pub scenarios_suit : (bytes : List ℕ) (command : Command) (design : DesignParts) (s : Scenario) → IsDesign design → Means bytes design command (Ok s)
+pub scenarios_suit : (bytes : List ℕ) (command : Command) (design : DesignParts) (s : Scenario) → IsDesign design
+    → Means bytes design command (Ok s)
     → IsScenarioOf design s
 scenarios_suit bytes command design s rules means =
-    let fields = means_fields bytes design command s means in answer_keeps fields.0 design design command (Ok s) refl rules fields.1
+    let fields = means_fields bytes design command s means in
+    answer_keeps fields.0 design design command (Ok s) refl rules fields.1

@@ -32,26 +32,32 @@ use Rattle.scenario_json.specs.declared.scenario.Scenario.{Scenario}
 use Rattle.scenario_json.specs.Scenarios.{field, only_known, is_field, needs_events, needs_trace, needs_properties, needs_processors, rounds_in, fields_in, scen, Means}
 
 -- what a reader keeps that goes on with other fields
-goes_on : {A : Type 0} (m : Result A ScenarioFault) (go : A → Result Scenario ScenarioFault) (s : Scenario) (P : Type 0) → ((a : A) → go a ≡ Ok s → P) → (m >>= go) ≡ Ok s → P
+goes_on : {A : Type 0} (m : Result A ScenarioFault) (go : A → Result Scenario ScenarioFault) (s : Scenario) (P : Type 0)
+    → ((a : A) → go a ≡ Ok s → P) → (m >>= go) ≡ Ok s → P
 goes_on (Ok a) go s P next e = next a e
 goes_on (Err fault) go s P next e = absurd (cc)
 
-read_from : {A : Type 0} (m : Result A ScenarioFault) (go : A → Result Scenario ScenarioFault) (s : Scenario) (P : Type 0) → ((a : A) → m ≡ Ok a → go a ≡ Ok s → P) → (m >>= go) ≡ Ok s → P
+read_from : {A : Type 0} (m : Result A ScenarioFault) (go : A → Result Scenario ScenarioFault) (s : Scenario)
+    (P : Type 0) → ((a : A) → m ≡ Ok a → go a ≡ Ok s → P) → (m >>= go) ≡ Ok s → P
 read_from (Ok a) go s P next e = next a refl e
 read_from (Err fault) go s P next e = absurd (cc)
 
-pub field_keeps : {A : Type 0} (name : List ℕ) (needed : Bool) (otherwise : A) (read : Data → Result A ScenarioFault) (found : Option Data) (P : A → Type 0) → (needed ≡ false → P otherwise) → ((d : Data) (a : A) → read d ≡ Ok a → P a) → (a : A)
+pub field_keeps : {A : Type 0} (name : List ℕ) (needed : Bool) (otherwise : A) (read : Data → Result A ScenarioFault)
+    (found : Option Data) (P : A → Type 0) → (needed ≡ false → P otherwise)
+    → ((d : Data) (a : A) → read d ≡ Ok a → P a) → (a : A)
     → field name needed otherwise read found ≡ Ok a → P a
 field_keeps name true otherwise read None P free keeps a e = absurd (cc)
 field_keeps name false otherwise read None P free keeps a e = subst P (ok_same otherwise a e) (free refl)
 field_keeps name needed otherwise read (Some d) P free keeps a e = keeps d a e
 
-known : {A : Type 0} (unknown : Option (List ℕ × Data)) (next : Result A ScenarioFault) (a : A) → only_known unknown next ≡ Ok a → next ≡ Ok a
+known : {A : Type 0} (unknown : Option (List ℕ × Data)) (next : Result A ScenarioFault) (a : A)
+    → only_known unknown next ≡ Ok a → next ≡ Ok a
 known None next a e = e
 known (Some entry) next a e = absurd (cc)
 
 -- ---- what is read from each field on, the last one first
-abbrev made : ℕ → List (List PortValue) → List Event → Clocks → List (List ℕ) → List (List ℕ) → List PropertyValue → List NodeNo → List RoundFault → List Pair → List Processor → Scenario
+abbrev made : ℕ → List (List PortValue) → List Event → Clocks → List (List ℕ) → List (List ℕ) → List PropertyValue
+    → List NodeNo → List RoundFault → List Pair → List Processor → Scenario
 made n i v c l t p r f pl pr = record {
   rounds = n;
   env = record { lists = i };
@@ -68,33 +74,40 @@ made n i v c l t p r f pl pr = record {
 
 module _ (d : Data) (design : DesignParts) (command : Command) where
   abbrev processors_read : Result (List Processor) ScenarioFault
-  processors_read = field (codes "processors") (needs_processors command) [] (processors_in design) (get (codes "processors") d)
+  processors_read =
+      field (codes "processors") (needs_processors command) [] (processors_in design) (get (codes "processors") d)
 
-  abbrev from_processors : ℕ → List (List PortValue) → List Event → Clocks → List (List ℕ) → List (List ℕ) → List PropertyValue → List NodeNo → List RoundFault → List Pair → Result Scenario ScenarioFault
+  abbrev from_processors : ℕ → List (List PortValue) → List Event → Clocks → List (List ℕ) → List (List ℕ)
+      → List PropertyValue → List NodeNo → List RoundFault → List Pair → Result Scenario ScenarioFault
   from_processors n i v c l t p r f pl = processors_read >>= λ pr. Ok (made n i v c l t p r f pl pr)
 
   abbrev pub plants_read : Result (List Pair) ScenarioFault
   plants_read = field (codes "plants") false [] (plants_in design) (get (codes "plants") d)
 
-  abbrev from_plants : ℕ → List (List PortValue) → List Event → Clocks → List (List ℕ) → List (List ℕ) → List PropertyValue → List NodeNo → List RoundFault → Result Scenario ScenarioFault
+  abbrev from_plants : ℕ → List (List PortValue) → List Event → Clocks → List (List ℕ) → List (List ℕ)
+      → List PropertyValue → List NodeNo → List RoundFault → Result Scenario ScenarioFault
   from_plants n i v c l t p r f = plants_read >>= λ pl. from_processors n i v c l t p r f pl
 
   abbrev pub faults_read : List NodeNo → Result (List RoundFault) ScenarioFault
   faults_read r = field (codes "faults") false [] (faults_in design r) (get (codes "faults") d)
 
-  abbrev from_faults : ℕ → List (List PortValue) → List Event → Clocks → List (List ℕ) → List (List ℕ) → List PropertyValue → List NodeNo → Result Scenario ScenarioFault
+  abbrev from_faults : ℕ → List (List PortValue) → List Event → Clocks → List (List ℕ) → List (List ℕ)
+      → List PropertyValue → List NodeNo → Result Scenario ScenarioFault
   from_faults n i v c l t p r = faults_read r >>= λ f. from_plants n i v c l t p r f
 
   abbrev replicas_read : Result (List NodeNo) ScenarioFault
   replicas_read = field (codes "replicas") false [] (replicas_in design) (get (codes "replicas") d)
 
-  abbrev from_replicas : ℕ → List (List PortValue) → List Event → Clocks → List (List ℕ) → List (List ℕ) → List PropertyValue → Result Scenario ScenarioFault
+  abbrev from_replicas : ℕ → List (List PortValue) → List Event → Clocks → List (List ℕ) → List (List ℕ)
+      → List PropertyValue → Result Scenario ScenarioFault
   from_replicas n i v c l t p = replicas_read >>= λ r. from_faults n i v c l t p r
 
   abbrev properties_read : Result (List PropertyValue) ScenarioFault
-  properties_read = field (codes "properties") (needs_properties command) [] (properties_in design) (get (codes "properties") d)
+  properties_read =
+      field (codes "properties") (needs_properties command) [] (properties_in design) (get (codes "properties") d)
 
-  abbrev from_properties : ℕ → List (List PortValue) → List Event → Clocks → List (List ℕ) → List (List ℕ) → Result Scenario ScenarioFault
+  abbrev from_properties : ℕ → List (List PortValue) → List Event → Clocks → List (List ℕ) → List (List ℕ)
+      → Result Scenario ScenarioFault
   from_properties n i v c l t = properties_read >>= λ p. from_replicas n i v c l t p
 
   abbrev pub trace_read : Result (List (List ℕ)) ScenarioFault
@@ -104,7 +117,9 @@ module _ (d : Data) (design : DesignParts) (command : Command) where
   from_trace n i v c l = trace_read >>= λ t. from_properties n i v c l t
 
   abbrev delays_read : Result (List (List ℕ)) ScenarioFault
-  delays_read = field (codes "delays") false (replicate (length design.links) (design.gamma.mu_min ∷ [])) (delays_in design) (get (codes "delays") d)
+  delays_read =
+      field (codes "delays") false (replicate (length design.links) (design.gamma.mu_min ∷ [])) (delays_in design)
+      (get (codes "delays") d)
 
   abbrev from_delays : ℕ → List (List PortValue) → List Event → Clocks → Result Scenario ScenarioFault
   from_delays n i v c = delays_read >>= λ l. from_trace n i v c l
@@ -122,7 +137,9 @@ module _ (d : Data) (design : DesignParts) (command : Command) where
   from_events n i = events_read >>= λ v. from_clocks n i v
 
   abbrev inputs_read : Result (List (List PortValue)) ScenarioFault
-  inputs_read = field (codes "inputs") false (replicate (length (root_inputs design)) []) (inputs_in design) (get (codes "inputs") d)
+  inputs_read =
+      field (codes "inputs") false (replicate (length (root_inputs design)) []) (inputs_in design)
+      (get (codes "inputs") d)
 
   abbrev from_inputs : ℕ → Result Scenario ScenarioFault
   from_inputs n = inputs_read >>= λ i. from_events n i
@@ -152,13 +169,16 @@ module _ (d : Data) (design : DesignParts) (command : Command) where
       read_from (faults_read r) (λ f. from_plants n i v c l t p r f) s Q (λ f is_faults e8.
       read_from plants_read (λ pl. from_processors n i v c l t p r f pl) s Q (λ pl is_plants e9.
       goes_on processors_read (λ pr. Ok (made n i v c l t p r f pl pr)) s Q (λ pr e10.
-      subst AreRead (ok_same (made n i v c l t p r f pl pr) s e10) (record { events = is_events; trace = is_trace; faults = is_faults; plants = is_plants })
+      subst AreRead (ok_same (made n i v c l t p r f pl pr) s e10)
+      (record { events = is_events; trace = is_trace; faults = is_faults; plants = is_plants })
       ) e9) e8) e7) e6) e5) e4) e3) e2) e1) e0) e
 
   pub fields_of_scenario : (s : Scenario) → scen d design command ≡ Ok s → fields_in d design command ≡ Ok s
   unfolding scen
   fields_of_scenario s e =
-      let es = ok_bind (entries (codes "scenario") d) (λ es. only_known (find (λ x. not (is_field x.0)) es) (fields_in d design command)) s e in
+      let es =
+      ok_bind (entries (codes "scenario") d)
+      (λ es. only_known (find (λ x. not (is_field x.0)) es) (fields_in d design command)) s e in
       known (find (λ x. not (is_field x.0)) es.0) (fields_in d design command) s es.2
 
 -- ---- what the bytes of a scenario mean
@@ -168,12 +188,15 @@ read_well s = Ok s
 wrong : {P : Type 0} (s : Scenario) → read_well s ≡ Err NotJson → P
 wrong s e = absurd (cc)
 
-pub means_fields : (bytes : List ℕ) (design : DesignParts) (command : Command) (s : Scenario) → Means bytes design command (Ok s)
+pub means_fields : (bytes : List ℕ) (design : DesignParts) (command : Command) (s : Scenario)
+    → Means bytes design command (Ok s)
     → (d : Data) × (fields_in d design command ≡ Ok s)
 means_fields bytes design command s (inl value) = (value.0, fields_of_scenario value.0 design command s value.2)
 means_fields bytes design command s (inr none) = wrong s none.1
 
-pub means_read : (bytes : List ℕ) (design : DesignParts) (command : Command) (s : Scenario) → Means bytes design command (Ok s)
+pub means_read : (bytes : List ℕ) (design : DesignParts) (command : Command) (s : Scenario)
+    → Means bytes design command (Ok s)
     → (d : Data) × AreRead d design command s
 means_read bytes design command s means =
-    let fields = means_fields bytes design command s means in (fields.0, fields_are_read fields.0 design command s fields.1)
+    let fields = means_fields bytes design command s means in
+    (fields.0, fields_are_read fields.0 design command s fields.1)

@@ -34,18 +34,22 @@ big {cells = cells} = err (TooBig cells) (λ e. absurd cc)
 pub no_json : {A : Type 0} → IsNamed {A = A} (Err NotJson)
 no_json = err NotJson (λ e. absurd cc)
 
-pub bind : {A B : Type 0} (r : Result A ScenarioFault) (go : A → Result B ScenarioFault) → IsNamed r → ((x : A) → IsNamed (go x)) → IsNamed (r >>= go)
+pub bind : {A B : Type 0} (r : Result A ScenarioFault) (go : A → Result B ScenarioFault) → IsNamed r
+    → ((x : A) → IsNamed (go x)) → IsNamed (r >>= go)
 bind (Ok x) go n k = k x
 bind (Err fault) go n k = err fault (n.named fault refl)
 
-pub given_named : {A : Type 0} (fault : ScenarioFault) (o : Option A) → IsNamed {A = A} (Err fault) → IsNamed (given fault o)
+pub given_named : {A : Type 0} (fault : ScenarioFault) (o : Option A) → IsNamed {A = A} (Err fault)
+    → IsNamed (given fault o)
 given_named fault None n = n
 given_named fault (Some x) n = ok
 
-pub only : {A : Type 0} (b : Bool) (fault : ScenarioFault) (next : Result A ScenarioFault) → IsNamed {A = A} (Err fault) → IsNamed next → IsNamed (only_if b fault next)
+pub only : {A : Type 0} (b : Bool) (fault : ScenarioFault) (next : Result A ScenarioFault) → IsNamed {A = A} (Err fault)
+    → IsNamed next → IsNamed (only_if b fault next)
 only true fault next n m = m
 only false fault next n m = n
 
-pub through_named : {A S : Type 0} (step : S → A → Result S ScenarioFault) → ((s : S) (x : A) → IsNamed (step s x)) → (s : S) (xs : List A) → IsNamed (through step s xs)
+pub through_named : {A S : Type 0} (step : S → A → Result S ScenarioFault) → ((s : S) (x : A) → IsNamed (step s x))
+    → (s : S) (xs : List A) → IsNamed (through step s xs)
 through_named step n s [] = ok
 through_named step n s (x ∷ xs) = bind (step s x) (λ t. through step t xs) (n s x) (λ t. through_named step n t xs)

@@ -44,7 +44,8 @@ present_named : (kind : Kind) (place : List ℕ) (d : Data) → IsNamed (present
 present_named Integer place d = bind _ _ (number_named place d) (λ z. ok)
 present_named Boolean place d = bind _ _ (given_named (WrongKind place) (as_bool d) wrong) (λ b. ok)
 
-null_or : (kind : Kind) (place : List ℕ) (d : Data) (b : Bool) → IsNamed (present kind place d) → IsNamed (if b then Ok Absent else present kind place d)
+null_or : (kind : Kind) (place : List ℕ) (d : Data) (b : Bool) → IsNamed (present kind place d)
+    → IsNamed (if b then Ok Absent else present kind place d)
 null_or kind place d true n = ok
 null_or kind place d false n = n
 

@@ -42,7 +42,11 @@ fn has_defaults(read: &Scenario) -> bool {
         && has_no_lists(read)
 }
 
-const ON: [PortValue; 3] = [PortValue::Present(1), PortValue::Absent, PortValue::Present(0)];
+const ON: [PortValue; 3] = [
+    PortValue::Present(1),
+    PortValue::Absent,
+    PortValue::Present(0),
+];
 
 fn are_inputs(env: &Env) -> bool {
     let [level, on] = env.lists.as_slice() else {

@@ -4,7 +4,7 @@ use case_files::{Answers, asked};
 use pals_base::{LinkNo, NoMemory, NodeNo, Text};
 use pals_model::Design;
 use pals_report::{add_entry, add_event_fault, add_scenario_fault};
-use pals_runs::{Arrived, Cause, EventFault, JournalEntry, Stop, EventSubject};
+use pals_runs::{Arrived, Cause, EventFault, EventSubject, JournalEntry, Stop};
 use scenario_json::ScenarioFault;
 use std::alloc::Global;
 use std::io;

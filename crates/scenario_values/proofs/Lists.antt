@@ -16,17 +16,23 @@ entries_seen [] = refl
 entries_seen (e ∷ es) = ap (λ ds. entry_of e ∷ ds) (entries_seen es)
 
 -- ---- a test of each value, one after another
-pub all_turn : (p : Data → Bool) (xs : List Value) (i : ℕ) (x : Value) (total : Bool) → i < length xs → x ≡ get_or xs i x → p (view x) ≡ true → list_all p (map view (drop i xs)) ≡ total → list_all p (map view (drop (i + 1) xs)) ≡ total
+pub all_turn : (p : Data → Bool) (xs : List Value) (i : ℕ) (x : Value) (total : Bool) → i < length xs
+    → x ≡ get_or xs i x → p (view x) ≡ true → list_all p (map view (drop i xs)) ≡ total
+    → list_all p (map view (drop (i + 1) xs)) ≡ total
 all_turn p xs i x total within is passes before =
     let split : drop i xs ≡ x ∷ drop (i + 1) xs = grind (arith, common_steps) in
-    sym (ap (λ b. b && list_all p (map view (drop (i + 1) xs))) passes) ∙ ap (λ ys. list_all p (map view ys)) (sym split) ∙ before
+    sym (ap (λ b. b && list_all p (map view (drop (i + 1) xs))) passes)
+    ∙ ap (λ ys. list_all p (map view ys)) (sym split) ∙ before
 
-pub all_fails : (p : Data → Bool) (xs : List Value) (i : ℕ) (x : Value) (total : Bool) → i < length xs → x ≡ get_or xs i x → p (view x) ≡ false → list_all p (map view (drop i xs)) ≡ total → false ≡ total
+pub all_fails : (p : Data → Bool) (xs : List Value) (i : ℕ) (x : Value) (total : Bool) → i < length xs
+    → x ≡ get_or xs i x → p (view x) ≡ false → list_all p (map view (drop i xs)) ≡ total → false ≡ total
 all_fails p xs i x total within is fails before =
     let split : drop i xs ≡ x ∷ drop (i + 1) xs = grind (arith, common_steps) in
-    sym (ap (λ b. b && list_all p (map view (drop (i + 1) xs))) fails) ∙ ap (λ ys. list_all p (map view ys)) (sym split) ∙ before
+    sym (ap (λ b. b && list_all p (map view (drop (i + 1) xs))) fails)
+    ∙ ap (λ ys. list_all p (map view ys)) (sym split) ∙ before
 
-pub all_done : (p : Data → Bool) (xs : List Value) (i : ℕ) (total : Bool) → length xs ≤ i → list_all p (map view (drop i xs)) ≡ total → true ≡ total
+pub all_done : (p : Data → Bool) (xs : List Value) (i : ℕ) (total : Bool) → length xs ≤ i
+    → list_all p (map view (drop i xs)) ≡ total → true ≡ total
 all_done p xs i total end before =
     let none : drop i xs ≡ [] = grind (arith, common_steps) in
     ap (λ ys. list_all p (map view ys)) (sym none) ∙ before

@@ -55,12 +55,14 @@ all_of f code zero each = refl
 all_of f code (suc n) each =
     all_of_step f code n (loop_at code n) refl each (all_of f code n (λ k l less at. each k l (omega arith) at))
 
-one_not_by : (f : LoopSpan → Bool) (code : List Instr) (n k : ℕ) (l : LoopSpan) (b : Bool) → list_all f (loops_below code n) ≡ b
+one_not_by : (f : LoopSpan → Bool) (code : List Instr) (n k : ℕ) (l : LoopSpan) (b : Bool)
+    → list_all f (loops_below code n) ≡ b
     → k < n → loop_at code k ≡ Some l → f l ≡ false → b ≡ false
 one_not_by f code n k l true all within at is = absurd (false≢true (sym is ∙ all_below f code n k l all within at))
 one_not_by f code n k l false all within at is = refl
 
-one_not : (f : LoopSpan → Bool) (code : List Instr) (n k : ℕ) (l : LoopSpan) → k < n → loop_at code k ≡ Some l → f l ≡ false
+one_not : (f : LoopSpan → Bool) (code : List Instr) (n k : ℕ) (l : LoopSpan) → k < n → loop_at code k ≡ Some l
+    → f l ≡ false
     → list_all f (loops_below code n) ≡ false
 one_not f code n k l within at is = one_not_by f code n k l (list_all f (loops_below code n)) refl within at is
 
@@ -164,7 +166,8 @@ stay_low code low high k m (Some l) le small closed is ends at lies =
     (cases_lt k l.start) in
     is_inside high m (omega arith) (omega arith)
 
-stay_high : (code : List Instr) (low high k : ℕ) (m : LoopSpan) (o : Option LoopSpan) → low ≤ high → innermost code high ≡ o
+stay_high : (code : List Instr) (low high k : ℕ) (m : LoopSpan) (o : Option LoopSpan) → low ≤ high
+    → innermost code high ≡ o
     → starts_from o low ≡ false → loop_at code k ≡ Some m → inside low m ≡ false → inside high m ≡ true → ⊥
 stay_high code low high k m None le is starts at out lies =
     let a = inside_is high m lies in
@@ -309,7 +312,8 @@ looks_by code place slot l small closed on =
     (around_outer code on.at l (omega arith) (record { each = λ k m less at. closed.each k m (omega arith) at })
     (sym on.is))
 
-pub looks_further : (code : List Instr) (found : List (Option LoopSpan)) (place slot : ℕ) (l : LoopSpan) (d : Option LoopSpan)
+pub looks_further : (code : List Instr) (found : List (Option LoopSpan)) (place slot : ℕ) (l : LoopSpan)
+    (d : Option LoopSpan)
     → AreInnermost code found → place < length found → length found ≡ length code → AreClosed code place
     → LooksOn code place slot (Some l) → (l.slot ≡ slot → ⊥)
     → LooksOn code place slot (slice_index_or found l.start d) × (l.start < place)

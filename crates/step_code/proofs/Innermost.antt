@@ -18,11 +18,13 @@ pub record IsFound (code : List Instr) (n : ℕ) (g : LoopSpan → Bool) (l : Lo
   pub rest : (h : LoopSpan → Bool) → ((m : LoopSpan) → h m ≡ true → g m ≡ true)
       → filter h (loops_below code n) ≡ filter h (l ∷ loops_below code l.start)
 
-strict : (g h : LoopSpan → Bool) (m : LoopSpan) (b : Bool) → g m ≡ false → (h m ≡ true → g m ≡ true) → h m ≡ b → b ≡ false
+strict : (g h : LoopSpan → Bool) (m : LoopSpan) (b : Bool) → g m ≡ false → (h m ≡ true → g m ≡ true)
+    → h m ≡ b → b ≡ false
 strict g h m true not_kept stricter is = let kept = stricter is in cc
 strict g h m false not_kept stricter is = refl
 
-found_step : (code : List Instr) (n : ℕ) (g : LoopSpan → Bool) (l x : LoopSpan) (b : Bool) → loop_at code n ≡ Some x → g x ≡ b
+found_step : (code : List Instr) (n : ℕ) (g : LoopSpan → Bool) (l x : LoopSpan) (b : Bool)
+    → loop_at code n ≡ Some x → g x ≡ b
     → (first (filter g (loops_below code n)) ≡ Some l → IsFound code n g l)
     → first (cond b (x ∷ filter g (loops_below code n)) (filter g (loops_below code n))) ≡ Some l
     → IsFound code (suc n) g l
@@ -65,7 +67,8 @@ found_at code n g l None at again is =
     }
 found_at code n g l (Some x) at again is = found_step code n g l x (g x) at refl again is
 
-pub is_found : (code : List Instr) (n : ℕ) (g : LoopSpan → Bool) (l : LoopSpan) → first (filter g (loops_below code n)) ≡ Some l
+pub is_found : (code : List Instr) (n : ℕ) (g : LoopSpan → Bool) (l : LoopSpan)
+    → first (filter g (loops_below code n)) ≡ Some l
     → IsFound code n g l
 is_found code zero g l is = cc
 is_found code (suc n) g l is = found_at code n g l (loop_at code n) refl (is_found code n g l) is
@@ -149,7 +152,8 @@ comes_first code found d are some =
     (subst (λ o. ComesFrom code (suc k) (option_or (loop_at code k) o))
     (sym (read_innermost code found k d are (omega arith))) (comes_by code k (loop_at code k) refl))
 
-pub comes_next : (code : List Instr) (found : List (Option LoopSpan)) (l : LoopSpan) (d : Option LoopSpan) → AreInnermost code found
+pub comes_next : (code : List Instr) (found : List (Option LoopSpan)) (l : LoopSpan) (d : Option LoopSpan)
+    → AreInnermost code found
     → ComesFrom code (length found) (Some l) → l.exit ≤ length found
     → ComesFrom code (length found) (slice_index_or found l.start d)
 comes_next code found l d are from ended =

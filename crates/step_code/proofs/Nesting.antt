@@ -28,7 +28,8 @@ if_some : (b : Bool) (x y : LoopSpan) → (if b then Some x else None) ≡ Some 
 if_some true x y is = (refl, cc)
 if_some false x y is = cc
 
-loop_by : (code : List Instr) (k : ℕ) (o : Option Instr) (l : LoopSpan) → slice_get code k ≡ o → loop_from code k o ≡ Some l
+loop_by : (code : List Instr) (k : ℕ) (o : Option Instr) (l : LoopSpan) → slice_get code k ≡ o
+    → loop_from code k o ≡ Some l
     → IsLoop code k l
 loop_by code k (Some (LoopStart slot low high exit)) l at is =
     let m : LoopSpan = record { start = k; exit = exit; slot = slot; low = low; high = high } in
@@ -156,7 +157,8 @@ agree_same true false is = absurd (false≢true is)
 agree_same false true is = absurd (false≢true is)
 agree_same false false is = refl
 
-agree_all : (p q : ℕ) (ls : List LoopSpan) → list_all (agrees p q) ls ≡ true → filter (inside p) ls ≡ filter (inside q) ls
+agree_all : (p q : ℕ) (ls : List LoopSpan) → list_all (agrees p q) ls ≡ true
+    → filter (inside p) ls ≡ filter (inside q) ls
 agree_all p q [] is = refl
 agree_all p q (l ∷ ls) is =
     let both = and_parts (agrees p q l) (list_all (agrees p q) ls) is in
@@ -188,13 +190,15 @@ all_step f code m k (Some x) l at all below lt is =
     let yes : Some x ≡ Some l = sym at ∙ ap (loop_at code) (sym same) ∙ is in let e : x ≡ l = cc in
     subst (λ y. f y ≡ true) e both.0) (cases_lt k m)
 
-pub all_below : (f : LoopSpan → Bool) (code : List Instr) (m k : ℕ) (l : LoopSpan) → list_all f (loops_below code m) ≡ true
+pub all_below : (f : LoopSpan → Bool) (code : List Instr) (m k : ℕ) (l : LoopSpan)
+    → list_all f (loops_below code m) ≡ true
     → k < m → loop_at code k ≡ Some l → f l ≡ true
 all_below f code zero k l all lt is = absurd (omega arith)
 all_below f code (suc m) k l all lt is =
     all_step f code m k (loop_at code m) l refl all (λ all less. all_below f code m k l all less is) lt is
 
-free_cons : (f : LoopSpan → Bool) (x : ℕ) (l : LoopSpan) (b : Bool) (rest : List LoopSpan) → (l.slot ≡ x → ⊥) → Free rest x
+free_cons : (f : LoopSpan → Bool) (x : ℕ) (l : LoopSpan) (b : Bool) (rest : List LoopSpan) → (l.slot ≡ x → ⊥)
+    → Free rest x
     → Free (cond b (l ∷ rest) rest) x
 free_cons f x l true rest apart free = (apart, free)
 free_cons f x l false rest apart free = free

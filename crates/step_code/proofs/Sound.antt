@@ -61,7 +61,8 @@ is_end c p slot (suc start) high v is found =
 
 cleans : (c : CodeParts) (p : ℕ) (i : Instr) → IsVerified c → IsKnown c p i → Clean c.instrs c.vars p i
 cleans c p (Jump to) v k =
-    goes c p to (or_false_left (strays c.instrs p to) false k.sound.jumps) (or_false_left (not (nat_lt p to)) false k.sound.forward)
+    goes c p to (or_false_left (strays c.instrs p to) false k.sound.jumps)
+    (or_false_left (not (nat_lt p to)) false k.sound.forward)
 cleans c p (JumpZero to) v k = (
   goes c p to (or_false_left (strays c.instrs p to) (lacks_next c.instrs p (JumpZero to)) k.sound.jumps)
       (or_false_left (not (nat_lt p to)) false k.sound.forward),
@@ -74,11 +75,13 @@ cleans c p (LoopStart slot low high exit) v k =
     let no_loop = or_false_left (is_no_loop_slot c slot) (has_slot slot (around c.instrs p)) slots in (
       goes c p exit (or_false_left (strays c.instrs p exit) (lacks_next c.instrs p i) k.sound.jumps)
           (or_false_left (not (nat_lt p exit)) (not (on_some (loop_at c.instrs p) (λ l. true))) k.sound.forward),
-      not_le (p + 1) (length c.instrs) (or_false_right (strays c.instrs p exit) (lacks_next c.instrs p i) k.sound.jumps),
+      not_le (p + 1) (length c.instrs)
+          (or_false_right (strays c.instrs p exit) (lacks_next c.instrs p i) k.sound.jumps),
       loop_there (loop_at c.instrs p)
           (or_false_right (not (nat_lt p exit)) (not (on_some (loop_at c.instrs p) (λ l. true))) k.sound.forward),
       ltb-false slot c.vars (or_false_left (nat_lt slot c.vars) (not (nat_lt slot (c.vars + c.loops))) no_loop),
-      free_of (around c.instrs p) slot (or_false_right (is_no_loop_slot c slot) (has_slot slot (around c.instrs p)) slots),
+      free_of (around c.instrs p) slot
+          (or_false_right (is_no_loop_slot c slot) (has_slot slot (around c.instrs p)) slots),
     )
 cleans c p (LoopNext slot high to) v k = (
   not_le (p + 1) (length c.instrs) k.sound.jumps,
@@ -104,7 +107,8 @@ feeds c p (LoopStart slot low high exit) k =
     (or_false_right (nat_lt slot c.vars) (not (nat_lt slot (c.vars + c.loops)))
     (or_false_left (is_no_loop_slot c slot) (has_slot slot (around c.instrs p)) k.sound.slots))
 feeds c p (LoopNext slot high to) k =
-    not_le slot (c.vars + c.loops) (or_false_right (nat_lt slot c.vars) (not (nat_lt slot (c.vars + c.loops))) k.sound.slots)
+    not_le slot (c.vars + c.loops)
+    (or_false_right (nat_lt slot c.vars) (not (nat_lt slot (c.vars + c.loops))) k.sound.slots)
 feeds c p other k = tt
 
 pub verified_fed : (c : CodeParts) → IsVerified c → IsFed c.instrs (c.vars + c.loops) c.ins c.outs

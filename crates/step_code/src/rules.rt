@@ -154,7 +154,12 @@ fn is_no_loop_slot(parts: &CodeParts, slot: u32) -> bool
 }
 
 // Whether no loop may have the slot, or one round the place has it.
-fn misses_loop_slot(parts: &CodeParts, innermost: &[Option<LoopSpan>], place: usize, slot: u32) -> bool
+fn misses_loop_slot(
+    parts: &CodeParts,
+    innermost: &[Option<LoopSpan>],
+    place: usize,
+    slot: u32,
+) -> bool
     requires clean { IsCleanBelow parts.now place }
     requires innermost { AreInnermost parts.now.instrs innermost.now }
     requires count { length innermost.now ≡ length parts.now.instrs }

@@ -121,7 +121,12 @@ fn weights(
 
 // What the instruction at `place` weighs, where `weights` has what those before it weigh: the turns
 // of the innermost loop, times what its start weighs.
-fn weight_at(parts: &CodeParts, innermost: &[Option<LoopSpan>], weights: &[u64], place: usize) -> u64
+fn weight_at(
+    parts: &CodeParts,
+    innermost: &[Option<LoopSpan>],
+    weights: &[u64],
+    place: usize,
+) -> u64
     requires verified { IsVerified parts.now }
     requires innermost { AreInnermost parts.now.instrs innermost.now }
     requires count { length innermost.now ≡ length parts.now.instrs }

@@ -94,7 +94,8 @@ pub one_closed : (whole : List Instr) (p q : ℕ) (i : Instr) → slice_get whol
 one_closed whole p q i is none e = record {
   each = λ k l opens from before.
       let same : k ≡ p = omega arith in
-      let clash : ◌≡◌ {A = Option LoopSpan} None (Some l) = sym (not_loop whole p i none) ∙ sym (ap (loop_from whole p) is)
+      let clash : ◌≡◌ {A = Option LoopSpan} None (Some l) = sym (not_loop whole p i none)
+      ∙ sym (ap (loop_from whole p) is)
       ∙ sym (ap (loop_at whole) same) ∙ opens in
       absurd cc;
 }

@@ -270,7 +270,8 @@ module _ (c : CodeParts) (z : Sizes) (fits : Matches c z) where
               (λ (from : p ≤ k).
               let same : k ≡ p = omega arith in
               let own = sym (loop_there c.instrs p n m low high has.0 next) ∙ sym (ap (loop_at c.instrs) same) ∙ is in
-              let l_is : ◌≡◌ {A = LoopSpan} (record { start = p; exit = exit; slot = n; low = low; high = high }) l = cc in
+              let l_is : ◌≡◌ {A = LoopSpan}
+              (record { start = p; exit = exit; slot = n; low = low; high = high }) l = cc in
               let e = ap (λ (x : LoopSpan). x.exit) l_is in
               let f = ap (λ (x : LoopSpan). x.slot) l_is in
               let x : p + 1 + m < l.exit = omega arith in

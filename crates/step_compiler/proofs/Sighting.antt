@@ -119,7 +119,8 @@ assigned_seen : (b : BehaviourParts) (x : ℕ) (k : Kinds) (o : Option VarDecl) 
 assigned_seen b x k None is suits = absurd (false≢true suits)
 assigned_seen b x k (Some v) is suits = (slice_get_within b.vars x v is, typed_by k v.kind suits)
 
-sent_seen : (b : BehaviourParts) (x : ℕ) (k : Kinds) (o : Option PortDecl) → slice_get b.outs x ≡ o → suits_port o k ≡ true
+sent_seen : (b : BehaviourParts) (x : ℕ) (k : Kinds) (o : Option PortDecl) → slice_get b.outs x ≡ o
+    → suits_port o k ≡ true
     → (x < length b.outs) × Typed k
 sent_seen b x k None is suits = absurd (false≢true suits)
 sent_seen b x k (Some v) is suits = (slice_get_within b.outs x v is, typed_by k v.kind suits)

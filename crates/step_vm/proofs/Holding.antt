@@ -21,7 +21,8 @@ holding-absent [] xs = refl
 holding-absent (h ∷ held) [] = ap (λ l. h ∷ l) (holding-none held)
 holding-absent (h ∷ held) (x ∷ xs) = ap (λ l. held_of h x ∷ l) (holding-absent held xs)
 
-pub hold_present : (held : List ℤ) (inputs : List PortValue) (at : ℕ) (v : ℤ) (d : PortValue) → length inputs ≡ length held
+pub hold_present : (held : List ℤ) (inputs : List PortValue) (at : ℕ) (v : ℤ) (d : PortValue)
+    → length inputs ≡ length held
     → at < length inputs → slice_index_or inputs at d ≡ Present v
     → holding held (take (at + 1) inputs) ≡ slice_set (holding held (take at inputs)) at v
 hold_present held inputs at v d size within is =

@@ -23,7 +23,13 @@ enum RunResult {
 
 /// One step of the code at these inputs: the frame and the outputs become those that it leaves, and
 /// the frame fits the code again. It takes no memory and refuses nothing.
-pub fn run(code: &Code, room: &mut Room, frame: &mut Frame, inputs: &[PortValue], outs: &mut [PortValue])
+pub fn run(
+    code: &Code,
+    room: &mut Room,
+    frame: &mut Frame,
+    inputs: &[PortValue],
+    outs: &mut [PortValue],
+)
     requires room { IsRoomOf code.now room.old }
     requires frame { FitsCode code.now frame.old }
     requires inputs { length inputs.now ≡ code.now.ins }

@@ -38,7 +38,8 @@ module _ (to : ℕ → ℕ) (a b : DesignParts) (r : IsRenumbered to a b) where
 
   -- the number whose other number this is
   back : ℕ → ℕ
-  back m = found_in (λ n. nat_eq (to n) m) (length a.components) (search_below (λ n. nat_eq (to n) m) (length a.components))
+  back m =
+      found_in (λ n. nat_eq (to n) m) (length a.components) (search_below (λ n. nat_eq (to n) m) (length a.components))
 
   abbrev IsBack : ℕ → ℕ → Type 0
   IsBack m n = (to n ≡ m) × (n < length a.components)
@@ -55,7 +56,8 @@ module _ (to : ℕ → ℕ) (a b : DesignParts) (r : IsRenumbered to a b) where
       apart : (i j : ℕ) → i < j → j < suc (length a.components) → with_first m to i ≢ with_first m to j
       apart i zero less inside = absurd (omega arith)
       apart zero (suc j) less inside = λ same. true≢false (sym (eq-eqb (to j) m (sym same)) ∙ none j (omega arith))
-      apart (suc i) (suc j) less inside = λ same. let one = r.one_each i j (omega arith) (omega arith) same in omega (arith, one, less)
+      apart (suc i) (suc j) less inside = λ same. let one = r.one_each i j (omega arith) (omega arith) same in
+          omega (arith, one, less)
 
   back_is : (m : ℕ) → m < length a.components → IsBack m (back m)
   unfolding back
@@ -68,16 +70,20 @@ module _ (to : ℕ → ℕ) (a b : DesignParts) (r : IsRenumbered to a b) where
 
   module _ (sound : IsDesign a) where
     -- ---- links and feeds
-    link_again : (l : ℕ) (link : Link) → slice_get a.links l ≡ Some link → renumbered_link back (renumbered_link to link) ≡ link
+    link_again : (l : ℕ) (link : Link) → slice_get a.links l ≡ Some link
+        → renumbered_link back (renumbered_link to link) ≡ link
     link_again l link is =
         let rules = at_element (IsLink a) a.links l link sound.links.each is in
-        ap₂ (λ source target. let other : Link = record link { source = record { 0 = source }; target = record { 0 = target } } in other)
+        ap₂ (λ source target. let other : Link =
+        record link { source = record { 0 = source }; target = record { 0 = target } } in other)
         (back_to link.source.0 rules.source.node_is) (back_to link.target.0 rules.target.node_is)
 
-    feed_again : (f : ℕ) (feed : Feed) → slice_get a.feeds f ≡ Some feed → renumbered_feed back (renumbered_feed to feed) ≡ feed
+    feed_again : (f : ℕ) (feed : Feed) → slice_get a.feeds f ≡ Some feed
+        → renumbered_feed back (renumbered_feed to feed) ≡ feed
     feed_again f feed is =
         let rules = at_element (IsFeed a) a.feeds f feed sound.feeds.each is in
-        ap (λ target. let other : Feed = record feed { target = record { 0 = target } } in other) (back_to feed.target.0 rules.target.node_is)
+        ap (λ target. let other : Feed = record feed { target = record { 0 = target } } in other)
+        (back_to feed.target.0 rules.target.node_is)
 
     -- ---- the whole
     within_a : (n : ℕ) → n < length b.components → n < length a.components
@@ -88,8 +94,12 @@ module _ (to : ℕ → ℕ) (a b : DesignParts) (r : IsRenumbered to a b) where
       period = sym r.period;
       gamma = sym r.gamma;
       count = sym r.count;
-      component = λ n within. (let is = back_is n (within_a n within) in sym (r.component (back n) is.1) ∙ ap (slice_get b.components) is.0);
-      one_each = λ m n first second same. sym (back_is m (within_a m first)).0 ∙ ap to same ∙ (back_is n (within_a n second)).0;
+      component =
+          λ n within. (let is = back_is n (within_a n within) in
+          sym (r.component (back n) is.1) ∙ ap (slice_get b.components) is.0);
+      one_each =
+          λ m n first second same. sym (back_is m (within_a m first)).0 ∙ ap to same
+          ∙ (back_is n (within_a n second)).0;
       links = images_back (renumbered_link to) a.links b.links r.links (renumbered_link back) link_again;
       feeds = images_back (renumbered_feed to) a.feeds b.feeds r.feeds (renumbered_feed back) feed_again;
     }
@@ -101,11 +111,16 @@ module _ (to : ℕ → ℕ) (a b : DesignParts) (r : IsRenumbered to a b) where
   root_of_both : (name : List ℕ) → Contains (root_inputs b) name → Contains (root_inputs a) name
   root_of_both name is =
       let among = (root_inputs_are_feeds b name).0 is in
-      let fed = slice_get-map_parts (λ (f : Feed). f.name) b.feeds among.0 name (slice_get-from_Contains (feed_names b) name among) in
+      let fed =
+      slice_get-map_parts (λ (f : Feed). f.name) b.feeds among.0 name
+      (slice_get-from_Contains (feed_names b) name among) in
       let first = feed_back to a b r among.0 fed.0 fed.1 in
       let feed : Feed = first.1 in
-      let named = Contains-from_slice_get (feed_names a) first.0 feed.name (slice_get-map_some (λ (f : Feed). f.name) a.feeds first.0 feed first.2) in
-      subst (Contains (root_inputs a)) (ap (λ (f : Feed). f.name) first.3 ∙ fed.2) ((root_inputs_are_feeds a feed.name).1 named)
+      let named =
+      Contains-from_slice_get (feed_names a) first.0 feed.name
+      (slice_get-map_some (λ (f : Feed). f.name) a.feeds first.0 feed first.2) in
+      subst (Contains (root_inputs a)) (ap (λ (f : Feed). f.name) first.3 ∙ fed.2)
+      ((root_inputs_are_feeds a feed.name).1 named)
 
   pub same_inputs_back : (env_a env_b : Env) → AreSameInputs a b env_a env_b → AreSameInputs b a env_b env_a
   same_inputs_back env_a env_b inputs k d within =

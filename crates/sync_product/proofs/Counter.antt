@@ -31,7 +31,8 @@ counter = behaviour_in (slice_get two_counters.components 0)
 
 no_edge : (k : ℕ) (e : Edge) → Contains (leaving counter (suc k)) e → ⊥
 no_edge k e among =
-    let none : leaving counter (suc k) ≡ [] = ap (λ b. cond b counter.transitions []) (ne_eqb 0 (suc k) (λ same. omega arith)) in
+    let none : leaving counter (suc k) ≡ [] =
+    ap (λ b. cond b counter.transitions []) (ne_eqb 0 (suc k) (λ same. omega arith)) in
     let here : Contains [] e = subst (λ edges. Contains edges e) none among in
     let within = here.1 in
     omega (arith, within)
@@ -46,7 +47,9 @@ pub counter_behaves : IsBehaviour counter
 counter_behaves = record {
   names = record {
     values = refl;
-    values_differ = AllPairs-three (λ (x y : List ℕ). x ≢ y) (codes "i") (codes "o") (codes "x") (bytes_ne_by_test _ _ refl) (bytes_ne_by_test _ _ refl) (bytes_ne_by_test _ _ refl);
+    values_differ =
+        AllPairs-three (λ (x y : List ℕ). x ≢ y) (codes "i") (codes "o") (codes "x") (bytes_ne_by_test _ _ refl)
+        (bytes_ne_by_test _ _ refl) (bytes_ne_by_test _ _ refl);
     states = refl;
     states_differ = AllPairs-one (λ (s t : StateDecl). s.name ≢ t.name) _;
   };

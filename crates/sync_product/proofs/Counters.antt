@@ -19,10 +19,12 @@ abbrev counter_at : List ℕ → Component
 counter_at path = record { path = path; rate = 1; behaviour = counter }
 
 abbrev design_of : List Link → List Feed → List ℕ → List ℕ → DesignParts
-design_of links feeds first second = record two_counters { components = counter_at first ∷ counter_at second ∷ []; links = links; feeds = feeds }
+design_of links feeds first second =
+    record two_counters { components = counter_at first ∷ counter_at second ∷ []; links = links; feeds = feeds }
 
 -- ---- components
-counter_is : (path : List ℕ) → IsTrue (is_path path) → length path ≤ PATH_BYTES → IsComponent two_counters.period (counter_at path)
+counter_is : (path : List ℕ) → IsTrue (is_path path) → length path ≤ PATH_BYTES
+    → IsComponent two_counters.period (counter_at path)
 counter_is path word short = record {
   path = word;
   path_size = short;
@@ -82,27 +84,47 @@ no_feeds links first second =
       apart = All-nil (λ (feed : Feed). All (IsApart feed) links);
     }
 
-feeds_are : (x y first second : List ℕ) → IsTrue (is_word x) → IsTrue (is_word y) → AreFeeds (design_of [] (fed x 0 ∷ fed y 1 ∷ []) first second)
+feeds_are : (x y first second : List ℕ) → IsTrue (is_word x) → IsTrue (is_word y)
+    → AreFeeds (design_of [] (fed x 0 ∷ fed y 1 ∷ []) first second)
 feeds_are x y first second is_x is_y =
     let design = design_of [] (fed x 0 ∷ fed y 1 ∷ []) first second in
     record {
       each = all_of_two (IsFeed design) (fed x 0) (fed y 1)
-          (record { name = is_x; target = record { node_is = omega arith; port_is = omega arith }; allowed = refl; suits = refl })
-          (record { name = is_y; target = record { node_is = omega arith; port_is = omega arith }; allowed = refl; suits = refl });
+          (record {
+            name = is_x;
+            target = record { node_is = omega arith; port_is = omega arith };
+            allowed = refl;
+            suits = refl;
+          })
+          (record {
+            name = is_y;
+            target = record { node_is = omega arith; port_is = omega arith };
+            allowed = refl;
+            suits = refl;
+          });
       order = pair_of_two FeedPrecedes (fed x 0) (fed y 1) (omega arith);
       kinds = pair_of_two (AgreeInKind design) (fed x 0) (fed y 1) (record { kinds = λ same. refl });
-      apart = all_of_two (λ (feed : Feed). All (IsApart feed) design.links) (fed x 0) (fed y 1) (All-nil (IsApart (fed x 0))) (All-nil (IsApart (fed y 1)));
+      apart =
+          all_of_two (λ (feed : Feed). All (IsApart feed) design.links) (fed x 0) (fed y 1)
+          (All-nil (IsApart (fed x 0))) (All-nil (IsApart (fed y 1)));
     }
 
 -- ---- the whole
 design_is : (links : List Link) (feeds : List Feed) (first second : List ℕ)
-    → IsComponent two_counters.period (counter_at first) → IsComponent two_counters.period (counter_at second) → first ≢ second
-    → AreLinks (design_of links feeds first second) → AreFeeds (design_of links feeds first second) → IsDesign (design_of links feeds first second)
+    → IsComponent two_counters.period (counter_at first) → IsComponent two_counters.period (counter_at second)
+    → first ≢ second
+    → AreLinks (design_of links feeds first second) → AreFeeds (design_of links feeds first second)
+    → IsDesign (design_of links feeds first second)
 design_is links feeds first second is_first is_second differ are_links are_feeds =
     let design = design_of links feeds first second in
     record {
       period = (omega arith, omega arith);
-      gamma = record { skew = (omega arith, omega arith); execution = (omega arith, omega arith); network = (omega arith, omega arith) };
+      gamma =
+          record {
+            skew = (omega arith, omega arith);
+            execution = (omega arith, omega arith);
+            network = (omega arith, omega arith);
+          };
       components = record {
         each = all_of_two (IsComponent design.period) (counter_at first) (counter_at second) is_first is_second;
         count = omega arith;
@@ -115,17 +137,23 @@ design_is links feeds first second is_first is_second differ are_links are_feeds
     }
 
 a_then_b : (links : List Link) (feeds : List Feed) → AreLinks (design_of links feeds (codes "p.a") (codes "p.b"))
-    → AreFeeds (design_of links feeds (codes "p.a") (codes "p.b")) → IsDesign (design_of links feeds (codes "p.a") (codes "p.b"))
-a_then_b links feeds = design_is links feeds (codes "p.a") (codes "p.b") a_is b_is (bytes_ne_by_test (codes "p.a") (codes "p.b") refl)
+    → AreFeeds (design_of links feeds (codes "p.a") (codes "p.b"))
+    → IsDesign (design_of links feeds (codes "p.a") (codes "p.b"))
+a_then_b links feeds =
+    design_is links feeds (codes "p.a") (codes "p.b") a_is b_is (bytes_ne_by_test (codes "p.a") (codes "p.b") refl)
 
 b_then_a : (links : List Link) (feeds : List Feed) → AreLinks (design_of links feeds (codes "p.b") (codes "p.a"))
-    → AreFeeds (design_of links feeds (codes "p.b") (codes "p.a")) → IsDesign (design_of links feeds (codes "p.b") (codes "p.a"))
-b_then_a links feeds = design_is links feeds (codes "p.b") (codes "p.a") b_is a_is (bytes_ne_by_test (codes "p.b") (codes "p.a") refl)
+    → AreFeeds (design_of links feeds (codes "p.b") (codes "p.a"))
+    → IsDesign (design_of links feeds (codes "p.b") (codes "p.a"))
+b_then_a links feeds =
+    design_is links feeds (codes "p.b") (codes "p.a") b_is a_is (bytes_ne_by_test (codes "p.b") (codes "p.a") refl)
 
 pub counters_are_designs : IsDesign two_counters × IsDesign exchanged_counters
 counters_are_designs = (
-  a_then_b two_counters.links [] (links_are (codes "p.a") (codes "p.b")) (no_feeds two_counters.links (codes "p.a") (codes "p.b")),
-  b_then_a two_counters.links [] (links_are (codes "p.b") (codes "p.a")) (no_feeds two_counters.links (codes "p.b") (codes "p.a")),
+  a_then_b two_counters.links [] (links_are (codes "p.a") (codes "p.b"))
+      (no_feeds two_counters.links (codes "p.a") (codes "p.b")),
+  b_then_a two_counters.links [] (links_are (codes "p.b") (codes "p.a"))
+      (no_feeds two_counters.links (codes "p.b") (codes "p.a")),
 )
 
 pub fed_counters_are_designs : IsDesign fed_counters × IsDesign exchanged_fed_counters

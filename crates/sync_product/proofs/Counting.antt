@@ -29,7 +29,8 @@ pub too_many : (f : ℕ → ℕ) (n : ℕ) → ((k : ℕ) → k < suc n → f k 
 too_many f n below apart =
     let xs = map f (range_with_len 0 (suc n)) in
     let size : length xs ≡ suc n = length-map-range_with_len f 0 (suc n) in
-    let at : (k d : ℕ) → k < suc n → _ = λ k d within. get_or-map-range_with_len f 0 (suc n) k k d within (omega arith) in
+    let at : (k d : ℕ) → k < suc n → _ =
+    λ k d within. get_or-map-range_with_len f 0 (suc n) k k d within (omega arith) in
     let distinct = IsDistinct-from_AllPairs (λ x y. (eqb-true x y, eq-eqb x y)) xs
     (λ i j d before within same.
     let first : i < suc n = omega (arith, before, within, size) in

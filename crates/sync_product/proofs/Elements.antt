@@ -10,7 +10,8 @@ use Rattle.pals_base.specs.Steps.{column}
 abbrev pub Passes : {X : Type 0} → (X → Bool) → List X → Type 0
 Passes {X} test xs = (k : ℕ) × (x : X) × (slice_get xs k ≡ Some x) × (test x ≡ true)
 
-passes_or : {X : Type 0} (test : X → Bool) (x : X) (xs : List X) (b : Bool) → test x ≡ b → Passes test xs ⊎ All (λ y. test y ≡ false) xs
+passes_or : {X : Type 0} (test : X → Bool) (x : X) (xs : List X) (b : Bool) → test x ≡ b
+    → Passes test xs ⊎ All (λ y. test y ≡ false) xs
     → Passes test (x ∷ xs) ⊎ All (λ y. test y ≡ false) (x ∷ xs)
 passes_or test x xs true is later = inl (0, x, refl, is)
 passes_or test x xs false is (inl p) = inl (suc p.0, p.1, p.2, p.3)

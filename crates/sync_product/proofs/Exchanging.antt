@@ -15,7 +15,8 @@ turned x y z (zero, within, is) = (1, omega arith, is)
 turned x y z (suc zero, within, is) = (0, omega arith, is)
 turned x y z (suc (suc k), within, is) = absurd (omega arith)
 
-exchanged_at : (n : ℕ) → n < 2 → slice_get exchanged_counters.components (exchange n) ≡ slice_get two_counters.components n
+exchanged_at : (n : ℕ) → n < 2
+    → slice_get exchanged_counters.components (exchange n) ≡ slice_get two_counters.components n
 exchanged_at zero within = refl
 exchanged_at (suc zero) within = refl
 exchanged_at (suc (suc n)) within = absurd (omega arith)
@@ -50,7 +51,9 @@ fed_counters_are_renumbered = record {
   feeds = λ feed. (turned _ _ feed, turned _ _ feed);
 }
 
-pub exchanged_inputs : (x y : List PortValue) → AreSameInputs fed_counters exchanged_fed_counters (inputs_of_two x y) (inputs_of_two y x)
+pub exchanged_inputs : (x y : List PortValue)
+    → AreSameInputs fed_counters exchanged_fed_counters (inputs_of_two x y) (inputs_of_two y x)
 exchanged_inputs x y =
-    all_of_two (λ name. values_of exchanged_fed_counters (inputs_of_two y x) name ≡ values_of fed_counters (inputs_of_two x y) name)
+    all_of_two (λ name. values_of exchanged_fed_counters (inputs_of_two y x) name
+    ≡ values_of fed_counters (inputs_of_two x y) name)
     (codes "x") (codes "y") refl refl

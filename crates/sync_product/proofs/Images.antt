@@ -18,7 +18,8 @@ module _ {X : Type 0} (f : X → X) (xs ys : List X) (same : (y : X) → Contain
       (among.0, from.0, from.1, from.2)
 
   -- where elements pass a test just if their images pass another one, and none does
-  pub none_there : (p q : X → Bool) → ((k : ℕ) (x : X) → slice_get xs k ≡ Some x → q (f x) ≡ p x) → All (λ x. p x ≡ false) xs
+  pub none_there : (p q : X → Bool) → ((k : ℕ) (x : X) → slice_get xs k ≡ Some x → q (f x) ≡ p x)
+      → All (λ x. p x ≡ false) xs
       → All (λ y. q y ≡ false) ys
   none_there p q alike none k d inside =
       let first = comes_from k (get_or ys k d) (slice_get-get_or ys k d inside) in

@@ -16,14 +16,19 @@ pub stands_at_composition : StandsAtComposition
 unfolding comp
 stands_at_composition design env zero = refl
 stands_at_composition design env (suc round) =
-    ap₂ (λ (d : DesignParts) (k : Configuration). next d (values_at env round) k) (design_stays design env round) (stands_at_composition design env round)
+    ap₂ (λ (d : DesignParts) (k : Configuration). next d (values_at env round) k) (design_stays design env round)
+    (stands_at_composition design env round)
 
-parts_of_round : (design : DesignParts) (env : Env) (round : ℕ) (nodes : List ℕ) → map (part_of design (all_steps design (values_at env round) (comp design env round))) nodes ≡ map (λ node. part design env node round) nodes
+parts_of_round : (design : DesignParts) (env : Env) (round : ℕ) (nodes : List ℕ)
+    → map (part_of design (all_steps design (values_at env round) (comp design env round))) nodes
+    ≡ map (λ node. part design env node round) nodes
 unfolding part
 parts_of_round design env round [] = refl
-parts_of_round design env round (node ∷ nodes) = ap (λ ps. part design env node round ∷ ps) (parts_of_round design env round nodes)
+parts_of_round design env round (node ∷ nodes) =
+    ap (λ ps. part design env node round ∷ ps) (parts_of_round design env round nodes)
 
 pub has_parts_of_round : HasPartsOfRound
 has_parts_of_round design env round =
-    ap₂ (λ (d : DesignParts) (k : Configuration). parts_of d (all_steps d (values_at env round) k)) (design_stays design env round) (stands_at_composition design env round)
+    ap₂ (λ (d : DesignParts) (k : Configuration). parts_of d (all_steps d (values_at env round) k))
+    (design_stays design env round) (stands_at_composition design env round)
     ∙ parts_of_round design env round (upwards 0 (length design.components))

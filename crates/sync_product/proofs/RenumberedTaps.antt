@@ -28,5 +28,7 @@ module _ (to : ℕ → ℕ) (a b : DesignParts) (r : IsRenumbered to a b) where
       let own = filter (λ (other : Tap). nat_eq other.source.0 node) taps in
       let here = All-head (λ (other : Tap). other.source.0 < length a.components) tap taps inside in
       let later = All-tail (λ (other : Tap). other.source.0 < length a.components) tap taps inside in
-      ap (λ more. map (shown tuples) (cond more (renumbered_tap to tap ∷ others) others)) (same_number to a b r tap.source.0 node here within)
-      ∙ more_or_not (shown tuples) (renumbered_tap to tap) tap others own (nat_eq tap.source.0 node) refl (same_shown tuples node within taps later)
+      ap (λ more. map (shown tuples) (cond more (renumbered_tap to tap ∷ others) others))
+      (same_number to a b r tap.source.0 node here within)
+      ∙ more_or_not (shown tuples) (renumbered_tap to tap) tap others own (nat_eq tap.source.0 node) refl
+      (same_shown tuples node within taps later)

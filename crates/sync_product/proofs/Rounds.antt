@@ -34,7 +34,8 @@ link_begins : (design : DesignParts) (env : Env) (l : ℕ) (link : Link) → sli
 unfolding comp
 link_begins design env l link is =
     let begins : Link → List PortValue = λ (x : Link). replicate (rate_of design x.source.0) Absent in
-    get_or_from_slice_get (map begins design.links) l (begins link) [] (slice_get-map_some begins design.links l link is)
+    get_or_from_slice_get (map begins design.links) l (begins link) []
+    (slice_get-map_some begins design.links l link is)
 
 abbrev part_with : Frame → List (List PortValue) → Part
 part_with frame outs = record { frame = frame; outs = outs }
@@ -50,8 +51,10 @@ module _ (to : ℕ → ℕ) (a b : DesignParts) (sound_a : IsDesign a) (sound_b 
   -- ---- one round
   module _ (round : ℕ) (states : SameStates round) (waiting : SameWaiting round) where
     same_ports : (rate node : ℕ) → node < length a.components → (ports : List ℕ)
-        → map (reading b (values_at env_b round) (comp b env_b round).messages rate) (map (λ port. source_of b (to node) port) ports)
-        ≡ map (reading a (values_at env_a round) (comp a env_a round).messages rate) (map (λ port. source_of a node port) ports)
+        → map (reading b (values_at env_b round) (comp b env_b round).messages rate)
+        (map (λ port. source_of b (to node) port) ports)
+        ≡ map (reading a (values_at env_a round) (comp a env_a round).messages rate)
+        (map (λ port. source_of a node port) ports)
     same_ports rate node within [] = refl
     same_ports rate node within (port ∷ ports) =
         let messages_a = (comp a env_a round).messages in
@@ -61,16 +64,20 @@ module _ (to : ℕ → ℕ) (a b : DesignParts) (sound_a : IsDesign a) (sound_b 
         (same_ports rate node within ports)
 
     same_feed : (node : ℕ) (c : Component) → slice_get a.components node ≡ Some c
-        → feed b env_b (comp b env_b round).messages (to node) round ≡ feed a env_a (comp a env_a round).messages node round
+        → feed b env_b (comp b env_b round).messages (to node) round
+        ≡ feed a env_a (comp a env_a round).messages node round
     unfolding feed
     same_feed node c is =
-        ap (inputs_in b (values_at env_b round) (comp b env_b round).messages (to node)) (component_there to a b r node c is)
-        ∙ ap (columns c.rate) (same_ports c.rate node (slice_get_within a.components node c is) (upwards 0 (length c.behaviour.ins)))
+        ap (inputs_in b (values_at env_b round) (comp b env_b round).messages (to node))
+        (component_there to a b r node c is)
+        ∙ ap (columns c.rate) (same_ports c.rate node (slice_get_within a.components node c is)
+        (upwards 0 (length c.behaviour.ins)))
         ∙ sym (ap (inputs_in a (values_at env_a round) (comp a env_a round).messages node) is)
 
     same_steps : (node : ℕ) (c : Component) → slice_get a.components node ≡ Some c
         → own_steps b env_b (to node) round c ≡ own_steps a env_a node round c
-    same_steps node c is = ap₂ (steps c.behaviour) (states node (slice_get_within a.components node c is)) (same_feed node c is)
+    same_steps node c is =
+        ap₂ (steps c.behaviour) (states node (slice_get_within a.components node c is)) (same_feed node c is)
 
     next_states : SameStates (suc round)
     next_states node within =
@@ -79,7 +86,8 @@ module _ (to : ℕ → ℕ) (a b : DesignParts) (sound_a : IsDesign a) (sound_b 
         ∙ ap (λ (s : Stepped). s.frame) (same_steps node at.0 at.1)
         ∙ sym (state_goes_on a env_a node round at.0 at.1)
 
-    next_message : (l m : ℕ) (link : Link) → slice_get a.links l ≡ Some link → slice_get b.links m ≡ Some (renumbered_link to link)
+    next_message : (l m : ℕ) (link : Link) → slice_get a.links l ≡ Some link
+        → slice_get b.links m ≡ Some (renumbered_link to link)
         → msg b env_b m round ≡ msg a env_a l round
     next_message l m link is_a is_b =
         let sound = at_element (IsLink a) a.links l link sound_a.links.each is_a in
@@ -87,7 +95,8 @@ module _ (to : ℕ → ℕ) (a b : DesignParts) (sound_a : IsDesign a) (sound_b 
         let c : Component = at.0 in
         let sent : Gamma → ℕ → Stepped → List PortValue
         = λ gamma period s. cut (sent_steps gamma period c.rate) (slice_index_or s.tuples link.out_port []) in
-        message_from_source b env_b m round (renumbered_link to link) c is_b (component_there to a b r link.source.0 c at.1)
+        message_from_source b env_b m round (renumbered_link to link) c is_b
+        (component_there to a b r link.source.0 c at.1)
         ∙ ap₂ (λ gamma period. sent gamma period (own_steps b env_b (to link.source.0) round c)) r.gamma r.period
         ∙ ap (sent a.gamma a.period) (same_steps link.source.0 c at.1)
         ∙ sym (message_from_source a env_a l round link c is_a at.1)
@@ -102,7 +111,9 @@ module _ (to : ℕ → ℕ) (a b : DesignParts) (sound_a : IsDesign a) (sound_b 
         let at = component_at a node within in
         let c : Component = at.0 in
         let own = own_steps a env_a node round c in
-        let inside = All-weaker (IsTap a) (λ tap. tap.source.0 < length a.components) (λ tap sound. sound.source.node_is) a.taps sound_a.taps.each in
+        let inside =
+        All-weaker (IsTap a) (λ tap. tap.source.0 < length a.components) (λ tap sound. sound.source.node_is) a.taps
+        sound_a.taps.each in
         part_from_steps b env_b (to node) round c (component_there to a b r node c at.1)
         ∙ ap (λ (s : Stepped). part_with s.frame (map (shown s.tuples) (taps_of b (to node)))) (same_steps node c at.1)
         ∙ ap (part_with own.frame)
@@ -114,7 +125,8 @@ module _ (to : ℕ → ℕ) (a b : DesignParts) (sound_a : IsDesign a) (sound_b 
   first_states : SameStates 0
   first_states node within =
       let at = component_at a node within in
-      state_begins b env_b (to node) at.0 (component_there to a b r node at.0 at.1) ∙ sym (state_begins a env_a node at.0 at.1)
+      state_begins b env_b (to node) at.0 (component_there to a b r node at.0 at.1)
+      ∙ sym (state_begins a env_a node at.0 at.1)
 
   first_waiting : SameWaiting 0
   first_waiting l m link is_a is_b =
@@ -129,10 +141,12 @@ module _ (to : ℕ → ℕ) (a b : DesignParts) (sound_a : IsDesign a) (sound_b 
       let before = same_after round in
       (next_states round before.0 before.1, next_waiting round before.0 before.1)
 
-  pub states_after : (node rounds : ℕ) → node < length a.components → state b env_b (to node) rounds ≡ state a env_a node rounds
+  pub states_after : (node rounds : ℕ) → node < length a.components
+      → state b env_b (to node) rounds ≡ state a env_a node rounds
   states_after node rounds within = (same_after rounds).0 node within
 
-  pub message_after : (l m round : ℕ) (link : Link) → slice_get a.links l ≡ Some link → slice_get b.links m ≡ Some (renumbered_link to link)
+  pub message_after : (l m round : ℕ) (link : Link) → slice_get a.links l ≡ Some link
+      → slice_get b.links m ≡ Some (renumbered_link to link)
       → msg b env_b m round ≡ msg a env_a l round
   message_after l m round link is_a is_b =
       let before = same_after round in

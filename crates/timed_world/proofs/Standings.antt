@@ -65,7 +65,8 @@ module _ (run : Run) (w : World) (rules : IsRunOf run) (few : run.rounds ≤ ROU
       }
 
 -- so is whatever has its count, its phase, and the moment since which it stands so
-pub sound_again : (v : WorldValue) (node : ℕ) (s : NodeStanding) → KeepsWorld v → node < length v.bus.run.design.components
+pub sound_again : (v : WorldValue) (node : ℕ) (s : NodeStanding) → KeepsWorld v
+    → node < length v.bus.run.design.components
     → s.count ≡ (node_at v.bus.state node).count → s.phase ≡ (node_at v.bus.state node).phase
     → s.since ≡ slice_index_or v.since node 0
     → IsSound (plan_of v.bus.run.design node) s

@@ -11,7 +11,7 @@ ghost use Rattle.run_laws.specs.Worlds.{is_last_sent, is_held};
 use bus_machine::Plan;
 use output_backoff::release_at;
 use pals_base::{Gamma, Nanos, NodeNo};
-use pals_runs::{EventFault, Phase, EventSubject};
+use pals_runs::{EventFault, EventSubject, Phase};
 use round_timer::{alarm, step_alarm};
 
 /// Where a node of a world stands: how many rounds it has started, what it is doing, whether the last
@@ -67,7 +67,11 @@ impl NodeStanding {
         ensures { result ≡ finish_fault plan.now self.now time alpha_min }
     {
         match self.phase {
-            Phase::Running(_) => too_soon(EventSubject::Node(plan.node), self.since + alpha_min, time),
+            Phase::Running(_) => too_soon(
+                EventSubject::Node(plan.node),
+                self.since + alpha_min,
+                time,
+            ),
             Phase::Waiting | Phase::Between(_) | Phase::Holding | Phase::Done => {
                 Some(EventFault::WrongPhase { node: plan.node })
             }

@@ -92,7 +92,8 @@ flies_due b reading link = list_any (is_due (Some reading)) (flight_at b.state l
 due_shown : (b : BusValue) (node reading : ℕ) → HasDue b node reading → has_due b.run b.state node (Some reading) ≡ true
 due_shown b node reading due =
     let d = due.is_due in
-    let flies = any_passes_from_place (is_due (Some reading)) (flight_at b.state due.link) d.place d.copy d.is_copy d.due in
+    let flies =
+    any_passes_from_place (is_due (Some reading)) (flight_at b.state due.link) d.place d.copy d.is_copy d.due in
     into_at (flies_due b reading) node 0 b.run.design.links due.link due.link d.the_link (omega arith) d.is_link
     (eq-eqb d.the_link.target.0 node d.to_node) flies
 

@@ -210,7 +210,10 @@ fn send_form(words: Words<'_>) -> Option<JournalLine<'_>>
     let mut words = words;
     let (name, round) = named(&mut words)?;
     let reading = reading(&mut words)?;
-    at_end(JournalLine::OfNode(name, NodeLine::Send { round, reading }), words)
+    at_end(
+        JournalLine::OfNode(name, NodeLine::Send { round, reading }),
+        words,
+    )
 }
 
 fn drop_form(words: Words<'_>) -> Option<JournalLine<'_>>

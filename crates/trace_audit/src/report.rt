@@ -37,7 +37,11 @@ pub fn read_report(
 }
 
 // Looks at the lines, where no round of the composition is made yet.
-fn read_lines(rows: &mut AuditedRows<'_>, design: &Design, trace: &[Text]) -> Result<ReportEnd, NoMemory>
+fn read_lines(
+    rows: &mut AuditedRows<'_>,
+    design: &Design,
+    trace: &[Text],
+) -> Result<ReportEnd, NoMemory>
     requires rows { IsAtLine design.now rows.old.env.now rows.old 0 }
     requires few { length trace.now < 2 ^ 32 }
     ensures value { IfOk result (ReportEnds design.now rows.old.env.now trace.now) }

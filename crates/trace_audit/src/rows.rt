@@ -27,7 +27,11 @@ pub struct AuditedRows<'a> {
 
 impl<'a> AuditedRows<'a> {
     /// Before the first line.
-    pub fn new(alloc: Global, design: &Arc<Design>, env: &'a Env) -> Result<AuditedRows<'a>, NoMemory>
+    pub fn new(
+        alloc: Global,
+        design: &Arc<Design>,
+        env: &'a Env,
+    ) -> Result<AuditedRows<'a>, NoMemory>
         ensures { IfOk result (λ rows. IsAtLine (arc_value design.now) env.now rows 0) }
     {
         let values = vec![in alloc; PortValue::Absent; env.lists.len()]?;

@@ -43,21 +43,25 @@ vote-no_two x y z a b c =
     ap₂ (by_two x y) (or_from (same_port x y) (same_port x z) (differ x y a) (differ x z b)) (differ y z c)
 
 pub two_of_three_win : VotesOfThree
-two_of_three_win = record { first_two = vote-first_two; outer_two = vote-outer_two; last_two = vote-last_two; no_two = vote-no_two }
+two_of_three_win =
+    record { first_two = vote-first_two; outer_two = vote-outer_two; last_two = vote-last_two; no_two = vote-no_two }
 
 -- ---- tuples
 pub votes-first_two : (m z : List PortValue) → length z ≡ length m → votes m m z ≡ m
 votes-first_two [] z same = refl
 votes-first_two (x ∷ m) [] same = absurd (omega arith)
-votes-first_two (x ∷ m) (z ∷ zs) same = ap₂ (λ p (ps : List PortValue). p ∷ ps) (vote-first_two x z) (votes-first_two m zs (omega arith))
+votes-first_two (x ∷ m) (z ∷ zs) same =
+    ap₂ (λ p (ps : List PortValue). p ∷ ps) (vote-first_two x z) (votes-first_two m zs (omega arith))
 
 pub votes-outer_two : (m y : List PortValue) → length y ≡ length m → votes m y m ≡ m
 votes-outer_two [] y same = refl
 votes-outer_two (x ∷ m) [] same = absurd (omega arith)
-votes-outer_two (x ∷ m) (y ∷ ys) same = ap₂ (λ p (ps : List PortValue). p ∷ ps) (vote-outer_two x y) (votes-outer_two m ys (omega arith))
+votes-outer_two (x ∷ m) (y ∷ ys) same =
+    ap₂ (λ p (ps : List PortValue). p ∷ ps) (vote-outer_two x y) (votes-outer_two m ys (omega arith))
 
 pub votes-last_two : (m x : List PortValue) → length x ≡ length m → votes x m m ≡ m
 votes-last_two [] [] same = refl
 votes-last_two [] (x ∷ xs) same = absurd (omega arith)
 votes-last_two (y ∷ m) [] same = absurd (omega arith)
-votes-last_two (y ∷ m) (x ∷ xs) same = ap₂ (λ p (ps : List PortValue). p ∷ ps) (vote-last_two x y) (votes-last_two m xs (omega arith))
+votes-last_two (y ∷ m) (x ∷ xs) same =
+    ap₂ (λ p (ps : List PortValue). p ∷ ps) (vote-last_two x y) (votes-last_two m xs (omega arith))

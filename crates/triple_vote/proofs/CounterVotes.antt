@@ -34,12 +34,15 @@ is_liar : (round : ℕ) (f : VoteFault) → Contains (first_round (liar 2 ∷ []
 is_liar zero f at = in_one (liar 2) f at.0 at.1 at.2
 is_liar (suc round) f at = absurd (let below : at.0 < 0 = at.1 in omega arith)
 
-same_replica : (m n : ℕ) (f g : VoteFault) → Contains (first_round (liar 2 ∷ []) m) f → Contains (first_round (liar 2 ∷ []) n) g → f.replica ≡ g.replica
+same_replica : (m n : ℕ) (f g : VoteFault) → Contains (first_round (liar 2 ∷ []) m) f
+    → Contains (first_round (liar 2 ∷ []) n) g → f.replica ≡ g.replica
 same_replica m n f g in_f in_g =
     sym (ap (λ (x : VoteFault). x.replica) (is_liar m f in_f)) ∙ ap (λ (x : VoteFault). x.replica) (is_liar n g in_g)
 
 pub one_liar_is_fault : OneLiarIsFault
-one_liar_is_fault zero = All-cons (IsFault two_counters) (liar 2) [] (record { source = refl; values = refl }) (All-nil (IsFault two_counters))
+one_liar_is_fault zero =
+    All-cons (IsFault two_counters) (liar 2) [] (record { source = refl; values = refl })
+    (All-nil (IsFault two_counters))
 one_liar_is_fault (suc round) = All-nil (IsFault two_counters)
 
 pub one_liar_is_allowed : OneLiarIsAllowed

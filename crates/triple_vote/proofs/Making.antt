@@ -15,8 +15,10 @@ use Rattle.sync_product.proofs.Tables.{sized_at}
 use Rattle.triple_vote.specs.declared.layer.Layer.{Layer}
 use Rattle.triple_vote.specs.proof.Layers.{whole_from, is_there, rows_made, AreRun, AreSent, AreWhole, IsMade}
 
-module _ (design : DesignParts) (values : List PortValue) (heard : List (List PortValue)) (layer : Layer) (stages : List Stage)
-    (run : AreRun design values heard layer.there (frames_of layer.parts) layer.next stages) (fit : map stage_size stages ≡ stage_sizes design) where
+module _ (design : DesignParts) (values : List PortValue) (heard : List (List PortValue)) (layer : Layer)
+    (stages : List Stage)
+    (run : AreRun design values heard layer.there (frames_of layer.parts) layer.next stages)
+    (fit : map stage_size stages ≡ stage_sizes design) where
   abbrev rows : ℕ → Component → List (List PortValue)
   rows node c = rows_made design values heard (frames_of layer.parts) node c
 
@@ -27,7 +29,8 @@ module _ (design : DesignParts) (values : List PortValue) (heard : List (List Po
     rows_are : stage.rows ≡ rows node c
     sent_is : stage.sent ≡ sent_steps design.gamma design.period c.rate
 
-  staged : (node : ℕ) (c : Component) → slice_get design.components node ≡ Some c → is_there layer.there node ≡ true → IsStaged node c
+  staged : (node : ℕ) (c : Component) → slice_get design.components node ≡ Some c → is_there layer.there node ≡ true
+      → IsStaged node c
   staged node c is present =
       let size_of : Component → StageSize = λ d. stage_size_of (sent_steps design.gamma design.period d.rate) d in
       let wanted = slice_get-map_some size_of design.components node c is in
@@ -35,8 +38,10 @@ module _ (design : DesignParts) (values : List PortValue) (heard : List (List Po
       elim (slice_get_cases stages node).1 [
         | inl found ↦
             let stage : Stage = found.0 in
-            let both : Some stage.rows ≡ Some (rows node c) = sym (slice_get-map_some (λ (s : Stage). s.rows) stages node stage found.2) ∙ rows_there in
-            let room = sized_at stage_size stages (stage_sizes design) node stage (size_of c) fit wanted (sym found.3) in
+            let both : Some stage.rows ≡ Some (rows node c) =
+            sym (slice_get-map_some (λ (s : Stage). s.rows) stages node stage found.2) ∙ rows_there in
+            let room =
+            sized_at stage_size stages (stage_sizes design) node stage (size_of c) fit wanted (sym found.3) in
             record { stage = stage; is = found.2; rows_are = cc; sent_is = ap (λ (s : StageSize). s.sent) room }
         | inr past ↦
             let many = length-map stages stage_size in
@@ -45,7 +50,8 @@ module _ (design : DesignParts) (values : List PortValue) (heard : List (List Po
             absurd (omega (arith, past.0, many, all, ap length fit, within))
       ]
 
-  pub is_made : AreSent design layer.there stages layer.sent → AreWhole design layer.there stages layer.shown → IsMade design values heard layer
+  pub is_made : AreSent design layer.there stages layer.sent → AreWhole design layer.there stages layer.shown
+      → IsMade design values heard layer
   is_made sent shown = record {
     frames = λ node c is present. (let at = run node c is present in at.frame);
     sent = λ l link c is_link is present.

@@ -6,7 +6,8 @@ use Rattle.pals_base.specs.declared.values.PortValue.{PortValue}
 use Rattle.pals_base.specs.declared.values.PortValue.TheVariants.{Absent}
 use Rattle.triple_vote.specs.Votes.{vote, votes}
 
-pub length-votes : (x y z : List PortValue) → length y ≡ length x → length z ≡ length x → length (votes x y z) ≡ length x
+pub length-votes : (x y z : List PortValue) → length y ≡ length x → length z ≡ length x
+    → length (votes x y z) ≡ length x
 length-votes [] y z same_y same_z = refl
 length-votes (a ∷ x) [] z same_y same_z = absurd (omega arith)
 length-votes (a ∷ x) (b ∷ y) [] same_y same_z = absurd (omega arith)
@@ -18,14 +19,17 @@ votes-at [] y z k same_y same_z within = absurd (omega arith)
 votes-at (a ∷ x) [] z k same_y same_z within = absurd (omega arith)
 votes-at (a ∷ x) (b ∷ y) [] k same_y same_z within = absurd (omega arith)
 votes-at (a ∷ x) (b ∷ y) (c ∷ z) zero same_y same_z within = refl
-votes-at (a ∷ x) (b ∷ y) (c ∷ z) (suc k) same_y same_z within = votes-at x y z k (omega arith) (omega arith) (omega arith)
+votes-at (a ∷ x) (b ∷ y) (c ∷ z) (suc k) same_y same_z within =
+    votes-at x y z k (omega arith) (omega arith) (omega arith)
 
 -- the places before one are voted on
 abbrev pub VotedTo : List PortValue → List PortValue → List PortValue → List PortValue → ℕ → Type 0
 VotedTo to x y z at = (k : ℕ) → k < at → get_or to k Absent ≡ get_or (votes x y z) k Absent
 
-pub voted_more : (to new x y z : List PortValue) (at : ℕ) (value : PortValue) → length to ≡ length x → length y ≡ length x → length z ≡ length x → at < length x
-    → value ≡ vote (get_or x at Absent) (get_or y at Absent) (get_or z at Absent) → new ≡ slice_set to at value → VotedTo to x y z at → VotedTo new x y z (at + 1)
+pub voted_more : (to new x y z : List PortValue) (at : ℕ) (value : PortValue) → length to ≡ length x
+    → length y ≡ length x → length z ≡ length x → at < length x
+    → value ≡ vote (get_or x at Absent) (get_or y at Absent) (get_or z at Absent) → new ≡ slice_set to at value
+    → VotedTo to x y z at → VotedTo new x y z (at + 1)
 voted_more to new x y z at value same_to same_y same_z within is set_is before = λ k below.
     let upto : k ≤ at = omega (arith, below) in
     ap (λ (t : List PortValue). get_or t k Absent) set_is
@@ -36,6 +40,8 @@ voted_more to new x y z at value same_to same_y same_z within is set_is before =
       | inr less ↦ get_or-set_other to at k value Absent (λ same. omega (arith, same, less)) ∙ before k less
     ]
 
-pub voted_all : (to x y z : List PortValue) (at : ℕ) → length to ≡ length x → length y ≡ length x → length z ≡ length x → length x ≤ at → VotedTo to x y z at → to ≡ votes x y z
+pub voted_all : (to x y z : List PortValue) (at : ℕ) → length to ≡ length x → length y ≡ length x → length z ≡ length x
+    → length x ≤ at → VotedTo to x y z at → to ≡ votes x y z
 voted_all to x y z at same_to same_y same_z past voted =
-    ext_get_or Absent to (votes x y z) (same_to ∙ sym (length-votes x y z same_y same_z)) (λ k within. voted k (omega (arith, within, same_to, past)))
+    ext_get_or Absent to (votes x y z) (same_to ∙ sym (length-votes x y z same_y same_z))
+    (λ k within. voted k (omega (arith, within, same_to, past)))

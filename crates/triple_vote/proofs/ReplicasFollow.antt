@@ -27,20 +27,24 @@ use Rattle.triple_vote.proofs.Tables.{table-at}
 use Rattle.triple_vote.proofs.Readings.{same_inputs}
 
 -- ---- the places of the lists
-pub replica_at : (design : DesignParts) (replicated : List Bool) (f : ℕ → ℕ → Frame) (node replica : ℕ) → node < length design.components → replica < copies_of replicated node
+pub replica_at : (design : DesignParts) (replicated : List Bool) (f : ℕ → ℕ → Frame) (node replica : ℕ)
+    → node < length design.components → replica < copies_of replicated node
     → slice_index_or (slice_index_or (for_replicas design replicated f) node []) replica no_frame ≡ f node replica
 replica_at design replicated f node replica within below =
     ap (λ (frames : List Frame). slice_index_or frames replica no_frame)
     (table-at (λ n. map (f n) (upwards 0 (copies_of replicated n))) (length design.components) node [] within)
     ∙ table-at (f node) (copies_of replicated node) replica no_frame below
 
-pub receiver_at : (design : DesignParts) (replicated : List Bool) (f : ℕ → ℕ → List PortValue) (l target : ℕ) (link : Link) → slice_get design.links l ≡ Some link
+pub receiver_at : (design : DesignParts) (replicated : List Bool) (f : ℕ → ℕ → List PortValue) (l target : ℕ)
+    (link : Link) → slice_get design.links l ≡ Some link
     → target < copies_of replicated link.target.0
     → slice_index_or (slice_index_or (for_receivers design replicated f) l []) target [] ≡ f l target
 receiver_at design replicated f l target link is below =
     ap (λ (tuples : List (List PortValue)). slice_index_or tuples target [])
-    (table-at (λ n. map (f n) (upwards 0 (receivers_in replicated (slice_get design.links n)))) (length design.links) l [] (slice_get_within design.links l link is))
-    ∙ table-at (f l) (receivers_in replicated (slice_get design.links l)) target [] (subst (λ o. target < receivers_in replicated o) (sym is) below)
+    (table-at (λ n. map (f n) (upwards 0 (receivers_in replicated (slice_get design.links n)))) (length design.links) l
+    [] (slice_get_within design.links l link is))
+    ∙ table-at (f l) (receivers_in replicated (slice_get design.links l)) target []
+    (subst (λ o. target < receivers_in replicated o) (sym is) below)
 
 -- there is a first replica
 first_of : (b : Bool) → 0 < (if b then 3 else 1)
@@ -50,7 +54,8 @@ first_of false = omega arith
 pub has_first : (replicated : List Bool) (node : ℕ) → 0 < copies_of replicated node
 has_first replicated node = first_of (is_replicated replicated node)
 
-pub has_three : (replicated : List Bool) (node replica : ℕ) → is_replicated replicated node ≡ true → replica < 3 → replica < copies_of replicated node
+pub has_three : (replicated : List Bool) (node replica : ℕ) → is_replicated replicated node ≡ true → replica < 3
+    → replica < copies_of replicated node
 has_three replicated node replica is below = subst (λ b. replica < (if b then 3 else 1)) (sym is) below
 
 -- before the first round a link is absent throughout
@@ -59,18 +64,23 @@ link_begins : (design : DesignParts) (env : Env) (l : ℕ) (link : Link) → sli
 unfolding comp
 link_begins design env l link is =
     let begins : Link → List PortValue = λ (x : Link). replicate (rate_of design x.source.0) Absent in
-    get_or_from_slice_get (map begins design.links) l (begins link) [] (slice_get-map begins design.links l ∙ ap (option_map begins) is)
+    get_or_from_slice_get (map begins design.links) l (begins link) []
+    (slice_get-map begins design.links l ∙ ap (option_map begins) is)
 
 pub record Agrees (design : DesignParts) (env : Env) (replicated : List Bool) (v : Voted) (round : ℕ) : Type 0 where
-  pub frames : (node replica : ℕ) → node < length design.components → replica < copies_of replicated node → frame_at v node replica ≡ state design env node round
-  pub received : (l target : ℕ) (link : Link) → slice_get design.links l ≡ Some link → target < copies_of replicated link.target.0
+  pub frames : (node replica : ℕ) → node < length design.components → replica < copies_of replicated node
+      → frame_at v node replica ≡ state design env node round
+  pub received : (l target : ℕ) (link : Link) → slice_get design.links l ≡ Some link
+      → target < copies_of replicated link.target.0
       → received_at v l target ≡ slice_index_or (comp design env round).messages l []
 
 -- the faults of a round change no vote
 abbrev pub AreOverruled : DesignParts → List Bool → List VoteFault → Type 0
 AreOverruled design replicated faults =
-    (l target : ℕ) (link : Link) (m : List PortValue) → slice_get design.links l ≡ Some link → is_replicated replicated link.source.0 ≡ true
-    → length m ≡ rate_of design link.source.0 → vote_of (λ replica. fault_or (find (is_fault l (suc replica) (suc target)) faults) m) ≡ m
+    (l target : ℕ) (link : Link) (m : List PortValue) → slice_get design.links l ≡ Some link
+    → is_replicated replicated link.source.0 ≡ true
+    → length m ≡ rate_of design link.source.0
+    → vote_of (λ replica. fault_or (find (is_fault l (suc replica) (suc target)) faults) m) ≡ m
 
 module _ (design : DesignParts) (env : Env) (replicated : List Bool) (sound : IsDesign design) where
   -- ---- the beginning
@@ -92,7 +102,8 @@ module _ (design : DesignParts) (env : Env) (replicated : List Bool) (sound : Is
     abbrev values : List PortValue
     values = values_at env round
 
-    same_steps : (node replica : ℕ) (c : Component) → slice_get design.components node ≡ Some c → replica < copies_of replicated node
+    same_steps : (node replica : ℕ) (c : Component) → slice_get design.components node ≡ Some c
+        → replica < copies_of replicated node
         → replica_steps design values v node replica ≡ own_steps design env node round c
     unfolding feed
     same_steps node replica c is below =
@@ -100,40 +111,50 @@ module _ (design : DesignParts) (env : Env) (replicated : List Bool) (sound : Is
         ap (steps_in design values v node replica) is
         ∙ ap₂ (steps c.behaviour) (agrees.frames node replica (slice_get_within design.components node c is) below)
         (same_inputs design values v messages replica node c
-        (λ l link is_link goes. agrees.received l replica link is_link (subst (λ n. replica < copies_of replicated n) (sym goes) below))
+        (λ l link is_link goes. agrees.received l replica link is_link
+        (subst (λ n. replica < copies_of replicated n) (sym goes) below))
         ∙ sym (ap (inputs_in design values messages node) is))
 
-    same_message : (l replica : ℕ) (link : Link) → slice_get design.links l ≡ Some link → replica < copies_of replicated link.source.0
+    same_message : (l replica : ℕ) (link : Link) → slice_get design.links l ≡ Some link
+        → replica < copies_of replicated link.source.0
         → own_message design values v link replica ≡ msg design env l round
     same_message l replica link is below =
         let rules = at_element (IsLink design) design.links l link sound.links.each is in
         let at = component_at design link.source.0 rules.source.node_is in
         let c : Component = at.0 in
-        ap (λ o. cut (sent_steps design.gamma design.period (rate_in o)) (tuple_at design values v link.source.0 link.out_port replica)) at.1
-        ∙ ap (λ (s : Stepped). cut (sent_steps design.gamma design.period c.rate) (slice_index_or s.tuples link.out_port [])) (same_steps link.source.0 replica c at.1 below)
+        ap (λ o. cut (sent_steps design.gamma design.period (rate_in o))
+        (tuple_at design values v link.source.0 link.out_port replica)) at.1
+        ∙ ap (λ (s : Stepped). cut (sent_steps design.gamma design.period c.rate)
+        (slice_index_or s.tuples link.out_port [])) (same_steps link.source.0 replica c at.1 below)
         ∙ sym (message_from_source design env l round link c is at.1)
 
     module _ (faults : List VoteFault) (overruled : AreOverruled design replicated faults) where
-      three_sent : (l target : ℕ) (link : Link) → slice_get design.links l ≡ Some link → is_replicated replicated link.source.0 ≡ true
+      three_sent : (l target : ℕ) (link : Link) → slice_get design.links l ≡ Some link
+          → is_replicated replicated link.source.0 ≡ true
           → vote_of (sent_to design values faults v l link target) ≡ msg design env l round
       three_sent l target link is three =
           let m = msg design env l round in
           let own : (replica : ℕ) → replica < 3 → own_message design values v link replica ≡ m
           = λ replica below. same_message l replica link is (has_three replicated link.source.0 replica three below) in
-          let sends : ℕ → List PortValue → List PortValue = λ replica message. fault_or (find (is_fault l (suc replica) (suc target)) faults) message in
-          ap₂ (λ x y. votes (sends 0 x) (sends 1 y) (sent_to design values faults v l link target 2)) (own 0 (omega arith)) (own 1 (omega arith))
+          let sends : ℕ → List PortValue → List PortValue =
+          λ replica message. fault_or (find (is_fault l (suc replica) (suc target)) faults) message in
+          ap₂ (λ x y. votes (sends 0 x) (sends 1 y) (sent_to design values faults v l link target 2))
+          (own 0 (omega arith)) (own 1 (omega arith))
           ∙ ap (λ z. votes (sends 0 m) (sends 1 m) (sends 2 z)) (own 2 (omega arith))
           ∙ overruled l target link m is three (message_has_rate design env l round link sound is)
 
-      receives_by : (l target : ℕ) (link : Link) (b : Bool) → slice_get design.links l ≡ Some link → is_replicated replicated link.source.0 ≡ b
-          → (if b then vote_of (sent_to design values faults v l link target) else own_message design values v link 0) ≡ msg design env l round
+      receives_by : (l target : ℕ) (link : Link) (b : Bool) → slice_get design.links l ≡ Some link
+          → is_replicated replicated link.source.0 ≡ b
+          → (if b then vote_of (sent_to design values faults v l link target) else own_message design values v link 0)
+          ≡ msg design env l round
       receives_by l target link true is three = three_sent l target link is three
       receives_by l target link false is one = same_message l 0 link is (has_first replicated link.source.0)
 
       receives : (l target : ℕ) (link : Link) → slice_get design.links l ≡ Some link
           → receives_on design replicated values faults v l target (slice_get design.links l) ≡ msg design env l round
       receives l target link is =
-          ap (receives_on design replicated values faults v l target) is ∙ receives_by l target link (is_replicated replicated link.source.0) is refl
+          ap (receives_on design replicated values faults v l target) is
+          ∙ receives_by l target link (is_replicated replicated link.source.0) is refl
 
       next_agrees : Agrees design env replicated (vnext design replicated values faults v) (suc round)
       unfolding msg
@@ -144,26 +165,35 @@ module _ (design : DesignParts) (env : Env) (replicated : List Bool) (sound : Is
             ∙ ap (λ (s : Stepped). s.frame) (same_steps node replica at.0 at.1 below)
             ∙ sym (state_goes_on design env node round at.0 at.1));
         received = λ l target link is below.
-            receiver_at design replicated (λ n t. receives_on design replicated values faults v n t (slice_get design.links n)) l target link is below
+            receiver_at design replicated
+            (λ n t. receives_on design replicated values faults v n t (slice_get design.links n)) l target
+            link is below
             ∙ receives l target link is;
       }
 
     -- ---- root out ports
-    shows_by : (tap : Tap) (c : Component) (b : Bool) → slice_get design.components tap.source.0 ≡ Some c → is_replicated replicated tap.source.0 ≡ b
-        → (if b then vote_of (tuple_at design values v tap.source.0 tap.out_port) else tuple_at design values v tap.source.0 tap.out_port 0)
+    shows_by : (tap : Tap) (c : Component) (b : Bool) → slice_get design.components tap.source.0 ≡ Some c
+        → is_replicated replicated tap.source.0 ≡ b
+        → (if b then vote_of (tuple_at design values v tap.source.0 tap.out_port) else tuple_at design values v
+        tap.source.0 tap.out_port 0)
         ≡ slice_index_or (own_steps design env tap.source.0 round c).tuples tap.out_port []
     shows_by tap c true is three =
         let tuple = slice_index_or (own_steps design env tap.source.0 round c).tuples tap.out_port [] in
         let own : (replica : ℕ) → replica < 3 → tuple_at design values v tap.source.0 tap.out_port replica ≡ tuple
-        = λ replica below. ap (λ (s : Stepped). slice_index_or s.tuples tap.out_port []) (same_steps tap.source.0 replica c is (has_three replicated tap.source.0 replica three below)) in
-        ap₂ (λ x y. votes x y (tuple_at design values v tap.source.0 tap.out_port 2)) (own 0 (omega arith)) (own 1 (omega arith))
+        =
+        λ replica below. ap (λ (s : Stepped). slice_index_or s.tuples tap.out_port [])
+        (same_steps tap.source.0 replica c is (has_three replicated tap.source.0 replica three below)) in
+        ap₂ (λ x y. votes x y (tuple_at design values v tap.source.0 tap.out_port 2)) (own 0 (omega arith))
+        (own 1 (omega arith))
         ∙ ap (votes tuple tuple) (own 2 (omega arith))
         ∙ votes-first_two tuple tuple refl
     shows_by tap c false is one =
-        ap (λ (s : Stepped). slice_index_or s.tuples tap.out_port []) (same_steps tap.source.0 0 c is (has_first replicated tap.source.0))
+        ap (λ (s : Stepped). slice_index_or s.tuples tap.out_port [])
+        (same_steps tap.source.0 0 c is (has_first replicated tap.source.0))
 
     shows : (tap : Tap) → tap.source.0 < length design.components
-        → vshown_by design replicated values v tap ≡ tuple_of (steps_of_round design env round) tap.source.0 tap.out_port
+        → vshown_by design replicated values v tap
+        ≡ tuple_of (steps_of_round design env round) tap.source.0 tap.out_port
     shows tap within =
         let at = component_at design tap.source.0 within in
         shows_by tap at.0 (is_replicated replicated tap.source.0) at.1 refl
@@ -174,10 +204,13 @@ module _ (design : DesignParts) (env : Env) (replicated : List Bool) (sound : Is
     pub agrees_after : (rounds : ℕ) → Agrees design env replicated (vcomp design env replicated faults rounds) rounds
     unfolding vcomp
     agrees_after zero = opening_agrees
-    agrees_after (suc round) = next_agrees (vcomp design env replicated faults round) round (agrees_after round) (faults round) (overruled round)
+    agrees_after (suc round) =
+        next_agrees (vcomp design env replicated faults round) round (agrees_after round) (faults round)
+        (overruled round)
 
     pub shows_after : (n round : ℕ) (tap : Tap) → slice_get design.taps n ≡ Some tap
-        → vshown design env replicated faults tap round ≡ tuple_of (steps_of_round design env round) tap.source.0 tap.out_port
+        → vshown design env replicated faults tap round
+        ≡ tuple_of (steps_of_round design env round) tap.source.0 tap.out_port
     unfolding vshown
     shows_after n round tap is =
         let rules = at_element (IsTap design) design.taps n tap sound.taps.each is in

@@ -27,20 +27,27 @@ size_of_opening c =
     (ap₂ (λ (v h : ℕ). let s : FrameSize = record { vars = v; held = h } in s)
     (length-map c.behaviour.vars (λ (v : VarDecl). v.first)) (length-replicate (length c.behaviour.ins) (pos 0)))
 
-opening_fits : (cs : List Component) → map part_size (map opening_part cs) ≡ map (λ (c : Component). part_size_of c []) cs
+opening_fits : (cs : List Component)
+    → map part_size (map opening_part cs) ≡ map (λ (c : Component). part_size_of c []) cs
 opening_fits [] = refl
 opening_fits (c ∷ cs) = ap₂ (λ s ss. s ∷ ss) (size_of_opening c) (opening_fits cs)
 
-opening_frames : (cs : List Component) → frames_of (map opening_part cs) ≡ map (λ (c : Component). initial c.behaviour) cs
+opening_frames : (cs : List Component)
+    → frames_of (map opening_part cs) ≡ map (λ (c : Component). initial c.behaviour) cs
 opening_frames [] = refl
 opening_frames (c ∷ cs) = ap (λ fs. initial c.behaviour ∷ fs) (opening_frames cs)
 
-pub shown_fits : (design : DesignParts) (taps : List Tap) → lengths (map (λ (tap : Tap). replicate (rate_of design tap.source.0) Absent) taps) ≡ map (λ (tap : Tap). rate_of design tap.source.0) taps
+pub shown_fits : (design : DesignParts) (taps : List Tap)
+    → lengths (map (λ (tap : Tap). replicate (rate_of design tap.source.0) Absent) taps)
+    ≡ map (λ (tap : Tap). rate_of design tap.source.0) taps
 shown_fits design [] = refl
-shown_fits design (tap ∷ taps) = ap₂ (λ n ns. n ∷ ns) (length-replicate (rate_of design tap.source.0) Absent) (shown_fits design taps)
+shown_fits design (tap ∷ taps) =
+    ap₂ (λ n ns. n ∷ ns) (length-replicate (rate_of design tap.source.0) Absent) (shown_fits design taps)
 
-pub is_opened : (design : DesignParts) (layer : Layer) → layer.parts ≡ map opening_part design.components → layer.next ≡ map opening_part design.components
-    → layer.sent ≡ (opening design).messages → layer.shown ≡ map (λ (tap : Tap). replicate (rate_of design tap.source.0) Absent) design.taps
+pub is_opened : (design : DesignParts) (layer : Layer) → layer.parts ≡ map opening_part design.components
+    → layer.next ≡ map opening_part design.components
+    → layer.sent ≡ (opening design).messages
+    → layer.shown ≡ map (λ (tap : Tap). replicate (rate_of design tap.source.0) Absent) design.taps
     → IsOpened design layer.there layer
 is_opened design layer parts next sent shown = record {
   there_is = refl;
@@ -68,29 +75,38 @@ first_by : (b : Bool) → true ≡ nat_lt 0 (if b then 3 else 1)
 first_by true = refl
 first_by false = refl
 
-module _ (design : DesignParts) (replicated all : List Bool) (first second third : Layer) (count : length replicated ≡ length design.components)
-    (all_is : all ≡ replicate (length design.components) true) (opened : IsOpened design all first) (next : IsOpened design replicated second) (last : IsOpened design replicated third) where
+module _ (design : DesignParts) (replicated all : List Bool) (first second third : Layer)
+    (count : length replicated ≡ length design.components)
+    (all_is : all ≡ replicate (length design.components) true) (opened : IsOpened design all first)
+    (next : IsOpened design replicated second) (last : IsOpened design replicated third) where
   abbrev layers : List Layer
   layers = first ∷ second ∷ third ∷ []
 
   are_three : AreThree design layers
   are_three = record {
     three = refl;
-    rooms = All-cons (HasRoom design) first (second ∷ third ∷ []) (opened.room (ap length all_is ∙ length-replicate (length design.components) true))
-        (All-cons (HasRoom design) second (third ∷ []) (next.room count) (All-cons (HasRoom design) third [] (last.room count) (All-nil (HasRoom design))));
+    rooms =
+        All-cons (HasRoom design) first (second ∷ third ∷ [])
+        (opened.room (ap length all_is ∙ length-replicate (length design.components) true))
+        (All-cons (HasRoom design) second (third ∷ []) (next.room count)
+        (All-cons (HasRoom design) third [] (last.room count) (All-nil (HasRoom design))));
   }
 
   have_replicas : HaveReplicas design replicated (there_in layers)
   have_replicas zero node below within =
-      ap (λ there. is_there there node) (opened.there_is ∙ all_is) ∙ get_or-replicate (length design.components) node true false within
+      ap (λ there. is_there there node) (opened.there_is ∙ all_is)
+      ∙ get_or-replicate (length design.components) node true false within
       ∙ first_by (is_replicated replicated node)
   have_replicas (suc zero) node below within =
-      ap (λ there. is_there there node) next.there_is ∙ marked_by (is_replicated replicated node) 1 (omega arith) (omega arith)
+      ap (λ there. is_there there node) next.there_is
+      ∙ marked_by (is_replicated replicated node) 1 (omega arith) (omega arith)
   have_replicas (suc (suc zero)) node below within =
-      ap (λ there. is_there there node) last.there_is ∙ marked_by (is_replicated replicated node) 2 (omega arith) (omega arith)
+      ap (λ there. is_there there node) last.there_is
+      ∙ marked_by (is_replicated replicated node) 2 (omega arith) (omega arith)
   have_replicas (suc (suc (suc n))) node below within = absurd (omega arith)
 
-  frames_are : (replica : ℕ) → replica < 3 → frames_of (slice_index_or (parts_in layers) replica []) ≡ (opening design).frames
+  frames_are : (replica : ℕ) → replica < 3
+      → frames_of (slice_index_or (parts_in layers) replica []) ≡ (opening design).frames
   frames_are zero below = opened.frames
   frames_are (suc zero) below = next.frames
   frames_are (suc (suc zero)) below = last.frames
@@ -100,12 +116,16 @@ module _ (design : DesignParts) (replicated all : List Bool) (first second third
   are_opened = record { layers_fit = are_three; layers_are = have_replicas; frames = frames_are }
 
 -- ---- what they have heard
-pub are_heard : (design : DesignParts) (heard : List (List (List PortValue))) → heard ≡ replicate 3 (opening design).messages → AreHeard design heard
+pub are_heard : (design : DesignParts) (heard : List (List (List PortValue)))
+    → heard ≡ replicate 3 (opening design).messages → AreHeard design heard
 are_heard design heard is =
     let fits : List (List PortValue) → Type 0 = λ tuples. lengths tuples ≡ message_sizes design in
     let silent = (opening design).messages in
     let fit = opening_messages_fit design design.links in
     record {
       three = ap length is ∙ length-replicate 3 silent;
-      sizes = subst (All fits) (sym is) (All-cons fits silent (silent ∷ silent ∷ []) fit (All-cons fits silent (silent ∷ []) fit (All-cons fits silent [] fit (All-nil fits))));
+      sizes =
+          subst (All fits) (sym is)
+          (All-cons fits silent (silent ∷ silent ∷ []) fit
+          (All-cons fits silent (silent ∷ []) fit (All-cons fits silent [] fit (All-nil fits))));
     }

@@ -15,7 +15,9 @@ stands_at_votes design env replicated faults (suc round) =
     record {
       design_is = before.design_is;
       replicated_is = before.replicated_is;
-      voted_is = ap₂ (λ d r. vnext d r values (faults round) (vstate_after design env replicated faults round).voted) before.design_is before.replicated_is
+      voted_is =
+          ap₂ (λ d r. vnext d r values (faults round) (vstate_after design env replicated faults round).voted)
+          before.design_is before.replicated_is
           ∙ ap (vnext design replicated values (faults round)) before.voted_is;
     }
 

@@ -49,10 +49,13 @@ received_at v link replica = slice_index_or (slice_index_or v.received link []) 
 
 -- ---- for each replica of each component, and for each replica that receives on each link
 abbrev pub for_replicas : DesignParts → List Bool → (ℕ → ℕ → Frame) → List (List Frame)
-for_replicas design replicated f = map (λ node. map (f node) (upwards 0 (copies_of replicated node))) (upwards 0 (length design.components))
+for_replicas design replicated f =
+    map (λ node. map (f node) (upwards 0 (copies_of replicated node))) (upwards 0 (length design.components))
 
 abbrev pub for_receivers : DesignParts → List Bool → (ℕ → ℕ → List PortValue) → List (List (List PortValue))
-for_receivers design replicated f = map (λ l. map (f l) (upwards 0 (receivers_in replicated (slice_get design.links l)))) (upwards 0 (length design.links))
+for_receivers design replicated f =
+    map (λ l. map (f l) (upwards 0 (receivers_in replicated (slice_get design.links l))))
+    (upwards 0 (length design.links))
 
 -- ---- before the first round
 abbrev pub first_frame : Option Component → Frame
@@ -75,7 +78,8 @@ heard_by replica v = map (λ tuples. slice_index_or tuples replica []) v.receive
 
 abbrev pub steps_in : DesignParts → List PortValue → Voted → ℕ → ℕ → Option Component → Stepped
 steps_in design values v node replica None = record { frame = no_frame; tuples = [] }
-steps_in design values v node replica (Some c) = steps c.behaviour (frame_at v node replica) (inputs_of design values (heard_by replica v) node c)
+steps_in design values v node replica (Some c) =
+    steps c.behaviour (frame_at v node replica) (inputs_of design values (heard_by replica v) node c)
 
 abbrev pub replica_steps : DesignParts → List PortValue → Voted → ℕ → ℕ → Stepped
 replica_steps design values v node replica = steps_in design values v node replica (slice_get design.components node)
@@ -97,7 +101,8 @@ fault_or (Some f) tuple = f.values
 -- and else its own tuple, cut
 abbrev pub own_message : DesignParts → List PortValue → Voted → Link → ℕ → List PortValue
 own_message design values v link replica =
-    cut (sent_steps design.gamma design.period (rate_of design link.source.0)) (tuple_at design values v link.source.0 link.out_port replica)
+    cut (sent_steps design.gamma design.period (rate_of design link.source.0))
+    (tuple_at design values v link.source.0 link.out_port replica)
 
 abbrev pub sent_to : DesignParts → List PortValue → List VoteFault → Voted → ℕ → Link → ℕ → ℕ → List PortValue
 sent_to design values faults v l link target replica =
@@ -108,7 +113,8 @@ sent_to design values faults v l link target replica =
 abbrev pub vote_of : (ℕ → List PortValue) → List PortValue
 vote_of tuple = votes (tuple 0) (tuple 1) (tuple 2)
 
-abbrev pub receives_on : DesignParts → List Bool → List PortValue → List VoteFault → Voted → ℕ → ℕ → Option Link → List PortValue
+abbrev pub receives_on : DesignParts → List Bool → List PortValue → List VoteFault → Voted → ℕ → ℕ → Option Link
+    → List PortValue
 receives_on design replicated values faults v l target None = []
 receives_on design replicated values faults v l target (Some link) =
     if is_replicated replicated link.source.0 then vote_of (sent_to design values faults v l link target)
@@ -118,7 +124,9 @@ receives_on design replicated values faults v l target (Some link) =
 abbrev pub vnext : DesignParts → List Bool → List PortValue → List VoteFault → Voted → Voted
 vnext design replicated values faults v = record {
   frames = for_replicas design replicated (λ node replica. (replica_steps design values v node replica).frame);
-  received = for_receivers design replicated (λ l target. receives_on design replicated values faults v l target (slice_get design.links l));
+  received =
+      for_receivers design replicated
+      (λ l target. receives_on design replicated values faults v l target (slice_get design.links l));
 }
 
 -- after a number of rounds, with the faults of each round
@@ -135,4 +143,5 @@ vshown_by design replicated values v tap =
     else tuple_at design values v tap.source.0 tap.out_port 0
 
 unfoldable pub vshown : DesignParts → Env → List Bool → (ℕ → List VoteFault) → Tap → ℕ → List PortValue
-vshown design env replicated faults tap round = vshown_by design replicated (values_at env round) (vcomp design env replicated faults round) tap
+vshown design env replicated faults tap round =
+    vshown_by design replicated (values_at env round) (vcomp design env replicated faults round) tap

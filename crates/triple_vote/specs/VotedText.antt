@@ -21,10 +21,12 @@ replica_name path replicated replica = if replicated then path ++ codes "#" ++ d
 
 abbrev pub replica_lines : List Bool → (ℕ → ℕ → Frame) → ℕ → Component → List (List ℕ)
 replica_lines replicated frame node c =
-    map (λ replica. component_line (replica_name c.path (is_replicated replicated node) replica) c.behaviour (frame node replica)) (upwards 0 (copies_of replicated node))
+    map (λ replica. component_line (replica_name c.path (is_replicated replicated node) replica) c.behaviour
+    (frame node replica)) (upwards 0 (copies_of replicated node))
 
 abbrev pub shown_line : DesignParts → (Tap → List PortValue) → Tap → List ℕ
-shown_line design shown tap = tap_line (out_kind (slice_get design.components tap.source.0) tap.out_port) tap (shown tap)
+shown_line design shown tap =
+    tap_line (out_kind (slice_get design.components tap.source.0) tap.out_port) tap (shown tap)
 
 -- the row of a round, from the frames of replicas, and from what root out ports show
 abbrev pub vrow_lines : DesignParts → List Bool → (ℕ → ℕ → Frame) → (Tap → List PortValue) → ℕ → List (List ℕ)
@@ -36,7 +38,8 @@ vrow_lines design replicated frame shown round =
 -- ---- the report of *votes*
 abbrev pub voted_lines : DesignParts → Env → List Bool → (ℕ → List VoteFault) → ℕ → List (List ℕ)
 voted_lines design env replicated faults round =
-    vrow_lines design replicated (frame_at (vcomp design env replicated faults (suc round))) (λ tap. vshown design env replicated faults tap round) round
+    vrow_lines design replicated (frame_at (vcomp design env replicated faults (suc round)))
+    (λ tap. vshown design env replicated faults tap round) round
 
 abbrev pub vreport : DesignParts → Env → List Bool → (ℕ → List VoteFault) → ℕ → List ℕ
 vreport design env replicated faults n = text_of (flat_map (voted_lines design env replicated faults) (upwards 0 n))
@@ -44,7 +47,8 @@ vreport design env replicated faults n = text_of (flat_map (voted_lines design e
 -- ---- the report of the composition, with each line of a replicated component three times
 abbrev pub thrice_lines : DesignParts → Env → List Bool → ℕ → List (List ℕ)
 thrice_lines design env replicated round =
-    vrow_lines design replicated (λ node replica. state design env node (suc round)) (λ tap. tuple_of (steps_of_round design env round) tap.source.0 tap.out_port) round
+    vrow_lines design replicated (λ node replica. state design env node (suc round))
+    (λ tap. tuple_of (steps_of_round design env round) tap.source.0 tap.out_port) round
 
 abbrev pub thrice : DesignParts → Env → List Bool → ℕ → List ℕ
 thrice design env replicated n = text_of (flat_map (thrice_lines design env replicated) (upwards 0 n))

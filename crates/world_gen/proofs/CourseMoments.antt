@@ -56,7 +56,8 @@ AreOver from [] = Unit {0}
 AreOver from (c ∷ cs) = (next_time from c ≡ None) × AreOver from cs
 
 abbrev least_from : ℕ → Option ℕ → List EventSeries → Option ℕ
-least_from from first courses = fold (λ moment course. lesser moment (option_map (time_of course) (next_of course from))) first courses
+least_from from first courses =
+    fold (λ moment course. lesser moment (option_map (time_of course) (next_of course from))) first courses
 
 late_self : (moment : ℕ) (o : Option ℕ) → o ≡ Some moment → IsLate moment o
 late_self moment o is = let least : moment ≤ moment = omega arith in subst (IsLate moment) (sym is) least
@@ -66,7 +67,8 @@ record IsLeast (from moment : ℕ) (first : Option ℕ) (courses : List EventSer
   late : AreLate from moment courses
   there : (first ≡ Some moment) ⊎ OneIsAt from moment courses
 
-least_is : (from moment : ℕ) (first : Option ℕ) (courses : List EventSeries) → least_from from first courses ≡ Some moment → IsLeast from moment first courses
+least_is : (from moment : ℕ) (first : Option ℕ) (courses : List EventSeries)
+    → least_from from first courses ≡ Some moment → IsLeast from moment first courses
 least_is from moment first [] is = record { first_late = late_self moment first is; late = tt; there = inl is }
 least_is from moment first (c ∷ cs) is =
     let rest = least_is from moment (lesser first (next_time from c)) cs is in
@@ -75,12 +77,14 @@ least_is from moment first (c ∷ cs) is =
       first_late = both.0;
       late = (both.1, rest.late);
       there = elim rest.there [
-        | inl now ↦ elim (one_of_both moment first (next_time from c) now) [ inl here ↦ inl here | inr here ↦ inr (inl here) ]
+        | inl now ↦ elim (one_of_both moment first (next_time from c) now)
+            [ inl here ↦ inl here | inr here ↦ inr (inl here) ]
         | inr later ↦ inr (inr later)
       ];
     }
 
-over_from : (from : ℕ) (first : Option ℕ) (courses : List EventSeries) → least_from from first courses ≡ None → (first ≡ None) × AreOver from courses
+over_from : (from : ℕ) (first : Option ℕ) (courses : List EventSeries) → least_from from first courses ≡ None
+    → (first ≡ None) × AreOver from courses
 over_from from first [] is = (is, tt)
 over_from from first (c ∷ cs) is =
     let rest = over_from from (lesser first (next_time from c)) cs is in
@@ -89,12 +93,15 @@ over_from from first (c ∷ cs) is =
 
 -- ---- one course
 -- where its next deed is not before a moment, nothing comes before that
-late_next : (c : EventSeries) (from moment : ℕ) (o : Option ℕ) → next_of c from ≡ o → IsLate moment (option_map (time_of c) o) → (time : ℕ) → from ≤ time → time < moment
+late_next : (c : EventSeries) (from moment : ℕ) (o : Option ℕ) → next_of c from ≡ o
+    → IsLate moment (option_map (time_of c) o) → (time : ℕ) → from ≤ time → time < moment
     → which (time_of c) c.count time ≡ None
 late_next c from moment None is late time after before = quiet_after c from time is after
-late_next c from moment (Some n) is late time after before = let there : moment ≤ time_of c n = late in quiet_until c from n time is after (omega arith)
+late_next c from moment (Some n) is late time after before = let there : moment ≤ time_of c n = late in
+    quiet_until c from n time is after (omega arith)
 
-over_next : (c : EventSeries) (from : ℕ) (o : Option ℕ) → next_of c from ≡ o → option_map (time_of c) o ≡ None → next_of c from ≡ None
+over_next : (c : EventSeries) (from : ℕ) (o : Option ℕ) → next_of c from ≡ o → option_map (time_of c) o ≡ None
+    → next_of c from ≡ None
 over_next c from None is none = is
 over_next c from (Some n) is none = absurd (cc)
 
@@ -104,7 +111,8 @@ record ComesAt (c : EventSeries) (from moment : ℕ) : Type 0 where
   after : from ≤ moment
   reading : moment ≤ READING
 
-comes_next : (c : EventSeries) (from moment : ℕ) (o : Option ℕ) → IsCourse c → next_of c from ≡ o → option_map (time_of c) o ≡ Some moment → ComesAt c from moment
+comes_next : (c : EventSeries) (from moment : ℕ) (o : Option ℕ) → IsCourse c → next_of c from ≡ o
+    → option_map (time_of c) o ≡ Some moment → ComesAt c from moment
 comes_next c from moment None sound is now = absurd (cc)
 comes_next c from moment (Some n) sound is now =
     let next = is_next c from n is in
@@ -121,18 +129,22 @@ comes_next c from moment (Some n) sound is now =
     }
 
 -- ---- all of them
-none_before : (from moment : ℕ) (courses : List EventSeries) → AreLate from moment courses → (time : ℕ) → from ≤ time → time < moment → events_of courses time ≡ []
+none_before : (from moment : ℕ) (courses : List EventSeries) → AreLate from moment courses → (time : ℕ) → from ≤ time
+    → time < moment → events_of courses time ≡ []
 none_before from moment [] late time after before = refl
 none_before from moment (c ∷ cs) late time after before =
     nil_both (course_events time c) (events_of cs time)
-    (nothing_of (which (time_of c) c.count time) (deed_event c.deed) (late_next c from moment (next_of c from) refl late.0 time after before))
+    (nothing_of (which (time_of c) c.count time) (deed_event c.deed)
+    (late_next c from moment (next_of c from) refl late.0 time after before))
     (none_before from moment cs late.1 time after before)
 
-none_after : (from : ℕ) (courses : List EventSeries) → AreOver from courses → (time : ℕ) → from ≤ time → events_of courses time ≡ []
+none_after : (from : ℕ) (courses : List EventSeries) → AreOver from courses → (time : ℕ) → from ≤ time
+    → events_of courses time ≡ []
 none_after from [] over time after = refl
 none_after from (c ∷ cs) over time after =
     nil_both (course_events time c) (events_of cs time)
-    (nothing_of (which (time_of c) c.count time) (deed_event c.deed) (quiet_after c from time (over_next c from (next_of c from) refl over.0) after))
+    (nothing_of (which (time_of c) c.count time) (deed_event c.deed)
+    (quiet_after c from time (over_next c from (next_of c from) refl over.0) after))
     (none_after from cs over.1 time after)
 
 some_left : (xs ys : List Event) (e : Event) → xs ≡ e ∷ [] → xs ++ ys ≢ []
@@ -147,18 +159,25 @@ record SomethingAt (courses : List EventSeries) (from moment : ℕ) : Type 0 whe
   after : from ≤ moment
   reading : moment ≤ READING
 
-some_at : (from moment : ℕ) (courses : List EventSeries) → All IsCourse courses → OneIsAt from moment courses → SomethingAt courses from moment
+some_at : (from moment : ℕ) (courses : List EventSeries) → All IsCourse courses → OneIsAt from moment courses
+    → SomethingAt courses from moment
 some_at from moment [] sound there = absurd there
 some_at from moment (c ∷ cs) sound (inl here) =
     let comes = comes_next c from moment (next_of c from) (All-head IsCourse c cs sound) refl here in
     record {
-      something = some_left (course_events moment c) (events_of cs moment) (deed_event c.deed comes.number) (ap (λ o. event_of o (deed_event c.deed)) comes.comes);
+      something =
+          some_left (course_events moment c) (events_of cs moment) (deed_event c.deed comes.number)
+          (ap (λ o. event_of o (deed_event c.deed)) comes.comes);
       after = comes.after;
       reading = comes.reading;
     }
 some_at from moment (c ∷ cs) sound (inr later) =
     let rest = some_at from moment cs (All-tail IsCourse c cs sound) later in
-    record { something = some_right (course_events moment c) (events_of cs moment) rest.something; after = rest.after; reading = rest.reading }
+    record {
+      something = some_right (course_events moment c) (events_of cs moment) rest.something;
+      after = rest.after;
+      reading = rest.reading;
+    }
 
 -- ---- the next moment
 pub record IsNextMoment (courses : List EventSeries) (from moment : ℕ) : Type 0 where
@@ -167,15 +186,22 @@ pub record IsNextMoment (courses : List EventSeries) (from moment : ℕ) : Type 
   pub something : events_of courses moment ≢ []
   pub reading : moment ≤ READING
 
-pub moment_is : (courses : List EventSeries) (from moment : ℕ) → All IsCourse courses → next_moment courses from ≡ Some moment → IsNextMoment courses from moment
+pub moment_is : (courses : List EventSeries) (from moment : ℕ) → All IsCourse courses
+    → next_moment courses from ≡ Some moment → IsNextMoment courses from moment
 moment_is courses from moment sound is =
     let least = least_is from moment None courses is in
     elim least.there [
       | inl none ↦ absurd (cc)
       | inr there ↦
           let one = some_at from moment courses sound there in
-          record { after = one.after; quiet = none_before from moment courses least.late; something = one.something; reading = one.reading }
+          record {
+            after = one.after;
+            quiet = none_before from moment courses least.late;
+            something = one.something;
+            reading = one.reading;
+          }
     ]
 
-pub moments_are_over : (courses : List EventSeries) (from : ℕ) → next_moment courses from ≡ None → (time : ℕ) → from ≤ time → events_of courses time ≡ []
+pub moments_are_over : (courses : List EventSeries) (from : ℕ) → next_moment courses from ≡ None → (time : ℕ)
+    → from ≤ time → events_of courses time ≡ []
 moments_are_over courses from is = none_after from courses (over_from from None courses is).1

@@ -14,7 +14,8 @@ use Rattle.world_gen.specs.Rings.{ring_behaviour, ring_state}
 
 no_edge : (k : ℕ) (e : Edge) → Contains (leaving ring_behaviour (suc k)) e → ⊥
 no_edge k e among =
-    let none : leaving ring_behaviour (suc k) ≡ [] = ap (λ b. cond b ring_behaviour.transitions []) (ne_eqb 0 (suc k) (λ same. omega arith)) in
+    let none : leaving ring_behaviour (suc k) ≡ [] =
+    ap (λ b. cond b ring_behaviour.transitions []) (ne_eqb 0 (suc k) (λ same. omega arith)) in
     let here : Contains [] e = subst (λ edges. Contains edges e) none among in
     let within = here.1 in
     omega (arith, within)
@@ -29,7 +30,9 @@ pub ring_behaves : IsBehaviour ring_behaviour
 ring_behaves = record {
   names = record {
     values = refl;
-    values_differ = AllPairs-three (λ (x y : List ℕ). x ≢ y) (codes "i") (codes "o") (codes "x") (bytes_ne_by_test _ _ refl) (bytes_ne_by_test _ _ refl) (bytes_ne_by_test _ _ refl);
+    values_differ =
+        AllPairs-three (λ (x y : List ℕ). x ≢ y) (codes "i") (codes "o") (codes "x") (bytes_ne_by_test _ _ refl)
+        (bytes_ne_by_test _ _ refl) (bytes_ne_by_test _ _ refl);
     states = refl;
     states_differ = AllPairs-one (λ (s t : StateDecl). s.name ≢ t.name) ring_state;
   };
@@ -42,10 +45,12 @@ ring_behaves = record {
 
 -- so are parts with the same values
 abbrev parts_of : List PortDecl → List PortDecl → List VarDecl → List StateDecl → List Edge → BehaviourParts
-parts_of ins outs vars states transitions = record { ins = ins; outs = outs; vars = vars; states = states; initial = 0; transitions = transitions }
+parts_of ins outs vars states transitions =
+    record { ins = ins; outs = outs; vars = vars; states = states; initial = 0; transitions = transitions }
 
 pub parts_behave : (ins outs : List PortDecl) (vars : List VarDecl) (states : List StateDecl) (transitions : List Edge)
-    → ins ≡ ring_behaviour.ins → outs ≡ ring_behaviour.outs → vars ≡ ring_behaviour.vars → states ≡ ring_behaviour.states
+    → ins ≡ ring_behaviour.ins → outs ≡ ring_behaviour.outs → vars ≡ ring_behaviour.vars
+    → states ≡ ring_behaviour.states
     → transitions ≡ ring_behaviour.transitions → IsBehaviour (parts_of ins outs vars states transitions)
 parts_behave ins outs vars states transitions same_ins same_outs same_vars same_states same_transitions =
     let b = ring_behaviour in

@@ -72,10 +72,13 @@ fine_paths : list_all (λ number. is_fine (ring_path number)) (upwards 0 COMPONE
 unfolding digits
 fine_paths = refl
 
-path_is : (number : ℕ) → number < COMPONENTS → IsTrue (is_path (ring_path number)) × (length (ring_path number) ≤ PATH_BYTES)
+path_is : (number : ℕ) → number < COMPONENTS
+    → IsTrue (is_path (ring_path number)) × (length (ring_path number) ≤ PATH_BYTES)
 path_is number below =
     let all = all_pass (λ number. is_fine (ring_path number)) (upwards 0 COMPONENTS) fine_paths in
-    let one = at_element (λ number. is_fine (ring_path number) ≡ true) (upwards 0 COMPONENTS) number number all (upwards_at COMPONENTS number below) in
+    let one =
+    at_element (λ number. is_fine (ring_path number) ≡ true) (upwards 0 COMPONENTS) number number all
+    (upwards_at COMPONENTS number below) in
     let parts = and_parts (is_path (ring_path number)) (nat_le (length (ring_path number)) PATH_BYTES) one in
     (parts.0, leb-true (length (ring_path number)) PATH_BYTES parts.1)
 
@@ -99,7 +102,8 @@ component_is number below =
       behaviour = ring_behaves;
     }
 
-greatest_from : (k : ℕ) (components : List Component) → k ≤ 4 → All (λ (c : Component). c.rate ≤ 4) components → fold (λ (k : ℕ) (c : Component). max k c.rate) k components ≤ 4
+greatest_from : (k : ℕ) (components : List Component) → k ≤ 4 → All (λ (c : Component). c.rate ≤ 4) components
+    → fold (λ (k : ℕ) (c : Component). max k c.rate) k components ≤ 4
 greatest_from k [] few all = few
 greatest_from k (c ∷ cs) few all =
     let one : c.rate ≤ 4 = All-head (λ (c : Component). c.rate ≤ 4) c cs all in
@@ -139,20 +143,28 @@ module _ (n : ℕ) (some : 2 ≤ n) (most : n ≤ COMPONENTS) where
       let adapts = adapts source number in
       let source_rate = sym (rate_at source source_below) in
       let target_rate = sym (rate_at number below) in
-      let out : out_kind (slice_get (ring n).components source) 0 ≡ Integer = ap (λ c. out_kind c 0) (component_at source source_below) in
-      let target : in_kind (slice_get (ring n).components number) 0 ≡ Integer = ap (λ c. in_kind c 0) (component_at number below) in
+      let out : out_kind (slice_get (ring n).components source) 0 ≡ Integer =
+      ap (λ c. out_kind c 0) (component_at source source_below) in
+      let target : in_kind (slice_get (ring n).components number) 0 ≡ Integer =
+      ap (λ c. in_kind c 0) (component_at number below) in
       record {
         source = out_port source source_below;
         target = in_port number below;
         rates = subst₂ (λ p q. IsTrue (divides_or_divided p q)) source_rate target_rate adapts.rates;
-        allowed = subst₂ (λ p q. IsTrue (is_allowed (ring_adaptor (ring_rate source) (ring_rate number)) p q)) source_rate target_rate adapts.allowed;
+        allowed =
+            subst₂ (λ p q. IsTrue (is_allowed (ring_adaptor (ring_rate source) (ring_rate number)) p q)) source_rate
+            target_rate adapts.allowed;
         kinds = out ∙ sym target;
-        suits = subst (λ kind. IsTrue (suits_kind (ring_adaptor (ring_rate source) (ring_rate number)) kind)) (sym target) adapts.suits;
+        suits =
+            subst (λ kind. IsTrue (suits_kind (ring_adaptor (ring_rate source) (ring_rate number)) kind)) (sym target)
+            adapts.suits;
       }
 
   -- ---- the whole
   slow : greatest_rate (ring n).components ≤ 4
-  slow = greatest_from 1 (ring n).components (omega arith) (numbered_all (λ (c : Component). c.rate ≤ 4) ring_component n (λ number below. (rate_is number).few))
+  slow =
+      greatest_from 1 (ring n).components (omega arith)
+      (numbered_all (λ (c : Component). c.rate ≤ 4) ring_component n (λ number below. (rate_is number).few))
 
   pub ring_is_design : IsDesign (ring n)
   ring_is_design =
@@ -160,11 +172,19 @@ module _ (n : ℕ) (some : 2 ≤ n) (most : n ≤ COMPONENTS) where
       let links = length-numbered (ring_link n) n in
       record {
         period = (omega arith, omega arith);
-        gamma = record { skew = (omega arith, omega arith); execution = (omega arith, omega arith); network = (omega arith, omega arith) };
+        gamma =
+            record {
+              skew = (omega arith, omega arith);
+              execution = (omega arith, omega arith);
+              network = (omega arith, omega arith);
+            };
         components = record {
-          each = numbered_all (IsComponent 20000000) ring_component n (λ number below. component_is number (omega arith));
+          each =
+              numbered_all (IsComponent 20000000) ring_component n (λ number below. component_is number (omega arith));
           count = omega arith;
-          paths_differ = numbered_pairs (λ (a b : Component). a.path ≢ b.path) ring_component n (λ j k less below. paths_differ j k less (omega arith));
+          paths_differ =
+              numbered_pairs (λ (a b : Component). a.path ≢ b.path) ring_component n
+              (λ j k less below. paths_differ j k less (omega arith));
         };
         links = record {
           each = numbered_all (IsLink (ring n)) (ring_link n) n link_is;
@@ -196,10 +216,13 @@ parts_of components links feeds taps ignored = record {
   ignored = ignored;
 }
 
-pub parts_are_design : (n : ℕ) (components : List Component) (links : List Link) (feeds : List Feed) (taps : List Tap) (ignored : List (List ℕ))
-    → 2 ≤ n → n ≤ COMPONENTS → components ≡ (ring n).components → links ≡ (ring n).links → feeds ≡ [] → taps ≡ [] → ignored ≡ []
+pub parts_are_design : (n : ℕ) (components : List Component) (links : List Link) (feeds : List Feed) (taps : List Tap)
+    (ignored : List (List ℕ))
+    → 2 ≤ n → n ≤ COMPONENTS → components ≡ (ring n).components → links ≡ (ring n).links → feeds ≡ [] → taps ≡ []
+    → ignored ≡ []
     → IsDesign (parts_of components links feeds taps ignored)
-parts_are_design n components links feeds taps ignored some most same_components same_links no_feeds no_taps none_ignored =
+parts_are_design n components links feeds taps ignored some most same_components same_links no_feeds no_taps
+    none_ignored =
     let first : parts_of components links feeds taps ignored ≡ parts_of (ring n).components (ring n).links feeds taps ignored =
     ap₂ (λ (c : List Component) (l : List Link). parts_of c l feeds taps ignored) same_components same_links in
     let second : parts_of (ring n).components (ring n).links feeds taps ignored ≡ parts_of (ring n).components (ring n).links [] [] ignored =

@@ -64,60 +64,75 @@ FiresSmall fired = HasSmall fired.frame.vars
 set_small : (vars : List ℤ) (x : ℤ) → HasSmall vars → IsSmall x → HasSmall (slice_set vars 0 x)
 set_small vars x before small = record { number = x; only = ap (λ vs. slice_set vs 0 x) before.only; small = small }
 
-assigned_small : (r : Result ℤ Trap) (frame : Frame) (fresh : List Bool) (outs : List PortValue) → HasSmall frame.vars → IfOk r IsSmall
-    → IfOk (on_value (on_value r (λ v. Ok (record { vars = slice_set frame.vars 0 v; outs = outs }))) (λ (e : Effect). acts emitting (with_vars frame e.vars) fresh e.outs)) (λ (e : Effect). HasSmall e.vars)
+assigned_small : (r : Result ℤ Trap) (frame : Frame) (fresh : List Bool) (outs : List PortValue) → HasSmall frame.vars
+    → IfOk r IsSmall
+    → IfOk (on_value (on_value r (λ v. Ok (record { vars = slice_set frame.vars 0 v; outs = outs })))
+    (λ (e : Effect). acts emitting (with_vars frame e.vars) fresh e.outs)) (λ (e : Effect). HasSmall e.vars)
 assigned_small (Err trap) frame fresh outs before small = tt
 assigned_small (Ok x) frame fresh outs before small = set_small frame.vars x before small
 
-acts_small : (frame : Frame) (fresh : List Bool) (outs : List PortValue) → HasSmall frame.vars → IfOk (acts ring_actions frame fresh outs) (λ (e : Effect). HasSmall e.vars)
-acts_small frame fresh outs before = assigned_small (eval next_number frame fresh) frame fresh outs before (next_small frame fresh)
+acts_small : (frame : Frame) (fresh : List Bool) (outs : List PortValue) → HasSmall frame.vars
+    → IfOk (acts ring_actions frame fresh outs) (λ (e : Effect). HasSmall e.vars)
+acts_small frame fresh outs before =
+    assigned_small (eval next_number frame fresh) frame fresh outs before (next_small frame fresh)
 
 moved_small : (r : Result Effect Trap) (frame : Frame) → IfOk r (λ (e : Effect). HasSmall e.vars)
-    → IfOk (on_value r (λ (done : Effect). Ok (record { frame = record frame { state = 0; vars = done.vars }; outs = done.outs }))) FiresSmall
+    → IfOk (on_value r (λ (done : Effect).
+    Ok (record { frame = record frame { state = 0; vars = done.vars }; outs = done.outs }))) FiresSmall
 moved_small (Err trap) frame small = tt
 moved_small (Ok e) frame small = small
 
 -- along the transition, if the state has it
 along_small : (leaves : Bool) (fresh : List Bool) (at : Fired) → FiresSmall at
     → IfOk (along (find (λ (e : Edge). is_dispatch e.trigger) (cond leaves (ring_edge ∷ []) [])) fresh at) FiresSmall
-along_small true fresh at before = moved_small (acts ring_actions at.frame fresh at.outs) at.frame (acts_small at.frame fresh at.outs before)
+along_small true fresh at before =
+    moved_small (acts ring_actions at.frame fresh at.outs) at.frame (acts_small at.frame fresh at.outs before)
 along_small false fresh at before = before
 
 completes_all : (state : ℕ) → is_complete ring_behaviour state ≡ true
 completes_all zero = refl
 completes_all (suc state) = refl
 
-if_complete : (complete : Bool) (at : Fired) (other : Result Fired Trap) → complete ≡ true → FiresSmall at → IfOk (if complete then Ok at else other) FiresSmall
+if_complete : (complete : Bool) (at : Fired) (other : Result Fired Trap) → complete ≡ true → FiresSmall at
+    → IfOk (if complete then Ok at else other) FiresSmall
 if_complete true at other is before = before
 if_complete false at other is before = absurd (false≢true is)
 
-then_small : (r : Result Fired Trap) (fresh : List Bool) → IfOk r FiresSmall → IfOk (on_value r (λ (at : Fired). settled (length ring_behaviour.states) ring_behaviour fresh at)) FiresSmall
+then_small : (r : Result Fired Trap) (fresh : List Bool) → IfOk r FiresSmall
+    → IfOk (on_value r (λ (at : Fired). settled (length ring_behaviour.states) ring_behaviour fresh at)) FiresSmall
 then_small (Err trap) fresh small = tt
-then_small (Ok at) fresh small = if_complete (is_complete ring_behaviour at.frame.state) at _ (completes_all at.frame.state) small
+then_small (Ok at) fresh small =
+    if_complete (is_complete ring_behaviour at.frame.state) at _ (completes_all at.frame.state) small
 
-unless_small : (held : Frame) (halt : Option Trap) (r : Result Fired Trap) → HasSmall held.vars → IfOk r FiresSmall → FiresSmall (unless_halted ring_behaviour held halt r)
+unless_small : (held : Frame) (halt : Option Trap) (r : Result Fired Trap) → HasSmall held.vars → IfOk r FiresSmall
+    → FiresSmall (unless_halted ring_behaviour held halt r)
 unless_small held None (Ok fired) before small = small
 unless_small held None (Err trap) before small = before
 unless_small held (Some trap) r before small = before
 
-fires_small : (frame : Frame) (inputs : List PortValue) → HasSmall frame.vars → FiresSmall (fire ring_behaviour frame inputs)
+fires_small : (frame : Frame) (inputs : List PortValue) → HasSmall frame.vars
+    → FiresSmall (fire ring_behaviour frame inputs)
 unfolding fire
 fires_small frame inputs before =
     let held : Frame = record frame { held = holding frame.held inputs } in
     let fresh = map is_present inputs in
     let at : Fired = record { frame = held; outs = silence ring_behaviour } in
     unless_small held frame.halt (reaction ring_behaviour fresh held) before
-    (then_small (along (dispatched ring_behaviour held.state) fresh at) fresh (along_small (nat_eq 0 held.state) fresh at before))
+    (then_small (along (dispatched ring_behaviour held.state) fresh at) fresh
+    (along_small (nat_eq 0 held.state) fresh at before))
 
 -- ---- rounds
-after_small : (vectors : List (List PortValue)) (frame : Frame) → HasSmall frame.vars → HasSmall (frame_after ring_behaviour frame vectors).vars
+after_small : (vectors : List (List PortValue)) (frame : Frame) → HasSmall frame.vars
+    → HasSmall (frame_after ring_behaviour frame vectors).vars
 after_small [] frame before = before
-after_small (inputs ∷ vectors) frame before = after_small vectors (fire ring_behaviour frame inputs).frame (fires_small frame inputs before)
+after_small (inputs ∷ vectors) frame before =
+    after_small vectors (fire ring_behaviour frame inputs).frame (fires_small frame inputs before)
 
 abbrev IsRinging : Component → Type 0
 IsRinging c = c.behaviour ≡ ring_behaviour
 
-steps_small : (design : DesignParts) (values : List PortValue) (messages : List (List PortValue)) (node : ℕ) (components : List Component) (frames : List Frame)
+steps_small : (design : DesignParts) (values : List PortValue) (messages : List (List PortValue)) (node : ℕ)
+    (components : List Component) (frames : List Frame)
     → All IsRinging components → All (λ (f : Frame). HasSmall f.vars) frames
     → All (λ (s : Stepped). HasSmall s.frame.vars) (steps_from design values messages node components frames)
 steps_small design values messages node [] frames ring before = All-nil (λ (s : Stepped). HasSmall s.frame.vars)
@@ -126,9 +141,12 @@ steps_small design values messages node (c ∷ cs) (frame ∷ frames) ring befor
     let P : Frame → Type 0 = λ f. HasSmall f.vars in
     let vectors = inputs_of design values messages node c in
     let here : HasSmall (frame_after c.behaviour frame vectors).vars =
-    subst (λ b. HasSmall (frame_after b frame vectors).vars) (sym (All-head IsRinging c cs ring)) (after_small vectors frame (All-head P frame frames before)) in
-    All-cons (λ (s : Stepped). HasSmall s.frame.vars) (steps c.behaviour frame vectors) (steps_from design values messages (suc node) cs frames) here
-    (steps_small design values messages (suc node) cs frames (All-tail IsRinging c cs ring) (All-tail P frame frames before))
+    subst (λ b. HasSmall (frame_after b frame vectors).vars) (sym (All-head IsRinging c cs ring))
+    (after_small vectors frame (All-head P frame frames before)) in
+    All-cons (λ (s : Stepped). HasSmall s.frame.vars) (steps c.behaviour frame vectors)
+    (steps_from design values messages (suc node) cs frames) here
+    (steps_small design values messages (suc node) cs frames (All-tail IsRinging c cs ring)
+    (All-tail P frame frames before))
 
 all_small : (n rounds : ℕ) → All (λ (f : Frame). HasSmall f.vars) (comp (ring n) no_env rounds).frames
 unfolding comp
@@ -138,7 +156,8 @@ all_small n zero =
     (λ k below. record { number = pos 0; only = refl; small = (omega (arith, ints), omega (arith, ints)) }))
 all_small n (suc rounds) =
     let before = comp (ring n) no_env rounds in
-    All-map (λ (f : Frame). HasSmall f.vars) (λ (s : Stepped). s.frame) (steps_from (ring n) (values_at no_env rounds) before.messages 0 (ring n).components before.frames)
+    All-map (λ (f : Frame). HasSmall f.vars) (λ (s : Stepped). s.frame)
+    (steps_from (ring n) (values_at no_env rounds) before.messages 0 (ring n).components before.frames)
     (steps_small (ring n) (values_at no_env rounds) before.messages 0 (ring n).components before.frames
     (numbered_all IsRinging ring_component n (λ k below. refl)) (all_small n rounds))
 
@@ -160,11 +179,15 @@ ring_numbers_are_small n rounds node =
     ]
 
 -- ---- a ring in a world
-same_from : {X : Type 0} (f g : ℕ → X) (from n count : ℕ) → from + n ≡ count → ((j : ℕ) → j < count → f j ≡ g j) → map f (upwards from n) ≡ map g (upwards from n)
+same_from : {X : Type 0} (f g : ℕ → X) (from n count : ℕ) → from + n ≡ count → ((j : ℕ) → j < count → f j ≡ g j)
+    → map f (upwards from n) ≡ map g (upwards from n)
 same_from f g from zero count is same = refl
-same_from {X} f g from (suc n) count is same = ap₂ (λ (x : X) (xs : List X). x ∷ xs) (same from (omega arith)) (same_from f g (suc from) n count (omega arith) same)
+same_from {X} f g from (suc n) count is same =
+    ap₂ (λ (x : X) (xs : List X). x ∷ xs) (same from (omega arith))
+    (same_from f g (suc from) n count (omega arith) same)
 
-sum_from : (f : ℕ → ℕ) (each from n count : ℕ) → from + n ≡ count → ((j : ℕ) → j < count → f j ≡ each) → sum_by f (upwards from n) ≡ n * each
+sum_from : (f : ℕ → ℕ) (each from n count : ℕ) → from + n ≡ count → ((j : ℕ) → j < count → f j ≡ each)
+    → sum_by f (upwards from n) ≡ n * each
 sum_from f each from zero count is same = omega arith
 sum_from f each from (suc n) count is same =
     let first = same from (omega arith) in
@@ -176,7 +199,8 @@ record IsAtEnd (run : Run) (node : ℕ) (n : NodeState) : Type 0 where
   frame : n.frame ≡ state run.design run.env node run.rounds
   sent : sent_rounds n ≡ run.rounds
 
-at_end : (run : Run) (node : ℕ) (c : Component) (n : NodeState) (p : Phase) → p ≡ Done → PhaseAgrees run node c n p → IsAtEnd run node n
+at_end : (run : Run) (node : ℕ) (c : Component) (n : NodeState) (p : Phase) → p ≡ Done → PhaseAgrees run node c n p
+    → IsAtEnd run node n
 at_end run node c n p is agrees =
     let rest : IsAtRest run node n × (n.count ≡ run.rounds) = subst (PhaseAgrees run node c n) is agrees in
     record {
@@ -184,11 +208,13 @@ at_end run node c n p is agrees =
       sent = ap (λ b. if b then n.count else round_of n) rest.0.sent ∙ rest.1;
     }
 
-module _ (n rounds : ℕ) (bus : BusState) (some : 2 ≤ n) (agrees : Agrees (ring_run n rounds) bus) (done : (node : ℕ) → node < n → (node_at bus node).phase ≡ Done) where
+module _ (n rounds : ℕ) (bus : BusState) (some : 2 ≤ n) (agrees : Agrees (ring_run n rounds) bus)
+    (done : (node : ℕ) → node < n → (node_at bus node).phase ≡ Done) where
   node_ends : (node : ℕ) → node < n → IsAtEnd (ring_run n rounds) node (node_at bus node)
   node_ends node below =
       let n_agrees = agrees.nodes node (ring_component node) (numbered_get ring_component n node below) in
-      at_end (ring_run n rounds) node (ring_component node) (node_at bus node) (node_at bus node).phase (done node below) n_agrees.phase
+      at_end (ring_run n rounds) node (ring_component node) (node_at bus node) (node_at bus node).phase
+      (done node below) n_agrees.phase
 
   number_is : (node : ℕ) → node < n → number_at bus node ≡ ring_number n rounds node
   number_is node below = ap (λ (f : Frame). slice_index_or f.vars 0 (pos 0)) (node_ends node below).frame
@@ -196,7 +222,8 @@ module _ (n rounds : ℕ) (bus : BusState) (some : 2 ≤ n) (agrees : Agrees (ri
   sent_on : (link : ℕ) → link < n → rounds_sent_on (ring_run n rounds) bus link ≡ rounds
   sent_on link below =
       let is : link_at (ring n) link ≡ ring_link n link = numbered_at (ring_link n) n link no_link below in
-      ap (λ (l : Link). sent_rounds (node_at bus l.source.0)) is ∙ (node_ends (before_in n link) (before_below n link some below)).sent
+      ap (λ (l : Link). sent_rounds (node_at bus l.source.0)) is
+      ∙ (node_ends (before_in n link) (before_below n link some below)).sent
 
   ring_is_done : IsRingDone n rounds bus
   ring_is_done = record {

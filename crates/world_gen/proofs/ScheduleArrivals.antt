@@ -28,7 +28,8 @@ use Rattle.run_laws.proofs.Arrivals as arrive
 use Rattle.world_gen.proofs.ScheduleTimes.{which_is, sends_rise}
 use Rattle.world_gen.proofs.Follows.{NodeFollows, LinkFollows, Follows, nodes_follow, follows_put}
 
-module _ (run : Run) (rules : IsRunOf run) (w : World) (moment : ℕ) (fin st se ar : ℕ → ℕ) (follows : Follows run w moment fin st se ar)
+module _ (run : Run) (rules : IsRunOf run) (w : World) (moment : ℕ) (fin st se ar : ℕ → ℕ)
+    (follows : Follows run w moment fin st se ar)
     (l : ℕ) (within : l < length run.design.links) (round : ℕ)
     (is : which (arrive_time run.design l) run.rounds moment ≡ Some round)
     (arrivals_are : ar l ≡ moment) (sends_are : (j : ℕ) → j < length run.design.components → se j ≡ suc moment) where
@@ -50,7 +51,8 @@ module _ (run : Run) (rules : IsRunOf run) (w : World) (moment : ℕ) (fin st se
   abbrev lf : LinkFollows run l (rounds_sent_on run w.bus l) flight (ar l)
   lf = follows.links l within
 
-  abbrev nf : NodeFollows run source (node_at w.bus source) (since_at w source) (ready_at w source) (sendings w source) (fin source) (st source) (se source)
+  abbrev nf : NodeFollows run source (node_at w.bus source) (since_at w source) (ready_at w source) (sendings w source)
+      (fin source) (st source) (se source)
   nf = follows.nodes source from
 
   arrives_rise : (a b : ℕ) → a < b → arrive_time run.design l a < arrive_time run.design l b
@@ -62,7 +64,8 @@ module _ (run : Run) (rules : IsRunOf run) (w : World) (moment : ℕ) (fin st se
       let sends = sends_are source from in
       elim (cases_lt round (rounds_sent_on run w.bus l)) [
         | inl sent ↦ sent
-        | inr not_yet ↦ let waits : se source ≤ send_time run.design source round = nf.sent.after round at.0 not_yet in absurd (omega arith)
+        | inr not_yet ↦ let waits : se source ≤ send_time run.design source round = nf.sent.after round at.0 not_yet in
+            absurd (omega arith)
       ]
 
   some : 1 ≤ copies round flight
@@ -94,20 +97,25 @@ module _ (run : Run) (rules : IsRunOf run) (w : World) (moment : ℕ) (fin st se
     this_link : LinkFollows run l (rounds_sent_on run w.bus l) (without_oldest round flight) (later l)
     this_link =
         let copy = copy_is.0 in
-        let of_round : copy.round ≡ round = eqb-true copy.round round (find-passes (is_of round) flight copy copy_is.1) in
+        let of_round : copy.round ≡ round =
+        eqb-true copy.round round (find-passes (is_of round) flight copy copy_is.1) in
         let n = node_at w.bus target in
-        let u = under_way n.count (slot_at n (link_at run.design l).in_port) (rounds_sent_on run w.bus l) flight round ((follows.keeps.links l within).once round) some in
+        let u =
+        under_way n.count (slot_at n (link_at run.design l).in_port) (rounds_sent_on run w.bus l) flight round
+        ((follows.keeps.links l within).once round) some in
         let one = u.one in
         let here_at = at.1 in
         let due = arrivals_are in
         let later_is = now in
         record {
           waits = λ r left.
-              let fewer : copies r (without_oldest round flight) + one_if (is_of r copy) ≡ copies r flight = count_without (is_of round) (is_of r) flight copy copy_is.1 in
+              let fewer : copies r (without_oldest round flight) + one_if (is_of r copy) ≡ copies r flight =
+              count_without (is_of round) (is_of r) flight copy copy_is.1 in
               let before = lf.waits r (omega arith) in
               elim (cases_order r round) [
                 | inl same ↦
-                    let this : one_if (is_of r copy) ≡ 1 = one_of_true (is_of r copy) (eq-eqb copy.round r (of_round ∙ sym same)) in
+                    let this : one_if (is_of r copy) ≡ 1 =
+                    one_of_true (is_of r copy) (eq-eqb copy.round r (of_round ∙ sym same)) in
                     let at_round : copies r flight ≡ copies round flight = ap (λ x. copies x flight) same in
                     absurd (omega arith)
                 | inr apart ↦ elim apart [
@@ -116,35 +124,53 @@ module _ (run : Run) (rules : IsRunOf run) (w : World) (moment : ℕ) (fin st se
                 ]
               ];
           flies = λ r below ahead.
-              let fewer : copies r (without_oldest round flight) + one_if (is_of r copy) ≡ copies r flight = count_without (is_of round) (is_of r) flight copy copy_is.1 in
+              let fewer : copies r (without_oldest round flight) + one_if (is_of r copy) ≡ copies r flight =
+              count_without (is_of round) (is_of r) flight copy copy_is.1 in
               let before = lf.flies r below (omega arith) in
               let other : one_if (is_of r copy) ≡ 0 =
-              one_of_false (is_of r copy) (ne_eqb copy.round r (λ e. let same : round ≡ r = sym of_round ∙ e in let at_same : arrive_time run.design l round ≡ arrive_time run.design l r = ap (arrive_time run.design l) same in omega arith)) in
+              one_of_false (is_of r copy)
+              (ne_eqb copy.round r (λ e. let same : round ≡ r = sym of_round ∙ e in
+              let at_same : arrive_time run.design l round ≡ arrive_time run.design l r =
+              ap (arrive_time run.design l) same in omega arith)) in
               omega arith;
         }
 
-    each_link : (i : ℕ) → i < length run.design.links → LinkFollows run i (rounds_sent_on run bus i) (flight_at bus i) (later i)
+    each_link : (i : ℕ) → i < length run.design.links
+        → LinkFollows run i (rounds_sent_on run bus i) (flight_at bus i) (later i)
     each_link i inside =
-        let sent : rounds_sent_on run bus i ≡ rounds_sent_on run w.bus i = arrive.sent_stays run w rules follows.keeps link round arrives (link_at run.design i).source.0 in
+        let sent : rounds_sent_on run bus i ≡ rounds_sent_on run w.bus i =
+        arrive.sent_stays run w rules follows.keeps link round arrives (link_at run.design i).source.0 in
         subst (λ m. LinkFollows run i m (flight_at bus i) (later i)) (sym sent)
         (elim (cases_eq i l) [
           | inl same ↦
-              let flies : flight_at bus l ≡ without_oldest round flight = get_or-set_at w.bus.flights l l (without_oldest round flight) [] refl (arrive.in_flights run w rules follows.keeps link round arrives) in
+              let flies : flight_at bus l ≡ without_oldest round flight =
+              get_or-set_at w.bus.flights l l (without_oldest round flight) [] refl
+              (arrive.in_flights run w rules follows.keeps link round arrives) in
               subst (λ x. LinkFollows run x (rounds_sent_on run w.bus x) (flight_at bus x) (later x)) (sym same)
               (subst (λ f. LinkFollows run l (rounds_sent_on run w.bus l) f (later l)) (sym flies) this_link)
           | inr other ↦
-              let flies : flight_at bus i ≡ flight_at w.bus i = get_or-set_other w.bus.flights l i (without_oldest round flight) [] other in
+              let flies : flight_at bus i ≡ flight_at w.bus i =
+              get_or-set_other w.bus.flights l i (without_oldest round flight) [] other in
               subst (λ f. LinkFollows run i (rounds_sent_on run w.bus i) f (later i)) (sym flies)
-              (subst (λ x. LinkFollows run i (rounds_sent_on run w.bus i) (flight_at w.bus i) x) (sym (others i other)) (follows.links i inside))
+              (subst (λ x. LinkFollows run i (rounds_sent_on run w.bus i) (flight_at w.bus i) x) (sym (others i other))
+              (follows.links i inside))
         ])
 
     to : target < length run.design.components
     to = (rule_of run l rules within).target.node_is
 
-    holds_follows : NodeFollows run target (arrive.holds run w rules follows.keeps link round arrives) (since_at w target) (ready_at w target) (sendings w target) (fin target) (st target) (se target)
+    holds_follows : NodeFollows run target (arrive.holds run w rules follows.keeps link round arrives)
+        (since_at w target) (ready_at w target) (sendings w target) (fin target) (st target) (se target)
     holds_follows =
         let before = follows.nodes target to in
-        record { begun = before.begun; ended = before.ended; sent = before.sent; since_is = before.since_is; ready_is = before.ready_is; moments_are = before.moments_are }
+        record {
+          begun = before.begun;
+          ended = before.ended;
+          sent = before.sent;
+          since_is = before.since_is;
+          ready_is = before.ready_is;
+          moments_are = before.moments_are;
+        }
 
     arrive_follows : After later (world_after run w (event.Arrive link round))
     arrive_follows =
@@ -155,15 +181,19 @@ module _ (run : Run) (rules : IsRunOf run) (w : World) (moment : ℕ) (fin st se
           readings = follows.readings;
           nodes = nodes_follow run w bus w.since w.ready w.sent_at target moment fin st se ar fin st se follows
               (record {
-                nodes = λ i other. node_stays w.bus target i (arrive.holds run w rules follows.keeps link round arrives) other;
+                nodes =
+                    λ i other. node_stays w.bus target i
+                    (arrive.holds run w rules follows.keeps link round arrives) other;
                 since_stays = λ i other. refl;
                 ready_stays = λ i other. refl;
                 sent_stays = λ i other. refl;
               })
               (λ i other. (refl, refl, refl))
-              (follows_put run target (node_at bus target) (arrive.holds run w rules follows.keeps link round arrives) (since_at w target) (since_at w target) (ready_at w target) (ready_at w target)
+              (follows_put run target (node_at bus target) (arrive.holds run w rules follows.keeps link round arrives)
+              (since_at w target) (since_at w target) (ready_at w target) (ready_at w target)
               (sendings w target) (sendings w target) (fin target) (st target) (se target) holds_follows
-              (node_set w.bus target (arrive.holds run w rules follows.keeps link round arrives) (arrive.in_bus run w rules follows.keeps link round arrives)) refl refl refl);
+              (node_set w.bus target (arrive.holds run w rules follows.keeps link round arrives)
+              (arrive.in_bus run w rules follows.keeps link round arrives)) refl refl refl);
           links = each_link;
         })
 

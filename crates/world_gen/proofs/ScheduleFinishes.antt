@@ -29,26 +29,36 @@ use Rattle.world_gen.proofs.ScheduleTimes.{Made, which_is, which_next, made_next
 use Rattle.world_gen.proofs.Follows.{begun_by, ended_by, NodeFollows, Follows, follows_again, follows_put, links_follow}
 
 -- how many steps are begun where a step ends, and how many are finished
-full_round : (count round k step : ℕ) → count ≡ suc round → step < k → k ≤ step + 1 → count * k ≡ (count - 1) * k + step + 1
+full_round : (count round k step : ℕ) → count ≡ suc round → step < k → k ≤ step + 1
+    → count * k ≡ (count - 1) * k + step + 1
 full_round count round k step is below last =
     let before : count - 1 ≡ round = omega arith in
     let product : (count - 1) * k ≡ round * k = ap (λ c. c * k) before in
     let all : count * k ≡ suc round * k = ap (λ c. c * k) is in
     omega arith
 
-begun_then : (plan : Plan) (count round step : ℕ) (q : Phase) → count ≡ suc round → step < plan.rate → Ends plan step q → begun_by plan.rate count q ≡ (count - 1) * plan.rate + step + 1
+begun_then : (plan : Plan) (count round step : ℕ) (q : Phase) → count ≡ suc round → step < plan.rate → Ends plan step q
+    → begun_by plan.rate count q ≡ (count - 1) * plan.rate + step + 1
 begun_then plan count round step q is below (goes_on same more) = ap (begun_by plan.rate count) same ∙ omega arith
-begun_then plan count round step q is below (holds same last) = ap (begun_by plan.rate count) same ∙ full_round count round plan.rate step is below last
-begun_then plan count round step q is below (waits_next same last) = ap (begun_by plan.rate count) same ∙ full_round count round plan.rate step is below last
-begun_then plan count round step q is below (is_done same last) = ap (begun_by plan.rate count) same ∙ full_round count round plan.rate step is below last
+begun_then plan count round step q is below (holds same last) =
+    ap (begun_by plan.rate count) same ∙ full_round count round plan.rate step is below last
+begun_then plan count round step q is below (waits_next same last) =
+    ap (begun_by plan.rate count) same ∙ full_round count round plan.rate step is below last
+begun_then plan count round step q is below (is_done same last) =
+    ap (begun_by plan.rate count) same ∙ full_round count round plan.rate step is below last
 
-ended_then : (plan : Plan) (count round step : ℕ) (q : Phase) → count ≡ suc round → step < plan.rate → Ends plan step q → ended_by plan.rate count q ≡ (count - 1) * plan.rate + step + 1
+ended_then : (plan : Plan) (count round step : ℕ) (q : Phase) → count ≡ suc round → step < plan.rate → Ends plan step q
+    → ended_by plan.rate count q ≡ (count - 1) * plan.rate + step + 1
 ended_then plan count round step q is below (goes_on same more) = ap (ended_by plan.rate count) same ∙ omega arith
-ended_then plan count round step q is below (holds same last) = ap (ended_by plan.rate count) same ∙ full_round count round plan.rate step is below last
-ended_then plan count round step q is below (waits_next same last) = ap (ended_by plan.rate count) same ∙ full_round count round plan.rate step is below last
-ended_then plan count round step q is below (is_done same last) = ap (ended_by plan.rate count) same ∙ full_round count round plan.rate step is below last
+ended_then plan count round step q is below (holds same last) =
+    ap (ended_by plan.rate count) same ∙ full_round count round plan.rate step is below last
+ended_then plan count round step q is below (waits_next same last) =
+    ap (ended_by plan.rate count) same ∙ full_round count round plan.rate step is below last
+ended_then plan count round step q is below (is_done same last) =
+    ap (ended_by plan.rate count) same ∙ full_round count round plan.rate step is below last
 
-module _ (run : Run) (rules : IsRunOf run) (w : World) (moment : ℕ) (fin st se ar : ℕ → ℕ) (follows : Follows run w moment fin st se ar)
+module _ (run : Run) (rules : IsRunOf run) (w : World) (moment : ℕ) (fin st se ar : ℕ → ℕ)
+    (follows : Follows run w moment fin st se ar)
     (j : ℕ) (within : j < length run.design.components) (number : ℕ)
     (is : which (finish_time run.design j) (step_count run.design run.rounds j) moment ≡ Some number)
     (finishes_are : fin j ≡ moment) (room : moment < st j + run.design.gamma.alpha_min) where
@@ -67,21 +77,26 @@ module _ (run : Run) (rules : IsRunOf run) (w : World) (moment : ℕ) (fin st se
   at : (number < step_count run.design run.rounds j) × (finish_time run.design j number ≡ moment)
   at = which_is (finish_time run.design j) (step_count run.design run.rounds j) moment number is
 
-  made_at : (q : Phase) → here.phase ≡ q → Made (finish_time run.design j) (step_count run.design run.rounds j) (ended_by k here.count q) moment
+  made_at : (q : Phase) → here.phase ≡ q
+      → Made (finish_time run.design j) (step_count run.design run.rounds j) (ended_by k here.count q) moment
   made_at q same =
-      subst (λ x. Made (finish_time run.design j) (step_count run.design run.rounds j) (ended_by k here.count x) moment) same
-      (subst (λ b. Made (finish_time run.design j) (step_count run.design run.rounds j) (ended_by k here.count here.phase) b) finishes_are nf.ended)
+      subst (λ x. Made (finish_time run.design j) (step_count run.design run.rounds j) (ended_by k here.count x)
+      moment) same
+      (subst (λ b. Made (finish_time run.design j) (step_count run.design run.rounds j)
+      (ended_by k here.count here.phase) b) finishes_are nf.ended)
 
   next_at : (q : Phase) → here.phase ≡ q → number ≡ ended_by k here.count q
   next_at q same =
-      which_next (finish_time run.design j) (step_count run.design run.rounds j) (ended_by k here.count q) moment number (finishes_rise run rules j within) is (made_at q same)
+      which_next (finish_time run.design j) (step_count run.design run.rounds j) (ended_by k here.count q) moment number
+      (finishes_rise run rules j within) is (made_at q same)
 
   -- a step that is not begun would have begun
   not_begun : (q : Phase) → here.phase ≡ q → begun_by k here.count q ≡ ended_by k here.count q → ⊥
   not_begun q same none_runs =
       let number_is = next_at q same in
       let begun : Made (step_time run.design j) (step_count run.design run.rounds j) (begun_by k here.count q) (st j) =
-      subst (λ x. Made (step_time run.design j) (step_count run.design run.rounds j) (begun_by k here.count x) (st j)) same nf.begun in
+      subst (λ x. Made (step_time run.design j) (step_count run.design run.rounds j) (begun_by k here.count x) (st j))
+      same nf.begun in
       let waits : st j ≤ step_time run.design j number = begun.after number at.0 (omega arith) in
       let here_at = at.1 in
       let few = room in
@@ -105,7 +120,9 @@ module _ (run : Run) (rules : IsRunOf run) (w : World) (moment : ℕ) (fin st se
       number_is = next_at (Running step) runs
 
       since_then : since_at w j ≡ step_time run.design j number
-      since_then = nf.since_is step runs ∙ ap (λ q. step_time run.design j (ended_by k here.count q)) runs ∙ ap (step_time run.design j) (sym number_is)
+      since_then =
+          nf.since_is step runs ∙ ap (λ q. step_time run.design j (ended_by k here.count q)) runs
+          ∙ ap (step_time run.design j) (sym number_is)
 
       fine_finish : fault_of run w (event.Finish node) ≡ None
       fine_finish =
@@ -135,45 +152,63 @@ module _ (run : Run) (rules : IsRunOf run) (w : World) (moment : ℕ) (fin st se
       begun_is : begun_by k ended.count ended.phase ≡ (here.count - 1) * k + step + 1
       begun_is =
           let u = (finish.in_round run w rules follows.keeps node finishes step runs).under_way in
-          begun_then (plan_of run.design j) ended.count u.round step ended.phase (counts ∙ u.count) below (finish.ends run w rules follows.keeps node finishes step runs)
+          begun_then (plan_of run.design j) ended.count u.round step ended.phase (counts ∙ u.count) below
+          (finish.ends run w rules follows.keeps node finishes step runs)
           ∙ ap (λ c. (c - 1) * k + step + 1) counts
 
       ended_is : ended_by k ended.count ended.phase ≡ (here.count - 1) * k + step + 1
       ended_is =
           let u = (finish.in_round run w rules follows.keeps node finishes step runs).under_way in
-          ended_then (plan_of run.design j) ended.count u.round step ended.phase (counts ∙ u.count) below (finish.ends run w rules follows.keeps node finishes step runs)
+          ended_then (plan_of run.design j) ended.count u.round step ended.phase (counts ∙ u.count) below
+          (finish.ends run w rules follows.keeps node finishes step runs)
           ∙ ap (λ c. (c - 1) * k + step + 1) counts
 
       ready_by : (b : Bool) → last_sent ≡ b → may_send (plan_of run.design j) ended ≡ true
           → (if b then w.time else ready_at w j)
-          ≡ alarm run.design.period (round_of here) + ((plan_of run.design j).sent_steps - 1) * (plan_of run.design j).step_period + run.design.gamma.alpha_min
+          ≡ alarm run.design.period (round_of here)
+          + ((plan_of run.design j).sent_steps - 1) * (plan_of run.design j).step_period
+          + run.design.gamma.alpha_min
       ready_by true last may =
-          let all : step + 1 ≡ (plan_of run.design j).sent_steps = eqb-true (step + 1) (plan_of run.design j).sent_steps last in
+          let all : step + 1 ≡ (plan_of run.design j).sent_steps =
+          eqb-true (step + 1) (plan_of run.design j).sent_steps last in
           let this : step ≡ (plan_of run.design j).sent_steps - 1 = omega arith in
           let product : step * (plan_of run.design j).step_period ≡ ((plan_of run.design j).sent_steps - 1) * (plan_of run.design j).step_period = ap (λ x. x * (plan_of run.design j).step_period) this in
           let time = follows.time in
           let here_at = at.1 in
           let is_step : step_time run.design j ((here.count - 1) * k + step) ≡ alarm run.design.period (here.count - 1) + step * (plan_of run.design j).step_period = step_is run rules j within (here.count - 1) step below in
-          let same : step_time run.design j number ≡ step_time run.design j ((here.count - 1) * k + step) = ap (step_time run.design j) number_is in
+          let same : step_time run.design j number ≡ step_time run.design j ((here.count - 1) * k + step) =
+          ap (step_time run.design j) number_is in
           omega arith
-      ready_by false last may = nf.ready_is (finish.may_before run w rules follows.keeps node finishes step runs may last)
+      ready_by false last may =
+          nf.ready_is (finish.may_before run w rules follows.keeps node finishes step runs may last)
 
       ended_follows : NodeFollows run j ended w.time ready_after (sendings w j) (later j) (st j) (se j)
       ended_follows =
           let sent_is = finish.same_sent run w rules follows.keeps node finishes step runs in
-          let suc_number : suc ((here.count - 1) * k + step) ≡ ended_by k ended.count ended.phase = let same = ended_is in omega arith in
+          let suc_number : suc ((here.count - 1) * k + step) ≡ ended_by k ended.count ended.phase = let same =
+          ended_is in omega arith in
           record {
-            begun = subst (λ m. Made (step_time run.design j) (step_count run.design run.rounds j) m (st j)) (sym begun_is)
-                (subst (λ x. Made (step_time run.design j) (step_count run.design run.rounds j) (begun_by k here.count x) (st j)) runs nf.begun);
-            ended = subst (λ b. Made (finish_time run.design j) (step_count run.design run.rounds j) (ended_by k ended.count ended.phase) b) (sym now)
-                (subst (λ m. Made (finish_time run.design j) (step_count run.design run.rounds j) m (suc moment)) suc_number
-                (made_next (finish_time run.design j) (step_count run.design run.rounds j) ((here.count - 1) * k + step) moment (finishes_rise run rules j within)
+            begun =
+                subst (λ m. Made (step_time run.design j) (step_count run.design run.rounds j) m (st j)) (sym begun_is)
+                (subst (λ x. Made (step_time run.design j) (step_count run.design run.rounds j)
+                (begun_by k here.count x) (st j)) runs nf.begun);
+            ended =
+                subst (λ b. Made (finish_time run.design j) (step_count run.design run.rounds j)
+                (ended_by k ended.count ended.phase) b) (sym now)
+                (subst (λ m. Made (finish_time run.design j) (step_count run.design run.rounds j) m
+                (suc moment)) suc_number
+                (made_next (finish_time run.design j) (step_count run.design run.rounds j) ((here.count - 1) * k + step)
+                moment (finishes_rise run rules j within)
                 (ap (finish_time run.design j) (sym number_is) ∙ at.1) (made_at (Running step) runs)));
             sent = subst (λ m. Made (send_time run.design j) run.rounds m (se j)) (sym sent_is) nf.sent;
-            since_is = λ other running. absurd (not_running (plan_of run.design j) step ended.phase other (finish.ends run w rules follows.keeps node finishes step runs) running);
+            since_is =
+                λ other running. absurd (not_running (plan_of run.design j) step ended.phase other
+                (finish.ends run w rules follows.keeps node finishes step runs) running);
             ready_is = λ may.
                 ready_by last_sent refl may
-                ∙ ap (λ c. alarm run.design.period (c - 1) + ((plan_of run.design j).sent_steps - 1) * (plan_of run.design j).step_period + run.design.gamma.alpha_min) (sym counts);
+                ∙ ap (λ c. alarm run.design.period (c - 1)
+                + ((plan_of run.design j).sent_steps - 1) * (plan_of run.design j).step_period
+                + run.design.gamma.alpha_min) (sym counts);
             moments_are = λ round before. nf.moments_are round (subst (λ m. round < m) sent_is before);
           }
 
@@ -193,9 +228,12 @@ module _ (run : Run) (rules : IsRunOf run) (w : World) (moment : ℕ) (fin st se
             sent_stays = λ i other. refl;
           })
           only
-          (follows_put run j (node_at bus j) ended (slice_index_or since j 0) w.time (slice_index_or ready j 0) ready_after (sendings w j) (sendings w j) (later j) (st j) (se j) ended_follows
-          (node_set w.bus j ended in_bus) (get_or-set_at w.since j j w.time 0 refl long_since) (moved_here last_sent w.ready j w.time long_ready) refl)
-          (links_follow run w j moment ended fin st se ar follows (finish.same_sent run w rules follows.keeps node finishes step runs)))
+          (follows_put run j (node_at bus j) ended (slice_index_or since j 0) w.time (slice_index_or ready j 0)
+          ready_after (sendings w j) (sendings w j) (later j) (st j) (se j) ended_follows
+          (node_set w.bus j ended in_bus) (get_or-set_at w.since j j w.time 0 refl long_since)
+          (moved_here last_sent w.ready j w.time long_ready) refl)
+          (links_follow run w j moment ended fin st se ar follows
+          (finish.same_sent run w rules follows.keeps node finishes step runs)))
 
     abbrev pub Comes : Event → Type 0
     Comes e = (fault_of run w e ≡ None) × After later (world_after run w e)

@@ -39,8 +39,10 @@ abbrev pub all_at : ℕ → ℕ → ℕ
 all_at time j = time
 
 -- ---- where nothing comes between two times, what is made before the one is made before the other
-module _ (run : Run) (rules : IsRunOf run) (w : World) (moment from next : ℕ) (follows : Follows run w moment (all_at from) (all_at from) (all_at from) (all_at from))
-    (forward : from ≤ next) (quiet : (time : ℕ) → from ≤ time → time < next → events_at run.design run.rounds time ≡ []) where
+module _ (run : Run) (rules : IsRunOf run) (w : World) (moment from next : ℕ)
+    (follows : Follows run w moment (all_at from) (all_at from) (all_at from) (all_at from))
+    (forward : from ≤ next) (quiet : (time : ℕ) → from ≤ time → time < next
+    → events_at run.design run.rounds time ≡ []) where
   between : (time : ℕ) → from ≤ time → time < next → IsQuiet run.design run.rounds time
   between time above below = is_quiet run.design run.rounds time (quiet time above below)
 
@@ -53,14 +55,26 @@ module _ (run : Run) (rules : IsRunOf run) (w : World) (moment from next : ℕ) 
         let n = node_at w.bus j in
         let before = follows.nodes j below in
         record {
-          begun = made_later (step_time run.design j) (step_count run.design run.rounds j) (begun_by (plan_of run.design j).rate n.count n.phase) from next forward
-              (λ number few above under. which_none (step_time run.design j) (step_count run.design run.rounds j) (step_time run.design j number) ((between (step_time run.design j number) above under).starts j below) number few refl)
+          begun =
+              made_later (step_time run.design j) (step_count run.design run.rounds j)
+              (begun_by (plan_of run.design j).rate n.count n.phase) from next forward
+              (λ number few above under.
+              which_none (step_time run.design j) (step_count run.design run.rounds j)
+              (step_time run.design j number) ((between (step_time run.design j number) above under).starts j below)
+              number few refl)
               before.begun;
-          ended = made_later (finish_time run.design j) (step_count run.design run.rounds j) (ended_by (plan_of run.design j).rate n.count n.phase) from next forward
-              (λ number few above under. which_none (finish_time run.design j) (step_count run.design run.rounds j) (finish_time run.design j number) ((between (finish_time run.design j number) above under).ends j below) number few refl)
+          ended =
+              made_later (finish_time run.design j) (step_count run.design run.rounds j)
+              (ended_by (plan_of run.design j).rate n.count n.phase) from next forward
+              (λ number few above under.
+              which_none (finish_time run.design j) (step_count run.design run.rounds j)
+              (finish_time run.design j number)
+              ((between (finish_time run.design j number) above under).ends j below) number few refl)
               before.ended;
           sent = made_later (send_time run.design j) run.rounds (sent_rounds n) from next forward
-              (λ number few above under. which_none (send_time run.design j) run.rounds (send_time run.design j number) ((between (send_time run.design j number) above under).sends j below) number few refl)
+              (λ number few above under.
+              which_none (send_time run.design j) run.rounds (send_time run.design j number)
+              ((between (send_time run.design j number) above under).sends j below) number few refl)
               before.sent;
           since_is = before.since_is;
           ready_is = before.ready_is;
@@ -77,9 +91,12 @@ module _ (run : Run) (rules : IsRunOf run) (w : World) (moment from next : ℕ) 
         record {
           waits = λ round some.
               let due = before.waits round some in
-              let is_sent = (under_way target.count (slot_at target (link_at run.design l).in_port) (rounds_sent_on run w.bus l) (flight_at w.bus l) round ((follows.keeps.links l below).once round) some).is_sent in
+              let is_sent =
+              (under_way target.count (slot_at target (link_at run.design l).in_port) (rounds_sent_on run w.bus l)
+              (flight_at w.bus l) round ((follows.keeps.links l below).once round) some).is_sent in
               elim (cases_lt (arrive_time run.design l round) next) [
-                | inl early ↦ absurd (which_none (arrive_time run.design l) run.rounds (arrive_time run.design l round) ((between (arrive_time run.design l round) due early).arrivals l below) round (omega arith) refl)
+                | inl early ↦ absurd (which_none (arrive_time run.design l) run.rounds (arrive_time run.design l round)
+                    ((between (arrive_time run.design l round) due early).arrivals l below) round (omega arith) refl)
                 | inr late ↦ late
               ];
           flies = λ round sent due. before.flies round sent (omega arith);
@@ -87,7 +104,9 @@ module _ (run : Run) (rules : IsRunOf run) (w : World) (moment from next : ℕ) 
   }
 
 -- ---- the Pass to a moment
-module _ (run : Run) (rules : IsRunOf run) (w : World) (time moment : ℕ) (follows : Follows run w time (all_at moment) (all_at moment) (all_at moment) (all_at moment)) (forward : time ≤ moment) where
+module _ (run : Run) (rules : IsRunOf run) (w : World) (time moment : ℕ)
+    (follows : Follows run w time (all_at moment) (all_at moment) (all_at moment) (all_at moment))
+    (forward : time ≤ moment) where
   module _ (j : ℕ) (below : j < length run.design.components) where
     abbrev here : NodeState
     here = node_at w.bus j
@@ -114,19 +133,27 @@ module _ (run : Run) (rules : IsRunOf run) (w : World) (time moment : ℕ) (foll
         let some = some_rate run rules j below in
         let skew = rules.design.gamma.skew.0 in
         let few = agrees.1 in
-        let begun = subst (λ x. Made (step_time run.design j) (step_count run.design run.rounds j) (begun_by k here.count x) moment) same nf.begun in
-        let more : (here.count + 1) * k ≤ step_count run.design run.rounds j = rounds_fit (here.count + 1) (omega arith) in
-        let late : moment ≤ step_time run.design j (here.count * k + 0) = begun.after (here.count * k + 0) (omega arith) (omega arith) in
+        let begun =
+        subst (λ x. Made (step_time run.design j) (step_count run.design run.rounds j) (begun_by k here.count x)
+        moment) same nf.begun in
+        let more : (here.count + 1) * k ≤ step_count run.design run.rounds j =
+        rounds_fit (here.count + 1) (omega arith) in
+        let late : moment ≤ step_time run.design j (here.count * k + 0) =
+        begun.after (here.count * k + 0) (omega arith) (omega arith) in
         let one : step_time run.design j (here.count * k + 0) ≡ alarm run.design.period here.count + 0 * (plan_of run.design j).step_period = step_is run rules j below here.count 0 some in
-        let in_time : moment ≤ last_before (start_alarm (plan_of run.design j) here) run.design.gamma.eps = omega arith in
+        let in_time : moment ≤ last_before (start_alarm (plan_of run.design j) here) run.design.gamma.eps =
+        omega arith in
         in_time
     phase_in_time (Running step) same agrees =
         let number = (here.count - 1) * k + step in
         let inside = within_round here.count agrees.under_way.round step agrees.under_way.count agrees.within in
         let all = rounds_fit here.count (rounds_at_most run w rules follows.keeps j below) in
-        let ended = subst (λ x. Made (finish_time run.design j) (step_count run.design run.rounds j) (ended_by k here.count x) moment) same nf.ended in
+        let ended =
+        subst (λ x. Made (finish_time run.design j) (step_count run.design run.rounds j) (ended_by k here.count x)
+        moment) same nf.ended in
         let late : moment ≤ finish_time run.design j number = ended.after number (omega arith) (omega arith) in
-        let since : since_at w j ≡ step_time run.design j number = nf.since_is step same ∙ ap (λ q. step_time run.design j (ended_by k here.count q)) same in
+        let since : since_at w j ≡ step_time run.design j number = nf.since_is step same
+        ∙ ap (λ q. step_time run.design j (ended_by k here.count q)) same in
         let range = rules.design.gamma.execution.0 in
         let in_time : moment ≤ since_at w j + run.design.gamma.alpha_max = omega arith in
         in_time
@@ -135,10 +162,13 @@ module _ (run : Run) (rules : IsRunOf run) (w : World) (time moment : ℕ) (foll
         let skew = rules.design.gamma.skew.0 in
         let inside = within_round here.count agrees.0.under_way.round steps agrees.0.under_way.count agrees.0.within in
         let all = rounds_fit here.count (rounds_at_most run w rules follows.keeps j below) in
-        let begun = subst (λ x. Made (step_time run.design j) (step_count run.design run.rounds j) (begun_by k here.count x) moment) same nf.begun in
+        let begun =
+        subst (λ x. Made (step_time run.design j) (step_count run.design run.rounds j) (begun_by k here.count x)
+        moment) same nf.begun in
         let late : moment ≤ step_time run.design j number = begun.after number (omega arith) (omega arith) in
         let one : step_time run.design j number ≡ alarm run.design.period (here.count - 1) + steps * (plan_of run.design j).step_period = step_is run rules j below (here.count - 1) steps agrees.0.within in
-        let in_time : moment ≤ last_before (step_alarm (plan_of run.design j) here steps) run.design.gamma.eps = omega arith in
+        let in_time : moment ≤ last_before (step_alarm (plan_of run.design j) here steps) run.design.gamma.eps =
+        omega arith in
         in_time
     phase_in_time Holding same agrees = tt
     phase_in_time Done same agrees = tt
@@ -149,14 +179,17 @@ module _ (run : Run) (rules : IsRunOf run) (w : World) (time moment : ℕ) (foll
         let skew = rules.design.gamma.skew.0 in
         let m = may_is (plan_of run.design j) here may in
         let counted : MaySend run j (component_at run.design j) here =
-        may_send_of run j (component_at run.design j) here (follows.keeps.agrees.nodes j (component_at run.design j) (component_is run j below)) may in
+        may_send_of run j (component_at run.design j) here
+        (follows.keeps.agrees.nodes j (component_at run.design j) (component_is run j below)) may in
         let round = counted.under_way.round in
         let count_is = counted.under_way.count in
         let most = rounds_at_most run w rules follows.keeps j below in
         let before : here.count - 1 ≡ round = omega arith in
-        let sent : sent_rounds here ≡ round = ap (λ (b : Bool). if b then here.count else (here.count - 1)) m.unsent ∙ before in
+        let sent : sent_rounds here ≡ round =
+        ap (λ (b : Bool). if b then here.count else (here.count - 1)) m.unsent ∙ before in
         let late : moment ≤ send_time run.design j round = nf.sent.after round (omega arith) (omega arith) in
-        let alarms : alarm run.design.period (here.count - 1) ≡ alarm run.design.period round = ap (alarm run.design.period) before in
+        let alarms : alarm run.design.period (here.count - 1) ≡ alarm run.design.period round =
+        ap (alarm run.design.period) before in
         let ready = nf.ready_is may in
         omega arith
 
@@ -167,27 +200,36 @@ module _ (run : Run) (rules : IsRunOf run) (w : World) (time moment : ℕ) (foll
         subst (IsInTime moment) (sym (deadline_is run w j))
         (both_in_time moment (phase_last g plan here (since_at w j) here.phase) (send_last g plan here (ready_at w j))
         (phase_in_time here.phase refl (phase_agrees run w rules follows.keeps j below))
-        (sends_in_time moment (max (ready_at w j) (last_before (release_alarm plan here) g.eps)) (may_send plan here) send_late))
+        (sends_in_time moment (max (ready_at w j) (last_before (release_alarm plan here) g.eps))
+        (may_send plan here) send_late))
 
-  copy_counts : (number place : ℕ) (copy : FlightCopy) → slice_get (flight_at w.bus number) place ≡ Some copy → 1 ≤ copies copy.round (flight_at w.bus number)
+  copy_counts : (number place : ℕ) (copy : FlightCopy) → slice_get (flight_at w.bus number) place ≡ Some copy
+      → 1 ≤ copies copy.round (flight_at w.bus number)
   copy_counts number place copy is =
       let flight = flight_at w.bus number in
       let f : FlightCopy → ℕ = λ c. cond (is_of copy.round c) 1 0 in
-      let one : f (slice_index_or flight place copy) ≤ copies copy.round flight = get_or-le-sum_by f flight place copy (slice_get_within flight place copy is) in
+      let one : f (slice_index_or flight place copy) ≤ copies copy.round flight =
+      get_or-le-sum_by f flight place copy (slice_get_within flight place copy is) in
       let at : slice_index_or flight place copy ≡ copy = get_or_from_slice_get flight place copy copy is in
-      let this : f (slice_index_or flight place copy) ≡ 1 = ap f at ∙ one_of_true (is_of copy.round copy) (eq-eqb copy.round copy.round refl) in
+      let this : f (slice_index_or flight place copy) ≡ 1 = ap f at
+      ∙ one_of_true (is_of copy.round copy) (eq-eqb copy.round copy.round refl) in
       omega arith
 
-  message_in_time : (number place : ℕ) (copy : FlightCopy) → number < length run.design.links → slice_get (flight_at w.bus number) place ≡ Some copy
+  message_in_time : (number place : ℕ) (copy : FlightCopy) → number < length run.design.links
+      → slice_get (flight_at w.bus number) place ≡ Some copy
       → moment ≤ message_deadline run w number copy.round
   message_in_time number place copy below is =
       let some = copy_counts number place copy is in
       let source = (link_at run.design number).source.0 in
       let source_is : source < length run.design.components = (rule_of run number rules below).source.node_is in
       let target = node_at w.bus (link_at run.design number).target.0 in
-      let sent = (under_way target.count (slot_at target (link_at run.design number).in_port) (rounds_sent_on run w.bus number) (flight_at w.bus number) copy.round ((follows.keeps.links number below).once copy.round) some).is_sent in
-      let due : moment ≤ arrive_time run.design number copy.round = (follows.links number below).waits copy.round some in
-      let at : slice_index_or (sendings w source) copy.round 0 ≡ send_time run.design source copy.round = (follows.nodes source source_is).moments_are copy.round sent in
+      let sent =
+      (under_way target.count (slot_at target (link_at run.design number).in_port) (rounds_sent_on run w.bus number)
+      (flight_at w.bus number) copy.round ((follows.keeps.links number below).once copy.round) some).is_sent in
+      let due : moment ≤ arrive_time run.design number copy.round =
+      (follows.links number below).waits copy.round some in
+      let at : slice_index_or (sendings w source) copy.round 0 ≡ send_time run.design source copy.round =
+      (follows.nodes source source_is).moments_are copy.round sent in
       let range = rules.design.gamma.network.0 in
       omega arith
 
@@ -206,9 +248,12 @@ module _ (run : Run) (rules : IsRunOf run) (w : World) (time moment : ℕ) (foll
   pub pass_fine : fault_of run w (event.Pass moment (replicate (length run.design.components) moment)) ≡ None
   pass_fine =
       let at = follows.time in
-      pass_is_fine run w moment rules.design.gamma.skew.0 (omega arith) shown (λ j below. node_in_time j below) message_in_time
+      pass_is_fine run w moment rules.design.gamma.skew.0 (omega arith) shown (λ j below. node_in_time j below)
+      message_in_time
 
-  pub pass_follows : Follows run (world_after run w (event.Pass moment (replicate (length run.design.components) moment))) moment (all_at moment) (all_at moment) (all_at moment) (all_at moment)
+  pub pass_follows : Follows run
+      (world_after run w (event.Pass moment (replicate (length run.design.components) moment))) moment (all_at moment)
+      (all_at moment) (all_at moment) (all_at moment)
   pass_follows = record {
     keeps = pass_keeps_time run w moment shown_then follows.keeps (passes_in_time run w moment shown_then pass_fine);
     time = refl;

@@ -67,10 +67,12 @@ within_round count round k step is below =
     let all : count * k ≡ suc round * k = ap (λ c. c * k) is in
     omega arith
 
-module _ (run : Run) (rules : IsRunOf run) (w : World) (moment : ℕ) (fin st se ar : ℕ → ℕ) (follows : Follows run w moment fin st se ar)
+module _ (run : Run) (rules : IsRunOf run) (w : World) (moment : ℕ) (fin st se ar : ℕ → ℕ)
+    (follows : Follows run w moment fin st se ar)
     (j : ℕ) (within : j < length run.design.components) (number : ℕ)
     (is : which (send_time run.design j) run.rounds moment ≡ Some number)
-    (sends_are : se j ≡ moment) (starts_are : st j ≡ suc moment) (finishes_are : fin j ≡ suc moment) (arrivals_are : (l : ℕ) → ar l ≡ moment) where
+    (sends_are : se j ≡ moment) (starts_are : st j ≡ suc moment) (finishes_are : fin j ≡ suc moment)
+    (arrivals_are : (l : ℕ) → ar l ≡ moment) where
   abbrev k : ℕ
   k = (plan_of run.design j).rate
 
@@ -90,14 +92,18 @@ module _ (run : Run) (rules : IsRunOf run) (w : World) (moment : ℕ) (fin st se
   made = subst (λ b. Made (send_time run.design j) run.rounds (sent_rounds here) b) sends_are nf.sent
 
   next_is : number ≡ sent_rounds here
-  next_is = which_next (send_time run.design j) run.rounds (sent_rounds here) moment number (sends_rise run rules j within) is made
+  next_is =
+      which_next (send_time run.design j) run.rounds (sent_rounds here) moment number
+      (sends_rise run rules j within) is made
 
   agrees_at : (q : Phase) → here.phase ≡ q → PhaseAgrees run j (component_at run.design j) here q
-  agrees_at q same = subst (PhaseAgrees run j (component_at run.design j) here) same (phase_agrees run w rules follows.keeps j within)
+  agrees_at q same =
+      subst (PhaseAgrees run j (component_at run.design j) here) same (phase_agrees run w rules follows.keeps j within)
 
   most_begun : (q : Phase) → here.phase ≡ q → begun_by k here.count q ≤ here.count * k
   most_begun Waiting same = omega arith
-  most_begun (Running step) same = let a = agrees_at (Running step) same in within_round here.count a.under_way.round k step a.under_way.count a.within
+  most_begun (Running step) same = let a = agrees_at (Running step) same in
+      within_round here.count a.under_way.round k step a.under_way.count a.within
   most_begun (Between steps) same =
       let a = agrees_at (Between steps) same in
       let more = within_round here.count a.0.under_way.round k steps a.0.under_way.count a.0.within in
@@ -112,12 +118,16 @@ module _ (run : Run) (rules : IsRunOf run) (w : World) (moment : ℕ) (fin st se
       let all : sent_rounds here ≡ here.count = ap (λ (b : Bool). if b then here.count else (here.count - 1)) sent in
       let number_is = next_is in
       let few = at.0 in
-      let more : (here.count + 1) * k ≤ run.rounds * k = mul-le (here.count + 1) k run.rounds k (omega arith) (omega arith) in
+      let more : (here.count + 1) * k ≤ run.rounds * k =
+      mul-le (here.count + 1) k run.rounds k (omega arith) (omega arith) in
       let begun = most_begun here.phase refl in
-      let waits : st j ≤ step_time run.design j (here.count * k + 0) = nf.begun.after (here.count * k + 0) (omega arith) (omega arith) in
+      let waits : st j ≤ step_time run.design j (here.count * k + 0) =
+      nf.begun.after (here.count * k + 0) (omega arith) (omega arith) in
       let one : step_time run.design j (here.count * k + 0) ≡ alarm run.design.period here.count + 0 * (plan_of run.design j).step_period = step_is run rules j within here.count 0 some in
-      let late : alarm run.design.period here.count ≤ send_time run.design j here.count = send_after run rules j within here.count in
-      let same : send_time run.design j number ≡ send_time run.design j here.count = ap (send_time run.design j) (number_is ∙ all) in
+      let late : alarm run.design.period here.count ≤ send_time run.design j here.count =
+      send_after run rules j within here.count in
+      let same : send_time run.design j number ≡ send_time run.design j here.count =
+      ap (send_time run.design j) (number_is ∙ all) in
       let here_at = at.1 in
       let starts = starts_are in
       omega arith
@@ -129,7 +139,8 @@ module _ (run : Run) (rules : IsRunOf run) (w : World) (moment : ℕ) (fin st se
   last_is = next_is ∙ ap (λ (b : Bool). if b then here.count else (here.count - 1)) unsent
 
   -- the last step that is sent is finished
-  last_ended : (q : Phase) (round : ℕ) → here.phase ≡ q → here.count ≡ suc round → (here.count - 1) * k + ((plan_of run.design j).sent_steps - 1) < ended_by k here.count q
+  last_ended : (q : Phase) (round : ℕ) → here.phase ≡ q → here.count ≡ suc round
+      → (here.count - 1) * k + ((plan_of run.design j).sent_steps - 1) < ended_by k here.count q
   last_ended q round same counted =
       let s = (plan_of run.design j).sent_steps in
       let fit = fits_at run j rules within in
@@ -141,14 +152,17 @@ module _ (run : Run) (rules : IsRunOf run) (w : World) (moment : ℕ) (fin st se
       let most = rounds_at_most run w rules follows.keeps j within in
       let product : here.count * k ≤ run.rounds * k = mul-le here.count k run.rounds k most (omega arith) in
       let one : step_time run.design j last ≡ alarm run.design.period (here.count - 1) + (s - 1) * (plan_of run.design j).step_period = step_is run rules j within (here.count - 1) (s - 1) few in
-      let rounds : alarm run.design.period number ≡ alarm run.design.period (here.count - 1) = ap (alarm run.design.period) last_is in
+      let rounds : alarm run.design.period number ≡ alarm run.design.period (here.count - 1) =
+      ap (alarm run.design.period) last_is in
       let here_at = at.1 in
       let finishes = finishes_are in
       let ended : Made (finish_time run.design j) (step_count run.design run.rounds j) (ended_by k here.count q) (fin j) =
-      subst (λ x. Made (finish_time run.design j) (step_count run.design run.rounds j) (ended_by k here.count x) (fin j)) same nf.ended in
+      subst (λ x. Made (finish_time run.design j) (step_count run.design run.rounds j) (ended_by k here.count x)
+      (fin j)) same nf.ended in
       elim (cases_lt last (ended_by k here.count q)) [
         | inl done ↦ done
-        | inr not_yet ↦ let waits : fin j ≤ finish_time run.design j last = ended.after last (omega arith) not_yet in absurd (omega arith)
+        | inr not_yet ↦ let waits : fin j ≤ finish_time run.design j last = ended.after last (omega arith) not_yet in
+            absurd (omega arith)
       ]
 
   may_by : (q : Phase) → here.phase ≡ q → may_send (plan_of run.design j) here ≡ true
@@ -161,14 +175,16 @@ module _ (run : Run) (rules : IsRunOf run) (w : World) (moment : ℕ) (fin st se
       let u = (agrees_at (Between steps) same).0.under_way in
       let last = last_ended (Between steps) u.round same u.count in
       may_be (plan_of run.design j) here steps unsent (ap (finished_steps k) same) (omega arith)
-  may_by Holding same = may_be (plan_of run.design j) here k unsent (ap (finished_steps k) same) (fits_at run j rules within).all
+  may_by Holding same =
+      may_be (plan_of run.design j) here k unsent (ap (finished_steps k) same) (fits_at run j rules within).all
   may_by Done same = absurd (false≢true (sym unsent ∙ (agrees_at Done same).0.sent))
 
   fine_send : fault_of run w (event.Send node) ≡ None
   fine_send =
       let shown = follows.readings j within in
       let here_at = at.1 in
-      let rounds : alarm run.design.period number ≡ alarm run.design.period (here.count - 1) = ap (alarm run.design.period) last_is in
+      let rounds : alarm run.design.period number ≡ alarm run.design.period (here.count - 1) =
+      ap (alarm run.design.period) last_is in
       send_is_fine run w node within (may_by here.phase refl) (omega arith)
 
   sends : SendsInTime run w node
@@ -190,7 +206,8 @@ module _ (run : Run) (rules : IsRunOf run) (w : World) (moment : ℕ) (fin st se
     only : (i : ℕ) → i ≢ j → (fin i ≡ fin i) × (st i ≡ st i) × (later i ≡ se i)
     only i other = (refl, refl, others i other)
 
-    moment_is : (round : ℕ) → round < here.count → slice_index_or (moments ++ w.time ∷ []) round 0 ≡ send_time run.design j round
+    moment_is : (round : ℕ) → round < here.count
+        → slice_index_or (moments ++ w.time ∷ []) round 0 ≡ send_time run.design j round
     moment_is round below =
         let many = send.many run w rules follows.keeps node sends in
         let last = last_is in
@@ -205,71 +222,93 @@ module _ (run : Run) (rules : IsRunOf run) (w : World) (moment : ℕ) (fin st se
               ∙ follows.time ∙ sym at.1 ∙ ap (send_time run.design j) is_number
         ]
 
-    after_follows : NodeFollows run j after (if is_held here.phase then w.time else since_at w j) (ready_at w j) (moments ++ w.time ∷ []) (fin j) (st j) (later j)
+    after_follows : NodeFollows run j after (if is_held here.phase then w.time else since_at w j) (ready_at w j)
+        (moments ++ w.time ∷ []) (fin j) (st j) (later j)
     after_follows =
         let one_more : suc (sent_rounds here) ≡ here.count = ap suc (sym next_is) ∙ sym all_sent in
         record {
-          begun = subst (λ m. Made (step_time run.design j) (step_count run.design run.rounds j) m (st j)) (sym (same_begun k here.count run.rounds here.phase)) nf.begun;
-          ended = subst (λ m. Made (finish_time run.design j) (step_count run.design run.rounds j) m (fin j)) (sym (same_ended k here.count run.rounds here.phase)) nf.ended;
+          begun =
+              subst (λ m. Made (step_time run.design j) (step_count run.design run.rounds j) m (st j))
+              (sym (same_begun k here.count run.rounds here.phase)) nf.begun;
+          ended =
+              subst (λ m. Made (finish_time run.design j) (step_count run.design run.rounds j) m (fin j))
+              (sym (same_ended k here.count run.rounds here.phase)) nf.ended;
           sent = subst (λ b. Made (send_time run.design j) run.rounds here.count b) (sym now)
               (subst (λ m. Made (send_time run.design j) run.rounds m (suc moment)) one_more
-              (made_next (send_time run.design j) run.rounds (sent_rounds here) moment (sends_rise run rules j within) (ap (send_time run.design j) (sym next_is) ∙ at.1) made));
+              (made_next (send_time run.design j) run.rounds (sent_rounds here) moment (sends_rise run rules j within)
+              (ap (send_time run.design j) (sym next_is) ∙ at.1) made));
           since_is = λ step running.
               let runs : here.phase ≡ Running step = runs_before here.count run.rounds here.phase step running in
-              ap (λ q. if is_held q then w.time else since_at w j) runs ∙ nf.since_is step runs ∙ ap (step_time run.design j) (sym (same_ended k here.count run.rounds here.phase));
+              ap (λ q. if is_held q then w.time else since_at w j) runs ∙ nf.since_is step runs
+              ∙ ap (step_time run.design j) (sym (same_ended k here.count run.rounds here.phase));
           ready_is = λ may. absurd (false≢true may);
           moments_are = moment_is;
         }
 
     -- ---- the links
     link_from : (l : ℕ) → l < length run.design.links → (link_at run.design l).source.0 ≡ j
-        → LinkFollows run l here.count (flight_at w.bus l ++ send.new_copy run w rules follows.keeps node sends l (link_at run.design l) ∷ []) (ar l)
+        → LinkFollows run l here.count
+        (flight_at w.bus l ++ send.new_copy run w rules follows.keeps node sends l (link_at run.design l)
+        ∷ []) (ar l)
     link_from l inside from =
         let flight = flight_at w.bus l in
         let copy : FlightCopy = send.new_copy run w rules follows.keeps node sends l (link_at run.design l) in
         let before = follows.links l inside in
-        let arrives : arrive_time run.design l number ≡ moment + run.design.gamma.mu_min = ap (λ i. send_time run.design i number + run.design.gamma.mu_min) from ∙ ap (λ x. x + run.design.gamma.mu_min) at.1 in
+        let arrives : arrive_time run.design l number ≡ moment + run.design.gamma.mu_min =
+        ap (λ i. send_time run.design i number + run.design.gamma.mu_min) from
+        ∙ ap (λ x. x + run.design.gamma.mu_min) at.1 in
         let sent : rounds_sent_on run w.bus l ≡ number = ap (λ i. sent_rounds (node_at w.bus i)) from ∙ sym next_is in
         let all = all_sent in
         let last = last_is in
         let ar_is = arrivals_are l in
         record {
           waits = λ round some.
-              let more : copies round (flight ++ copy ∷ []) ≡ copies round flight + one_if (is_of round copy) = count_more (is_of round) flight copy in
+              let more : copies round (flight ++ copy ∷ []) ≡ copies round flight + one_if (is_of round copy) =
+              count_more (is_of round) flight copy in
               elim (cases_lt 0 (copies round flight)) [
                 | inl old ↦ before.waits round old
                 | inr none ↦
                     let this : is_of round copy ≡ true = one_is (is_of round copy) (omega arith) in
                     let same : here.count - 1 ≡ round = eqb-true (here.count - 1) round this in
-                    let at_number : arrive_time run.design l round ≡ arrive_time run.design l number = ap (arrive_time run.design l) (sym same ∙ sym last) in
+                    let at_number : arrive_time run.design l round ≡ arrive_time run.design l number =
+                    ap (arrive_time run.design l) (sym same ∙ sym last) in
                     omega arith
               ];
           flies = λ round below due.
-              let more : copies round (flight ++ copy ∷ []) ≡ copies round flight + one_if (is_of round copy) = count_more (is_of round) flight copy in
+              let more : copies round (flight ++ copy ∷ []) ≡ copies round flight + one_if (is_of round copy) =
+              count_more (is_of round) flight copy in
               elim (cases_lt round number) [
                 | inl old ↦ let some = before.flies round (omega arith) due in omega arith
                 | inr new ↦
                     let same : here.count - 1 ≡ round = omega arith in
-                    let this : one_if (is_of round copy) ≡ 1 = one_of_true (is_of round copy) (eq-eqb (here.count - 1) round same) in
+                    let this : one_if (is_of round copy) ≡ 1 =
+                    one_of_true (is_of round copy) (eq-eqb (here.count - 1) round same) in
                     omega arith
               ];
         }
 
     each_link : (l : ℕ) → l < length run.design.links
-        → LinkFollows run l (rounds_sent_on run (send.bus_sent run w rules follows.keeps node sends) l) (flight_at (send.bus_sent run w rules follows.keeps node sends) l) (ar l)
+        → LinkFollows run l (rounds_sent_on run (send.bus_sent run w rules follows.keeps node sends) l)
+        (flight_at (send.bus_sent run w rules follows.keeps node sends) l) (ar l)
     each_link l inside =
         let source = (link_at run.design l).source.0 in
         let bus = send.bus_sent run w rules follows.keeps node sends in
         elim (cases_eq source j) [
           | inl from ↦
               let sent : rounds_sent_on run bus l ≡ here.count =
-              ap (λ i. sent_rounds (node_at bus i)) from ∙ ap (λ (n : NodeState). sent_rounds n) (node_set w.bus j after (send.in_bus run w rules follows.keeps node sends)) in
+              ap (λ i. sent_rounds (node_at bus i)) from
+              ∙ ap (λ (n : NodeState). sent_rounds n)
+              (node_set w.bus j after (send.in_bus run w rules follows.keeps node sends)) in
               subst (λ m. LinkFollows run l m (flight_at bus l) (ar l)) (sym sent)
-              (subst (λ f. LinkFollows run l here.count f (ar l)) (sym (send.flight_here run w rules follows.keeps node sends l inside from)) (link_from l inside from))
+              (subst (λ f. LinkFollows run l here.count f (ar l))
+              (sym (send.flight_here run w rules follows.keeps node sends l inside from)) (link_from l inside from))
           | inr other ↦
-              let sent : rounds_sent_on run bus l ≡ rounds_sent_on run w.bus l = ap (λ (n : NodeState). sent_rounds n) (node_stays w.bus j source after other) in
+              let sent : rounds_sent_on run bus l ≡ rounds_sent_on run w.bus l =
+              ap (λ (n : NodeState). sent_rounds n) (node_stays w.bus j source after other) in
               subst (λ m. LinkFollows run l m (flight_at bus l) (ar l)) (sym sent)
-              (subst (λ f. LinkFollows run l (rounds_sent_on run w.bus l) f (ar l)) (sym (send.flight_there run w rules follows.keeps node sends l inside other)) (follows.links l inside))
+              (subst (λ f. LinkFollows run l (rounds_sent_on run w.bus l) f (ar l))
+              (sym (send.flight_there run w rules follows.keeps node sends l inside other))
+              (follows.links l inside))
         ]
 
     send_follows : After later (world_after run w (event.Send node))
@@ -287,9 +326,11 @@ module _ (run : Run) (rules : IsRunOf run) (w : World) (moment : ℕ) (fin st se
           sent_stays = λ i other. get_or-set_other w.sent_at j i (moments ++ w.time ∷ []) [] other;
         })
         only
-        (follows_put run j (node_at bus j) after (slice_index_or since j 0) (if is_held here.phase then w.time else since_at w j) (ready_at w j) (ready_at w j)
+        (follows_put run j (node_at bus j) after (slice_index_or since j 0)
+        (if is_held here.phase then w.time else since_at w j) (ready_at w j) (ready_at w j)
         (slice_index_or sent_at j []) (moments ++ w.time ∷ []) (fin j) (st j) (later j) after_follows
-        (node_set w.bus j after (send.in_bus run w rules follows.keeps node sends)) (moved_here (is_held here.phase) w.since j w.time long) refl
+        (node_set w.bus j after (send.in_bus run w rules follows.keeps node sends))
+        (moved_here (is_held here.phase) w.since j w.time long) refl
         (send.moments_after run w rules follows.keeps node sends))
         each_link
 

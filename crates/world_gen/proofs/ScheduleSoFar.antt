@@ -18,7 +18,8 @@ use Rattle.world_gen.proofs.DesignCourses.{events_are, timetable_is_sound}
 use Rattle.world_gen.proofs.ScheduleMoments.{schedules_are_whole}
 
 abbrev at_moment : DesignParts → ℕ → ℕ → List Event
-at_moment design rounds moment = event.Pass moment (replicate (length design.components) moment) ∷ events_at design rounds moment
+at_moment design rounds moment =
+    event.Pass moment (replicate (length design.components) moment) ∷ events_at design rounds moment
 
 -- the events are those of all moments before a time
 pub record IsSoFar (design : DesignParts) (rounds from : ℕ) (events : List Event) : Type 0 where
@@ -26,19 +27,23 @@ pub record IsSoFar (design : DesignParts) (rounds from : ℕ) (events : List Eve
   pub made : events ≡ schedule_at design rounds moments
   pub goes_on : (later : List ℕ) → AreMoments design rounds from later → AreMoments design rounds 0 (moments ++ later)
 
-pub nothing_yet : (design : DesignParts) (rounds : ℕ) (events : List Event) → events ≡ [] → IsSoFar design rounds 0 events
+pub nothing_yet : (design : DesignParts) (rounds : ℕ) (events : List Event) → events ≡ []
+    → IsSoFar design rounds 0 events
 nothing_yet design rounds events none = record { moments = []; made = none; goes_on = λ later are. are }
 
 one_more : (design : DesignParts) (rounds from moment : ℕ) (events after : List Event) → from ≤ moment
-    → ((time : ℕ) → from ≤ time → time < moment → events_at design rounds time ≡ []) → events_at design rounds moment ≢ []
-    → after ≡ events ++ at_moment design rounds moment → IsSoFar design rounds from events → IsSoFar design rounds (moment + 1) after
+    → ((time : ℕ) → from ≤ time → time < moment → events_at design rounds time ≡ [])
+    → events_at design rounds moment ≢ []
+    → after ≡ events ++ at_moment design rounds moment → IsSoFar design rounds from events
+    → IsSoFar design rounds (moment + 1) after
 one_more design rounds from moment events after forward quiet something is_after so_far = record {
   moments = so_far.moments ++ moment ∷ [];
   made =
       is_after ∙ ap (λ es. es ++ at_moment design rounds moment) so_far.made
       ∙ flat_map_more (at_moment design rounds) [] so_far.moments moment;
   goes_on = λ later are.
-      let next : AreMoments design rounds (suc moment) later = subst (λ time. AreMoments design rounds time later) (add-one moment) are in
+      let next : AreMoments design rounds (suc moment) later =
+      subst (λ time. AreMoments design rounds time later) (add-one moment) are in
       subst (AreMoments design rounds 0) (sym (append_assoc so_far.moments (moment ∷ []) later))
       (so_far.goes_on (moment ∷ later) (forward, quiet, something, next));
 }
@@ -50,14 +55,17 @@ pub record GoesOn (design : DesignParts) (rounds from moment : ℕ) (events : Li
   pub forward : from ≤ moment
   pub reading : moment ≤ READING
 
-pub goes_on : (design : DesignParts) (rounds from moment : ℕ) (courses : List EventSeries) (nodes : ℕ) (events after : List Event) → IsDesign design → rounds ≤ ROUNDS
+pub goes_on : (design : DesignParts) (rounds from moment : ℕ) (courses : List EventSeries) (nodes : ℕ)
+    (events after : List Event) → IsDesign design → rounds ≤ ROUNDS
     → courses ≡ timetable design rounds → nodes ≡ length design.components → Some moment ≡ next_moment courses from
     → after ≡ events ++ moment_events nodes courses moment
     → IsSoFar design rounds from events → GoesOn design rounds from moment after
 goes_on design rounds from moment courses nodes events after rules few are count is is_after so_far =
-    let here : next_moment (timetable design rounds) from ≡ Some moment = ap (λ cs. next_moment cs from) (sym are) ∙ sym is in
+    let here : next_moment (timetable design rounds) from ≡ Some moment =
+    ap (λ cs. next_moment cs from) (sym are) ∙ sym is in
     let next = moment_is (timetable design rounds) from moment (timetable_is_sound design rules rounds few) here in
-    let same : (time : ℕ) → events_of (timetable design rounds) time ≡ events_at design rounds time = events_are design rules rounds in
+    let same : (time : ℕ) → events_of (timetable design rounds) time ≡ events_at design rounds time =
+    events_are design rules rounds in
     record {
       so_far = one_more design rounds from moment events after next.after
           (λ time late early. sym (same time) ∙ next.quiet time late early)
@@ -73,14 +81,19 @@ pub record IsDone (design : DesignParts) (rounds : ℕ) (events : List Event) : 
   pub exact : IsScheduleOf design rounds events
   pub whole : (env : Env) → IsWhole (world_run design env rounds) events
 
-pub is_done : (design : DesignParts) (rounds from : ℕ) (courses : List EventSeries) (events : List Event) → IsDesign design → 1 ≤ rounds
-    → courses ≡ timetable design rounds → None ≡ next_moment courses from → IsSoFar design rounds from events → IsDone design rounds events
+pub is_done : (design : DesignParts) (rounds from : ℕ) (courses : List EventSeries) (events : List Event)
+    → IsDesign design → 1 ≤ rounds
+    → courses ≡ timetable design rounds → None ≡ next_moment courses from → IsSoFar design rounds from events
+    → IsDone design rounds events
 is_done design rounds from courses events rules some are is so_far =
     let over : next_moment (timetable design rounds) from ≡ None = ap (λ cs. next_moment cs from) (sym are) ∙ sym is in
-    let quiet : (time : ℕ) → from ≤ time → events_at design rounds time ≡ [] = λ time late. sym (events_are design rules rounds time) ∙ moments_are_over (timetable design rounds) from over time late in
+    let quiet : (time : ℕ) → from ≤ time → events_at design rounds time ≡ [] =
+    λ time late. sym (events_are design rules rounds time)
+    ∙ moments_are_over (timetable design rounds) from over time late in
     let all = so_far.goes_on [] quiet in
     let moments = so_far.moments ++ [] in
-    let made : events ≡ schedule_at design rounds moments = so_far.made ∙ ap (schedule_at design rounds) (sym (append-nil so_far.moments)) in
+    let made : events ≡ schedule_at design rounds moments = so_far.made
+    ∙ ap (schedule_at design rounds) (sym (append-nil so_far.moments)) in
     record {
       exact = (moments, all, made);
       whole = λ env.
@@ -88,5 +101,7 @@ is_done design rounds from courses events rules some are is so_far =
           (schedules_are_whole (world_run design env rounds) moments (record { design = rules; rounds = some }) all);
     }
 
-pub timetable_keeps : (design : DesignParts) (rounds : ℕ) (courses : List EventSeries) → IsDesign design → rounds ≤ ROUNDS → courses ≡ timetable design rounds → All IsCourse courses
-timetable_keeps design rounds courses rules few are = subst (All IsCourse) (sym are) (timetable_is_sound design rules rounds few)
+pub timetable_keeps : (design : DesignParts) (rounds : ℕ) (courses : List EventSeries) → IsDesign design
+    → rounds ≤ ROUNDS → courses ≡ timetable design rounds → All IsCourse courses
+timetable_keeps design rounds courses rules few are =
+    subst (All IsCourse) (sym are) (timetable_is_sound design rules rounds few)

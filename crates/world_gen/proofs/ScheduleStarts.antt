@@ -35,10 +35,12 @@ use Rattle.world_gen.proofs.Follows.{begun_by, ended_by, NodeFollows, Follows, f
 pred_is : (n m : ℕ) → n ≡ suc m → n - 1 ≡ m
 pred_is n m is = omega arith
 
-module _ (run : Run) (rules : IsRunOf run) (w : World) (moment : ℕ) (fin st se ar : ℕ → ℕ) (follows : Follows run w moment fin st se ar)
+module _ (run : Run) (rules : IsRunOf run) (w : World) (moment : ℕ) (fin st se ar : ℕ → ℕ)
+    (follows : Follows run w moment fin st se ar)
     (j : ℕ) (within : j < length run.design.components) (number : ℕ)
     (is : which (step_time run.design j) (step_count run.design run.rounds j) moment ≡ Some number)
-    (starts_are : st j ≡ moment) (sends_are : se j ≡ moment) (gap : moment + run.design.gamma.alpha_min < fin j + (plan_of run.design j).step_period) where
+    (starts_are : st j ≡ moment) (sends_are : se j ≡ moment)
+    (gap : moment + run.design.gamma.alpha_min < fin j + (plan_of run.design j).step_period) where
   abbrev k : ℕ
   k = (plan_of run.design j).rate
 
@@ -57,18 +59,23 @@ module _ (run : Run) (rules : IsRunOf run) (w : World) (moment : ℕ) (fin st se
   at : (number < step_count run.design run.rounds j) × (step_time run.design j number ≡ moment)
   at = which_is (step_time run.design j) (step_count run.design run.rounds j) moment number is
 
-  made_at : (q : Phase) → here.phase ≡ q → Made (step_time run.design j) (step_count run.design run.rounds j) (begun_by k here.count q) moment
+  made_at : (q : Phase) → here.phase ≡ q
+      → Made (step_time run.design j) (step_count run.design run.rounds j) (begun_by k here.count q) moment
   made_at q same =
-      subst (λ x. Made (step_time run.design j) (step_count run.design run.rounds j) (begun_by k here.count x) moment) same
-      (subst (λ b. Made (step_time run.design j) (step_count run.design run.rounds j) (begun_by k here.count here.phase) b) starts_are nf.begun)
+      subst (λ x. Made (step_time run.design j) (step_count run.design run.rounds j) (begun_by k here.count x)
+      moment) same
+      (subst (λ b. Made (step_time run.design j) (step_count run.design run.rounds j) (begun_by k here.count here.phase)
+      b) starts_are nf.begun)
 
   -- it is the next step of the node
   next_at : (q : Phase) → here.phase ≡ q → number ≡ begun_by k here.count q
   next_at q same =
-      which_next (step_time run.design j) (step_count run.design run.rounds j) (begun_by k here.count q) moment number (steps_rise run rules j within) is (made_at q same)
+      which_next (step_time run.design j) (step_count run.design run.rounds j) (begun_by k here.count q) moment number
+      (steps_rise run rules j within) is (made_at q same)
 
   agrees_at : (q : Phase) → here.phase ≡ q → PhaseAgrees run j (component_at run.design j) here q
-  agrees_at q same = subst (PhaseAgrees run j (component_at run.design j) here) same (phase_agrees run w rules follows.keeps j within)
+  agrees_at q same =
+      subst (PhaseAgrees run j (component_at run.design j) here) same (phase_agrees run w rules follows.keeps j within)
 
   -- behind a start or a step
   abbrev pub After : (ℕ → ℕ) → World → Type 0
@@ -90,8 +97,10 @@ module _ (run : Run) (rules : IsRunOf run) (w : World) (moment : ℕ) (fin st se
       alarm_now =
           let some = some_rate run rules j within in
           let same : here.count * k + 0 ≡ number = let one = begins_now in omega arith in
-          let one : step_time run.design j (here.count * k + 0) ≡ alarm run.design.period here.count + 0 * p = step_is run rules j within here.count 0 some in
-          let two : step_time run.design j (here.count * k + 0) ≡ step_time run.design j number = ap (step_time run.design j) same in
+          let one : step_time run.design j (here.count * k + 0) ≡ alarm run.design.period here.count + 0 * p =
+          step_is run rules j within here.count 0 some in
+          let two : step_time run.design j (here.count * k + 0) ≡ step_time run.design j number =
+          ap (step_time run.design j) same in
           let three = at.1 in
           omega arith
 
@@ -123,15 +132,21 @@ module _ (run : Run) (rules : IsRunOf run) (w : World) (moment : ℕ) (fin st se
           let so_far : here.count * k ≡ ended_by k (here.count + 1) (Running 0) = omega arith in
           let sent_is = start.sent_as_before run w rules follows.keeps node starts in
           record {
-            begun = subst (λ b. Made (step_time run.design j) (step_count run.design run.rounds j) (begun_by k (here.count + 1) (Running 0)) b) (sym now)
+            begun =
+                subst (λ b. Made (step_time run.design j) (step_count run.design run.rounds j)
+                (begun_by k (here.count + 1) (Running 0)) b) (sym now)
                 (subst (λ m. Made (step_time run.design j) (step_count run.design run.rounds j) m (suc moment)) one_more
-                (made_next (step_time run.design j) (step_count run.design run.rounds j) (here.count * k) moment (steps_rise run rules j within)
+                (made_next (step_time run.design j) (step_count run.design run.rounds j) (here.count * k) moment
+                (steps_rise run rules j within)
                 (ap (step_time run.design j) (sym number_is) ∙ at.1) (made_at Waiting waits)));
             ended = subst (λ m. Made (finish_time run.design j) (step_count run.design run.rounds j) m (fin j)) so_far
-                (subst (λ x. Made (finish_time run.design j) (step_count run.design run.rounds j) (ended_by k here.count x) (fin j)) waits nf.ended);
+                (subst (λ x. Made (finish_time run.design j) (step_count run.design run.rounds j)
+                (ended_by k here.count x) (fin j)) waits nf.ended);
             sent = subst (λ m. Made (send_time run.design j) run.rounds m (se j)) (sym sent_is) nf.sent;
             since_is = λ step running. follows.time ∙ sym at.1 ∙ ap (step_time run.design j) (number_is ∙ so_far);
-            ready_is = λ may. absurd (start.no_step_is_sent run w rules follows.keeps node starts (fits_at run j rules within) may);
+            ready_is =
+                λ may. absurd (start.no_step_is_sent run w rules follows.keeps node starts
+                (fits_at run j rules within) may);
             moments_are = λ round below. nf.moments_are round (subst (λ m. round < m) sent_is below);
           }
 
@@ -150,9 +165,11 @@ module _ (run : Run) (rules : IsRunOf run) (w : World) (moment : ℕ) (fin st se
             sent_stays = λ i other. refl;
           })
           only
-          (follows_put run j (node_at bus j) begun (slice_index_or since j 0) w.time (ready_at w j) (ready_at w j) (sendings w j) (sendings w j) (fin j) (later j) (se j) begun_follows
+          (follows_put run j (node_at bus j) begun (slice_index_or since j 0) w.time (ready_at w j) (ready_at w j)
+          (sendings w j) (sendings w j) (fin j) (later j) (se j) begun_follows
           (node_set w.bus j begun in_bus) (get_or-set_at w.since j j w.time 0 refl long_since) refl refl)
-          (links_follow run w j moment begun fin st se ar follows (start.sent_as_before run w rules follows.keeps node starts)))
+          (links_follow run w j moment begun fin st se ar follows
+          (start.sent_as_before run w rules follows.keeps node starts)))
 
     -- ---- a step
     module _ (step : ℕ) (between : here.phase ≡ Between step) where
@@ -162,12 +179,14 @@ module _ (run : Run) (rules : IsRunOf run) (w : World) (moment : ℕ) (fin st se
       alarm_then : step_alarm (plan_of run.design j) here step ≡ moment
       alarm_then =
           let below = (agrees_at (Between step) between).0.within in
-          sym (step_is run rules j within (here.count - 1) step below) ∙ ap (step_time run.design j) (sym number_now) ∙ at.1
+          sym (step_is run rules j within (here.count - 1) step below)
+          ∙ ap (step_time run.design j) (sym number_now) ∙ at.1
 
       is_step : begins k j number ≡ event.Step node
       is_step =
           let agrees = agrees_at (Between step) between in
-          let rest : number % k ≡ step = ap (λ x. x % k) number_now ∙ mod-mul-add (here.count - 1) k step agrees.0.within in
+          let rest : number % k ≡ step = ap (λ x. x % k) number_now
+          ∙ mod-mul-add (here.count - 1) k step agrees.0.within in
           let some = agrees.1 in
           ap (λ (b : Bool). if b then event.Start node else event.Step node) (ne_eqb (number % k) 0 (λ e. omega arith))
 
@@ -177,7 +196,8 @@ module _ (run : Run) (rules : IsRunOf run) (w : World) (moment : ℕ) (fin st se
           let alarm_is = alarm_then in
           let due : step_alarm (plan_of run.design j) here step ≤ reading_at w j = omega arith in
           step_is_fine run w node within (ap (λ q. is_some (next_step q)) between)
-          (subst (λ q. step_alarm (plan_of run.design j) here (unwrap_or (next_step q) 0) ≤ reading_at w j) (sym between) due)
+          (subst (λ q. step_alarm (plan_of run.design j) here (unwrap_or (next_step q) 0) ≤ reading_at w j)
+          (sym between) due)
 
       steps : StepsInTime run w node
       steps = steps_in_time run w node fine_step
@@ -190,11 +210,16 @@ module _ (run : Run) (rules : IsRunOf run) (w : World) (moment : ℕ) (fin st se
           let one_more : suc ((here.count - 1) * k + step) ≡ begun_by k here.count (Running step) = omega arith in
           let number_is = number_now in
           record {
-            begun = subst (λ b. Made (step_time run.design j) (step_count run.design run.rounds j) (begun_by k here.count (Running step)) b) (sym now)
+            begun =
+                subst (λ b. Made (step_time run.design j) (step_count run.design run.rounds j)
+                (begun_by k here.count (Running step)) b) (sym now)
                 (subst (λ m. Made (step_time run.design j) (step_count run.design run.rounds j) m (suc moment)) one_more
-                (made_next (step_time run.design j) (step_count run.design run.rounds j) ((here.count - 1) * k + step) moment (steps_rise run rules j within)
+                (made_next (step_time run.design j) (step_count run.design run.rounds j) ((here.count - 1) * k + step)
+                moment (steps_rise run rules j within)
                 (ap (step_time run.design j) (sym number_is) ∙ at.1) (made_at (Between step) between)));
-            ended = subst (λ x. Made (finish_time run.design j) (step_count run.design run.rounds j) (ended_by k here.count x) (fin j)) between nf.ended;
+            ended =
+                subst (λ x. Made (finish_time run.design j) (step_count run.design run.rounds j)
+                (ended_by k here.count x) (fin j)) between nf.ended;
             sent = nf.sent;
             since_is = λ other running. follows.time ∙ sym at.1 ∙ ap (step_time run.design j) number_is;
             ready_is = λ may. nf.ready_is (on.may_before run w rules follows.keeps node steps step between may);
@@ -216,7 +241,8 @@ module _ (run : Run) (rules : IsRunOf run) (w : World) (moment : ℕ) (fin st se
             sent_stays = λ i other. refl;
           })
           only
-          (follows_put run j (node_at bus j) next (slice_index_or since j 0) w.time (ready_at w j) (ready_at w j) (sendings w j) (sendings w j) (fin j) (later j) (se j) next_follows
+          (follows_put run j (node_at bus j) next (slice_index_or since j 0) w.time (ready_at w j) (ready_at w j)
+          (sendings w j) (sendings w j) (fin j) (later j) (se j) next_follows
           (node_set w.bus j next in_bus) (get_or-set_at w.since j j w.time 0 refl long_since) refl refl)
           (links_follow run w j moment next fin st se ar follows refl))
 
@@ -230,10 +256,13 @@ module _ (run : Run) (rules : IsRunOf run) (w : World) (moment : ℕ) (fin st se
         let follows_on : number ≡ suc last = omega arith in
         let below = at.0 in
         let ended : Made (finish_time run.design j) (step_count run.design run.rounds j) last (fin j) =
-        subst (λ x. Made (finish_time run.design j) (step_count run.design run.rounds j) (ended_by k here.count x) (fin j)) runs nf.ended in
+        subst (λ x. Made (finish_time run.design j) (step_count run.design run.rounds j) (ended_by k here.count x)
+        (fin j)) runs nf.ended in
         let waits : fin j ≤ finish_time run.design j last = ended.after last (omega arith) (omega arith) in
-        let apart : step_time run.design j (suc last) ≡ step_time run.design j last + p = next_step_after run rules j within last in
-        let same : step_time run.design j number ≡ step_time run.design j (suc last) = ap (step_time run.design j) follows_on in
+        let apart : step_time run.design j (suc last) ≡ step_time run.design j last + p =
+        next_step_after run rules j within last in
+        let same : step_time run.design j number ≡ step_time run.design j (suc last) =
+        ap (step_time run.design j) follows_on in
         let here_at = at.1 in
         let room = gap in
         omega arith
@@ -245,16 +274,21 @@ module _ (run : Run) (rules : IsRunOf run) (w : World) (moment : ℕ) (fin st se
         let some = some_rate run rules j within in
         let number_is : number ≡ here.count * k = next_at Holding holds in
         let same : here.count * k + 0 ≡ number = omega arith in
-        let one : step_time run.design j (here.count * k + 0) ≡ alarm run.design.period here.count + 0 * p = step_is run rules j within here.count 0 some in
-        let two : step_time run.design j (here.count * k + 0) ≡ step_time run.design j number = ap (step_time run.design j) same in
+        let one : step_time run.design j (here.count * k + 0) ≡ alarm run.design.period here.count + 0 * p =
+        step_is run rules j within here.count 0 some in
+        let two : step_time run.design j (here.count * k + 0) ≡ step_time run.design j number =
+        ap (step_time run.design j) same in
         let here_at = at.1 in
         let counted = agrees.under_way.count in
         let round = agrees.under_way.round in
-        let sent_is : sent_rounds here ≡ round = ap (λ (b : Bool). if b then here.count else (here.count - 1)) agrees.sent ∙ pred_is here.count round counted in
+        let sent_is : sent_rounds here ≡ round =
+        ap (λ (b : Bool). if b then here.count else (here.count - 1)) agrees.sent
+        ∙ pred_is here.count round counted in
         let most = rounds_at_most run w rules follows.keeps j within in
         let waits : se j ≤ send_time run.design j round = nf.sent.after round (omega arith) (omega arith) in
         let before = send_before run rules j within round in
-        let alarms : alarm run.design.period (suc round) ≡ alarm run.design.period here.count = ap (alarm run.design.period) (sym counted) in
+        let alarms : alarm run.design.period (suc round) ≡ alarm run.design.period here.count =
+        ap (alarm run.design.period) (sym counted) in
         let sends = sends_are in
         omega arith
 

@@ -18,18 +18,22 @@ use Rattle.run_laws.proofs.Nodes.{FitsAt, fits_at, component_is}
 pub upwards_is : (from n k x : ℕ) → slice_get (upwards from n) k ≡ Some x → (x ≡ from + k) × (k < n)
 upwards_is from zero k x is = absurd (cc)
 upwards_is from (suc n) zero x is = let same : from ≡ x = cc in (omega arith, omega arith)
-upwards_is from (suc n) (suc k) x is = let later = upwards_is (suc from) n k x is in let a = later.0 in let b = later.1 in (omega arith, omega arith)
+upwards_is from (suc n) (suc k) x is = let later = upwards_is (suc from) n k x is in let a = later.0 in
+    let b = later.1 in (omega arith, omega arith)
 
-pub which_is : (time : ℕ → ℕ) (count moment number : ℕ) → which time count moment ≡ Some number → (number < count) × (time number ≡ moment)
+pub which_is : (time : ℕ → ℕ) (count moment number : ℕ) → which time count moment ≡ Some number
+    → (number < count) × (time number ≡ moment)
 which_is time count moment number is =
     let found = found_at (λ k. nat_eq (time k) moment) (upwards 0 count) number is in
     let at = upwards_is 0 count number found.0 found.1 in
     let same : found.0 ≡ number = let one = at.0 in omega arith in
     (at.1, eqb-true (time number) moment (ap (λ k. nat_eq (time k) moment) (sym same) ∙ found.2))
 
-pub which_none : (time : ℕ → ℕ) (count moment : ℕ) → which time count moment ≡ None → (number : ℕ) → number < count → time number ≡ moment → ⊥
+pub which_none : (time : ℕ → ℕ) (count moment : ℕ) → which time count moment ≡ None → (number : ℕ) → number < count
+    → time number ≡ moment → ⊥
 which_none time count moment none number below is =
-    let fails = none_found (λ k. nat_eq (time k) moment) (upwards 0 count) number number none (upwards_at count number below) in
+    let fails =
+    none_found (λ k. nat_eq (time k) moment) (upwards 0 count) number number none (upwards_at count number below) in
     false≢true (sym fails ∙ eq-eqb (time number) moment is)
 
 -- ---- one after another, each later than the one before
@@ -39,21 +43,26 @@ pub record Made (time : ℕ → ℕ) (count made bound : ℕ) : Type 0 where
   pub after : (number : ℕ) → number < count → made ≤ number → bound ≤ time number
 
 -- where none of them comes between two times, the same number comes before both
-pub made_later : (time : ℕ → ℕ) (count made bound later : ℕ) → bound ≤ later → ((number : ℕ) → number < count → bound ≤ time number → time number < later → ⊥)
+pub made_later : (time : ℕ → ℕ) (count made bound later : ℕ) → bound ≤ later
+    → ((number : ℕ) → number < count → bound ≤ time number → time number < later → ⊥)
     → Made time count made bound → Made time count made later
 made_later time count made bound later forward quiet m = record {
   before = λ number below is. let b = m.before number below is in omega arith;
-  after = λ number below is. elim (cases_lt (time number) later) [ inl between ↦ absurd (quiet number below (m.after number below is) between) | inr past ↦ past ];
+  after =
+      λ number below is. elim (cases_lt (time number) later)
+      [ inl between ↦ absurd (quiet number below (m.after number below is) between) | inr past ↦ past ];
 }
 
 -- at a moment at which none comes
-pub made_none : (time : ℕ → ℕ) (count made moment : ℕ) → which time count moment ≡ None → Made time count made moment → Made time count made (suc moment)
+pub made_none : (time : ℕ → ℕ) (count made moment : ℕ) → which time count moment ≡ None → Made time count made moment
+    → Made time count made (suc moment)
 made_none time count made moment none m =
     made_later time count made moment (suc moment) (omega arith)
     (λ number below from to. which_none time count moment none number below (omega arith)) m
 
 -- the one that comes is the next
-pub which_next : (time : ℕ → ℕ) (count made moment number : ℕ) → ((a b : ℕ) → a < b → time a < time b) → which time count moment ≡ Some number → Made time count made moment
+pub which_next : (time : ℕ → ℕ) (count made moment number : ℕ) → ((a b : ℕ) → a < b → time a < time b)
+    → which time count moment ≡ Some number → Made time count made moment
     → number ≡ made
 which_next time count made moment number rises is m =
     let at = which_is time count moment number is in
@@ -70,7 +79,8 @@ which_next time count made moment number rises is m =
       ]
     ]
 
-pub made_next : (time : ℕ → ℕ) (count made moment : ℕ) → ((a b : ℕ) → a < b → time a < time b) → time made ≡ moment → Made time count made moment → Made time count (suc made) (suc moment)
+pub made_next : (time : ℕ → ℕ) (count made moment : ℕ) → ((a b : ℕ) → a < b → time a < time b) → time made ≡ moment
+    → Made time count made moment → Made time count (suc made) (suc moment)
 made_next time count made moment rises now m = record {
   before = λ number below is. elim (cases_order number made) [
     | inl same ↦ let at : time number ≡ time made = ap time same in omega arith
@@ -82,12 +92,15 @@ made_next time count made moment rises now m = record {
   after = λ number below is. let less = rises made number (omega arith) in omega arith;
 }
 
-which_not : (time : ℕ → ℕ) (count moment : ℕ) (o : Option ℕ) → which time count moment ≡ o → ((number : ℕ) → number < count → time number ≡ moment → ⊥) → o ≡ None
+which_not : (time : ℕ → ℕ) (count moment : ℕ) (o : Option ℕ) → which time count moment ≡ o
+    → ((number : ℕ) → number < count → time number ≡ moment → ⊥) → o ≡ None
 which_not time count moment None is never = refl
-which_not time count moment (Some number) is never = let at = which_is time count moment number is in absurd (never number at.0 at.1)
+which_not time count moment (Some number) is never = let at = which_is time count moment number is in
+    absurd (never number at.0 at.1)
 
 -- none comes before the next one
-pub which_gap : (time : ℕ → ℕ) (count made bound moment : ℕ) → ((a b : ℕ) → a < b → time a < time b) → Made time count made bound → bound ≤ moment
+pub which_gap : (time : ℕ → ℕ) (count made bound moment : ℕ) → ((a b : ℕ) → a < b → time a < time b)
+    → Made time count made bound → bound ≤ moment
     → moment < time made → which time count moment ≡ None
 which_gap time count made bound moment rises m above below =
     which_not time count moment (which time count moment) refl
@@ -100,9 +113,11 @@ which_gap time count made bound moment rises m above below =
     ])
 
 -- nor where all are made
-pub which_over : (time : ℕ → ℕ) (count made bound moment : ℕ) → Made time count made bound → count ≤ made → bound ≤ moment → which time count moment ≡ None
+pub which_over : (time : ℕ → ℕ) (count made bound moment : ℕ) → Made time count made bound → count ≤ made
+    → bound ≤ moment → which time count moment ≡ None
 which_over time count made bound moment m over above =
-    which_not time count moment (which time count moment) refl (λ number few now. let early = m.before number few (omega arith) in absurd (omega arith))
+    which_not time count moment (which time count moment) refl
+    (λ number few now. let early = m.before number few (omega arith) in absurd (omega arith))
 
 -- ---- the times of a run's nodes
 module _ (run : Run) (rules : IsRunOf run) (node : ℕ) (within : node < length run.design.components) where
@@ -120,7 +135,9 @@ module _ (run : Run) (rules : IsRunOf run) (node : ℕ) (within : node < length 
 
   pub whole : k * p ≡ t
   whole =
-      let is = at_element (IsComponent run.design.period) run.design.components node (component_at run.design node) rules.design.components.each (component_is run node within) in
+      let is =
+      at_element (IsComponent run.design.period) run.design.components node (component_at run.design node)
+      rules.design.components.each (component_is run node within) in
       let divides = is.divides in
       let some = is.rate.0 in
       let parts : t / k * k + t % k ≡ t = div-add-mod' t k in

@@ -78,7 +78,8 @@ ring_component number = record { path = ring_path number; rate = ring_rate numbe
 -- ---- links
 -- the first value of a source of a lower rate is repeated, and of one of a higher rate the last counts
 abbrev pub ring_adaptor : ℕ → ℕ → Option Adaptor
-ring_adaptor source target = if nat_lt source target then Some Repeat else (if nat_lt target source then Some Last else None)
+ring_adaptor source target =
+    if nat_lt source target then Some Repeat else (if nat_lt target source then Some Last else None)
 
 -- the component before one in the circle of n
 abbrev pub before_in : ℕ → ℕ → ℕ

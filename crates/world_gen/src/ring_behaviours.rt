@@ -5,7 +5,7 @@ ghost use Rattle.pals_base.specs.Tree as tree;
 ghost use Rattle.world_gen.specs.Rings.{number_port, ring_variable, ring_state, twice_input, number_sum, next_number, ring_actions, ring_edge, ring_behaviour};
 
 use pals_base::{
-    Act, Behaviour, BehaviourParts, Expr, Guard, Items, Kind, PortDecl, NoMemory, Op, Operand,
+    Act, Behaviour, BehaviourParts, Expr, Guard, Items, Kind, NoMemory, Op, Operand, PortDecl,
     StateDecl, Text, Transition, VarDecl,
 };
 use std::alloc::Global;

@@ -5,7 +5,7 @@ ghost use Rattle.run_laws.specs.Deadlines.{lesser};
 ghost use Rattle.world_gen.specs.proof.Schedules.{send_time};
 ghost use Rattle.world_gen.specs.proof.Courses.{IsCourse, begin_course, finish_course, send_course, arrive_course, begin_courses, finish_courses, send_courses, arrive_courses, timetable, next_moment, events_of};
 
-use crate::courses::{EventSeries, EventKind};
+use crate::courses::{EventKind, EventSeries};
 use pals_base::bound::step_period;
 use pals_base::{Items, LinkNo, Nanos, NoMemory, NodeNo};
 use pals_model::Design;
@@ -85,7 +85,11 @@ fn arrive_course(design: &Design, rounds: u32, link: LinkNo) -> EventSeries
 }
 
 #[tactic(auto, using(crate::proofs::Numbered::add_numbered))]
-fn add_begins(courses: &mut Items<EventSeries>, design: &Design, rounds: u32) -> Result<(), NoMemory>
+fn add_begins(
+    courses: &mut Items<EventSeries>,
+    design: &Design,
+    rounds: u32,
+) -> Result<(), NoMemory>
     requires { rounds ≤ ROUNDS }
     ensures { OnOk result (courses.new ≡ courses.old ++ begin_courses design.now rounds) }
 {
@@ -96,7 +100,11 @@ fn add_begins(courses: &mut Items<EventSeries>, design: &Design, rounds: u32) ->
 }
 
 #[tactic(auto, using(crate::proofs::Numbered::add_numbered))]
-fn add_finishes(courses: &mut Items<EventSeries>, design: &Design, rounds: u32) -> Result<(), NoMemory>
+fn add_finishes(
+    courses: &mut Items<EventSeries>,
+    design: &Design,
+    rounds: u32,
+) -> Result<(), NoMemory>
     requires { rounds ≤ ROUNDS }
     ensures { OnOk result (courses.new ≡ courses.old ++ finish_courses design.now rounds) }
 {
@@ -117,7 +125,11 @@ fn add_sends(courses: &mut Items<EventSeries>, design: &Design, rounds: u32) -> 
 }
 
 #[tactic(auto, using(crate::proofs::Numbered::add_numbered))]
-fn add_arrivals(courses: &mut Items<EventSeries>, design: &Design, rounds: u32) -> Result<(), NoMemory>
+fn add_arrivals(
+    courses: &mut Items<EventSeries>,
+    design: &Design,
+    rounds: u32,
+) -> Result<(), NoMemory>
     ensures { OnOk result (courses.new ≡ courses.old ++ arrive_courses design.now rounds) }
 {
     for link in 0..design.links().len() {
@@ -127,7 +139,11 @@ fn add_arrivals(courses: &mut Items<EventSeries>, design: &Design, rounds: u32) 
 }
 
 /// The courses of a design for a number of rounds, in the order in which they go on at one moment.
-pub fn timetable(alloc: Global, design: &Design, rounds: u32) -> Result<Items<EventSeries>, NoMemory>
+pub fn timetable(
+    alloc: Global,
+    design: &Design,
+    rounds: u32,
+) -> Result<Items<EventSeries>, NoMemory>
     requires { rounds ≤ ROUNDS }
     ensures { IfOk result (λ courses. courses ≡ timetable design.now rounds) }
 {

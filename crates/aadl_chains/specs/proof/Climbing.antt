@@ -19,11 +19,18 @@ use Rattle.aadl_chains.specs.declared.walks.ClimbResult.TheVariants as ends
 -- the first connection into a port of a subcomponent
 abbrev pub entry : PackageTree ℕ → Option ℕ → ℕ → ℕ → Option ConnectionInto
 entry tree None s port = None
-entry tree (Some n) s port = option_map (λ from. record { declaration = n; connection = from.0; source = from.1 }) (into tree n (Inner s port))
+entry tree (Some n) s port =
+    option_map (λ from. record { declaration = n; connection = from.0; source = from.1 }) (into tree n (Inner s port))
 
 abbrev pub crossing : List ℕ → CrossConnection → Crossing
 crossing path c =
-    record { path = reverse (take c.depth path); declaration = c.declaration; connection = c.connection; sub = c.sub; port = c.port }
+    record {
+      path = reverse (take c.depth path);
+      declaration = c.declaration;
+      connection = c.connection;
+      sub = c.sub;
+      port = c.port;
+    }
 
 -- where the walk ends
 abbrev pub climbed : List ℕ → ClimbResult → Climb
@@ -34,11 +41,13 @@ climbed path (ends.Crossing c) = crosses (crossing path c)
 -- the chain from a port of the root by a connection, if there is one
 abbrev pub route_from_root : ℕ → Option ℕ → ℕ → Option ChainRoute
 route_from_root root None port = None
-route_from_root root (Some connection) port = Some (record { begin = begins.Root port; declaration = root; connection = connection })
+route_from_root root (Some connection) port =
+    Some (record { begin = begins.Root port; declaration = root; connection = connection })
 
 abbrev pub route_from : Option ChainStart → ℕ → ℕ → Option ChainRoute
 route_from None declaration connection = None
-route_from (Some begin) declaration connection = Some (record { begin = begin; declaration = declaration; connection = connection })
+route_from (Some begin) declaration connection =
+    Some (record { begin = begin; declaration = declaration; connection = connection })
 
 -- an out port of a subcomponent that names an implementation
 abbrev pub IsFromInner : PackageTree ℕ → ℕ → PortPlace → Type 0
@@ -53,5 +62,6 @@ pub record IsLower (tree : PackageTree ℕ) (n : ℕ) (source : PortPlace) (lowe
 abbrev pub LeadsDown : PackageTree ℕ → ℕ → ℕ → Option PortBelow → Type 0
 LeadsDown tree n out None = into tree n (Own out) ≡ None
 LeadsDown tree n out (Some lower) =
-    (k : ℕ) × (into tree n (Own out) ≡ Some (k, Inner lower.sub lower.port)) × (below tree n lower.sub ≡ Some lower.number)
+    (k : ℕ) × (into tree n (Own out) ≡ Some (k, Inner lower.sub lower.port))
+    × (below tree n lower.sub ≡ Some lower.number)
     × (is_in_at tree lower.number lower.port ≡ false)

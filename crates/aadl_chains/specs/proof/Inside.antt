@@ -38,7 +38,8 @@ outer_end directions.Out wire = wire.target
 -- the thread's own, or is joined to such a port of a subcomponent.
 pub data Reaches (tree : PackageTree ℕ) (d : Direction) : ℕ → ℕ → Type 0 where
   of_thread : {n port : ℕ} → is_thread_at tree n ≡ true → is_way d (is_in_at tree n port) ≡ true → Reaches tree d n port
-  of_inner : {n port : ℕ} (s p m : ℕ) (wire : Wire) → is_thread_at tree n ≡ false → Contains (wires_at tree n) wire → outer_end d wire ≡ Some (Own port)
+  of_inner : {n port : ℕ} (s p m : ℕ) (wire : Wire) → is_thread_at tree n ≡ false → Contains (wires_at tree n) wire
+      → outer_end d wire ≡ Some (Own port)
       → inner_end d wire ≡ Some (Inner s p)
       → below tree n s ≡ Some m → Reaches tree d m p → Reaches tree d n port
 
@@ -51,7 +52,8 @@ abbrev pub port_at : ℕ → ℕ → PortAt
 port_at n port = record { declaration = n; port = port }
 
 abbrev pub reaches_by : List PortAt → PackageTree ℕ → Direction → ℕ → ℕ → Bool
-reaches_by ports tree d n port = if is_thread_at tree n then is_way d (is_in_at tree n port) else has ports (port_at n port)
+reaches_by ports tree d n port =
+    if is_thread_at tree n then is_way d (is_in_at tree n port) else has ports (port_at n port)
 
 abbrev pub reaches_in : List PortAt → PackageTree ℕ → Direction → Option ℕ → ℕ → Bool
 reaches_in ports tree d None port = false
@@ -61,7 +63,8 @@ reaches_in ports tree d (Some n) port = reaches_by ports tree d n port
 abbrev pub joined_inner : List PortAt → PackageTree ℕ → Direction → ℕ → ℕ → Option PortPlace → Option ℕ
 joined_inner ports tree d n port None = None
 joined_inner ports tree d n port (Some (Own p)) = None
-joined_inner ports tree d n port (Some (Inner s p)) = if reaches_in ports tree d (below tree n s) p then Some port else None
+joined_inner ports tree d n port (Some (Inner s p)) =
+    if reaches_in ports tree d (below tree n s) p then Some port else None
 
 abbrev pub joined_by : List PortAt → PackageTree ℕ → Direction → ℕ → Option PortPlace → Option PortPlace → Option ℕ
 joined_by ports tree d n None inner = None
@@ -75,7 +78,8 @@ AreReaching tree d ports = (n port : ℕ) → Contains ports (port_at n port) �
 
 -- each port of the implementation that reaches a thread is in the set
 abbrev pub HasAll : PackageTree ℕ → Direction → List PortAt → ℕ → Type 0
-HasAll tree d ports n = (port : ℕ) → is_thread_at tree n ≡ false → Reaches tree d n port → Contains ports (port_at n port)
+HasAll tree d ports n =
+    (port : ℕ) → is_thread_at tree n ≡ false → Reaches tree d n port → Contains ports (port_at n port)
 
 abbrev pub HasAllBelow : PackageTree ℕ → Direction → List PortAt → ℕ → Type 0
 HasAllBelow tree d ports n = (s m : ℕ) → below tree n s ≡ Some m → HasAll tree d ports m
@@ -83,8 +87,10 @@ HasAllBelow tree d ports n = (s m : ℕ) → below tree n s ≡ Some m → HasAl
 -- a set with what one connection joins
 pub record IsJoined (tree : PackageTree ℕ) (d : Direction) (n : ℕ) (wire : Wire) (old new : List PortAt) : Type 0 where
   pub kept : (port : PortAt) → Contains old port → Contains new port
-  pub sound : is_thread_at tree n ≡ false → Contains (wires_at tree n) wire → AreReaching tree d old → AreReaching tree d new
-  pub here : (port s p : ℕ) → outer_end d wire ≡ Some (Own port) → inner_end d wire ≡ Some (Inner s p) → reaches_in old tree d (below tree n s) p ≡ true
+  pub sound : is_thread_at tree n ≡ false → Contains (wires_at tree n) wire → AreReaching tree d old
+      → AreReaching tree d new
+  pub here : (port s p : ℕ) → outer_end d wire ≡ Some (Own port) → inner_end d wire ≡ Some (Inner s p)
+      → reaches_in old tree d (below tree n s) p ≡ true
       → Contains new (port_at n port)
 
 -- a set with what the connections of one declaration join

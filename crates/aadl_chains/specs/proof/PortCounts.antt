@@ -18,13 +18,15 @@ use Rattle.aadl_tree.specs.declared.declarations.Direction.TheVariants as direct
 
 -- connections lead to it from an own in port of the implementation
 abbrev pub ComesFrom : PackageTree ℕ → ℕ → ℕ → Port → Type 0
-ComesFrom tree n q port = IsThreadPort tree n port × ((last : Option ℕ) × (climb tree n None port.path port.port ≡ at_root last q))
+ComesFrom tree n q port =
+    IsThreadPort tree n port × ((last : Option ℕ) × (climb tree n None port.path port.port ≡ at_root last q))
 
 -- it is the target of a link below the implementation
 abbrev pub EndsLink : PackageTree ℕ → ℕ → Port → Type 0
 EndsLink tree n port =
     IsThreadPort tree n port
-    × ((c : Crossing) × (climb tree n None port.path port.port ≡ crosses c) × ReachesIn tree directions.Out c.declaration c.sub c.port)
+    × ((c : Crossing) × (climb tree n None port.path port.port ≡ crosses c)
+    × ReachesIn tree directions.Out c.declaration c.sub c.port)
 
 -- it is entered through a connection of the implementation into a subcomponent
 pub record Through (tree : PackageTree ℕ) (n connection : ℕ) (port : Port) : Type 0 where
@@ -52,7 +54,8 @@ IsFromOwn tree n k q = (wire : Wire) × (slice_get (wires_at tree n) k ≡ Some 
 -- it comes from a port of a subcomponent to which a thread gives
 abbrev pub IsFromThread : PackageTree ℕ → ℕ → ℕ → Type 0
 IsFromThread tree n k =
-    (wire : Wire) × (t q : ℕ) × (slice_get (wires_at tree n) k ≡ Some wire) × (wire.source ≡ Some (Inner t q)) × ReachesIn tree directions.Out n t q
+    (wire : Wire) × (t q : ℕ) × (slice_get (wires_at tree n) k ≡ Some wire) × (wire.source ≡ Some (Inner t q))
+    × ReachesIn tree directions.Out n t q
 
 -- one of the first i has P
 abbrev pub AmongFirst : (ℕ → Port → Type 0) → ℕ → Port → Type 0
@@ -76,7 +79,8 @@ taken_by limit table tree (Some m) port =
 
 -- the table has the numbers of all ports of an implementation
 abbrev pub AreTaken : PackageTree ℕ → ℕ → List (PortAt × ℕ) → ℕ → Type 0
-AreTaken tree limit table n = (q : ℕ) → is_thread_at tree n ≡ false → IsNumber limit (ComesFrom tree n q) (taken table (port_at n q))
+AreTaken tree limit table n =
+    (q : ℕ) → is_thread_at tree n ≡ false → IsNumber limit (ComesFrom tree n q) (taken table (port_at n q))
 
 abbrev pub AreTakenBelow : PackageTree ℕ → ℕ → List (PortAt × ℕ) → ℕ → Type 0
 AreTakenBelow tree limit table n = (s m : ℕ) → below tree n s ≡ Some m → AreTaken tree limit table m
@@ -86,7 +90,8 @@ pub record IsTaken (tree : PackageTree ℕ) (limit n k : ℕ) (wire : Wire) (old
   pub others : (m q : ℕ) → (m ≡ n → ⊥) → taken new (port_at m q) ≡ taken old (port_at m q)
   pub same : (q : ℕ) → (wire.source ≡ Some (Own q) → ⊥) → taken new (port_at n q) ≡ taken old (port_at n q)
   pub more : (q : ℕ) → wire.source ≡ Some (Own q) → AreTakenBelow tree limit old n
-      → (c : ℕ) × IsNumber limit (Through tree n k) c × (taken new (port_at n q) ≡ min limit (taken old (port_at n q) + c))
+      → (c : ℕ) × IsNumber limit (Through tree n k) c
+      × (taken new (port_at n q) ≡ min limit (taken old (port_at n q) + c))
 
 -- no implementation contains itself, and this one is not in the table yet
 pub record IsNew (tree : PackageTree ℕ) (n : ℕ) (table : List (PortAt × ℕ)) : Type 0 where

@@ -14,7 +14,8 @@ begin_port (begins.Thread path port) = record { path = reverse path.items; port 
 
 -- the chain to a port
 abbrev pub route_ends : Port → ChainRoute → Ends
-route_ends to route = record { from = begin_port route.begin; to = to; declaration = route.declaration; connection = route.connection }
+route_ends to route =
+    record { from = begin_port route.begin; to = to; declaration = route.declaration; connection = route.connection }
 
 -- it is a thread's out port, from which a chain leads to another port, and no other chain leads there
 pub record IsGiver (tree : PackageTree ℕ) (root : ℕ) (end from : Port) : Type 0 where

@@ -8,11 +8,14 @@ use Rattle.aadl_chains.specs.Chains.{Port, Place, Leads, IsStart}
 use Rattle.aadl_chains.specs.proof.Sound.{MayEnter}
 
 pub record IsSound (tree : PackageTree ℕ) (root : ℕ) : Type 0 where
-  pub one_source : (n i j : ℕ) (component : Implementation ℕ) (x y : Connection ℕ) (target : PortPlace) → IsInUse tree root n
+  pub one_source : (n i j : ℕ) (component : Implementation ℕ) (x y : Connection ℕ) (target : PortPlace)
+      → IsInUse tree root n
       → implementation_at tree n ≡ Some component
-      → slice_get component.connections i ≡ Some x → slice_get component.connections j ≡ Some y → site tree component x.target ≡ Some target
+      → slice_get component.connections i ≡ Some x → slice_get component.connections j ≡ Some y
+      → site tree component x.target ≡ Some target
       → site tree component y.target ≡ Some target → i ≡ j
-  pub enters : (n i : ℕ) (component : Implementation ℕ) (x : Connection ℕ) (target : PortPlace) → implementation_at tree n ≡ Some component
+  pub enters : (n i : ℕ) (component : Implementation ℕ) (x : Connection ℕ) (target : PortPlace)
+      → implementation_at tree n ≡ Some component
       → slice_get component.connections i ≡ Some x
       → site tree component x.target ≡ Some target → MayEnter tree n target
   pub threads : (n i : ℕ) (component : Implementation ℕ) (x : Connection ℕ) → implementation_at tree n ≡ Some component
@@ -22,4 +25,5 @@ pub record IsSound (tree : PackageTree ℕ) (root : ℕ) : Type 0 where
 pub record Passes (tree : PackageTree ℕ) (root : ℕ) (here end : Port) : Type 0 where
   pub chain : List Place
   pub leads : Leads tree root chain here end
-  pub through : (cs : List Place) (from : Port) → IsStart tree root from → Leads tree root cs from end → (bs : List Place) × Leads tree root bs from here
+  pub through : (cs : List Place) (from : Port) → IsStart tree root from → Leads tree root cs from end
+      → (bs : List Place) × Leads tree root bs from here

@@ -39,7 +39,8 @@ climb_into tree up path s port (Some n) = climb_along up path n (into tree n (In
 -- from a port of the component at a path, the innermost subcomponent first, behind the last connection
 abbrev pub climb : PackageTree ℕ → ℕ → Option ℕ → List ℕ → ℕ → Climb
 climb tree root last [] port = at_root last port
-climb tree root last (s ∷ path) port = climb_into tree (λ k q. climb tree root (Some k) path q) path s port (standing tree root path)
+climb tree root last (s ∷ path) port =
+    climb_into tree (λ k q. climb tree root (Some k) path q) path s port (standing tree root path)
 
 -- at most one connection of an implementation in use goes into a port
 abbrev pub OneEach : PackageTree ℕ → ℕ → Type 0

@@ -13,16 +13,24 @@ abbrev pub whole_number_builders : Builders s.whole_number (rows s.whole_number)
 whole_number_builders = ((λ w ts. w), tt)
 
 abbrev pub bound_builders : Builders s.bound (rows s.bound)
-bound_builders = ((λ w ts. record { negative = false; value = w }), ((λ w ts. record { negative = true; value = ts.0 }), tt))
+bound_builders =
+    ((λ w ts. record { negative = false; value = w }), ((λ w ts. record { negative = true; value = ts.0 }), tt))
 
 abbrev pub after_target_builders : Builders s.after_target (rows s.after_target)
 after_target_builders = ((λ w ts. inl ts.0), ((λ w ts. inr ts.0), tt))
 
 abbrev pub loop_head_builders : Builders s.loop_head (rows s.loop_head)
-loop_head_builders = ((λ w ts. record { counter = ts.0; data_type = ts.1.1.0; low = ts.1.1.1.1.0; high = ts.1.1.1.1.1.1.0 }), tt)
+loop_head_builders =
+    ((λ w ts. record { counter = ts.0; data_type = ts.1.1.0; low = ts.1.1.1.1.0; high = ts.1.1.1.1.1.1.0 }), tt)
 
 abbrev pub action_builders : Builders s.action (rows s.action)
-action_builders = ((λ w ts. act w ts.0), ((λ w ts. a.choose ts.0 ts.1.0 ts.1.1.0 ts.1.1.1.0), ((λ w ts. a.loop tt ts.0.counter ts.0.data_type ts.0.low ts.0.high ts.1.0), tt)))
+action_builders = (
+  (λ w ts. act w ts.0),
+  (
+    (λ w ts. a.choose ts.0 ts.1.0 ts.1.1.0 ts.1.1.1.0),
+    ((λ w ts. a.loop tt ts.0.counter ts.0.data_type ts.0.low ts.0.high ts.1.0), tt),
+  ),
+)
 
 abbrev pub actions_joins : Joins s.actions s.action (s.mores ∷ [])
 actions_joins u ts = a.actions u ts.0
@@ -37,7 +45,8 @@ abbrev pub after_semicolon_joins : Joins s.after_semicolon s.actions []
 after_semicolon_joins u ts = a.block u
 
 abbrev pub after_semicolon_builders : Builders s.after_semicolon (rows s.after_semicolon)
-after_semicolon_builders = behind_builders s.after_semicolon s.actions [] (rows s.actions) after_semicolon_joins actions_builders
+after_semicolon_builders =
+    behind_builders s.after_semicolon s.actions [] (rows s.actions) after_semicolon_joins actions_builders
 
 abbrev pub elsifs_builders : Builders s.elsifs (rows s.elsifs)
 elsifs_builders = ((λ w ts. a.elsif ts.0 ts.1.0 ts.1.1.0), tt)

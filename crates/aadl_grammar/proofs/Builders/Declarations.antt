@@ -22,28 +22,36 @@ abbrev pub data_type_builders : Builders s.data_type (rows s.data_type)
 data_type_builders = behind_builders s.data_type s.reference [] (rows s.reference) data_type_joins reference_builders
 
 abbrev pub feature_builders : Builders s.feature (rows s.feature)
-feature_builders = ((λ w ts. record { name = id w; direction = ts.1.0; data_type = ts.1.1.1.1.0; properties = ts.1.1.1.1.1.0 }), tt)
+feature_builders =
+    ((λ w ts. record { name = id w; direction = ts.1.0; data_type = ts.1.1.1.1.0; properties = ts.1.1.1.1.1.0 }), tt)
 
 abbrev pub subcomponent_builders : Builders s.subcomponent (rows s.subcomponent)
-subcomponent_builders = ((λ w ts. record { name = id w; category = ts.1.0; classifier = ts.1.1.0; properties = ts.1.1.1.0 }), tt)
+subcomponent_builders =
+    ((λ w ts. record { name = id w; category = ts.1.0; classifier = ts.1.1.0; properties = ts.1.1.1.0 }), tt)
 
 abbrev pub connection_end_builders : Builders s.connection_end (rows s.connection_end)
 connection_end_builders = ((λ w ts. record { first = id w; second = ts.0 }), tt)
 
 abbrev pub connection_builders : Builders s.connection (rows s.connection)
-connection_builders = ((λ w ts. record { name = id w; source = ts.1.1.0; target = ts.1.1.1.1.0; properties = ts.1.1.1.1.1.0 }), tt)
+connection_builders =
+    ((λ w ts. record { name = id w; source = ts.1.1.0; target = ts.1.1.1.1.0; properties = ts.1.1.1.1.1.0 }), tt)
 
 abbrev pub feature_list_joins : Joins s.feature_list s.feature (s.feature_list ∷ [])
 feature_list_joins u ts = u ∷ ts.0
 
 abbrev pub feature_list_builders : Builders s.feature_list (rows s.feature_list)
-feature_list_builders = behind_builders s.feature_list s.feature (s.feature_list ∷ []) (rows s.feature) feature_list_joins feature_builders
+feature_list_builders =
+    behind_builders s.feature_list s.feature (s.feature_list ∷ []) (rows s.feature) feature_list_joins feature_builders
 
 abbrev pub feature_section_joins : Joins s.feature_section s.feature (s.feature_list ∷ [])
 feature_section_joins u ts = u ∷ ts.0
 
 abbrev pub feature_section_builders : Builders s.feature_section (rows s.feature_section)
-feature_section_builders = ((λ w ts. []), behind_builders s.feature_section s.feature (s.feature_list ∷ []) (rows s.feature) feature_section_joins feature_builders)
+feature_section_builders = (
+  (λ w ts. []),
+  behind_builders s.feature_section s.feature (s.feature_list ∷ []) (rows s.feature)
+      feature_section_joins feature_builders,
+)
 
 abbrev pub features_builders : Builders s.features (rows s.features)
 features_builders = ((λ w ts. ts.0), tt)
@@ -52,13 +60,19 @@ abbrev pub subcomponent_list_joins : Joins s.subcomponent_list s.subcomponent (s
 subcomponent_list_joins u ts = u ∷ ts.0
 
 abbrev pub subcomponent_list_builders : Builders s.subcomponent_list (rows s.subcomponent_list)
-subcomponent_list_builders = behind_builders s.subcomponent_list s.subcomponent (s.subcomponent_list ∷ []) (rows s.subcomponent) subcomponent_list_joins subcomponent_builders
+subcomponent_list_builders =
+    behind_builders s.subcomponent_list s.subcomponent (s.subcomponent_list ∷ []) (rows s.subcomponent)
+    subcomponent_list_joins subcomponent_builders
 
 abbrev pub subcomponent_section_joins : Joins s.subcomponent_section s.subcomponent (s.subcomponent_list ∷ [])
 subcomponent_section_joins u ts = u ∷ ts.0
 
 abbrev pub subcomponent_section_builders : Builders s.subcomponent_section (rows s.subcomponent_section)
-subcomponent_section_builders = ((λ w ts. []), behind_builders s.subcomponent_section s.subcomponent (s.subcomponent_list ∷ []) (rows s.subcomponent) subcomponent_section_joins subcomponent_builders)
+subcomponent_section_builders = (
+  (λ w ts. []),
+  behind_builders s.subcomponent_section s.subcomponent (s.subcomponent_list ∷ [])
+      (rows s.subcomponent) subcomponent_section_joins subcomponent_builders,
+)
 
 abbrev pub subcomponents_builders : Builders s.subcomponents (rows s.subcomponents)
 subcomponents_builders = ((λ w ts. ts.0), tt)
@@ -67,13 +81,19 @@ abbrev pub connection_list_joins : Joins s.connection_list s.connection (s.conne
 connection_list_joins u ts = u ∷ ts.0
 
 abbrev pub connection_list_builders : Builders s.connection_list (rows s.connection_list)
-connection_list_builders = behind_builders s.connection_list s.connection (s.connection_list ∷ []) (rows s.connection) connection_list_joins connection_builders
+connection_list_builders =
+    behind_builders s.connection_list s.connection (s.connection_list ∷ []) (rows s.connection) connection_list_joins
+    connection_builders
 
 abbrev pub connection_section_joins : Joins s.connection_section s.connection (s.connection_list ∷ [])
 connection_section_joins u ts = u ∷ ts.0
 
 abbrev pub connection_section_builders : Builders s.connection_section (rows s.connection_section)
-connection_section_builders = ((λ w ts. []), behind_builders s.connection_section s.connection (s.connection_list ∷ []) (rows s.connection) connection_section_joins connection_builders)
+connection_section_builders = (
+  (λ w ts. []),
+  behind_builders s.connection_section s.connection (s.connection_list ∷ []) (rows s.connection)
+      connection_section_joins connection_builders,
+)
 
 abbrev pub connections_builders : Builders s.connections (rows s.connections)
 connections_builders = ((λ w ts. ts.0), tt)
@@ -82,7 +102,11 @@ abbrev pub property_section_joins : Joins s.property_section s.association (s.as
 property_section_joins u ts = v.associate u ts.0
 
 abbrev pub property_section_builders : Builders s.property_section (rows s.property_section)
-property_section_builders = ((λ w ts. v.no_associations), behind_builders s.property_section s.association (s.associations ∷ []) (rows s.association) property_section_joins association_builders)
+property_section_builders = (
+  (λ w ts. v.no_associations),
+  behind_builders s.property_section s.association (s.associations ∷ []) (rows s.association)
+      property_section_joins association_builders,
+)
 
 abbrev pub own_properties_builders : Builders s.own_properties (rows s.own_properties)
 own_properties_builders = ((λ w ts. ts.0), tt)
@@ -100,10 +124,19 @@ abbrev pub package_end_builders : Builders s.package_end (rows s.package_end)
 package_end_builders = ((λ w ts. ts.0), tt)
 
 abbrev pub after_category_builders : Builders s.after_category (rows s.after_category)
-after_category_builders = ((λ w ts. type_rest (id w) ts.0 ts.1.0 ts.1.1.0 ts.1.1.1.0), ((λ w ts. implementation_rest ts.0 ts.1.0 ts.1.1.0 ts.1.1.1.0 ts.1.1.1.1.0 ts.1.1.1.1.1.0), tt))
+after_category_builders = (
+  (λ w ts. type_rest (id w) ts.0 ts.1.0 ts.1.1.0 ts.1.1.1.0),
+  ((λ w ts. implementation_rest ts.0 ts.1.0 ts.1.1.0 ts.1.1.1.0 ts.1.1.1.1.0 ts.1.1.1.1.1.0), tt),
+)
 
 abbrev pub declarations_builders : Builders s.declarations (rows s.declarations)
-declarations_builders = ((λ w ts. declaration_of categories.System ts.0 ∷ ts.1.0), ((λ w ts. declaration_of categories.Process ts.0 ∷ ts.1.0), ((λ w ts. declaration_of categories.Thread ts.0 ∷ ts.1.0), tt)))
+declarations_builders = (
+  (λ w ts. declaration_of categories.System ts.0 ∷ ts.1.0),
+  (
+    (λ w ts. declaration_of categories.Process ts.0 ∷ ts.1.0),
+    ((λ w ts. declaration_of categories.Thread ts.0 ∷ ts.1.0), tt),
+  ),
+)
 
 abbrev pub more_names_builders : Builders s.more_names (rows s.more_names)
 more_names_builders = ((λ w ts. ts.0 ∷ ts.1.0), tt)
@@ -112,4 +145,5 @@ abbrev pub withs_builders : Builders s.withs (rows s.withs)
 withs_builders = ((λ w ts. record { first = ts.0; rest = ts.1.0 } ∷ ts.1.1.1.0), tt)
 
 abbrev pub a_package_builders : Builders s.a_package (rows s.a_package)
-a_package_builders = ((λ w ts. record { name = ts.0; withs = ts.1.1.0; declarations = ts.1.1.1.0; end_name = ts.1.1.1.1.0 }), tt)
+a_package_builders =
+    ((λ w ts. record { name = ts.0; withs = ts.1.1.0; declarations = ts.1.1.1.0; end_name = ts.1.1.1.1.0 }), tt)

@@ -48,7 +48,10 @@ quantity_builders = (
   (λ w ts. record { number = record { sign = Some signs.Plus; figure = ts.0 }; unit = ts.1.0 }),
   (
     (λ w ts. record { number = record { sign = Some signs.Minus; figure = ts.0 }; unit = ts.1.0 }),
-    ((λ w ts. record { number = record { sign = None; figure = v.whole_figure w }; unit = ts.0 }), ((λ w ts. record { number = record { sign = None; figure = v.real_figure w }; unit = ts.0 }), tt)),
+    (
+      (λ w ts. record { number = record { sign = None; figure = v.whole_figure w }; unit = ts.0 }),
+      ((λ w ts. record { number = record { sign = None; figure = v.real_figure w }; unit = ts.0 }), tt),
+    ),
   ),
 )
 
@@ -59,7 +62,26 @@ abbrev pub value_joins : Joins s.value s.quantity (s.upper ∷ [])
 value_joins u ts = v.number u ts.0
 
 abbrev pub value_builders : Builders s.value (rows s.value)
-value_builders = ((λ w ts. v.text w), ((λ w ts. v.named (reference_of (id w) ts.0 ts.1.0)), ((λ w ts. v.list ts.0), ((λ w ts. v.fields ts.0), ((λ w ts. v.reference ts.0), ((λ w ts. v.classifier ts.0), behind_builders s.value s.quantity (s.upper ∷ []) (rows s.quantity) value_joins quantity_builders))))))
+value_builders = (
+  (λ w ts. v.text w),
+  (
+    (λ w ts. v.named (reference_of (id w) ts.0 ts.1.0)),
+    (
+      (λ w ts. v.list ts.0),
+      (
+        (λ w ts. v.fields ts.0),
+        (
+          (λ w ts. v.reference ts.0),
+          (
+            (λ w ts. v.classifier ts.0),
+            behind_builders s.value s.quantity (s.upper ∷ []) (rows s.quantity) value_joins
+                quantity_builders,
+          ),
+        ),
+      ),
+    ),
+  ),
+)
 
 abbrev pub path_group_builders : Builders s.path_group (rows s.path_group)
 path_group_builders = ((λ w ts. ts.0), tt)
@@ -89,13 +111,16 @@ abbrev pub more_paths_builders : Builders s.more_paths (rows s.more_paths)
 more_paths_builders = ((λ w ts. ts.0 ∷ ts.1.0), tt)
 
 abbrev pub association_builders : Builders s.association (rows s.association)
-association_builders = ((λ w ts. v.association (record { first = id w; rest = ts.0 }) ts.1.0 ts.1.1.0 ts.1.1.1.0 ts.1.1.1.1.0), tt)
+association_builders =
+    ((λ w ts. v.association (record { first = id w; rest = ts.0 }) ts.1.0 ts.1.1.0 ts.1.1.1.0 ts.1.1.1.1.0), tt)
 
 abbrev pub associations_joins : Joins s.associations s.association (s.associations ∷ [])
 associations_joins u ts = v.associate u ts.0
 
 abbrev pub associations_builders : Builders s.associations (rows s.associations)
-associations_builders = behind_builders s.associations s.association (s.associations ∷ []) (rows s.association) associations_joins association_builders
+associations_builders =
+    behind_builders s.associations s.association (s.associations ∷ []) (rows s.association) associations_joins
+    association_builders
 
 abbrev pub properties_builders : Builders s.properties (rows s.properties)
 properties_builders = ((λ w ts. v.associate ts.0 ts.1.0), tt)

@@ -45,7 +45,8 @@ abbrev pub reference_of : n.Identifier U → List (n.Identifier U) → Option (n
 reference_of x xs d = record { qualifiers = before_last x xs; type_name = last_of x xs; implementation = d }
 
 chain_same : (x : n.Identifier U) (xs : List (n.Identifier U))
-    → n.identifier_parts x ++ flat_map (behind k.Scope n.identifier_parts) xs ≡ flat_map n.qualifier_parts (before_last x xs) ++ n.identifier_parts (last_of x xs)
+    → n.identifier_parts x ++ flat_map (behind k.Scope n.identifier_parts) xs
+    ≡ flat_map n.qualifier_parts (before_last x xs) ++ n.identifier_parts (last_of x xs)
 chain_same x [] = refl
 chain_same x (y ∷ ys) = ap (λ l. n.qualifier_parts x ++ l) (chain_same y ys)
 
@@ -55,15 +56,20 @@ dotted d = parts_if (behind k.Dot n.identifier_parts) d
 abbrev chain_parts : n.Identifier U → List (n.Identifier U) → Option (n.Identifier U) → List (Part U)
 chain_parts x xs d = n.identifier_parts x ++ (flat_map (behind k.Scope n.identifier_parts) xs ++ dotted d)
 
-reference_same : (x : n.Identifier U) (xs : List (n.Identifier U)) (d : Option (n.Identifier U)) → chain_parts x xs d ≡ n.reference_parts (reference_of x xs d)
+reference_same : (x : n.Identifier U) (xs : List (n.Identifier U)) (d : Option (n.Identifier U))
+    → chain_parts x xs d ≡ n.reference_parts (reference_of x xs d)
 reference_same x xs d =
-    sym (append_assoc (n.identifier_parts x) (flat_map (behind k.Scope n.identifier_parts) xs) (dotted d)) ∙ ap (λ l. l ++ dotted d) (chain_same x xs)
+    sym (append_assoc (n.identifier_parts x) (flat_map (behind k.Scope n.identifier_parts) xs) (dotted d))
+    ∙ ap (λ l. l ++ dotted d) (chain_same x xs)
     ∙ append_assoc (flat_map n.qualifier_parts (before_last x xs)) (n.identifier_parts (last_of x xs)) (dotted d)
 
 -- what the first word and the others spell
 pub reference_spells : (w : List ℕ) (xs : List (n.Identifier U)) (d : Option (n.Identifier U)) (ks rest : List Kind)
-    → Spells (flat_map (behind k.Scope n.identifier_parts) xs ++ dotted d) ks rest → Spells (n.reference_parts (reference_of (id w) xs d)) (word w ∷ ks) rest
-reference_spells w xs d ks rest sp = respell (chain_parts (id w) xs d) (n.reference_parts (reference_of (id w) xs d)) (word w ∷ ks) rest (reference_same (id w) xs d) (ks, refl, sp)
+    → Spells (flat_map (behind k.Scope n.identifier_parts) xs ++ dotted d) ks rest
+    → Spells (n.reference_parts (reference_of (id w) xs d)) (word w ∷ ks) rest
+reference_spells w xs d ks rest sp =
+    respell (chain_parts (id w) xs d) (n.reference_parts (reference_of (id w) xs d)) (word w ∷ ks) rest
+    (reference_same (id w) xs d) (ks, refl, sp)
 
 -- a spelled reference, by its first word
 pub record Chain (t : n.Reference U) (ks rest : List Kind) : Type 0 where
@@ -79,7 +85,10 @@ chain_of t ks rest sp =
     let x = first_of t.qualifiers t.type_name in
     let xs = behind_first t.qualifiers t.type_name in
     let made : t ≡ reference_of x xs t.implementation =
-    ap₂ (λ (q : List (n.Identifier U)) (z : n.Identifier U). let r : n.Reference U = record { qualifiers = q; type_name = z; implementation = t.implementation } in r)
+    ap₂ (λ (q : List (n.Identifier U)) (z : n.Identifier U). let r : n.Reference U =
+    record { qualifiers = q; type_name = z; implementation = t.implementation } in r)
     (sym (before_again t.qualifiers t.type_name)) (sym (last_again t.qualifiers t.type_name)) in
-    let again = respell (n.reference_parts t) (chain_parts x xs t.implementation) ks rest (ap n.reference_parts made ∙ sym (reference_same x xs t.implementation)) sp in
+    let again =
+    respell (n.reference_parts t) (chain_parts x xs t.implementation) ks rest
+    (ap n.reference_parts made ∙ sym (reference_same x xs t.implementation)) sp in
     record { first = x.spelling; others = xs; more = again.0; made = made; whole = again.1; spelled = again.2 }

@@ -36,7 +36,8 @@ abbrev after_sum : List Class
 after_sum = the k.Plus ∷ the k.Minus ∷ after_term
 
 abbrev after_relation : List Class
-after_relation = the k.Equal ∷ the k.NotEqual ∷ the k.Less ∷ the k.LessOrEqual ∷ the k.Greater ∷ the k.GreaterOrEqual ∷ after_sum
+after_relation =
+    the k.Equal ∷ the k.NotEqual ∷ the k.Less ∷ the k.LessOrEqual ∷ the k.Greater ∷ the k.GreaterOrEqual ∷ after_sum
 
 abbrev after_expression : List Class
 after_expression = the k.And ∷ the k.Or ∷ the k.Xor ∷ after_relation

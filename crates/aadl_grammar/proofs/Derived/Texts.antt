@@ -32,26 +32,34 @@ text zero wanted = None
 text (suc n) [] = Some []
 text (suc n) (x ∷ below) = cond (can_omit x) (text n below) (by_first (rows x) (text n) below)
 
-with_derives : (x : Symbol) (below : Stack) (r : Row) (o : Option (List Kind)) (ks : List Kind) → Member r (rows x) → ((more : List Kind) → o ≡ Some more → Derives (r.wanted ++ below) more)
+with_derives : (x : Symbol) (below : Stack) (r : Row) (o : Option (List Kind)) (ks : List Kind) → Member r (rows x)
+    → ((more : List Kind) → o ≡ Some more → Derives (r.wanted ++ below) more)
     → with_first (kind_with r.first (sample r.first)) o ≡ Some ks → Derives (x ∷ below) ks
 with_derives x below r None ks m h e = absurd cc
 with_derives x below r (Some more) ks m h e =
-    subst (λ (l : List Kind). Derives (x ∷ below) l) (same_Some _ ks e) (take x below r (kind_with r.first (sample r.first)) more m (fits_with r.first (sample r.first)) (h more refl))
+    subst (λ (l : List Kind). Derives (x ∷ below) l) (same_Some _ ks e)
+    (take x below r (kind_with r.first (sample r.first)) more m (fits_with r.first (sample r.first)) (h more refl))
 
-first_derives : (x : Symbol) (below : Stack) (rs : List Row) (later : Stack → Option (List Kind)) (ks : List Kind) → ((r : Row) → Member r rs → Member r (rows x))
-    → ((wanted : Stack) (more : List Kind) → later wanted ≡ Some more → Derives wanted more) → by_first rs later below ≡ Some ks → Derives (x ∷ below) ks
+first_derives : (x : Symbol) (below : Stack) (rs : List Row) (later : Stack → Option (List Kind)) (ks : List Kind)
+    → ((r : Row) → Member r rs → Member r (rows x))
+    → ((wanted : Stack) (more : List Kind) → later wanted ≡ Some more → Derives wanted more)
+    → by_first rs later below ≡ Some ks → Derives (x ∷ below) ks
 first_derives x below [] later ks m h e = absurd cc
-first_derives x below (r ∷ rs) later ks m h e = with_derives x below r (later (r.wanted ++ below)) ks (m r (inl refl)) (λ more g. h (r.wanted ++ below) more g) e
+first_derives x below (r ∷ rs) later ks m h e =
+    with_derives x below r (later (r.wanted ++ below)) ks (m r (inl refl)) (λ more g. h (r.wanted ++ below) more g) e
 
-omit_derives : (x : Symbol) (below : Stack) (n : ℕ) (ks : List Kind) → ((wanted : Stack) (more : List Kind) → text n wanted ≡ Some more → Derives wanted more)
-    → (b : Bool) → can_omit x ≡ b → cond b (text n below) (by_first (rows x) (text n) below) ≡ Some ks → Derives (x ∷ below) ks
+omit_derives : (x : Symbol) (below : Stack) (n : ℕ) (ks : List Kind)
+    → ((wanted : Stack) (more : List Kind) → text n wanted ≡ Some more → Derives wanted more)
+    → (b : Bool) → can_omit x ≡ b → cond b (text n below) (by_first (rows x) (text n) below) ≡ Some ks
+    → Derives (x ∷ below) ks
 omit_derives x below n ks h true o e = omit x below ks o (h below ks e)
 omit_derives x below n ks h false o e = first_derives x below (rows x) (text n) ks (λ r m. m) h e
 
 text_derives : (n : ℕ) (wanted : Stack) (ks : List Kind) → text n wanted ≡ Some ks → Derives wanted ks
 text_derives zero wanted ks e = absurd cc
 text_derives (suc n) [] ks e = subst (λ (l : List Kind). Derives [] l) (same_Some [] ks e) nothing
-text_derives (suc n) (x ∷ below) ks e = omit_derives x below n ks (λ wanted more h. text_derives n wanted more h) (can_omit x) refl e
+text_derives (suc n) (x ∷ below) ks e =
+    omit_derives x below n ks (λ wanted more h. text_derives n wanted more h) (can_omit x) refl e
 
 has_text : (x : Symbol) → is_some (text 40 (x ∷ [])) ≡ true
 has_text s.identifier = refl
@@ -68,7 +76,9 @@ text_of wanted (Some ks) e h = record { kinds = ks; derived = text_derives 40 wa
 derives_both : (a b : Stack) (ks ls : List Kind) → Derives a ks → Derives b ls → Derives (a ++ b) (ks ++ ls)
 derives_both [] b ks ls nothing e = e
 derives_both (x ∷ a) b ks ls (take _ _ r kind more m h d) e =
-    take x (a ++ b) r kind (more ++ ls) m h (subst (λ (w : Stack). Derives w (more ++ ls)) (append_assoc r.wanted a b) (derives_both (r.wanted ++ a) b more ls d e))
+    take x (a ++ b) r kind (more ++ ls) m h
+    (subst (λ (w : Stack). Derives w (more ++ ls)) (append_assoc r.wanted a b)
+    (derives_both (r.wanted ++ a) b more ls d e))
 derives_both (x ∷ a) b ks ls (omit _ _ _ o d) e = omit x (a ++ b) (ks ++ ls) o (derives_both a b ks ls d e)
 
 pub some_text : (wanted : Stack) → Text wanted
@@ -76,4 +86,7 @@ some_text [] = record { kinds = []; derived = nothing }
 some_text (x ∷ below) =
     let first = text_of (x ∷ []) (text 40 (x ∷ [])) refl (has_text x) in
     let rest = some_text below in
-    record { kinds = first.kinds ++ rest.kinds; derived = derives_both (x ∷ []) below first.kinds rest.kinds first.derived rest.derived }
+    record {
+      kinds = first.kinds ++ rest.kinds;
+      derived = derives_both (x ∷ []) below first.kinds rest.kinds first.derived rest.derived;
+    }

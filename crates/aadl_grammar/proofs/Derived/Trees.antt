@@ -53,22 +53,43 @@ pub record Head : Type 0 where
 -- a declaration without its category
 pub data Rest : Type 0 where
   type_rest : n.Identifier U → List (d.Feature U) → v.Associations U → List (x.Annex U) → n.Identifier U → Rest
-  implementation_rest : d.ImplementationName U → List (d.Subcomponent U) → List (d.Connection U) → v.Associations U → List (x.Annex U) → d.ImplementationName U → Rest
+  implementation_rest : d.ImplementationName U → List (d.Subcomponent U) → List (d.Connection U) → v.Associations U
+      → List (x.Annex U) → d.ImplementationName U → Rest
 
 abbrev pub declaration_of : Category → Rest → d.Declaration U
 declaration_of c (type_rest name features own annexes end_name) =
-    d.type (record { at = tt; category = c; name = name; features = features; properties = own; annexes = annexes; end_name = end_name })
+    d.type (record {
+      at = tt;
+      category = c;
+      name = name;
+      features = features;
+      properties = own;
+      annexes = annexes;
+      end_name = end_name;
+    })
 declaration_of c (implementation_rest name subs links own annexes end_name) =
-    d.implementation (record { at = tt; category = c; name = name; subcomponents = subs; connections = links; properties = own; annexes = annexes; end_name = end_name })
+    d.implementation (record {
+      at = tt;
+      category = c;
+      name = name;
+      subcomponents = subs;
+      connections = links;
+      properties = own;
+      annexes = annexes;
+      end_name = end_name;
+    })
 
 abbrev pub rest_parts : Rest → List (Part U)
 rest_parts (type_rest name features own annexes end_name) =
     n.identifier_parts name ++ (d.section_parts p.feature_section (flat_map d.feature_parts features)
-    ++ (d.section_parts p.property_section (v.associations_parts own) ++ (flat_map x.annex_parts annexes ++ d.ending_parts (n.identifier_parts end_name))))
+    ++ (d.section_parts p.property_section (v.associations_parts own)
+    ++ (flat_map x.annex_parts annexes ++ d.ending_parts (n.identifier_parts end_name))))
 rest_parts (implementation_rest name subs links own annexes end_name) =
     plain k.Implementation ∷ (d.implementation_name_parts name
-    ++ (d.section_parts p.subcomponent_section (flat_map d.subcomponent_parts subs) ++ (d.section_parts p.connection_section (flat_map d.connection_parts links)
-    ++ (d.section_parts p.property_section (v.associations_parts own) ++ (flat_map x.annex_parts annexes ++ d.ending_parts (d.implementation_name_parts end_name))))))
+    ++ (d.section_parts p.subcomponent_section (flat_map d.subcomponent_parts subs)
+    ++ (d.section_parts p.connection_section (flat_map d.connection_parts links)
+    ++ (d.section_parts p.property_section (v.associations_parts own)
+    ++ (flat_map x.annex_parts annexes ++ d.ending_parts (d.implementation_name_parts end_name))))))
 
 -- what a section has, behind its word
 abbrev pub section_rest : List (Part U) → List (Part U)
@@ -126,9 +147,12 @@ abbrev pub after_word_parts : Option (n.Identifier U) × Option (x.Guard U) → 
 after_word_parts (None, g) = guarded_parts g
 after_word_parts (Some y, g) = plain k.Colon ∷ (n.identifier_parts y ++ guarded_parts g)
 
-abbrev pub transition_of : n.Identifier U → Option (n.Identifier U) × Option (x.Guard U) → n.Identifier U → Option (a.Block U) → x.Transition U
-transition_of first (None, g) target effect = record { label = None; source = first; guard = g; target = target; effect = effect }
-transition_of first (Some y, g) target effect = record { label = Some first; source = y; guard = g; target = target; effect = effect }
+abbrev pub transition_of : n.Identifier U → Option (n.Identifier U) × Option (x.Guard U) → n.Identifier U
+    → Option (a.Block U) → x.Transition U
+transition_of first (None, g) target effect =
+    record { label = None; source = first; guard = g; target = target; effect = effect }
+transition_of first (Some y, g) target effect =
+    record { label = Some first; source = y; guard = g; target = target; effect = effect }
 
 abbrev pub TreeOf : Symbol → Type 0
 TreeOf (s.only m) = U

@@ -42,7 +42,8 @@ end_is (mark k.If) = refl
 end_is (mark _) = refl
 
 -- behind `end` all terminals but `if` open and close as ever
-pub opened_same : (n : ℕ) (ended : Bool) (kind : Kind) → (kind_number kind == class_number (the k.If)) ≡ false → opened n ended kind ≡ opened n false kind
+pub opened_same : (n : ℕ) (ended : Bool) (kind : Kind) → (kind_number kind == class_number (the k.If)) ≡ false
+    → opened n ended kind ≡ opened n false kind
 opened_same n false kind e = refl
 opened_same n true (word w) e = refl
 opened_same n true (whole w) e = refl
@@ -83,10 +84,13 @@ good false f = plain f
 
 -- what is open before the terminal of this number, and behind it
 abbrev pub changes : ℕ → ℕ → ℕ → Bool
-changes x before behind = cond (among x openers) (behind == before + 1) (cond (among x closers) (behind + 1 == before) (behind == before))
+changes x before behind =
+    cond (among x openers) (behind == before + 1) (cond (among x closers) (behind + 1 == before) (behind == before))
 
 abbrev pub row_shifts : Symbol → Row → Bool
-row_shifts x r = changes (class_number r.first) (closes x) (depth r.wanted) && good (class_number r.first == class_number (the k.End)) r.wanted
+row_shifts x r =
+    changes (class_number r.first) (closes x) (depth r.wanted)
+    && good (class_number r.first == class_number (the k.End)) r.wanted
 
 abbrev pub rows_shift : Symbol → List Row → Bool
 rows_shift x [] = true

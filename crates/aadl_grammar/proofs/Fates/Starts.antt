@@ -26,8 +26,13 @@ package_clear = (apart_means [] (tail s.a_package) refl, tt)
 
 pub body_clear : Clear annex_body
 unfolding tail
-body_clear =
-    (apart_means (first_of (s.states ∷ s.transitions ∷ [])) (tail s.variables) refl, (apart_means (first_of (s.transitions ∷ [])) (tail s.states) refl, (apart_means [] (tail s.transitions) refl, tt)))
+body_clear = (
+  apart_means (first_of (s.states ∷ s.transitions ∷ [])) (tail s.variables) refl,
+  (
+    apart_means (first_of (s.transitions ∷ [])) (tail s.states) refl,
+    (apart_means [] (tail s.transitions) refl, tt),
+  ),
+)
 
 -- places that do not count
 abbrev pub nowhere : ℕ → Unit {0}
@@ -40,10 +45,18 @@ abbrev pub body_of : Trees annex_body → AnnexTree (Unit {0})
 body_of y = record { variables = y.0; states = y.1.0; transitions = y.1.1.0 }
 
 pub package_text : (ks : List Kind) → Written whole_package ks → IsPackage ks
-package_text ks w = record { tree = package_to somewhere w.trees.0; spelled = alike_spells ks [] (package_alike somewhere w.trees.0) w.spelled }
+package_text ks w =
+    record {
+      tree = package_to somewhere w.trees.0;
+      spelled = alike_spells ks [] (package_alike somewhere w.trees.0) w.spelled;
+    }
 
 pub body_text : (ks : List Kind) → Written annex_body ks → IsBehaviour ks
-body_text ks w = record { tree = annex_tree_to somewhere (body_of w.trees); spelled = alike_spells ks [] (annex_tree_alike somewhere (body_of w.trees)) w.spelled }
+body_text ks w =
+    record {
+      tree = annex_tree_to somewhere (body_of w.trees);
+      spelled = alike_spells ks [] (annex_tree_alike somewhere (body_of w.trees)) w.spelled;
+    }
 
 abbrev pub package_trees : PackageTree (Unit {0}) → Trees whole_package
 package_trees t = (t, tt)
@@ -68,7 +81,9 @@ one_open = omega arith
 abbrev pub packages : Language IsPackage 0
 packages = record {
   start = whole_package;
-  derived = λ ks t. derives ks whole_package (package_trees (package_to nowhere t.tree)) (alike_spells ks [] (package_alike nowhere t.tree) t.spelled);
+  derived =
+      λ ks t. derives ks whole_package (package_trees (package_to nowhere t.tree))
+      (alike_spells ks [] (package_alike nowhere t.tree) t.spelled);
   text = λ ks d. package_text ks (written whole_package ks d);
   clear = package_clear;
   good = refl;
@@ -79,7 +94,9 @@ packages = record {
 abbrev pub behaviours : Language IsBehaviour 1
 behaviours = record {
   start = annex_body;
-  derived = λ ks t. derives ks annex_body (body_trees (annex_tree_to nowhere t.tree)) (alike_spells ks [] (annex_tree_alike nowhere t.tree) t.spelled);
+  derived =
+      λ ks t. derives ks annex_body (body_trees (annex_tree_to nowhere t.tree))
+      (alike_spells ks [] (annex_tree_alike nowhere t.tree) t.spelled);
   text = λ ks d. body_text ks (written annex_body ks d);
   clear = body_clear;
   good = refl;
@@ -87,18 +104,29 @@ behaviours = record {
   low = one_open;
 }
 
-pub one_package : (ks : List Kind) (t u : PackageTree (Unit {0})) → Spells (package_parts t) ks [] → Spells (package_parts u) ks [] → t ≡ u
-one_package ks t u sp sq = ap (λ (x : Trees whole_package). x.0) (one ks whole_package package_clear (package_trees t) (package_trees u) sp sq)
+pub one_package : (ks : List Kind) (t u : PackageTree (Unit {0})) → Spells (package_parts t) ks []
+    → Spells (package_parts u) ks [] → t ≡ u
+one_package ks t u sp sq =
+    ap (λ (x : Trees whole_package). x.0) (one ks whole_package package_clear (package_trees t) (package_trees u) sp sq)
 
-pub one_behaviour : (ks : List Kind) (t u : AnnexTree (Unit {0})) → Spells (annex_tree_parts t) ks [] → Spells (annex_tree_parts u) ks [] → t ≡ u
+pub one_behaviour : (ks : List Kind) (t u : AnnexTree (Unit {0})) → Spells (annex_tree_parts t) ks []
+    → Spells (annex_tree_parts u) ks [] → t ≡ u
 one_behaviour ks t u sp sq = ap body_of (one ks annex_body body_clear (body_trees t) (body_trees u) sp sq)
 
-pub package_kept : (ks : List Kind) (t u : PackageTree ℕ) → Spells (package_parts t) ks [] → Spells (package_parts u) ks [] → kept (package_parts t) ≡ kept (package_parts u)
+pub package_kept : (ks : List Kind) (t u : PackageTree ℕ) → Spells (package_parts t) ks []
+    → Spells (package_parts u) ks [] → kept (package_parts t) ≡ kept (package_parts u)
 package_kept ks t u sp sq =
-    let same = one_package ks (package_to nowhere t) (package_to nowhere u) (alike_spells ks [] (package_alike nowhere t) sp) (alike_spells ks [] (package_alike nowhere u) sq) in
-    alike_kept (package_alike nowhere t) ∙ ap (λ (x : PackageTree (Unit {0})). kept (package_parts x)) same ∙ sym (alike_kept (package_alike nowhere u))
+    let same =
+    one_package ks (package_to nowhere t) (package_to nowhere u) (alike_spells ks [] (package_alike nowhere t) sp)
+    (alike_spells ks [] (package_alike nowhere u) sq) in
+    alike_kept (package_alike nowhere t) ∙ ap (λ (x : PackageTree (Unit {0})). kept (package_parts x)) same
+    ∙ sym (alike_kept (package_alike nowhere u))
 
-pub behaviour_kept : (ks : List Kind) (t u : AnnexTree ℕ) → Spells (annex_tree_parts t) ks [] → Spells (annex_tree_parts u) ks [] → kept (annex_tree_parts t) ≡ kept (annex_tree_parts u)
+pub behaviour_kept : (ks : List Kind) (t u : AnnexTree ℕ) → Spells (annex_tree_parts t) ks []
+    → Spells (annex_tree_parts u) ks [] → kept (annex_tree_parts t) ≡ kept (annex_tree_parts u)
 behaviour_kept ks t u sp sq =
-    let same = one_behaviour ks (annex_tree_to nowhere t) (annex_tree_to nowhere u) (alike_spells ks [] (annex_tree_alike nowhere t) sp) (alike_spells ks [] (annex_tree_alike nowhere u) sq) in
-    alike_kept (annex_tree_alike nowhere t) ∙ ap (λ (x : AnnexTree (Unit {0})). kept (annex_tree_parts x)) same ∙ sym (alike_kept (annex_tree_alike nowhere u))
+    let same =
+    one_behaviour ks (annex_tree_to nowhere t) (annex_tree_to nowhere u)
+    (alike_spells ks [] (annex_tree_alike nowhere t) sp) (alike_spells ks [] (annex_tree_alike nowhere u) sq) in
+    alike_kept (annex_tree_alike nowhere t) ∙ ap (λ (x : AnnexTree (Unit {0})). kept (annex_tree_parts x)) same
+    ∙ sym (alike_kept (annex_tree_alike nowhere u))

@@ -53,14 +53,32 @@ Tells outer end wanted ts finished = Finishes outer wanted ts
 Tells outer end wanted ts (syntax_at at) = Stops outer end wanted ts at
 Tells outer end wanted ts (deep_at at) = Deepens outer wanted ts at
 
-tells_end : (outer end : ℕ) (wanted : Stack) → outer + depth wanted ≤ GREATEST_NESTING → (b : Bool) → ends wanted ≡ b → Tells outer end wanted [] (cond b finished (syntax_at end))
+tells_end : (outer end : ℕ) (wanted : Stack) → outer + depth wanted ≤ GREATEST_NESTING → (b : Bool) → ends wanted ≡ b
+    → Tells outer end wanted [] (cond b finished (syntax_at end))
 unfolding walk
-tells_end outer end wanted h true g = record { last = wanted; walked = refl; ended = g; within = within_nothing outer wanted h }
-tells_end outer end wanted h false g = record { seen = []; left = []; last = wanted; whole = refl; place = refl; walked = refl; stops = g; within = within_nothing outer wanted h }
+tells_end outer end wanted h true g =
+    record { last = wanted; walked = refl; ended = g; within = within_nothing outer wanted h }
+tells_end outer end wanted h false g =
+    record {
+      seen = [];
+      left = [];
+      last = wanted;
+      whole = refl;
+      place = refl;
+      walked = refl;
+      stops = g;
+      within = within_nothing outer wanted h;
+    }
 
-tells_more : (outer end : ℕ) (t : Spot) (ts : List Spot) (wanted next : Stack) → outer + depth wanted ≤ GREATEST_NESTING → step wanted t.kind ≡ Some next → (f : Fate) → Tells outer end next ts f → Tells outer end wanted (t ∷ ts) f
+tells_more : (outer end : ℕ) (t : Spot) (ts : List Spot) (wanted next : Stack) → outer + depth wanted ≤ GREATEST_NESTING
+    → step wanted t.kind ≡ Some next → (f : Fate) → Tells outer end next ts f → Tells outer end wanted (t ∷ ts) f
 tells_more outer end t ts wanted next h g finished r =
-    record { last = r.last; walked = walk_more wanted next t.kind (kinds_of ts) g ∙ r.walked; ended = r.ended; within = within_more outer wanted next t.kind (kinds_of ts) h g r.within }
+    record {
+      last = r.last;
+      walked = walk_more wanted next t.kind (kinds_of ts) g ∙ r.walked;
+      ended = r.ended;
+      within = within_more outer wanted next t.kind (kinds_of ts) h g r.within;
+    }
 tells_more outer end t ts wanted next h g (syntax_at at) r = record {
   seen = t ∷ r.seen;
   left = r.left;
@@ -85,8 +103,11 @@ tells_more outer end t ts wanted next h g (deep_at at) r = record {
   within = within_more outer wanted next t.kind (kinds_of r.seen) h g r.within;
 }
 
-tells_on : (outer end : ℕ) (t : Spot) (ts : List Spot) (wanted next : Stack) → outer + depth wanted ≤ GREATEST_NESTING → step wanted t.kind ≡ Some next → (outer + depth next ≤ GREATEST_NESTING → Tells outer end next ts (fate outer end next ts))
-    → (b : Bool) → nat_lt GREATEST_NESTING (outer + depth next) ≡ b → Tells outer end wanted (t ∷ ts) (cond b (deep_at t.at) (fate outer end next ts))
+tells_on : (outer end : ℕ) (t : Spot) (ts : List Spot) (wanted next : Stack) → outer + depth wanted ≤ GREATEST_NESTING
+    → step wanted t.kind ≡ Some next
+    → (outer + depth next ≤ GREATEST_NESTING → Tells outer end next ts (fate outer end next ts))
+    → (b : Bool) → nat_lt GREATEST_NESTING (outer + depth next) ≡ b
+    → Tells outer end wanted (t ∷ ts) (cond b (deep_at t.at) (fate outer end next ts))
 unfolding walk
 tells_on outer end t ts wanted next h g again true i = record {
   seen = [];
@@ -101,15 +122,32 @@ tells_on outer end t ts wanted next h g again true i = record {
   deep = bool.ltb-true GREATEST_NESTING (outer + depth next) i;
   within = within_nothing outer wanted h;
 }
-tells_on outer end t ts wanted next h g again false i = tells_more outer end t ts wanted next h g (fate outer end next ts) (again (bool.ltb-false GREATEST_NESTING (outer + depth next) i))
+tells_on outer end t ts wanted next h g again false i =
+    tells_more outer end t ts wanted next h g (fate outer end next ts)
+    (again (bool.ltb-false GREATEST_NESTING (outer + depth next) i))
 
-tells_by : (outer end : ℕ) (t : Spot) (ts : List Spot) (wanted : Stack) → outer + depth wanted ≤ GREATEST_NESTING → ((next : Stack) → outer + depth next ≤ GREATEST_NESTING → Tells outer end next ts (fate outer end next ts))
-    → (o : Option Stack) → step wanted t.kind ≡ o → Tells outer end wanted (t ∷ ts) (fate_after outer o t.at (λ next. fate outer end next ts))
+tells_by : (outer end : ℕ) (t : Spot) (ts : List Spot) (wanted : Stack) → outer + depth wanted ≤ GREATEST_NESTING
+    → ((next : Stack) → outer + depth next ≤ GREATEST_NESTING → Tells outer end next ts (fate outer end next ts))
+    → (o : Option Stack) → step wanted t.kind ≡ o
+    → Tells outer end wanted (t ∷ ts) (fate_after outer o t.at (λ next. fate outer end next ts))
 unfolding walk
-tells_by outer end t ts wanted h again None g = record { seen = []; left = t ∷ ts; last = wanted; whole = refl; place = refl; walked = refl; stops = g; within = within_nothing outer wanted h }
-tells_by outer end t ts wanted h again (Some next) g = tells_on outer end t ts wanted next h g (again next) (nat_lt GREATEST_NESTING (outer + depth next)) refl
+tells_by outer end t ts wanted h again None g =
+    record {
+      seen = [];
+      left = t ∷ ts;
+      last = wanted;
+      whole = refl;
+      place = refl;
+      walked = refl;
+      stops = g;
+      within = within_nothing outer wanted h;
+    }
+tells_by outer end t ts wanted h again (Some next) g =
+    tells_on outer end t ts wanted next h g (again next) (nat_lt GREATEST_NESTING (outer + depth next)) refl
 
-pub tells : (outer end : ℕ) (ts : List Spot) (wanted : Stack) → outer + depth wanted ≤ GREATEST_NESTING → Tells outer end wanted ts (fate outer end wanted ts)
+pub tells : (outer end : ℕ) (ts : List Spot) (wanted : Stack) → outer + depth wanted ≤ GREATEST_NESTING
+    → Tells outer end wanted ts (fate outer end wanted ts)
 unfolding fate
 tells outer end [] wanted h = tells_end outer end wanted h (ends wanted) refl
-tells outer end (t ∷ ts) wanted h = tells_by outer end t ts wanted h (λ next low. tells outer end ts next low) (step wanted t.kind) refl
+tells outer end (t ∷ ts) wanted h =
+    tells_by outer end t ts wanted h (λ next low. tells outer end ts next low) (step wanted t.kind) refl

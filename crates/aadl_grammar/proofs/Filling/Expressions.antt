@@ -65,7 +65,10 @@ mutual
       let s1 = split (e.expression_parts x) (token (mark k.ParenClose) [] ∷ []) (s0.back) (s0.rest) in
       let r1 = expression_fill x s1.front s1.first in
       let s2 = cut (mark k.ParenClose) [] (s1.back) (s1.second) in
-      record { tree = e.group at r1.tree; is = consed (joined (r1.is) (consed (sym (nil (s2.back) (s2.rest))) (s2.is)) (s1.is)) (s0.is) }
+      record {
+        tree = e.group at r1.tree;
+        is = consed (joined (r1.is) (consed (sym (nil (s2.back) (s2.rest))) (s2.is)) (s1.is)) (s0.is);
+      }
 
   pub factor_fill : Fills (e.Factor U) (e.Factor ℕ) e.factor_parts e.factor_parts
   factor_fill (e.absolute a x) b l =

@@ -40,7 +40,8 @@ qualifier_fill t b l =
     let s1 = cut (mark k.Scope) [] (s0.back) (s0.second) in
     record { tree = r1.tree; is = joined (r1.is) (consed (sym (nil (s1.back) (s1.rest))) (s1.is)) (s0.is) }
 
-pub dotted_fill : Fills (n.Identifier U) (n.Identifier ℕ) (behind k.Dot n.identifier_parts) (behind k.Dot n.identifier_parts)
+pub dotted_fill : Fills (n.Identifier U) (n.Identifier ℕ) (behind k.Dot n.identifier_parts)
+    (behind k.Dot n.identifier_parts)
 dotted_fill t b l =
     let s0 = cut (mark k.Dot) (n.identifier_parts t) (b) (l) in
     let r1 = identifier_fill t (s0.back) (s0.rest) in
@@ -48,9 +49,18 @@ dotted_fill t b l =
 
 pub reference_fill : Fills (n.Reference U) (n.Reference ℕ) n.reference_parts n.reference_parts
 reference_fill t b l =
-    let s0 = split (flat_map (n.qualifier_parts) t.qualifiers) (n.identifier_parts t.type_name ++ (parts_if (behind k.Dot n.identifier_parts) t.implementation)) (b) (l) in
+    let s0 =
+    split (flat_map (n.qualifier_parts) t.qualifiers)
+    (n.identifier_parts t.type_name ++ (parts_if (behind k.Dot n.identifier_parts) t.implementation)) (b) (l) in
     let r1 = list_fill (n.qualifier_parts) (n.qualifier_parts) (qualifier_fill) t.qualifiers s0.front s0.first in
-    let s1 = split (n.identifier_parts t.type_name) (parts_if (behind k.Dot n.identifier_parts) t.implementation) (s0.back) (s0.second) in
+    let s1 =
+    split (n.identifier_parts t.type_name) (parts_if (behind k.Dot n.identifier_parts) t.implementation) (s0.back)
+    (s0.second) in
     let r2 = identifier_fill t.type_name s1.front s1.first in
-    let r3 = option_fill (behind k.Dot n.identifier_parts) (behind k.Dot n.identifier_parts) (dotted_fill) t.implementation (s1.back) (s1.second) in
-    record { tree = record { qualifiers = r1.tree; type_name = r2.tree; implementation = r3.tree }; is = joined (r1.is) (joined (r2.is) (r3.is) (s1.is)) (s0.is) }
+    let r3 =
+    option_fill (behind k.Dot n.identifier_parts) (behind k.Dot n.identifier_parts) (dotted_fill) t.implementation
+    (s1.back) (s1.second) in
+    record {
+      tree = record { qualifiers = r1.tree; type_name = r2.tree; implementation = r3.tree };
+      is = joined (r1.is) (joined (r2.is) (r3.is) (s1.is)) (s0.is);
+    }

@@ -16,7 +16,13 @@ record Starts (kind : Kind) (more : List Kind) (ss : List Spot) : Type 0 where
 starts : (kind : Kind) (more : List Kind) (ss : List Spot) → kinds_of ss ≡ kind ∷ more → Starts kind more ss
 starts kind more [] e = absurd cc
 starts kind more (s ∷ ss) e =
-    record { spot = s; left = ss; is = refl; kind_is = heads s.kind kind (kinds_of ss) more e; kinds = tails s.kind kind (kinds_of ss) more e }
+    record {
+      spot = s;
+      left = ss;
+      is = refl;
+      kind_is = heads s.kind kind (kinds_of ss) more e;
+      kinds = tails s.kind kind (kinds_of ss) more e;
+    }
 
 -- terminals of these kinds stand before the others
 record Fronts (ks more : List Kind) (ss : List Spot) : Type 0 where
@@ -64,8 +70,20 @@ placed (token kind us ∷ a) ss rest (more, e, sp) =
     }
 placed (may extra ∷ a) ss rest (inl sp) =
     let r = placed a ss rest sp in
-    record { parts = may extra ∷ r.parts; left = r.left; like = (refl, r.like); written = inl r.written; kinds = r.kinds }
+    record {
+      parts = may extra ∷ r.parts;
+      left = r.left;
+      like = (refl, r.like);
+      written = inl r.written;
+      kinds = r.kinds;
+    }
 placed (may extra ∷ a) ss rest (inr (more, e, sp)) =
     let f = fronts (extra_kinds extra) more ss e in
     let r = placed a f.left rest (subst (λ (x : List Kind). Spells a x rest) (sym f.kinds) sp) in
-    record { parts = may extra ∷ r.parts; left = r.left; like = (refl, r.like); written = inr (f.left, f.have, r.written); kinds = r.kinds }
+    record {
+      parts = may extra ∷ r.parts;
+      left = r.left;
+      like = (refl, r.like);
+      written = inr (f.left, f.have, r.written);
+      kinds = r.kinds;
+    }

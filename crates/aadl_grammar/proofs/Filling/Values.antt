@@ -36,7 +36,8 @@ quantity_fill t b l =
     let r2 = option_fill (n.identifier_parts) (n.identifier_parts) (identifier_fill) t.unit (s0.back) (s0.second) in
     record { tree = record { number = r1.tree; unit = r2.tree }; is = joined (r1.is) (r2.is) (s0.is) }
 
-pub ranged_fill : Fills (v.Quantity U) (v.Quantity ℕ) (behind k.Range v.quantity_parts) (behind k.Range v.quantity_parts)
+pub ranged_fill : Fills (v.Quantity U) (v.Quantity ℕ) (behind k.Range v.quantity_parts)
+    (behind k.Range v.quantity_parts)
 ranged_fill t b l =
     let s0 = cut (mark k.Range) (v.quantity_parts t) (b) (l) in
     let r1 = quantity_fill t (s0.back) (s0.rest) in
@@ -46,7 +47,9 @@ pub applies_fill : Fills (List (n.Path U)) (List (n.Path ℕ)) v.applies_parts v
 applies_fill [] b l =
     record { tree = []; is = sym (nil (b) (l)) }
 applies_fill (t ∷ ts) b l =
-    let s0 = cut (mark k.Applies) (token (mark k.To) [] ∷ (n.path_parts t ++ (flat_map (behind k.Comma n.path_parts) ts))) (b) (l) in
+    let s0 =
+    cut (mark k.Applies) (token (mark k.To) []
+    ∷ (n.path_parts t ++ (flat_map (behind k.Comma n.path_parts) ts))) (b) (l) in
     let s1 = cut (mark k.To) (n.path_parts t ++ (flat_map (behind k.Comma n.path_parts) ts)) (s0.back) (s0.rest) in
     let s2 = split (n.path_parts t) (flat_map (behind k.Comma n.path_parts) ts) (s1.back) (s1.rest) in
     let r1 = path_fill t s2.front s2.first in
@@ -60,37 +63,58 @@ mutual
       let s1 = split (v.values_parts t) (token (mark k.ParenClose) [] ∷ []) (s0.back) (s0.rest) in
       let r1 = values_fill t s1.front s1.first in
       let s2 = cut (mark k.ParenClose) [] (s1.back) (s1.second) in
-      record { tree = v.list r1.tree; is = consed (joined (r1.is) (consed (sym (nil (s2.back) (s2.rest))) (s2.is)) (s1.is)) (s0.is) }
+      record {
+        tree = v.list r1.tree;
+        is = consed (joined (r1.is) (consed (sym (nil (s2.back) (s2.rest))) (s2.is)) (s1.is)) (s0.is);
+      }
   value_fill (v.fields t) b l =
       let s0 = cut (mark k.BracketOpen) (v.associations_parts t ++ (token (mark k.BracketClose) [] ∷ [])) (b) (l) in
       let s1 = split (v.associations_parts t) (token (mark k.BracketClose) [] ∷ []) (s0.back) (s0.rest) in
       let r1 = associations_fill t s1.front s1.first in
       let s2 = cut (mark k.BracketClose) [] (s1.back) (s1.second) in
-      record { tree = v.fields r1.tree; is = consed (joined (r1.is) (consed (sym (nil (s2.back) (s2.rest))) (s2.is)) (s1.is)) (s0.is) }
+      record {
+        tree = v.fields r1.tree;
+        is = consed (joined (r1.is) (consed (sym (nil (s2.back) (s2.rest))) (s2.is)) (s1.is)) (s0.is);
+      }
   value_fill (v.text t) b l =
       let s0 = cut (quoted t) [] (b) (l) in
       record { tree = v.text t; is = consed (sym (nil (s0.back) (s0.rest))) (s0.is) }
   value_fill (v.reference t) b l =
-      let s0 = cut (mark k.Reference) (token (mark k.ParenOpen) [] ∷ (n.path_parts t ++ (token (mark k.ParenClose) [] ∷ []))) (b) (l) in
+      let s0 =
+      cut (mark k.Reference) (token (mark k.ParenOpen) []
+      ∷ (n.path_parts t ++ (token (mark k.ParenClose) [] ∷ []))) (b) (l) in
       let s1 = cut (mark k.ParenOpen) (n.path_parts t ++ (token (mark k.ParenClose) [] ∷ [])) (s0.back) (s0.rest) in
       let s2 = split (n.path_parts t) (token (mark k.ParenClose) [] ∷ []) (s1.back) (s1.rest) in
       let r1 = path_fill t s2.front s2.first in
       let s3 = cut (mark k.ParenClose) [] (s2.back) (s2.second) in
-      record { tree = v.reference r1.tree; is = consed (consed (joined (r1.is) (consed (sym (nil (s3.back) (s3.rest))) (s3.is)) (s2.is)) (s1.is)) (s0.is) }
+      record {
+        tree = v.reference r1.tree;
+        is = consed (consed (joined (r1.is) (consed (sym (nil (s3.back) (s3.rest))) (s3.is)) (s2.is))
+            (s1.is)) (s0.is);
+      }
   value_fill (v.classifier t) b l =
-      let s0 = cut (mark k.Classifier) (token (mark k.ParenOpen) [] ∷ (n.reference_parts t ++ (token (mark k.ParenClose) [] ∷ []))) (b) (l) in
-      let s1 = cut (mark k.ParenOpen) (n.reference_parts t ++ (token (mark k.ParenClose) [] ∷ [])) (s0.back) (s0.rest) in
+      let s0 =
+      cut (mark k.Classifier) (token (mark k.ParenOpen) []
+      ∷ (n.reference_parts t ++ (token (mark k.ParenClose) [] ∷ []))) (b) (l) in
+      let s1 =
+      cut (mark k.ParenOpen) (n.reference_parts t ++ (token (mark k.ParenClose) [] ∷ [])) (s0.back) (s0.rest) in
       let s2 = split (n.reference_parts t) (token (mark k.ParenClose) [] ∷ []) (s1.back) (s1.rest) in
       let r1 = reference_fill t s2.front s2.first in
       let s3 = cut (mark k.ParenClose) [] (s2.back) (s2.second) in
-      record { tree = v.classifier r1.tree; is = consed (consed (joined (r1.is) (consed (sym (nil (s3.back) (s3.rest))) (s3.is)) (s2.is)) (s1.is)) (s0.is) }
+      record {
+        tree = v.classifier r1.tree;
+        is = consed (consed (joined (r1.is) (consed (sym (nil (s3.back) (s3.rest))) (s3.is)) (s2.is))
+            (s1.is)) (s0.is);
+      }
   value_fill (v.named t) b l =
       let r1 = reference_fill t (b) (l) in
       record { tree = v.named r1.tree; is = r1.is }
   value_fill (v.number t u) b l =
       let s0 = split (v.quantity_parts t) (parts_if (behind k.Range v.quantity_parts) u) (b) (l) in
       let r1 = quantity_fill t s0.front s0.first in
-      let r2 = option_fill (behind k.Range v.quantity_parts) (behind k.Range v.quantity_parts) (ranged_fill) u (s0.back) (s0.second) in
+      let r2 =
+      option_fill (behind k.Range v.quantity_parts) (behind k.Range v.quantity_parts) (ranged_fill) u (s0.back)
+      (s0.second) in
       record { tree = v.number r1.tree r2.tree; is = joined (r1.is) (r2.is) (s0.is) }
 
   pub values_fill : Fills (v.Values U) (v.Values ℕ) v.values_parts v.values_parts
@@ -114,17 +138,31 @@ mutual
 
   pub association_fill : Fills (v.Association U) (v.Association ℕ) v.association_parts v.association_parts
   association_fill (v.association a o c t ps) b l =
-      let s0 = split (n.name_parts a) (token (mark (v.association_mark o)) [] ∷ (marked_if k.Constant c ++ (v.value_parts t ++ (v.applies_parts ps ++ (token (mark k.Semicolon) [] ∷ []))))) (b) (l) in
+      let s0 =
+      split (n.name_parts a) (token (mark (v.association_mark o)) []
+      ∷ (marked_if k.Constant c
+      ++ (v.value_parts t ++ (v.applies_parts ps ++ (token (mark k.Semicolon) [] ∷ []))))) (b) (l) in
       let r1 = name_fill a s0.front s0.first in
-      let s1 = cut (mark (v.association_mark o)) (marked_if k.Constant c ++ (v.value_parts t ++ (v.applies_parts ps ++ (token (mark k.Semicolon) [] ∷ [])))) (s0.back) (s0.second) in
-      let s2 = split (marked_if k.Constant c) (v.value_parts t ++ (v.applies_parts ps ++ (token (mark k.Semicolon) [] ∷ []))) (s1.back) (s1.rest) in
+      let s1 =
+      cut (mark (v.association_mark o))
+      (marked_if k.Constant c ++ (v.value_parts t ++ (v.applies_parts ps ++ (token (mark k.Semicolon) [] ∷ []))))
+      (s0.back) (s0.second) in
+      let s2 =
+      split (marked_if k.Constant c) (v.value_parts t ++ (v.applies_parts ps ++ (token (mark k.Semicolon) [] ∷ [])))
+      (s1.back) (s1.rest) in
       let r2 = marked_fill k.Constant c s2.front s2.first in
-      let s3 = split (v.value_parts t) (v.applies_parts ps ++ (token (mark k.Semicolon) [] ∷ [])) (s2.back) (s2.second) in
+      let s3 =
+      split (v.value_parts t) (v.applies_parts ps ++ (token (mark k.Semicolon) [] ∷ [])) (s2.back) (s2.second) in
       let r3 = value_fill t s3.front s3.first in
       let s4 = split (v.applies_parts ps) (token (mark k.Semicolon) [] ∷ []) (s3.back) (s3.second) in
       let r4 = applies_fill ps s4.front s4.first in
       let s5 = cut (mark k.Semicolon) [] (s4.back) (s4.second) in
-      record { tree = v.association r1.tree o r2.tree r3.tree r4.tree; is = joined (r1.is) (consed (joined (r2.is) (joined (r3.is) (joined (r4.is) (consed (sym (nil (s5.back) (s5.rest))) (s5.is)) (s4.is)) (s3.is)) (s2.is)) (s1.is)) (s0.is) }
+      record {
+        tree = v.association r1.tree o r2.tree r3.tree r4.tree;
+        is = joined (r1.is) (consed
+            (joined (r2.is) (joined (r3.is) (joined (r4.is) (consed (sym (nil (s5.back) (s5.rest))) (s5.is)) (s4.is))
+            (s3.is)) (s2.is)) (s1.is)) (s0.is);
+      }
 
   pub associations_fill : Fills (v.Associations U) (v.Associations ℕ) v.associations_parts v.associations_parts
   associations_fill v.no_associations b l =
@@ -145,4 +183,7 @@ properties_fill (v.associate t u) b l =
     let r1 = association_fill t s2.front s2.first in
     let r2 = associations_fill u s2.back s2.second in
     let s3 = cut (mark k.BraceClose) [] s1.back s1.second in
-    record { tree = v.associate r1.tree r2.tree; is = consed (joined (joined r1.is r2.is s2.is) (consed (sym (nil s3.back s3.rest)) s3.is) s1.is) s0.is }
+    record {
+      tree = v.associate r1.tree r2.tree;
+      is = consed (joined (joined r1.is r2.is s2.is) (consed (sym (nil s3.back s3.rest)) s3.is) s1.is) s0.is;
+    }

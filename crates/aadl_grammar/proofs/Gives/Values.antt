@@ -48,13 +48,38 @@ pub unit_give : AllGive s.unit (rows s.unit) unit_builders
 unit_give = ((λ w ts ks rest sp. (ks, refl, sp)), tt)
 
 pub quantity_give : AllGive s.quantity (rows s.quantity) quantity_builders
-quantity_give = ((λ w ts ks rest sp. (ks, refl, sp)), ((λ w ts ks rest sp. (ks, refl, sp)), ((λ w ts ks rest sp. (ks, refl, sp)), ((λ w ts ks rest sp. (ks, refl, sp)), tt))))
+quantity_give = (
+  (λ w ts ks rest sp. (ks, refl, sp)),
+  (
+    (λ w ts ks rest sp. (ks, refl, sp)),
+    ((λ w ts ks rest sp. (ks, refl, sp)), ((λ w ts ks rest sp. (ks, refl, sp)), tt)),
+  ),
+)
 
 pub upper_give : AllGive s.upper (rows s.upper) upper_builders
 upper_give = ((λ w ts ks rest sp. (ks, refl, sp)), tt)
 
 pub value_give : AllGive s.value (rows s.value) value_builders
-value_give = ((λ w ts ks rest sp. (ks, refl, sp)), ((λ w ts ks rest sp. reference_spells w ts.0 ts.1.0 ks rest sp), ((λ w ts ks rest sp. (ks, refl, sp)), ((λ w ts ks rest sp. (ks, refl, sp)), ((λ w ts ks rest sp. (ks, refl, sp)), ((λ w ts ks rest sp. (ks, refl, sp)), behind_give s.value s.quantity (s.upper ∷ []) (rows s.quantity) value_joins quantity_builders (λ u ts. refl) quantity_give))))))
+value_give = (
+  (λ w ts ks rest sp. (ks, refl, sp)),
+  (
+    (λ w ts ks rest sp. reference_spells w ts.0 ts.1.0 ks rest sp),
+    (
+      (λ w ts ks rest sp. (ks, refl, sp)),
+      (
+        (λ w ts ks rest sp. (ks, refl, sp)),
+        (
+          (λ w ts ks rest sp. (ks, refl, sp)),
+          (
+            (λ w ts ks rest sp. (ks, refl, sp)),
+            behind_give s.value s.quantity (s.upper ∷ []) (rows s.quantity) value_joins
+                quantity_builders (λ u ts. refl) quantity_give,
+          ),
+        ),
+      ),
+    ),
+  ),
+)
 
 pub path_group_give : AllGive s.path_group (rows s.path_group) path_group_builders
 path_group_give = ((λ w ts ks rest sp. (ks, refl, sp)), tt)
@@ -63,7 +88,9 @@ pub reference_group_give : AllGive s.reference_group (rows s.reference_group) re
 reference_group_give = ((λ w ts ks rest sp. (ks, refl, sp)), tt)
 
 pub values_give : AllGive s.values (rows s.values) values_builders
-values_give = behind_give s.values s.value (s.more_values ∷ []) (rows s.value) values_joins value_builders (λ u ts. refl) value_give
+values_give =
+    behind_give s.values s.value (s.more_values ∷ []) (rows s.value) values_joins value_builders
+    (λ u ts. refl) value_give
 
 pub more_values_give : AllGive s.more_values (rows s.more_values) more_values_builders
 more_values_give = ((λ w ts ks rest sp. (ks, refl, sp)), tt)
@@ -84,7 +111,17 @@ pub association_give : AllGive s.association (rows s.association) association_bu
 association_give = ((λ w ts ks rest sp. (ks, refl, sp)), tt)
 
 pub associations_give : AllGive s.associations (rows s.associations) associations_builders
-associations_give = behind_give s.associations s.association (s.associations ∷ []) (rows s.association) associations_joins association_builders (λ u ts. refl) association_give
+associations_give =
+    behind_give s.associations s.association (s.associations ∷ []) (rows s.association) associations_joins
+    association_builders (λ u ts. refl) association_give
 
 pub properties_give : AllGive s.properties (rows s.properties) properties_builders
-properties_give = ((λ w ts ks rest sp. (ks, refl, respell _ _ ks rest (regroup (v.association_parts ts.0) (v.associations_parts ts.1.0) (plain k.BraceClose ∷ [])) sp)), tt)
+properties_give = (
+  (λ w ts ks rest sp. (
+    ks,
+    refl,
+    respell _ _ ks rest (regroup (v.association_parts ts.0) (v.associations_parts ts.1.0)
+        (plain k.BraceClose ∷ [])) sp,
+  )),
+  tt,
+)

@@ -19,11 +19,14 @@ use Rattle.aadl_grammar.proofs.Opens.Actions.{block_opens}
 use Rattle.aadl_grammar.proofs.Gives.Annexes.{body_same}
 
 pub variable_opens : Opens s.variable variable_builders
-variable_opens t ks rest (more, e, sp) = inl (uses t.names.first.spelling (t.names.rest, (tt, (t.data_type, (t.properties, (tt, tt))))) more e sp)
+variable_opens t ks rest (more, e, sp) =
+    inl (uses t.names.first.spelling (t.names.rest, (tt, (t.data_type, (t.properties, (tt, tt))))) more e sp)
 
 pub variable_list_opens : OpensOr s.variable_list variable_list_builders []
 variable_list_opens [] ks rest e = inr (refl, e)
-variable_list_opens (x ∷ xs) ks rest sp = inl (behind_opens s.variable_list s.variable (s.variable_list ∷ []) (rows s.variable) variable_list_joins variable_builders x (xs, tt) ks rest (variable_opens x ks) sp)
+variable_list_opens (x ∷ xs) ks rest sp =
+    inl (behind_opens s.variable_list s.variable (s.variable_list ∷ []) (rows s.variable) variable_list_joins
+    variable_builders x (xs, tt) ks rest (variable_opens x ks) sp)
 
 pub variables_opens : OpensOr s.variables variables_builders None
 variables_opens None ks rest e = inr (refl, e)
@@ -38,11 +41,14 @@ complete_opens false ks rest e = inr (refl, e)
 complete_opens true ks rest (more, e, sp) = inl (inl (uses tt tt more e sp))
 
 pub state_opens : Opens s.state state_builders
-state_opens t ks rest (more, e, sp) = inl (uses t.names.first.spelling (t.names.rest, (tt, (t.initial, (t.complete, (tt, (tt, tt)))))) more e sp)
+state_opens t ks rest (more, e, sp) =
+    inl (uses t.names.first.spelling (t.names.rest, (tt, (t.initial, (t.complete, (tt, (tt, tt)))))) more e sp)
 
 pub state_list_opens : OpensOr s.state_list state_list_builders []
 state_list_opens [] ks rest e = inr (refl, e)
-state_list_opens (x ∷ xs) ks rest sp = inl (behind_opens s.state_list s.state (s.state_list ∷ []) (rows s.state) state_list_joins state_builders x (xs, tt) ks rest (state_opens x ks) sp)
+state_list_opens (x ∷ xs) ks rest sp =
+    inl (behind_opens s.state_list s.state (s.state_list ∷ []) (rows s.state) state_list_joins state_builders x (xs, tt)
+    ks rest (state_opens x ks) sp)
 
 pub states_opens : OpensOr s.states states_builders None
 states_opens None ks rest e = inr (refl, e)
@@ -52,7 +58,9 @@ pub guard_opens : OpensOr s.guard guard_builders None
 guard_opens None ks rest e = inr (refl, e)
 guard_opens (Some x.dispatch) ks rest (more, e, sp) = inl (inl (uses tt (tt, tt) more e sp))
 guard_opens (Some x.otherwise) ks rest (more, e, sp) = inl (inr (inl (uses tt tt more e sp)))
-guard_opens (Some (x.when y)) ks rest sp = inl (inr (inr (behind_opens s.guard s.expression [] (rows s.expression) guard_joins expression_builders y tt ks rest (expression_opens y ks) (respell _ _ ks rest (sym (append-nil (parts s.expression y))) sp))))
+guard_opens (Some (x.when y)) ks rest sp =
+    inl (inr (inr (behind_opens s.guard s.expression [] (rows s.expression) guard_joins expression_builders y tt ks rest
+    (expression_opens y ks) (respell _ _ ks rest (sym (append-nil (parts s.expression y))) sp))))
 
 pub guarded_opens : Opens s.guarded guarded_builders
 guarded_opens t ks rest (more, e, sp) = inl (uses tt (t, (tt, tt)) more e sp)
@@ -63,19 +71,48 @@ after_word_opens (Some y, g) ks rest (more, e, sp) = inl (uses tt (y, (g, tt)) m
 
 pub effect_opens : OpensOr s.effect effect_builders None
 effect_opens None ks rest e = inr (refl, e)
-effect_opens (Some x) ks rest sp = inl (behind_opens s.effect s.block [] (rows s.block) effect_joins block_builders x tt ks rest (block_opens x ks) (respell _ _ ks rest (sym (append-nil (parts s.block x))) sp))
+effect_opens (Some x) ks rest sp =
+    inl (behind_opens s.effect s.block [] (rows s.block) effect_joins block_builders x tt ks rest (block_opens x ks)
+    (respell _ _ ks rest (sym (append-nil (parts s.block x))) sp))
 
-transition_by : (y : Option (n.Identifier U)) (first : n.Identifier U) (g : Option (x.Guard U)) (target : n.Identifier U) (effect : Option (a.Block U)) (ks rest : List Kind)
-    → Spells (parts s.transition (record { label = y; source = first; guard = g; target = target; effect = effect })) ks rest → InRows s.transition (rows s.transition) transition_builders (record { label = y; source = first; guard = g; target = target; effect = effect }) ks rest
-transition_by None first g target effect ks rest (more, e, (m, i, sp)) = inl (uses first.spelling ((None, g), (target, (effect, (tt, tt)))) more e (m, i, respell _ _ m rest (sym (append_assoc (parts_if x.guard_parts g) (plain k.GuardClose ∷ []) (n.identifier_parts target ++ (parts_if a.block_parts effect ++ plain k.Semicolon ∷ [])))) sp))
-transition_by (Some y) first g target effect ks rest (more, e, (l, f, (q, h, (m, i, sp)))) = inl (uses y.spelling ((Some first, g), (target, (effect, (tt, tt)))) more e (l, f, (q, h, (m, i, respell _ _ m rest (sym (append_assoc (parts_if x.guard_parts g) (plain k.GuardClose ∷ []) (n.identifier_parts target ++ (parts_if a.block_parts effect ++ plain k.Semicolon ∷ [])))) sp))))
+transition_by : (y : Option (n.Identifier U)) (first : n.Identifier U) (g : Option (x.Guard U))
+    (target : n.Identifier U) (effect : Option (a.Block U)) (ks rest : List Kind)
+    → Spells (parts s.transition (record { label = y; source = first; guard = g; target = target; effect = effect })) ks
+    rest → InRows s.transition (rows s.transition) transition_builders
+    (record { label = y; source = first; guard = g; target = target; effect = effect }) ks rest
+transition_by None first g target effect ks rest (more, e, (m, i, sp)) =
+    inl (uses first.spelling ((None, g), (target, (effect, (tt, tt)))) more e (
+      m,
+      i,
+      respell _ _ m rest
+          (sym (append_assoc (parts_if x.guard_parts g) (plain k.GuardClose ∷ [])
+          (n.identifier_parts target ++ (parts_if a.block_parts effect ++ plain k.Semicolon ∷ [])))) sp,
+    ))
+transition_by (Some y) first g target effect ks rest (more, e, (l, f, (q, h, (m, i, sp)))) =
+    inl (uses y.spelling ((Some first, g), (target, (effect, (tt, tt)))) more e (
+      l,
+      f,
+      (
+        q,
+        h,
+        (
+          m,
+          i,
+          respell _ _ m rest
+              (sym (append_assoc (parts_if x.guard_parts g) (plain k.GuardClose ∷ [])
+              (n.identifier_parts target ++ (parts_if a.block_parts effect ++ plain k.Semicolon ∷ [])))) sp,
+        ),
+      ),
+    ))
 
 pub transition_opens : Opens s.transition transition_builders
 transition_opens t ks rest sp = transition_by t.label t.source t.guard t.target t.effect ks rest sp
 
 pub transition_list_opens : OpensOr s.transition_list transition_list_builders []
 transition_list_opens [] ks rest e = inr (refl, e)
-transition_list_opens (x ∷ xs) ks rest sp = inl (behind_opens s.transition_list s.transition (s.transition_list ∷ []) (rows s.transition) transition_list_joins transition_builders x (xs, tt) ks rest (transition_opens x ks) sp)
+transition_list_opens (x ∷ xs) ks rest sp =
+    inl (behind_opens s.transition_list s.transition (s.transition_list ∷ []) (rows s.transition) transition_list_joins
+    transition_builders x (xs, tt) ks rest (transition_opens x ks) sp)
 
 pub transitions_opens : OpensOr s.transitions transitions_builders None
 transitions_opens None ks rest e = inr (refl, e)
@@ -83,11 +120,17 @@ transitions_opens (Some y) ks rest (more, e, sp) = inl (inl (uses tt (y, tt) mor
 
 pub content_opens : Opens s.content content_builders
 content_opens (x.foreign y) ks rest (more, e, sp) = inl (uses y tt more e sp)
-content_opens (x.behaviour y) ks rest (more, e, sp) = inr (inl (uses tt (y.variables, (y.states, (y.transitions, (tt, tt)))) more e (respell _ _ more rest (sym (body_same (parts s.variables y.variables) (parts s.states y.states) (parts s.transitions y.transitions) (plain k.AnnexClose ∷ []))) sp)))
+content_opens (x.behaviour y) ks rest (more, e, sp) =
+    inr (inl (uses tt (y.variables, (y.states, (y.transitions, (tt, tt)))) more e
+    (respell _ _ more rest (sym
+    (body_same (parts s.variables y.variables) (parts s.states y.states) (parts s.transitions y.transitions)
+    (plain k.AnnexClose ∷ []))) sp)))
 
 pub annex_opens : Opens s.annex annex_builders
 annex_opens t ks rest (more, e, sp) = inl (uses tt (t.language, (t.content, (tt, tt))) more e sp)
 
 pub annexes_opens : OpensOr s.annexes annexes_builders []
 annexes_opens [] ks rest e = inr (refl, e)
-annexes_opens (x ∷ xs) ks rest sp = inl (behind_opens s.annexes s.annex (s.annexes ∷ []) (rows s.annex) annexes_joins annex_builders x (xs, tt) ks rest (annex_opens x ks) sp)
+annexes_opens (x ∷ xs) ks rest sp =
+    inl (behind_opens s.annexes s.annex (s.annexes ∷ []) (rows s.annex) annexes_joins annex_builders x (xs, tt) ks rest
+    (annex_opens x ks) sp)

@@ -39,7 +39,14 @@ more_identifiers_opens (x ∷ xs) ks rest (more, e, sp) = inl (inl (uses tt (x, 
 pub reference_opens : Opens s.reference reference_builders
 reference_opens t ks rest sp =
     let c = chain_of t ks rest sp in
-    inl (record { content = c.first; trees = (c.others, (t.implementation, tt)); more = c.more; made = c.made; whole = c.whole; spelled = c.spelled })
+    inl (record {
+      content = c.first;
+      trees = (c.others, (t.implementation, tt));
+      more = c.more;
+      made = c.made;
+      whole = c.whole;
+      spelled = c.spelled;
+    })
 
 pub dot_identifier_opens : OpensOr s.dot_identifier dot_identifier_builders None
 dot_identifier_opens None ks rest e = inr (refl, e)
@@ -53,8 +60,10 @@ pub unit_opens : OpensOr s.unit unit_builders None
 unit_opens None ks rest e = inr (refl, e)
 unit_opens (Some x) ks rest (more, e, sp) = inl (inl (uses x.spelling tt more e sp))
 
-quantity_by : (sign : Option Sign) (g : v.Figure) (u : Option (n.Identifier U)) (ks rest : List Kind) → Spells (parts s.quantity (record { number = record { sign = sign; figure = g }; unit = u })) ks rest
-    → InRows s.quantity (rows s.quantity) quantity_builders (record { number = record { sign = sign; figure = g }; unit = u }) ks rest
+quantity_by : (sign : Option Sign) (g : v.Figure) (u : Option (n.Identifier U)) (ks rest : List Kind)
+    → Spells (parts s.quantity (record { number = record { sign = sign; figure = g }; unit = u })) ks rest
+    → InRows s.quantity (rows s.quantity) quantity_builders
+    (record { number = record { sign = sign; figure = g }; unit = u }) ks rest
 quantity_by None (v.whole_figure w) u ks rest (more, e, sp) = inr (inr (inl (uses w (u, tt) more e sp)))
 quantity_by None (v.real_figure w) u ks rest (more, e, sp) = inr (inr (inr (inl (uses w (u, tt) more e sp))))
 quantity_by (Some signs.Plus) g u ks rest (more, e, sp) = inl (uses tt (g, (u, tt)) more e sp)
@@ -71,12 +80,22 @@ pub value_opens : Opens s.value value_builders
 value_opens (v.text x) ks rest (more, e, sp) = inl (uses x tt more e sp)
 value_opens (v.named x) ks rest sp =
     let c = chain_of x ks rest sp in
-    inr (inl (record { content = c.first; trees = (c.others, (x.implementation, tt)); more = c.more; made = ap v.named c.made; whole = c.whole; spelled = c.spelled }))
+    inr (inl (record {
+      content = c.first;
+      trees = (c.others, (x.implementation, tt));
+      more = c.more;
+      made = ap v.named c.made;
+      whole = c.whole;
+      spelled = c.spelled;
+    }))
 value_opens (v.list x) ks rest (more, e, sp) = inr (inr (inl (uses tt (x, (tt, tt)) more e sp)))
 value_opens (v.fields x) ks rest (more, e, sp) = inr (inr (inr (inl (uses tt (x, (tt, tt)) more e sp))))
 value_opens (v.reference x) ks rest (more, e, sp) = inr (inr (inr (inr (inl (uses tt (x, tt) more e sp)))))
 value_opens (v.classifier x) ks rest (more, e, sp) = inr (inr (inr (inr (inr (inl (uses tt (x, tt) more e sp))))))
-value_opens (v.number x y) ks rest sp = inr (inr (inr (inr (inr (inr (behind_opens s.value s.quantity (s.upper ∷ []) (rows s.quantity) value_joins quantity_builders x (y, tt) ks rest (quantity_opens x ks) sp))))))
+value_opens (v.number x y) ks rest sp =
+    inr (inr (inr (inr (inr (inr
+    (behind_opens s.value s.quantity (s.upper ∷ []) (rows s.quantity) value_joins quantity_builders x (y, tt) ks
+    rest (quantity_opens x ks) sp))))))
 
 pub path_group_opens : Opens s.path_group path_group_builders
 path_group_opens t ks rest (more, e, sp) = inl (uses tt (t, (tt, tt)) more e sp)
@@ -86,7 +105,9 @@ reference_group_opens t ks rest (more, e, sp) = inl (uses tt (t, (tt, tt)) more 
 
 pub values_opens : OpensOr s.values values_builders v.no_values
 values_opens v.no_values ks rest e = inr (refl, e)
-values_opens (v.value x y) ks rest sp = inl (behind_opens s.values s.value (s.more_values ∷ []) (rows s.value) values_joins value_builders x (y, tt) ks rest (value_opens x ks) sp)
+values_opens (v.value x y) ks rest sp =
+    inl (behind_opens s.values s.value (s.more_values ∷ []) (rows s.value) values_joins value_builders x (y, tt) ks rest
+    (value_opens x ks) sp)
 
 pub more_values_opens : OpensOr s.more_values more_values_builders v.no_values
 more_values_opens v.no_values ks rest e = inr (refl, e)
@@ -109,12 +130,18 @@ more_paths_opens [] ks rest e = inr (refl, e)
 more_paths_opens (x ∷ xs) ks rest (more, e, sp) = inl (inl (uses tt (x, (xs, tt)) more e sp))
 
 pub association_opens : Opens s.association association_builders
-association_opens (v.association name operator constant x paths) ks rest (more, e, sp) = inl (uses name.first.spelling (name.rest, (operator, (constant, (x, (paths, (tt, tt)))))) more e sp)
+association_opens (v.association name operator constant x paths) ks rest (more, e, sp) =
+    inl (uses name.first.spelling (name.rest, (operator, (constant, (x, (paths, (tt, tt)))))) more e sp)
 
 pub associations_opens : OpensOr s.associations associations_builders v.no_associations
 associations_opens v.no_associations ks rest e = inr (refl, e)
-associations_opens (v.associate x y) ks rest sp = inl (behind_opens s.associations s.association (s.associations ∷ []) (rows s.association) associations_joins association_builders x (y, tt) ks rest (association_opens x ks) sp)
+associations_opens (v.associate x y) ks rest sp =
+    inl (behind_opens s.associations s.association (s.associations ∷ []) (rows s.association) associations_joins
+    association_builders x (y, tt) ks rest (association_opens x ks) sp)
 
 pub properties_opens : OpensOr s.properties properties_builders v.no_associations
 properties_opens v.no_associations ks rest e = inr (refl, e)
-properties_opens (v.associate x y) ks rest (more, e, sp) = inl (inl (uses tt (x, (y, (tt, tt))) more e (respell _ _ more rest (append_assoc (v.association_parts x) (v.associations_parts y) (plain k.BraceClose ∷ [])) sp)))
+properties_opens (v.associate x y) ks rest (more, e, sp) =
+    inl (inl (uses tt (x, (y, (tt, tt))) more e
+    (respell _ _ more rest (append_assoc (v.association_parts x) (v.associations_parts y)
+    (plain k.BraceClose ∷ [])) sp)))

@@ -18,18 +18,28 @@ use Rattle.aadl_grammar.proofs.Placed.Annexes.{annex_tree_fixed}
 use Rattle.aadl_grammar.proofs.Placed.Declarations.{package_fixed}
 
 -- two trees of one tree without places
-from_bare : {T U : Type 0} (to : T → U) (parts : T → List (Part ℕ)) (bare : U → List (Part (Unit {0}))) → ((t : T) → Alike no_place (parts t) (bare (to t))) → Fixed T U to parts
+from_bare : {T U : Type 0} (to : T → U) (parts : T → List (Part ℕ)) (bare : U → List (Part (Unit {0})))
+    → ((t : T) → Alike no_place (parts t) (bare (to t))) → Fixed T U to parts
     → (ss : List Spot) (t u : T) → to t ≡ to u → Written (parts t) ss [] → Written (parts u) ss [] → t ≡ u
 from_bare to parts bare alike f ss t u e w v =
-    let r = f t u [] [] e (same_places (parts t) (parts u) ss (alike_shape (alike t) ∙ ap (λ x. shape (bare x)) e ∙ sym (alike_shape (alike u))) w v) in
+    let r =
+    f t u [] [] e (same_places (parts t) (parts u) ss
+    (alike_shape (alike t) ∙ ap (λ x. shape (bare x)) e ∙ sym (alike_shape (alike u))) w v) in
     r.tree
 
-pub one_placed_package : (ss : List Spot) (t u : PackageTree ℕ) → Written (package_parts t) ss [] → Written (package_parts u) ss [] → t ≡ u
-one_placed_package ss t u w v = from_bare (package_to no_place) package_parts package_parts (package_alike no_place) package_fixed ss t u
+pub one_placed_package : (ss : List Spot) (t u : PackageTree ℕ) → Written (package_parts t) ss []
+    → Written (package_parts u) ss [] → t ≡ u
+one_placed_package ss t u w v =
+    from_bare (package_to no_place) package_parts package_parts (package_alike no_place) package_fixed ss t u
     (one_package (kinds_of ss) (package_to no_place t) (package_to no_place u)
-    (alike_spells (kinds_of ss) [] (package_alike no_place t) (written_spells (package_parts t) ss [] w)) (alike_spells (kinds_of ss) [] (package_alike no_place u) (written_spells (package_parts u) ss [] v))) w v
+    (alike_spells (kinds_of ss) [] (package_alike no_place t) (written_spells (package_parts t) ss [] w))
+    (alike_spells (kinds_of ss) [] (package_alike no_place u) (written_spells (package_parts u) ss [] v))) w v
 
-pub one_placed_behaviour : (ss : List Spot) (t u : AnnexTree ℕ) → Written (annex_tree_parts t) ss [] → Written (annex_tree_parts u) ss [] → t ≡ u
-one_placed_behaviour ss t u w v = from_bare (annex_tree_to no_place) annex_tree_parts annex_tree_parts (annex_tree_alike no_place) annex_tree_fixed ss t u
+pub one_placed_behaviour : (ss : List Spot) (t u : AnnexTree ℕ) → Written (annex_tree_parts t) ss []
+    → Written (annex_tree_parts u) ss [] → t ≡ u
+one_placed_behaviour ss t u w v =
+    from_bare (annex_tree_to no_place) annex_tree_parts annex_tree_parts (annex_tree_alike no_place)
+    annex_tree_fixed ss t u
     (one_behaviour (kinds_of ss) (annex_tree_to no_place t) (annex_tree_to no_place u)
-    (alike_spells (kinds_of ss) [] (annex_tree_alike no_place t) (written_spells (annex_tree_parts t) ss [] w)) (alike_spells (kinds_of ss) [] (annex_tree_alike no_place u) (written_spells (annex_tree_parts u) ss [] v))) w v
+    (alike_spells (kinds_of ss) [] (annex_tree_alike no_place t) (written_spells (annex_tree_parts t) ss [] w))
+    (alike_spells (kinds_of ss) [] (annex_tree_alike no_place u) (written_spells (annex_tree_parts u) ss [] v))) w v

@@ -33,14 +33,19 @@ leading_one l xs = by_sign l.sign l.at xs where
   by_sign signs.Plus at ys = refl
   by_sign signs.Minus at ys = refl
 
-leading_fixed : Fixed (Option (e.LeadingSign ℕ)) (Option (e.LeadingSign U)) (option_map (leading_to no_place)) (parts_if e.leading_parts)
+leading_fixed : Fixed (Option (e.LeadingSign ℕ)) (Option (e.LeadingSign U)) (option_map (leading_to no_place))
+    (parts_if e.leading_parts)
 leading_fixed None None xs ys s h = record { tree = refl; rest = h }
 leading_fixed (Some l) (Some m) xs ys s h =
     let g : l.at ∷ xs ≡ m.at ∷ ys = sym (leading_one l xs) ∙ h ∙ leading_one m ys in
     let i : leading_to no_place l ≡ leading_to no_place m = cc in
     let j : l.sign ≡ m.sign = ap (λ (x : e.LeadingSign U). x.sign) i in
     let a : l.at ≡ m.at = cc in
-    record { tree = ap₂ (λ (v : ℕ) (w : Sign). let r : Option (e.LeadingSign ℕ) = Some (record { at = v; sign = w }) in r) a j; rest = cc }
+    record {
+      tree = ap₂ (λ (v : ℕ) (w : Sign). let r : Option (e.LeadingSign ℕ) = Some (record { at = v; sign = w }) in
+          r) a j;
+      rest = cc;
+    }
 leading_fixed None (Some m) xs ys s h = absurd cc
 leading_fixed (Some l) None xs ys s h = absurd cc
 
@@ -50,27 +55,37 @@ mutual
   primary_fixed (e.truth at true) (e.truth bt true) xs ys s h = record { tree = cc; rest = cc }
   primary_fixed (e.truth at false) (e.truth bt false) xs ys s h = record { tree = cc; rest = cc }
   primary_fixed (e.named x b) (e.named y c) xs ys s h =
-      let a = identifier_fixed x y _ _ (cc) (in_turn (n.identifier_parts x) (e.fresh_parts b) (n.identifier_parts y) (e.fresh_parts c) xs ys h) in
+      let a =
+      identifier_fixed x y _ _ (cc)
+      (in_turn (n.identifier_parts x) (e.fresh_parts b) (n.identifier_parts y) (e.fresh_parts c) xs ys h) in
       let g : b ≡ c = cc in
       record { tree = ap₂ e.named a.tree g; rest = sym (fresh_none b xs) ∙ a.rest ∙ fresh_none c ys }
   primary_fixed (e.group at x) (e.group bt y) xs ys s h =
       let g : at ≡ bt = cc in
       let i : placed (e.expression_parts x ++ plain k.ParenClose ∷ []) xs ≡ placed (e.expression_parts y ++ plain k.ParenClose ∷ []) ys = cc in
-      let a = expression_fixed x y _ _ (cc) (in_turn (e.expression_parts x) (plain k.ParenClose ∷ []) (e.expression_parts y) (plain k.ParenClose ∷ []) xs ys i) in
+      let a =
+      expression_fixed x y _ _ (cc)
+      (in_turn (e.expression_parts x) (plain k.ParenClose ∷ []) (e.expression_parts y)
+      (plain k.ParenClose ∷ []) xs ys i) in
       record { tree = ap₂ e.group g a.tree; rest = a.rest }
   primary_fixed _ _ xs ys s h = absurd cc
 
   pub factor_fixed : Fixed (e.Factor ℕ) (e.Factor U) (factor_to no_place) e.factor_parts
   factor_fixed (e.absolute at x) (e.absolute bt y) xs ys s h =
-      let g : at ≡ bt = cc in let a = primary_fixed x y xs ys (cc) (cc) in record { tree = ap₂ e.absolute g a.tree; rest = a.rest }
+      let g : at ≡ bt = cc in let a = primary_fixed x y xs ys (cc) (cc) in
+      record { tree = ap₂ e.absolute g a.tree; rest = a.rest }
   factor_fixed (e.negated at x) (e.negated bt y) xs ys s h =
-      let g : at ≡ bt = cc in let a = primary_fixed x y xs ys (cc) (cc) in record { tree = ap₂ e.negated g a.tree; rest = a.rest }
-  factor_fixed (e.bare x) (e.bare y) xs ys s h = let a = primary_fixed x y xs ys (cc) h in record { tree = ap e.bare a.tree; rest = a.rest }
+      let g : at ≡ bt = cc in let a = primary_fixed x y xs ys (cc) (cc) in
+      record { tree = ap₂ e.negated g a.tree; rest = a.rest }
+  factor_fixed (e.bare x) (e.bare y) xs ys s h = let a = primary_fixed x y xs ys (cc) h in
+      record { tree = ap e.bare a.tree; rest = a.rest }
   factor_fixed _ _ xs ys s h = absurd cc
 
   pub term_fixed : Fixed (e.Term ℕ) (e.Term U) (term_to no_place) e.term_parts
   term_fixed (e.term x v) (e.term y w) xs ys s h =
-      let a = factor_fixed x y _ _ (cc) (in_turn (e.factor_parts x) (e.factors_parts v) (e.factor_parts y) (e.factors_parts w) xs ys h) in
+      let a =
+      factor_fixed x y _ _ (cc)
+      (in_turn (e.factor_parts x) (e.factors_parts v) (e.factor_parts y) (e.factors_parts w) xs ys h) in
       let b = factors_fixed v w xs ys (cc) a.rest in
       record { tree = ap₂ e.term a.tree b.tree; rest = b.rest }
 
@@ -78,15 +93,22 @@ mutual
   factors_fixed e.no_factors e.no_factors xs ys s h = record { tree = refl; rest = h }
   factors_fixed (e.factor o x v) (e.factor p y w) xs ys s h =
       let g : o ≡ p = cc in
-      let a = factor_fixed x y _ _ (cc) (in_turn (e.factor_parts x) (e.factors_parts v) (e.factor_parts y) (e.factors_parts w) xs ys h) in
+      let a =
+      factor_fixed x y _ _ (cc)
+      (in_turn (e.factor_parts x) (e.factors_parts v) (e.factor_parts y) (e.factors_parts w) xs ys h) in
       let b = factors_fixed v w xs ys (cc) a.rest in
       record { tree = ap (λ q. e.factor q x v) g ∙ ap₂ (e.factor p) a.tree b.tree; rest = b.rest }
   factors_fixed _ _ xs ys s h = absurd cc
 
   pub sum_fixed : Fixed (e.Sum ℕ) (e.Sum U) (sum_to no_place) e.sum_parts
   sum_fixed (e.total l x v) (e.total m y w) xs ys s h =
-      let z = leading_fixed l m _ _ (cc) (in_turn (parts_if e.leading_parts l) (e.term_parts x ++ e.terms_parts v) (parts_if e.leading_parts m) (e.term_parts y ++ e.terms_parts w) xs ys h) in
-      let a = term_fixed x y _ _ (cc) (in_turn (e.term_parts x) (e.terms_parts v) (e.term_parts y) (e.terms_parts w) xs ys z.rest) in
+      let z =
+      leading_fixed l m _ _ (cc)
+      (in_turn (parts_if e.leading_parts l) (e.term_parts x ++ e.terms_parts v) (parts_if e.leading_parts m)
+      (e.term_parts y ++ e.terms_parts w) xs ys h) in
+      let a =
+      term_fixed x y _ _ (cc) (in_turn (e.term_parts x) (e.terms_parts v) (e.term_parts y) (e.terms_parts w) xs
+      ys z.rest) in
       let b = terms_fixed v w xs ys (cc) a.rest in
       record { tree = ap (λ q. e.total q x v) z.tree ∙ ap₂ (e.total m) a.tree b.tree; rest = b.rest }
 
@@ -94,23 +116,30 @@ mutual
   terms_fixed e.no_terms e.no_terms xs ys s h = record { tree = refl; rest = h }
   terms_fixed (e.add o x v) (e.add p y w) xs ys s h =
       let g : o ≡ p = cc in
-      let a = term_fixed x y _ _ (cc) (in_turn (e.term_parts x) (e.terms_parts v) (e.term_parts y) (e.terms_parts w) xs ys h) in
+      let a =
+      term_fixed x y _ _ (cc) (in_turn (e.term_parts x) (e.terms_parts v) (e.term_parts y)
+      (e.terms_parts w) xs ys h) in
       let b = terms_fixed v w xs ys (cc) a.rest in
       record { tree = ap (λ q. e.add q x v) g ∙ ap₂ (e.add p) a.tree b.tree; rest = b.rest }
   terms_fixed _ _ xs ys s h = absurd cc
 
   pub relation_fixed : Fixed (e.Relation ℕ) (e.Relation U) (relation_to no_place) e.relation_parts
-  relation_fixed (e.single x) (e.single y) xs ys s h = let a = sum_fixed x y xs ys (cc) h in record { tree = ap e.single a.tree; rest = a.rest }
+  relation_fixed (e.single x) (e.single y) xs ys s h = let a = sum_fixed x y xs ys (cc) h in
+      record { tree = ap e.single a.tree; rest = a.rest }
   relation_fixed (e.compared x o v) (e.compared y p w) xs ys s h =
       let g : o ≡ p = cc in
-      let a = sum_fixed x y _ _ (cc) (in_turn (e.sum_parts x) (plain (e.relation_mark o) ∷ e.sum_parts v) (e.sum_parts y) (plain (e.relation_mark p) ∷ e.sum_parts w) xs ys h) in
+      let a =
+      sum_fixed x y _ _ (cc) (in_turn (e.sum_parts x) (plain (e.relation_mark o) ∷ e.sum_parts v) (e.sum_parts y)
+      (plain (e.relation_mark p) ∷ e.sum_parts w) xs ys h) in
       let b = sum_fixed v w xs ys (cc) a.rest in
       record { tree = ap (λ q. e.compared x q v) g ∙ ap₂ (λ q z. e.compared q p z) a.tree b.tree; rest = b.rest }
   relation_fixed _ _ xs ys s h = absurd cc
 
   pub expression_fixed : Fixed (e.Expression ℕ) (e.Expression U) (expression_to no_place) e.expression_parts
   expression_fixed (e.expression x v) (e.expression y w) xs ys s h =
-      let a = relation_fixed x y _ _ (cc) (in_turn (e.relation_parts x) (e.relations_parts v) (e.relation_parts y) (e.relations_parts w) xs ys h) in
+      let a =
+      relation_fixed x y _ _ (cc)
+      (in_turn (e.relation_parts x) (e.relations_parts v) (e.relation_parts y) (e.relations_parts w) xs ys h) in
       let b = relations_fixed v w xs ys (cc) a.rest in
       record { tree = ap₂ e.expression a.tree b.tree; rest = b.rest }
 
@@ -118,8 +147,12 @@ mutual
   relations_fixed e.no_relations e.no_relations xs ys s h = record { tree = refl; rest = h }
   relations_fixed (e.join o x v) (e.join p y w) xs ys s h =
       let g : o ≡ p = cc in
-      let i = sym (logic_none o (e.relation_parts x ++ e.relations_parts v) xs) ∙ h ∙ logic_none p (e.relation_parts y ++ e.relations_parts w) ys in
-      let a = relation_fixed x y _ _ (cc) (in_turn (e.relation_parts x) (e.relations_parts v) (e.relation_parts y) (e.relations_parts w) xs ys i) in
+      let i =
+      sym (logic_none o (e.relation_parts x ++ e.relations_parts v) xs) ∙ h
+      ∙ logic_none p (e.relation_parts y ++ e.relations_parts w) ys in
+      let a =
+      relation_fixed x y _ _ (cc)
+      (in_turn (e.relation_parts x) (e.relations_parts v) (e.relation_parts y) (e.relations_parts w) xs ys i) in
       let b = relations_fixed v w xs ys (cc) a.rest in
       record { tree = ap (λ q. e.join q x v) g ∙ ap₂ (e.join p) a.tree b.tree; rest = b.rest }
   relations_fixed _ _ xs ys s h = absurd cc

@@ -15,9 +15,11 @@ survivors (token kind places ∷ a) ss rest (s, more, e, is, at, v) = s ∷ surv
 survivors (may others ∷ a) ss rest (inl v) = survivors a ss rest v
 survivors (may others ∷ a) ss rest (inr (more, h, v)) = survivors a more rest v
 
-pub survivors_kinds : (a : List (Part ℕ)) (ss rest : List Spot) (v : Written a ss rest) → kinds_of (survivors a ss rest v) ≡ kept a
+pub survivors_kinds : (a : List (Part ℕ)) (ss rest : List Spot) (v : Written a ss rest)
+    → kinds_of (survivors a ss rest v) ≡ kept a
 survivors_kinds [] ss rest e = refl
-survivors_kinds (token kind places ∷ a) ss rest (s, more, e, is, at, v) = ap (λ x. x ∷ kinds_of (survivors a more rest v)) is ∙ ap (λ l. kind ∷ l) (survivors_kinds a more rest v)
+survivors_kinds (token kind places ∷ a) ss rest (s, more, e, is, at, v) =
+    ap (λ x. x ∷ kinds_of (survivors a more rest v)) is ∙ ap (λ l. kind ∷ l) (survivors_kinds a more rest v)
 survivors_kinds (may others ∷ a) ss rest (inl v) = survivors_kinds a ss rest v
 survivors_kinds (may others ∷ a) ss rest (inr (more, h, v)) = survivors_kinds a more rest v
 
@@ -29,13 +31,24 @@ are_moved f [] at h = tt
 are_moved f (p ∷ ps) at (e, h) = (ap f e, are_moved f ps at h)
 
 -- they spell the tree at the places that theirs have moved to
-pub replaced : (f : ℕ → ℕ) (a b : List (Part ℕ)) → Alike f a b → (ss rest : List Spot) (v : Written a ss rest) (after : List Spot) → Written b (map (moved f) (survivors a ss rest v) ++ after) after
+pub replaced : (f : ℕ → ℕ) (a b : List (Part ℕ)) → Alike f a b
+    → (ss rest : List Spot) (v : Written a ss rest) (after : List Spot)
+    → Written b (map (moved f) (survivors a ss rest v) ++ after) after
 replaced f _ _ none ss rest e after = refl
-replaced f _ _ (one {kind = kind} {ps = ps} {xs = xs} {ys = ys} h x) ss rest (s, more, e, is, at, v) after =
-    (moved f s, map (moved f) (survivors xs more rest v) ++ after, refl, is, subst (λ (l : List ℕ). AreAt l (f s.at)) (sym h) (are_moved f ps s.at at), replaced f xs ys x more rest v after)
+replaced f _ _ (one {kind = kind} {ps = ps} {xs = xs} {ys = ys} h x) ss rest (s, more, e, is, at, v) after = (
+  moved f s,
+  map (moved f) (survivors xs more rest v) ++ after,
+  refl,
+  is,
+  subst (λ (l : List ℕ). AreAt l (f s.at)) (sym h) (are_moved f ps s.at at),
+  replaced f xs ys x more rest v after,
+)
 replaced f _ _ (extra {xs = xs} {ys = ys} x) ss rest (inl v) after = inl (replaced f xs ys x ss rest v after)
-replaced f _ _ (extra {xs = xs} {ys = ys} x) ss rest (inr (more, g, v)) after = inl (replaced f xs ys x more rest v after)
+replaced f _ _ (extra {xs = xs} {ys = ys} x) ss rest (inr (more, g, v)) after =
+    inl (replaced f xs ys x more rest v after)
 
-pub package_replaced : (f : ℕ → ℕ) (t : PackageTree ℕ) (ss : List Spot) (v : Written (package_parts t) ss []) (after : List Spot)
+pub package_replaced : (f : ℕ → ℕ) (t : PackageTree ℕ) (ss : List Spot) (v : Written (package_parts t) ss [])
+    (after : List Spot)
     → Written (package_parts (package_to f t)) (map (moved f) (survivors (package_parts t) ss [] v) ++ after) after
-package_replaced f t ss v after = replaced f (package_parts t) (package_parts (package_to f t)) (package_alike f t) ss [] v after
+package_replaced f t ss v after =
+    replaced f (package_parts t) (package_parts (package_to f t)) (package_alike f t) ss [] v after

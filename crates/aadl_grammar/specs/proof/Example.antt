@@ -18,5 +18,6 @@ nested n = replicate n (mark k.ParenOpen) ++ word (codes "x") ∷ replicate n (m
 -- package P public system S features none ; end S ; end P ;
 abbrev pub small_package : List Kind
 small_package =
-    mark k.Package ∷ word (codes "P") ∷ mark k.Public ∷ mark k.System ∷ word (codes "S") ∷ mark k.Features ∷ mark k.Nothing ∷ mark k.Semicolon
+    mark k.Package ∷ word (codes "P") ∷ mark k.Public ∷ mark k.System ∷ word (codes "S") ∷ mark k.Features
+    ∷ mark k.Nothing ∷ mark k.Semicolon
     ∷ mark k.End ∷ word (codes "S") ∷ mark k.Semicolon ∷ mark k.End ∷ word (codes "P") ∷ mark k.Semicolon ∷ []

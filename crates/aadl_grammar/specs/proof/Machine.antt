@@ -89,7 +89,8 @@ pub data Fate : Type 0 where
 
 abbrev pub fate_after : ℕ → Option Stack → ℕ → (Stack → Fate) → Fate
 fate_after outer None at more = syntax_at at
-fate_after outer (Some wanted) at more = if nat_lt GREATEST_NESTING (outer + depth wanted) then deep_at at else more wanted
+fate_after outer (Some wanted) at more =
+    if nat_lt GREATEST_NESTING (outer + depth wanted) then deep_at at else more wanted
 
 -- What comes of the terminals where the stack is wanted. The first number is how many openers are open outside, and the second is
 -- the end of the text.

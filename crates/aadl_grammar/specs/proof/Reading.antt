@@ -96,11 +96,14 @@ pub record Reads (ps : List (Part ℕ)) (ss rest : List Spot) : Type 0 where
   pub written : Written ps ss rest
 
 -- The part of a parser for what is wanted: it follows the machine, and reads its tree.
-pub record Parses {X : Type 0} (r : Reader) (Allowed : ℕ → Type 0) (wanted : Stack) (parts : X → List (Part ℕ)) (at : ℕ) (result : Result (X × ℕ) ParseFault) : Type 0 where
-  pub runs : (outer : ℕ) (below : Stack) → Allowed (outer + depth (wanted ++ below)) → RunsTo (λ (y : X × ℕ). y.1) r outer below (fate outer r.end (wanted ++ below) (here r at)) result
+pub record Parses {X : Type 0} (r : Reader) (Allowed : ℕ → Type 0) (wanted : Stack) (parts : X → List (Part ℕ)) (at : ℕ)
+    (result : Result (X × ℕ) ParseFault) : Type 0 where
+  pub runs : (outer : ℕ) (below : Stack) → Allowed (outer + depth (wanted ++ below))
+      → RunsTo (λ (y : X × ℕ). y.1) r outer below (fate outer r.end (wanted ++ below) (here r at)) result
   pub reads : IfOk result (λ y. Reads (parts y.0) (here r at) (here r y.1))
 
 -- the part for one keyword or symbol
 pub record Expects (r : Reader) (m : Mark) (at : ℕ) (result : Result ℕ ParseFault) : Type 0 where
-  pub runs : (outer : ℕ) (below : Stack) → AnyRoom (outer + depth (only m ∷ below)) → RunsTo (λ (y : ℕ). y) r outer below (fate outer r.end (only m ∷ below) (here r at)) result
+  pub runs : (outer : ℕ) (below : Stack) → AnyRoom (outer + depth (only m ∷ below))
+      → RunsTo (λ (y : ℕ). y) r outer below (fate outer r.end (only m ∷ below) (here r at)) result
   pub reads : IfOk result (λ next. AtMark m (here r at) (here r next))

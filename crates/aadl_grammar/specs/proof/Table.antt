@@ -22,7 +22,8 @@ abbrev pub figure_rows : List Row
 figure_rows = by a_whole [] ∷ by a_real [] ∷ []
 
 abbrev pub quantity_rows : List Row
-quantity_rows = on k.Plus (s.figure ∷ s.unit ∷ []) ∷ on k.Minus (s.figure ∷ s.unit ∷ []) ∷ behind (s.unit ∷ []) figure_rows
+quantity_rows =
+    on k.Plus (s.figure ∷ s.unit ∷ []) ∷ on k.Minus (s.figure ∷ s.unit ∷ []) ∷ behind (s.unit ∷ []) figure_rows
 
 abbrev pub reference_rows : List Row
 reference_rows = by a_word (s.names ∷ s.dot_identifier ∷ []) ∷ []
@@ -30,7 +31,8 @@ reference_rows = by a_word (s.names ∷ s.dot_identifier ∷ []) ∷ []
 abbrev pub value_rows : List Row
 value_rows =
     by a_quoted [] ∷ by a_word (s.names ∷ s.dot_identifier ∷ []) ∷ on k.ParenOpen (s.values ∷ s.only k.ParenClose ∷ [])
-    ∷ on k.BracketOpen (s.associations ∷ s.only k.BracketClose ∷ []) ∷ on k.Reference (s.path_group ∷ []) ∷ on k.Classifier (s.reference_group ∷ [])
+    ∷ on k.BracketOpen (s.associations ∷ s.only k.BracketClose ∷ []) ∷ on k.Reference (s.path_group ∷ [])
+    ∷ on k.Classifier (s.reference_group ∷ [])
     ∷ behind (s.upper ∷ []) quantity_rows
 
 abbrev pub association_rows : List Row
@@ -38,7 +40,8 @@ association_rows = by a_word (s.names ∷ s.operator ∷ s.constant ∷ s.value 
 
 abbrev pub primary_rows : List Row
 primary_rows =
-    by a_whole [] ∷ on k.True [] ∷ on k.False [] ∷ by a_word (s.fresh ∷ []) ∷ on k.ParenOpen (s.expression ∷ s.only k.ParenClose ∷ []) ∷ []
+    by a_whole [] ∷ on k.True [] ∷ on k.False [] ∷ by a_word (s.fresh ∷ [])
+    ∷ on k.ParenOpen (s.expression ∷ s.only k.ParenClose ∷ []) ∷ []
 
 abbrev pub factor_rows : List Row
 factor_rows = on k.Abs (s.primary ∷ []) ∷ on k.Not (s.primary ∷ []) ∷ behind [] primary_rows
@@ -57,7 +60,8 @@ expression_rows = behind (s.relations ∷ []) relation_rows
 
 abbrev pub action_rows : List Row
 action_rows =
-    by a_word (s.after_target ∷ []) ∷ on k.If (s.test ∷ s.actions ∷ s.elsifs ∷ s.otherwise ∷ s.end_if ∷ []) ∷ on k.For (s.loop_head ∷ s.block ∷ []) ∷ []
+    by a_word (s.after_target ∷ []) ∷ on k.If (s.test ∷ s.actions ∷ s.elsifs ∷ s.otherwise ∷ s.end_if ∷ [])
+    ∷ on k.For (s.loop_head ∷ s.block ∷ []) ∷ []
 
 abbrev pub actions_rows : List Row
 actions_rows = behind (s.mores ∷ []) action_rows
@@ -66,10 +70,13 @@ abbrev pub block_rows : List Row
 block_rows = on k.BraceOpen (s.body ∷ s.only k.BraceClose ∷ []) ∷ []
 
 abbrev pub variable_rows : List Row
-variable_rows = by a_word (s.more_identifiers ∷ s.only k.Colon ∷ s.reference ∷ s.properties ∷ s.only k.Semicolon ∷ []) ∷ []
+variable_rows =
+    by a_word (s.more_identifiers ∷ s.only k.Colon ∷ s.reference ∷ s.properties ∷ s.only k.Semicolon ∷ []) ∷ []
 
 abbrev pub state_rows : List Row
-state_rows = by a_word (s.more_identifiers ∷ s.only k.Colon ∷ s.initial ∷ s.complete ∷ s.only k.State ∷ s.only k.Semicolon ∷ []) ∷ []
+state_rows =
+    by a_word (s.more_identifiers ∷ s.only k.Colon ∷ s.initial ∷ s.complete ∷ s.only k.State
+    ∷ s.only k.Semicolon ∷ []) ∷ []
 
 abbrev pub transition_rows : List Row
 transition_rows = by a_word (s.after_word ∷ s.identifier ∷ s.effect ∷ s.only k.Semicolon ∷ []) ∷ []
@@ -78,14 +85,17 @@ abbrev pub annex_rows : List Row
 annex_rows = on k.Annex (s.identifier ∷ s.content ∷ s.only k.Semicolon ∷ []) ∷ []
 
 abbrev pub feature_rows : List Row
-feature_rows = by a_word (s.only k.Colon ∷ s.direction ∷ s.only k.Data ∷ s.only k.Port ∷ s.data_type ∷ s.properties ∷ s.only k.Semicolon ∷ []) ∷ []
+feature_rows =
+    by a_word (s.only k.Colon ∷ s.direction ∷ s.only k.Data ∷ s.only k.Port ∷ s.data_type ∷ s.properties
+    ∷ s.only k.Semicolon ∷ []) ∷ []
 
 abbrev pub subcomponent_rows : List Row
 subcomponent_rows = by a_word (s.only k.Colon ∷ s.category ∷ s.reference ∷ s.properties ∷ s.only k.Semicolon ∷ []) ∷ []
 
 abbrev pub connection_rows : List Row
 connection_rows =
-    by a_word (s.only k.Colon ∷ s.only k.Port ∷ s.connection_end ∷ s.only k.Arrow ∷ s.connection_end ∷ s.properties ∷ s.only k.Semicolon ∷ []) ∷ []
+    by a_word (s.only k.Colon ∷ s.only k.Port ∷ s.connection_end ∷ s.only k.Arrow ∷ s.connection_end ∷ s.properties
+    ∷ s.only k.Semicolon ∷ []) ∷ []
 
 -- `none ;`, or what the section has
 abbrev pub section_rows : List Row → List Row
@@ -95,11 +105,13 @@ section_rows rs = on k.Nothing (s.only k.Semicolon ∷ []) ∷ rs
 abbrev pub after_category_rows : List Row
 after_category_rows =
     by a_word (s.features ∷ s.own_properties ∷ s.annexes ∷ s.type_end ∷ [])
-    ∷ on k.Implementation (s.implementation_name ∷ s.subcomponents ∷ s.connections ∷ s.own_properties ∷ s.annexes ∷ s.implementation_end ∷ []) ∷ []
+    ∷ on k.Implementation (s.implementation_name ∷ s.subcomponents ∷ s.connections ∷ s.own_properties ∷ s.annexes
+    ∷ s.implementation_end ∷ []) ∷ []
 
 abbrev pub declarations_rows : List Row
 declarations_rows =
-    on k.System (s.after_category ∷ s.declarations ∷ []) ∷ on k.Process (s.after_category ∷ s.declarations ∷ []) ∷ on k.Thread (s.after_category ∷ s.declarations ∷ []) ∷ []
+    on k.System (s.after_category ∷ s.declarations ∷ []) ∷ on k.Process (s.after_category ∷ s.declarations ∷ [])
+    ∷ on k.Thread (s.after_category ∷ s.declarations ∷ []) ∷ []
 
 -- the beginnings of a symbol
 abbrev pub rows : Symbol → List Row
@@ -133,14 +145,18 @@ rows s.fresh = on k.Tick (s.only k.Fresh ∷ []) ∷ []
 rows s.factor = factor_rows
 rows s.term = term_rows
 rows s.factors =
-    on k.Star (s.factor ∷ s.factors ∷ []) ∷ on k.Slash (s.factor ∷ s.factors ∷ []) ∷ on k.Mod (s.factor ∷ s.factors ∷ []) ∷ on k.Rem (s.factor ∷ s.factors ∷ []) ∷ []
+    on k.Star (s.factor ∷ s.factors ∷ []) ∷ on k.Slash (s.factor ∷ s.factors ∷ [])
+    ∷ on k.Mod (s.factor ∷ s.factors ∷ []) ∷ on k.Rem (s.factor ∷ s.factors ∷ []) ∷ []
 rows s.sum = sum_rows
 rows s.terms = on k.Plus (s.term ∷ s.terms ∷ []) ∷ on k.Minus (s.term ∷ s.terms ∷ []) ∷ []
 rows s.compared =
-    on k.Equal (s.sum ∷ []) ∷ on k.NotEqual (s.sum ∷ []) ∷ on k.Less (s.sum ∷ []) ∷ on k.LessOrEqual (s.sum ∷ []) ∷ on k.Greater (s.sum ∷ [])
+    on k.Equal (s.sum ∷ []) ∷ on k.NotEqual (s.sum ∷ []) ∷ on k.Less (s.sum ∷ []) ∷ on k.LessOrEqual (s.sum ∷ [])
+    ∷ on k.Greater (s.sum ∷ [])
     ∷ on k.GreaterOrEqual (s.sum ∷ []) ∷ []
 rows s.relation = relation_rows
-rows s.relations = on k.And (s.after_and ∷ s.relations ∷ []) ∷ on k.Or (s.after_or ∷ s.relations ∷ []) ∷ on k.Xor (s.relation ∷ s.relations ∷ []) ∷ []
+rows s.relations =
+    on k.And (s.after_and ∷ s.relations ∷ []) ∷ on k.Or (s.after_or ∷ s.relations ∷ [])
+    ∷ on k.Xor (s.relation ∷ s.relations ∷ []) ∷ []
 rows s.after_and = on k.Then (s.relation ∷ []) ∷ behind [] relation_rows
 rows s.after_or = on k.Else (s.relation ∷ []) ∷ behind [] relation_rows
 rows s.expression = expression_rows
@@ -149,7 +165,8 @@ rows s.whole_number = by a_whole [] ∷ []
 rows s.bound = by a_whole [] ∷ on k.Minus (s.whole_number ∷ []) ∷ []
 rows s.after_target = on k.Assign (s.expression ∷ []) ∷ on k.Bang (s.test ∷ []) ∷ []
 rows s.loop_head =
-    on k.ParenOpen (s.identifier ∷ s.only k.Colon ∷ s.reference ∷ s.only k.In ∷ s.bound ∷ s.only k.Range ∷ s.bound ∷ s.only k.ParenClose ∷ []) ∷ []
+    on k.ParenOpen (s.identifier ∷ s.only k.Colon ∷ s.reference ∷ s.only k.In ∷ s.bound ∷ s.only k.Range ∷ s.bound
+    ∷ s.only k.ParenClose ∷ []) ∷ []
 rows s.action = action_rows
 rows s.actions = actions_rows
 rows s.mores = on k.Semicolon (s.after_semicolon ∷ []) ∷ []
@@ -170,12 +187,14 @@ rows s.state_list = behind (s.state_list ∷ []) state_rows
 rows s.states = on k.States (s.state_list ∷ []) ∷ []
 rows s.guard = on k.On (s.only k.Dispatch ∷ []) ∷ on k.Otherwise [] ∷ behind [] expression_rows
 rows s.guarded = on k.GuardOpen (s.guard ∷ s.only k.GuardClose ∷ []) ∷ []
-rows s.after_word = on k.Colon (s.identifier ∷ s.guarded ∷ []) ∷ on k.GuardOpen (s.guard ∷ s.only k.GuardClose ∷ []) ∷ []
+rows s.after_word =
+    on k.Colon (s.identifier ∷ s.guarded ∷ []) ∷ on k.GuardOpen (s.guard ∷ s.only k.GuardClose ∷ []) ∷ []
 rows s.effect = behind [] block_rows
 rows s.transition = transition_rows
 rows s.transition_list = behind (s.transition_list ∷ []) transition_rows
 rows s.transitions = on k.Transitions (s.transition_list ∷ []) ∷ []
-rows s.content = by an_unread [] ∷ on k.AnnexOpen (s.variables ∷ s.states ∷ s.transitions ∷ s.only k.AnnexClose ∷ []) ∷ []
+rows s.content =
+    by an_unread [] ∷ on k.AnnexOpen (s.variables ∷ s.states ∷ s.transitions ∷ s.only k.AnnexClose ∷ []) ∷ []
 rows s.annex = annex_rows
 rows s.annexes = behind (s.annexes ∷ []) annex_rows
 rows s.direction = on k.In [] ∷ on k.Out [] ∷ []

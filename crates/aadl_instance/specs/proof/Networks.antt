@@ -35,7 +35,8 @@ pub record IsNode (network : ChainMap) (node : ThreadNode) : Type 0 where
 
 -- all chains of a kind, in an order
 abbrev pub Shows : ChainMap → (PackageTree ℕ → ℕ → Ends → Type 0) → (Ends → Ends → Type 0) → List Chain → Type 0
-Shows network Kind Before chains = AreShown (tree_of network) network.root (paths_in network) (Kind (tree_of network) network.root) Before chains
+Shows network Kind Before chains =
+    AreShown (tree_of network) network.root (paths_in network) (Kind (tree_of network) network.root) Before chains
 
 -- the links and feeds into the threads before one, and into its ports before one
 abbrev pub ShowsInto : ChainMap → ℕ → ℕ → Incoming → Type 0

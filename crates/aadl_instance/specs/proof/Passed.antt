@@ -39,7 +39,8 @@ pub record IsSettled (tree : PackageTree ℕ) (keys : List ℕ) (root : ℕ) (pa
   pub few_ports : ThreadWith tree root (λ x path. PORTS < length (ports_of tree x)) → ⊥
 
 -- chains that are shown, each of all that have P, in an order
-pub record AreShown (tree : PackageTree ℕ) (root : ℕ) (paths : List (List ℕ)) (P : Ends → Type 0) (Before : Ends → Ends → Type 0)
+pub record AreShown (tree : PackageTree ℕ) (root : ℕ) (paths : List (List ℕ)) (P : Ends → Type 0)
+    (Before : Ends → Ends → Type 0)
     (chains : List Chain) : Type 0 where
   pub ends : List Ends
   pub listed : Lists P Before ends
@@ -57,16 +58,22 @@ IsBegin tree root (begins.Thread path port) =
 
 -- a port of one of the threads before one, or one of its ports before one
 abbrev pub IsPassed : List (List ℕ) → ℕ → ℕ → Port → Type 0
-IsPassed paths node port to = ((k : ℕ) × (k < node) × (slice_get paths k ≡ Some to.path)) ⊎ ((slice_get paths node ≡ Some to.path) × (to.port < port))
+IsPassed paths node port to =
+    ((k : ℕ) × (k < node) × (slice_get paths k ≡ Some to.path))
+    ⊎ ((slice_get paths node ≡ Some to.path) × (to.port < port))
 
 -- the links and feeds into the ports so far
-pub record AreInto (tree : PackageTree ℕ) (root : ℕ) (paths : List (List ℕ)) (node port : ℕ) (incoming : Incoming) : Type 0 where
-  pub links : AreShown tree root paths (λ ends. IsLink tree root ends × IsPassed paths node port ends.to) TargetBefore incoming.links
-  pub feeds : AreShown tree root paths (λ ends. IsFeed tree root ends × IsPassed paths node port ends.to) TargetBefore incoming.feeds
+pub record AreInto (tree : PackageTree ℕ) (root : ℕ) (paths : List (List ℕ)) (node port : ℕ)
+    (incoming : Incoming) : Type 0 where
+  pub links : AreShown tree root paths (λ ends. IsLink tree root ends × IsPassed paths node port ends.to) TargetBefore
+      incoming.links
+  pub feeds : AreShown tree root paths (λ ends. IsFeed tree root ends × IsPassed paths node port ends.to) TargetBefore
+      incoming.feeds
 
 -- the taps to the ports so far
 abbrev pub AreTapsTo : PackageTree ℕ → ℕ → List (List ℕ) → ℕ → List Chain → Type 0
-AreTapsTo tree root paths port taps = AreShown tree root paths (λ ends. IsTap tree root ends × (ends.to.port < port)) PortBefore taps
+AreTapsTo tree root paths port taps =
+    AreShown tree root paths (λ ends. IsTap tree root ends × (ends.to.port < port)) PortBefore taps
 
 -- ---- one more
 abbrev pub with_chain : Incoming → ChainStart → Chain → Incoming

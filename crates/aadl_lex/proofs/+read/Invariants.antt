@@ -12,7 +12,8 @@ abbrev pub invariant-loop-at : goal.invariant-loop-at
 invariant-loop-at l = record {
   within : l.at ≤ length l.text;
   -- whatever tokens the rest has complete those of the text
-  tokens : (ts : List Token) → Lexes l.reading l.text l.at ts → Adds l.fn.reading l.text l.fn.at l.fn.found.items (l.found.items ++ ts);
+  tokens : (ts : List Token) → Lexes l.reading l.text l.at ts
+      → Adds l.fn.reading l.text l.fn.at l.fn.found.items (l.found.items ++ ts);
   faults : (fault : LexFault) → Faults l.reading l.text l.at fault → Faults l.fn.reading l.text l.fn.at fault;
 }
 

@@ -67,7 +67,8 @@ IsSpelled reading Unread b = (reading ≡ Outside) × IsUnread b
 -- Each of the tokens is spelled so, one behind the other, and each body that is read is closed.
 abbrev pub AreSpelled : List ℕ → Reading → List Token → Type 0
 AreSpelled text reading [] = reading ≢ Inside
-AreSpelled text reading (t ∷ ts) = IsSpelled reading t.kind (bytes_of text t) × AreSpelled text (behind reading t.kind (bytes_of text t)) ts
+AreSpelled text reading (t ∷ ts) =
+    IsSpelled reading t.kind (bytes_of text t) × AreSpelled text (behind reading t.kind (bytes_of text t)) ts
 
 -- the token's bytes are a word, if it is one
 abbrev pub IsWordAt : List ℕ → Token → Type 0

@@ -38,7 +38,8 @@ unfoldable pub beside : List SpelledName → List SpelledName → List PackageFa
 beside ports others = as_list (found None (twice ports)) ++ flat_map (beside_each ports others) others
 
 abbrev pub beside_in_behaviour : PackageTree ℕ → Implementation ℕ → AnnexTree ℕ → List PackageFault
-beside_in_behaviour tree x annex = beside (port_entries (ports_of tree x)) (variable_entries annex) ++ twice (state_entries annex)
+beside_in_behaviour tree x annex =
+    beside (port_entries (ports_of tree x)) (variable_entries annex) ++ twice (state_entries annex)
 
 abbrev pub beside_in_some : PackageTree ℕ → Implementation ℕ → Option (AnnexTree ℕ) → List PackageFault
 beside_in_some tree x None = []
@@ -48,7 +49,8 @@ abbrev pub beside_in_first : PackageTree ℕ → Implementation ℕ → List (�
 beside_in_first tree x bs = beside_in_some tree x (first_behaviour bs)
 
 abbrev pub beside_in_implementation : PackageTree ℕ → Implementation ℕ → List PackageFault
-beside_in_implementation tree x = beside (port_entries (ports_of tree x)) (member_entries x) ++ beside_in_first tree x (behaviours x.annexes)
+beside_in_implementation tree x =
+    beside (port_entries (ports_of tree x)) (member_entries x) ++ beside_in_first tree x (behaviours x.annexes)
 
 abbrev pub beside_in : PackageTree ℕ → Declaration ℕ → List PackageFault
 beside_in tree (type x) = []
@@ -56,4 +58,5 @@ beside_in tree (implementation x) = beside_in_implementation tree x
 
 unfoldable pub beside_names : PackageTree ℕ → List PackageFault
 beside_names tree =
-    twice (filter_map type_entry tree.declarations) ++ twice (filter_map implementation_entry tree.declarations) ++ flat_map (beside_in tree) tree.declarations
+    twice (filter_map type_entry tree.declarations) ++ twice (filter_map implementation_entry tree.declarations)
+    ++ flat_map (beside_in tree) tree.declarations

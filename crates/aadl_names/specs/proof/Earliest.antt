@@ -19,7 +19,8 @@ is_sooner spot (Some other) = nat_lt spot.at other.at
 -- the earliest declaration of a name, where numbers begin with n
 abbrev pub earliest : List ℕ → ℕ → List SpelledName → Option NumberedPlace
 earliest name n [] = None
-earliest name n (x ∷ xs) = sooner (if same_name name x.name then Some (record { number = n; at = x.at }) else None) (earliest name (n + 1) xs)
+earliest name n (x ∷ xs) =
+    sooner (if same_name name x.name then Some (record { number = n; at = x.at }) else None) (earliest name (n + 1) xs)
 
 abbrev pub is_before : Option NumberedPlace → ℕ → Bool
 is_before None at = false

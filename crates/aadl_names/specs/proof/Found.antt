@@ -6,7 +6,8 @@ use Rattle.aadl_names.specs.Findings.{place_of, number_of, precedes}
 -- a finding of this place and number precedes what was found before
 abbrev pub comes_first : ℕ → ℕ → Option PackageFault → Bool
 comes_first at number None = true
-comes_first at number (Some first) = nat_lt at (place_of first) || (nat_eq at (place_of first) && nat_lt number (number_of first))
+comes_first at number (Some first) =
+    nat_lt at (place_of first) || (nat_eq at (place_of first) && nat_lt number (number_of first))
 
 -- the first of what was found before and one more finding; where neither precedes the other, what was found before
 abbrev pub earlier : Option PackageFault → PackageFault → Option PackageFault

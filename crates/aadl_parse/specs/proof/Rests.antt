@@ -18,17 +18,22 @@ use Rattle.aadl_parse.specs.declared.declarations.DeclarationRest.TheVariants as
 
 abbrev pub type_rest_parts : TypeRest → List (Part ℕ)
 type_rest_parts x =
-    identifier_parts (identifier_view kept_place x.name) ++ (section_parts feature_section (flat_map feature_parts (map (feature_view kept_place) x.features.items))
+    identifier_parts (identifier_view kept_place x.name)
+    ++ (section_parts feature_section (flat_map feature_parts (map (feature_view kept_place) x.features.items))
     ++ (section_parts property_section (associations_parts (associations_view kept_place x.properties.items))
-    ++ (flat_map annex_parts (map (annex_view kept_place) x.annexes.items) ++ ending_parts (identifier_parts (identifier_view kept_place x.end_name)))))
+    ++ (flat_map annex_parts (map (annex_view kept_place) x.annexes.items)
+    ++ ending_parts (identifier_parts (identifier_view kept_place x.end_name)))))
 
 abbrev pub implementation_rest_parts : ImplementationRest → List (Part ℕ)
 implementation_rest_parts x =
     plain k.Implementation ∷ (implementation_name_parts (implementation_name_view kept_place x.name)
-    ++ (section_parts subcomponent_section (flat_map subcomponent_parts (map (subcomponent_view kept_place) x.subcomponents.items))
-    ++ (section_parts connection_section (flat_map connection_parts (map (connection_view kept_place) x.connections.items))
+    ++ (section_parts subcomponent_section
+    (flat_map subcomponent_parts (map (subcomponent_view kept_place) x.subcomponents.items))
+    ++ (section_parts connection_section
+    (flat_map connection_parts (map (connection_view kept_place) x.connections.items))
     ++ (section_parts property_section (associations_parts (associations_view kept_place x.properties.items))
-    ++ (flat_map annex_parts (map (annex_view kept_place) x.annexes.items) ++ ending_parts (implementation_name_parts (implementation_name_view kept_place x.end_name)))))))
+    ++ (flat_map annex_parts (map (annex_view kept_place) x.annexes.items)
+    ++ ending_parts (implementation_name_parts (implementation_name_view kept_place x.end_name)))))))
 
 abbrev pub rest_parts : DeclarationRest → List (Part ℕ)
 rest_parts (rests.Type x) = type_rest_parts x

@@ -32,16 +32,21 @@ counting =
       guard = Some dispatch;
       target = identifier (codes "s");
       effect = Some (block (actions
-          (assign (identifier (codes "x")) (sum (name_term (codes "x")) (add signs.Plus (name_term (codes "i")) (add signs.Plus (number_term (pos 1)) no_terms))))
+          (assign (identifier (codes "x"))
+          (sum (name_term (codes "x"))
+          (add signs.Plus (name_term (codes "i")) (add signs.Plus (number_term (pos 1)) no_terms))))
           (more (send (identifier (codes "o")) (sum (name_term (codes "x")) no_terms)) no_mores)));
     }
 
 -- with a `;` behind the last action, or without one
 abbrev pub counting_kinds : List Kind → List Kind
 counting_kinds last =
-    word (codes "s") ∷ mark k.GuardOpen ∷ mark k.On ∷ mark k.Dispatch ∷ mark k.GuardClose ∷ word (codes "s") ∷ mark k.BraceOpen
-    ∷ word (codes "x") ∷ mark k.Assign ∷ word (codes "x") ∷ mark k.Plus ∷ word (codes "i") ∷ mark k.Plus ∷ whole (pos 1) ∷ mark k.Semicolon
-    ∷ word (codes "o") ∷ mark k.Bang ∷ mark k.ParenOpen ∷ word (codes "x") ∷ mark k.ParenClose ∷ last ++ mark k.BraceClose ∷ mark k.Semicolon ∷ []
+    word (codes "s") ∷ mark k.GuardOpen ∷ mark k.On ∷ mark k.Dispatch ∷ mark k.GuardClose ∷ word (codes "s")
+    ∷ mark k.BraceOpen
+    ∷ word (codes "x") ∷ mark k.Assign ∷ word (codes "x") ∷ mark k.Plus ∷ word (codes "i") ∷ mark k.Plus ∷ whole (pos 1)
+    ∷ mark k.Semicolon
+    ∷ word (codes "o") ∷ mark k.Bang ∷ mark k.ParenOpen ∷ word (codes "x") ∷ mark k.ParenClose ∷ last
+    ++ mark k.BraceClose ∷ mark k.Semicolon ∷ []
 
 abbrev pub counting_text : List ℕ
 counting_text = codes "s -[ on dispatch ]-> s { x := x + i + 1;" ++ 10 ∷ codes "o!(x) };" ++ 10 ∷ []
@@ -51,8 +56,12 @@ abbrev pub annex_text : List ℕ
 annex_text = codes "on behavior_specification {**ON x**}"
 
 abbrev pub annex_tokens : List Token
-annex_tokens = token class.Word 0 2 ∷ token class.Word 3 22 ∷ token class.AnnexOpen 26 3 ∷ token class.Word 29 2 ∷ token class.Word 32 1 ∷ token class.AnnexClose 33 3 ∷ []
+annex_tokens =
+    token class.Word 0 2 ∷ token class.Word 3 22 ∷ token class.AnnexOpen 26 3 ∷ token class.Word 29 2
+    ∷ token class.Word 32 1 ∷ token class.AnnexClose 33 3 ∷ []
 
 -- if (true) x := 1 end
 abbrev pub choice_kinds : List Kind
-choice_kinds = mark k.If ∷ mark k.ParenOpen ∷ mark k.True ∷ mark k.ParenClose ∷ word (codes "x") ∷ mark k.Assign ∷ whole (pos 1) ∷ mark k.End ∷ []
+choice_kinds =
+    mark k.If ∷ mark k.ParenOpen ∷ mark k.True ∷ mark k.ParenClose ∷ word (codes "x") ∷ mark k.Assign ∷ whole (pos 1)
+    ∷ mark k.End ∷ []

@@ -36,27 +36,33 @@ relation_of left None = single left
 relation_of left (Some right) = compared left right.value.0 right.value.1
 
 -- one level of each, with the parts already seen as trees
-abbrev pub primary_step : {P : Type 0} → (ℕ → P) → Primary-F (Factor P) (Primary P) (Expression P) (Relation P) (Sum P) (Term P) → Primary P
+abbrev pub primary_step : {P : Type 0} → (ℕ → P)
+    → Primary-F (Factor P) (Primary P) (Expression P) (Relation P) (Sum P) (Term P) → Primary P
 primary_step place (Primary-F.Whole at n) = number (place at) n
 primary_step place (Primary-F.Truth at b) = truth (place at) b
 primary_step place (Primary-F.Named x fresh) = named (identifier_view place x) fresh
 primary_step place (Primary-F.Group at e) = group (place at) e.value
 
-abbrev pub factor_step : {P : Type 0} → (ℕ → P) → Factor-F (Factor P) (Primary P) (Expression P) (Relation P) (Sum P) (Term P) → Factor P
+abbrev pub factor_step : {P : Type 0} → (ℕ → P)
+    → Factor-F (Factor P) (Primary P) (Expression P) (Relation P) (Sum P) (Term P) → Factor P
 factor_step place (Factor-F.Abs at x) = absolute (place at) x.value
 factor_step place (Factor-F.Not at x) = negated (place at) x.value
 factor_step place (Factor-F.Plain x) = bare x
 
-abbrev pub term_step : {P : Type 0} → Term-F (Factor P) (Primary P) (Expression P) (Relation P) (Sum P) (Term P) → Term P
+abbrev pub term_step : {P : Type 0}
+    → Term-F (Factor P) (Primary P) (Expression P) (Relation P) (Sum P) (Term P) → Term P
 term_step x = term x.first (factors_of x.rest.items)
 
-abbrev pub sum_step : {P : Type 0} → (ℕ → P) → Sum-F (Factor P) (Primary P) (Expression P) (Relation P) (Sum P) (Term P) → Sum P
+abbrev pub sum_step : {P : Type 0} → (ℕ → P)
+    → Sum-F (Factor P) (Primary P) (Expression P) (Relation P) (Sum P) (Term P) → Sum P
 sum_step place x = total (option_map (leading_view place) x.sign) x.first (terms_of x.rest.items)
 
-abbrev pub relation_step : {P : Type 0} → Relation-F (Factor P) (Primary P) (Expression P) (Relation P) (Sum P) (Term P) → Relation P
+abbrev pub relation_step : {P : Type 0} → Relation-F (Factor P) (Primary P) (Expression P) (Relation P) (Sum P) (Term P)
+    → Relation P
 relation_step x = relation_of x.left x.right
 
-abbrev pub expression_step : {P : Type 0} → Expression-F (Factor P) (Primary P) (Expression P) (Relation P) (Sum P) (Term P) → Expression P
+abbrev pub expression_step : {P : Type 0}
+    → Expression-F (Factor P) (Primary P) (Expression P) (Relation P) (Sum P) (Term P) → Expression P
 expression_step x = expression x.first (relations_of x.rest.items)
 
 abbrev pub primary_view : {P : Type 0} → (ℕ → P) → source_primary.Primary → Primary P
@@ -85,7 +91,8 @@ relation_view {P} place =
     (factor_step place) (primary_step place) expression_step relation_step (sum_step place) term_step
 
 -- a relation's view, by its fields
-abbrev pub sides_view : {P : Type 0} → (ℕ → P) → source_sum.Sum → Option (Box (RelationOperator × source_sum.Sum) Global) → Relation P
+abbrev pub sides_view : {P : Type 0} → (ℕ → P) → source_sum.Sum
+    → Option (Box (RelationOperator × source_sum.Sum) Global) → Relation P
 sides_view place left None = single (sum_view place left)
 sides_view place left (Some right) = compared (sum_view place left) right.value.0 (sum_view place right.value.1)
 

@@ -20,7 +20,12 @@ abbrev pub identifiers_to : {P Q : Type 0} → (P → Q) → n.Identifiers P →
 identifiers_to f t = record { first = identifier_to f t.first; rest = map (identifier_to f) t.rest }
 
 abbrev pub reference_to : {P Q : Type 0} → (P → Q) → n.Reference P → n.Reference Q
-reference_to f t = record { qualifiers = map (identifier_to f) t.qualifiers; type_name = identifier_to f t.type_name; implementation = option_map (identifier_to f) t.implementation }
+reference_to f t =
+    record {
+      qualifiers = map (identifier_to f) t.qualifiers;
+      type_name = identifier_to f t.type_name;
+      implementation = option_map (identifier_to f) t.implementation;
+    }
 
 abbrev pub quantity_to : {P Q : Type 0} → (P → Q) → v.Quantity P → v.Quantity Q
 quantity_to f t = record { number = t.number; unit = option_map (identifier_to f) t.unit }
@@ -40,7 +45,8 @@ abbrev mutual
   values_to f (v.value t u) = v.value (value_to f t) (values_to f u)
 
   pub association_to : {P Q : Type 0} → (P → Q) → v.Association P → v.Association Q
-  association_to f (v.association name operator constant t paths) = v.association (name_to f name) operator constant (value_to f t) (map (path_to f) paths)
+  association_to f (v.association name operator constant t paths) =
+      v.association (name_to f name) operator constant (value_to f t) (map (path_to f) paths)
 
   pub associations_to : {P Q : Type 0} → (P → Q) → v.Associations P → v.Associations Q
   associations_to f v.no_associations = v.no_associations
@@ -113,7 +119,12 @@ abbrev mutual
   block_to f (a.block t) = a.block (actions_to f t)
 
 abbrev pub variable_to : {P Q : Type 0} → (P → Q) → x.VariableDeclaration P → x.VariableDeclaration Q
-variable_to f t = record { names = identifiers_to f t.names; data_type = reference_to f t.data_type; properties = associations_to f t.properties }
+variable_to f t =
+    record {
+      names = identifiers_to f t.names;
+      data_type = reference_to f t.data_type;
+      properties = associations_to f t.properties;
+    }
 
 abbrev pub state_to : {P Q : Type 0} → (P → Q) → x.StateDeclaration P → x.StateDeclaration Q
 state_to f t = record { names = identifiers_to f t.names; initial = t.initial; complete = t.complete }
@@ -124,10 +135,22 @@ guard_to f x.otherwise = x.otherwise
 guard_to f (x.when t) = x.when (expression_to f t)
 
 abbrev pub transition_to : {P Q : Type 0} → (P → Q) → x.Transition P → x.Transition Q
-transition_to f t = record { label = option_map (identifier_to f) t.label; source = identifier_to f t.source; guard = option_map (guard_to f) t.guard; target = identifier_to f t.target; effect = option_map (block_to f) t.effect }
+transition_to f t =
+    record {
+      label = option_map (identifier_to f) t.label;
+      source = identifier_to f t.source;
+      guard = option_map (guard_to f) t.guard;
+      target = identifier_to f t.target;
+      effect = option_map (block_to f) t.effect;
+    }
 
 abbrev pub annex_tree_to : {P Q : Type 0} → (P → Q) → x.AnnexTree P → x.AnnexTree Q
-annex_tree_to f t = record { variables = option_map (map (variable_to f)) t.variables; states = option_map (map (state_to f)) t.states; transitions = option_map (map (transition_to f)) t.transitions }
+annex_tree_to f t =
+    record {
+      variables = option_map (map (variable_to f)) t.variables;
+      states = option_map (map (state_to f)) t.states;
+      transitions = option_map (map (transition_to f)) t.transitions;
+    }
 
 abbrev pub content_to : {P Q : Type 0} → (P → Q) → x.AnnexContent P → x.AnnexContent Q
 content_to f (x.foreign t) = x.foreign t
@@ -137,25 +160,63 @@ abbrev pub annex_to : {P Q : Type 0} → (P → Q) → x.Annex P → x.Annex Q
 annex_to f t = record { at = f t.at; language = identifier_to f t.language; content = content_to f t.content }
 
 abbrev pub feature_to : {P Q : Type 0} → (P → Q) → d.Feature P → d.Feature Q
-feature_to f t = record { name = identifier_to f t.name; direction = t.direction; data_type = option_map (reference_to f) t.data_type; properties = associations_to f t.properties }
+feature_to f t =
+    record {
+      name = identifier_to f t.name;
+      direction = t.direction;
+      data_type = option_map (reference_to f) t.data_type;
+      properties = associations_to f t.properties;
+    }
 
 abbrev pub subcomponent_to : {P Q : Type 0} → (P → Q) → d.Subcomponent P → d.Subcomponent Q
-subcomponent_to f t = record { name = identifier_to f t.name; category = t.category; classifier = reference_to f t.classifier; properties = associations_to f t.properties }
+subcomponent_to f t =
+    record {
+      name = identifier_to f t.name;
+      category = t.category;
+      classifier = reference_to f t.classifier;
+      properties = associations_to f t.properties;
+    }
 
 abbrev pub end_to : {P Q : Type 0} → (P → Q) → d.ConnectionEnd P → d.ConnectionEnd Q
 end_to f t = record { first = identifier_to f t.first; second = option_map (identifier_to f) t.second }
 
 abbrev pub connection_to : {P Q : Type 0} → (P → Q) → d.Connection P → d.Connection Q
-connection_to f t = record { name = identifier_to f t.name; source = end_to f t.source; target = end_to f t.target; properties = associations_to f t.properties }
+connection_to f t =
+    record {
+      name = identifier_to f t.name;
+      source = end_to f t.source;
+      target = end_to f t.target;
+      properties = associations_to f t.properties;
+    }
 
 abbrev pub implementation_name_to : {P Q : Type 0} → (P → Q) → d.ImplementationName P → d.ImplementationName Q
-implementation_name_to f t = record { component_type = identifier_to f t.component_type; implementation = identifier_to f t.implementation }
+implementation_name_to f t =
+    record { component_type = identifier_to f t.component_type; implementation = identifier_to f t.implementation }
 
 abbrev pub type_to : {P Q : Type 0} → (P → Q) → d.TypeDeclaration P → d.TypeDeclaration Q
-type_to f t = record { at = f t.at; category = t.category; name = identifier_to f t.name; features = map (feature_to f) t.features; properties = associations_to f t.properties; annexes = map (annex_to f) t.annexes; end_name = identifier_to f t.end_name }
+type_to f t =
+    record {
+      at = f t.at;
+      category = t.category;
+      name = identifier_to f t.name;
+      features = map (feature_to f) t.features;
+      properties = associations_to f t.properties;
+      annexes = map (annex_to f) t.annexes;
+      end_name = identifier_to f t.end_name;
+    }
 
 abbrev pub implementation_to : {P Q : Type 0} → (P → Q) → d.Implementation P → d.Implementation Q
-implementation_to f t = record { at = f t.at; category = t.category; name = implementation_name_to f t.name; subcomponents = map (subcomponent_to f) t.subcomponents; connections = map (connection_to f) t.connections; properties = associations_to f t.properties; annexes = map (annex_to f) t.annexes; end_name = implementation_name_to f t.end_name }
+implementation_to f t =
+    record {
+      at = f t.at;
+      category = t.category;
+      name = implementation_name_to f t.name;
+      subcomponents = map (subcomponent_to f) t.subcomponents;
+      connections = map (connection_to f) t.connections;
+      properties = associations_to f t.properties;
+      annexes = map (annex_to f) t.annexes;
+      end_name = implementation_name_to f t.end_name;
+    }
 
 abbrev pub declaration_to : {P Q : Type 0} → (P → Q) → d.Declaration P → d.Declaration Q
 declaration_to f (d.type t) = d.type (type_to f t)
@@ -165,7 +226,13 @@ abbrev pub with_to : {P Q : Type 0} → (P → Q) → d.With P → d.With Q
 with_to f t = record { first = name_to f t.first; rest = map (name_to f) t.rest }
 
 abbrev pub package_to : {P Q : Type 0} → (P → Q) → d.PackageTree P → d.PackageTree Q
-package_to f t = record { name = name_to f t.name; withs = map (with_to f) t.withs; declarations = map (declaration_to f) t.declarations; end_name = name_to f t.end_name }
+package_to f t =
+    record {
+      name = name_to f t.name;
+      withs = map (with_to f) t.withs;
+      declarations = map (declaration_to f) t.declarations;
+      end_name = name_to f t.end_name;
+    }
 
 -- what is kept of places: themselves, or nothing
 abbrev pub kept_place : ℕ → ℕ

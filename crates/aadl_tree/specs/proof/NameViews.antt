@@ -17,7 +17,8 @@ abbrev pub path_view : {P : Type 0} → (ℕ → P) → source_path.Path → Pat
 path_view place x = record { first = identifier_view place x.first; rest = map (identifier_view place) x.rest.items }
 
 abbrev pub identifiers_view : {P : Type 0} → (ℕ → P) → source_identifiers.Identifiers → Identifiers P
-identifiers_view place x = record { first = identifier_view place x.first; rest = map (identifier_view place) x.rest.items }
+identifiers_view place x =
+    record { first = identifier_view place x.first; rest = map (identifier_view place) x.rest.items }
 
 abbrev pub reference_view : {P : Type 0} → (ℕ → P) → source_reference.Reference → Reference P
 reference_view place x =

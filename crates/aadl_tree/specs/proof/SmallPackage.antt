@@ -10,7 +10,8 @@ abbrev pub package_text : List ℕ
 package_text = codes "PACKAGE P -- none" ++ 10 ∷ codes "public end P;"
 
 abbrev pub package_tokens : List Token
-package_tokens = token Word 0 7 ∷ token Word 8 1 ∷ token Word 18 6 ∷ token Word 25 3 ∷ token Word 29 1 ∷ token Symbol 30 1 ∷ []
+package_tokens =
+    token Word 0 7 ∷ token Word 8 1 ∷ token Word 18 6 ∷ token Word 25 3 ∷ token Word 29 1 ∷ token Symbol 30 1 ∷ []
 
 -- its name, at a place
 abbrev name_at : ℕ → Name ℕ

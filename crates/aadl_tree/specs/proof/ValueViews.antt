@@ -39,13 +39,15 @@ value_step place (Value-F.Named x) = named (reference_view place x)
 value_step place (Value-F.Number low high) = number (quantity_view place low) (option_map (quantity_view place) high)
 
 abbrev pub association_step : {P : Type 0} → (ℕ → P) → Association-F (Value P) (Association P) → Association P
-association_step place x = association (name_view place x.name) x.operator x.constant x.value (map (path_view place) x.applies_to.items)
+association_step place x =
+    association (name_view place x.name) x.operator x.constant x.value (map (path_view place) x.applies_to.items)
 
 abbrev pub value_view : {P : Type 0} → (ℕ → P) → source_value.Value → Value P
 value_view {P} place = source_value.fold-Value (Value P) (Association P) (value_step place) (association_step place)
 
 abbrev pub association_view : {P : Type 0} → (ℕ → P) → source_association.Association → Association P
-association_view {P} place = source_association.fold-Association (Value P) (Association P) (value_step place) (association_step place)
+association_view {P} place =
+    source_association.fold-Association (Value P) (Association P) (value_step place) (association_step place)
 
 abbrev pub values_view : {P : Type 0} → (ℕ → P) → List source_value.Value → Values P
 values_view place vs = values_of (map (value_view place) vs)

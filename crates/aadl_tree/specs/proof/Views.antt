@@ -27,7 +27,12 @@ use Rattle.aadl_tree.specs.declared.declarations.Declaration as source_declarati
 use Rattle.aadl_tree.specs.declared.declarations.Declaration.TheVariants as declarations
 
 abbrev pub variable_view : {P : Type 0} → (ℕ → P) → source_variable.VariableDeclaration → VariableDeclaration P
-variable_view place x = record { names = identifiers_view place x.names; data_type = reference_view place x.data_type; properties = associations_view place x.properties.items }
+variable_view place x =
+    record {
+      names = identifiers_view place x.names;
+      data_type = reference_view place x.data_type;
+      properties = associations_view place x.properties.items;
+    }
 
 abbrev pub state_view : {P : Type 0} → (ℕ → P) → source_state.StateDeclaration → StateDeclaration P
 state_view place x = record { names = identifiers_view place x.names; initial = x.initial; complete = x.complete }
@@ -60,7 +65,8 @@ content_view place (contents.Unread bytes) = foreign bytes.items
 content_view place (contents.Behaviour x) = behaviour (annex_tree_view place x)
 
 abbrev pub annex_view : {P : Type 0} → (ℕ → P) → source_annex.Annex → Annex P
-annex_view place x = record { at = place x.at; language = identifier_view place x.language; content = content_view place x.content }
+annex_view place x =
+    record { at = place x.at; language = identifier_view place x.language; content = content_view place x.content }
 
 abbrev pub with_view : {P : Type 0} → (ℕ → P) → source_with.With → With P
 with_view place x = record { first = name_view place x.first; rest = map (name_view place) x.rest.items }
@@ -84,7 +90,8 @@ subcomponent_view place x =
     }
 
 abbrev pub end_view : {P : Type 0} → (ℕ → P) → source_end.ConnectionEnd → ConnectionEnd P
-end_view place x = record { first = identifier_view place x.first; second = option_map (identifier_view place) x.second }
+end_view place x =
+    record { first = identifier_view place x.first; second = option_map (identifier_view place) x.second }
 
 abbrev pub connection_view : {P : Type 0} → (ℕ → P) → source_connection.Connection → Connection P
 connection_view place x =
@@ -108,7 +115,11 @@ type_view place x =
     }
 
 abbrev pub implementation_name_view : {P : Type 0} → (ℕ → P) → source_name.ImplementationName → ImplementationName P
-implementation_name_view place x = record { component_type = identifier_view place x.component_type; implementation = identifier_view place x.implementation }
+implementation_name_view place x =
+    record {
+      component_type = identifier_view place x.component_type;
+      implementation = identifier_view place x.implementation;
+    }
 
 abbrev pub implementation_view : {P : Type 0} → (ℕ → P) → source_implementation.Implementation → Implementation P
 implementation_view place x =

@@ -12,7 +12,8 @@ is_there xs (Some m) = list_any (nat_eq m) xs
 pub record IsSequence (g : Graph) (xs : List ℕ) : Type 0 where
   pub distinct : IsDistinct nat_eq xs
   pub declared : (n : ℕ) → Contains xs n → n < length g
-  pub behind : (k n s m : ℕ) → slice_get xs k ≡ Some n → below_in g n s ≡ Some m → (j : ℕ) × (j < k) × (slice_get xs j ≡ Some m)
+  pub behind : (k n s m : ℕ) → slice_get xs k ≡ Some n → below_in g n s ≡ Some m
+      → (j : ℕ) × (j < k) × (slice_get xs j ≡ Some m)
 
 -- and all of them
 pub record IsOrder (g : Graph) (xs : List ℕ) : Type 0 where

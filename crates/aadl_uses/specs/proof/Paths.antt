@@ -13,4 +13,5 @@ IsClosed g used = (n s m : ℕ) → Contains used n → below_in g n s ≡ Some 
 
 -- the paths from what a declaration contains are there
 abbrev pub AreKnown : Graph → List Bool → List (List (List ℕ)) → ℕ → Type 0
-AreKnown g marks paths n = (s m : ℕ) → below_in g n s ≡ Some m → AreListed (IsMarkedAt g marks m) path_before (paths_from paths m)
+AreKnown g marks paths n =
+    (s m : ℕ) → below_in g n s ≡ Some m → AreListed (IsMarkedAt g marks m) path_before (paths_from paths m)

@@ -19,7 +19,9 @@ IsBefore tree at (Some fault) = IsRecursive tree fault × (place_of fault ≤ at
 
 -- each of these subcomponents that leads back has such a fault at its place or before it
 abbrev pub AreBefore : PackageTree ℕ → List (ℕ × ℕ) → Option PackageFault → Type 0
-AreBefore tree subs first = (n s : ℕ) (sub : Subcomponent ℕ) → Contains subs (n, s) → LeadsBack (containment tree) n s → sub_at tree n s ≡ Some sub
+AreBefore tree subs first =
+    (n s : ℕ) (sub : Subcomponent ℕ) → Contains subs (n, s) → LeadsBack (containment tree) n s
+    → sub_at tree n s ≡ Some sub
     → IsBefore tree sub.name.at first
 
 -- what is found is such a fault
@@ -28,10 +30,12 @@ IsFound tree None = Unit {0}
 IsFound tree (Some fault) = IsRecursive tree fault
 
 -- the first of what was found before, and of one more subcomponent
-pub record IsSooner (tree : PackageTree ℕ) (old : Option PackageFault) (n s : ℕ) (new : Option PackageFault) : Type 0 where
+pub record IsSooner (tree : PackageTree ℕ) (old : Option PackageFault) (n s : ℕ)
+    (new : Option PackageFault) : Type 0 where
   pub found : IsFound tree old → IsFound tree new
   pub kept : (at : ℕ) → IsBefore tree at old → IsBefore tree at new
-  pub here : (sub : Subcomponent ℕ) → LeadsBack (containment tree) n s → sub_at tree n s ≡ Some sub → IsFound tree old → IsBefore tree sub.name.at new
+  pub here : (sub : Subcomponent ℕ) → LeadsBack (containment tree) n s → sub_at tree n s ≡ Some sub → IsFound tree old
+      → IsBefore tree sub.name.at new
 
 -- what is found of some subcomponents is the first of those that lead back
 pub record IsFirstOf (tree : PackageTree ℕ) (subs : List (ℕ × ℕ)) (first : Option PackageFault) : Type 0 where

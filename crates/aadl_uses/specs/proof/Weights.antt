@@ -10,7 +10,8 @@ weight_of weights n s = slice_index_or (slice_index_or weights n []) s 0
 -- the sum along a path, the outermost subcomponent first
 abbrev pub path_weight : Graph → List (List ℕ) → ℕ → List ℕ → ℕ
 path_weight g weights n [] = 0
-path_weight g weights n (s ∷ path) = weight_of weights n s + option_map_or (λ k. path_weight g weights k path) (below_in g n s) 0
+path_weight g weights n (s ∷ path) =
+    weight_of weights n s + option_map_or (λ k. path_weight g weights k path) (below_in g n s) 0
 
 -- the greatest weight of the paths that have P, which stops at a limit; none where there is none
 pub record IsGreatest (P : List ℕ → Type 0) (weight : List ℕ → ℕ) (limit found : ℕ) : Type 0 where
@@ -27,7 +28,8 @@ abbrev pub IsHeaviest : ℕ → Graph → List Bool → List (List ℕ) → ℕ 
 IsHeaviest limit g marks weights n found = IsGreatestOf (IsMarkedAt g marks n) (path_weight g weights n) limit found
 
 abbrev pub AreWeighed : ℕ → Graph → List Bool → List (List ℕ) → List (Option ℕ) → ℕ → Type 0
-AreWeighed limit g marks weights found n = (s m : ℕ) → below_in g n s ≡ Some m → IsHeaviest limit g marks weights m (slice_index_or found m None)
+AreWeighed limit g marks weights found n =
+    (s m : ℕ) → below_in g n s ≡ Some m → IsHeaviest limit g marks weights m (slice_index_or found m None)
 
 -- ---- one declaration
 abbrev pub own_weight : Bool → Option ℕ

@@ -7,4 +7,5 @@ use Rattle.analysis_fields.specs.PropertyValues.{PropertyValue}
 
 abbrev pub property_code : Coded PropertyValue
 property_code =
-    code_by (List ℕ × Formula) (coded× (coded_list coded_ℕ) formula_code) (λ p. (p.name, p.form)) (λ p. record { name = p.0; form = p.1 }) (λ _. refl)
+    code_by (List ℕ × Formula) (coded× (coded_list coded_ℕ) formula_code) (λ p. (p.name, p.form))
+    (λ p. record { name = p.0; form = p.1 }) (λ _. refl)

@@ -13,13 +13,28 @@ resolve-requires c = words_among c.args.text.now c.args.tokens.now c.requires
 
 pub returns-in_err-tree-clause-fault : goal.returns-in_err-tree-clause-fault
 unfolding here depth
-returns-in_err-tree-clause-fault c = residual (IsFaultOfBehaviour c.args.text.now c.args.tokens.now) c.in_err-tree.field-0.0 _ c.from_residual-in_err-tree.ensures.1
-    (at_fault c.args.text.now c.args.tokens.now c.end_of.result (spots_of c.args.text.now c.as_slice.result.now) c.in_err-tree.field-0.0 c.end_of.ensures (ap (spots_of c.args.text.now) c.as_slice.ensures.value ∙ c.in_ok-terminals.ensures.spots) (c.in_err-tree.ensures.runs 1 [] refl))
+returns-in_err-tree-clause-fault c =
+    residual (IsFaultOfBehaviour c.args.text.now c.args.tokens.now) c.in_err-tree.field-0.0 _
+    c.from_residual-in_err-tree.ensures.1
+    (at_fault c.args.text.now c.args.tokens.now c.end_of.result (spots_of c.args.text.now c.as_slice.result.now)
+    c.in_err-tree.field-0.0 c.end_of.ensures
+    (ap (spots_of c.args.text.now) c.as_slice.ensures.value ∙ c.in_ok-terminals.ensures.spots)
+    (c.in_err-tree.ensures.runs 1 [] refl))
 
 pub returns-then-next-len-clause-fault : goal.returns-then-next-len-clause-fault
 unfolding here depth
-returns-then-next-len-clause-fault c = left_fault c.args.text.now c.args.tokens.now c.end_of.result (spots_of c.args.text.now c.as_slice.result.now) _ _ c.end_of.ensures (ap (spots_of c.args.text.now) c.as_slice.ensures.value ∙ c.in_ok-terminals.ensures.spots) (c.in_ok-tree.ensures.runs 1 [] refl) (some_left c.args.text.now c.as_slice.result.now c.in_ok-tree.next (omega (arith, c.if-next-len.true, c.len.ensures, ap length c.as_slice.ensures.value))) c.place.ensures
+returns-then-next-len-clause-fault c =
+    left_fault c.args.text.now c.args.tokens.now c.end_of.result (spots_of c.args.text.now c.as_slice.result.now) _ _
+    c.end_of.ensures (ap (spots_of c.args.text.now) c.as_slice.ensures.value ∙ c.in_ok-terminals.ensures.spots)
+    (c.in_ok-tree.ensures.runs 1 [] refl)
+    (some_left c.args.text.now c.as_slice.result.now c.in_ok-tree.next
+    (omega (arith, c.if-next-len.true, c.len.ensures, ap length c.as_slice.ensures.value))) c.place.ensures
 
 pub returns-clause-tree : goal.returns-clause-tree
 unfolding here depth
-returns-clause-tree c = at_tree c.args.text.now c.args.tokens.now c.end_of.result (spots_of c.args.text.now c.as_slice.result.now) _ _ (ap (spots_of c.args.text.now) c.as_slice.ensures.value ∙ c.in_ok-terminals.ensures.spots) (c.in_ok-tree.ensures.runs 1 [] refl) c.in_ok-tree.ensures.reads (spots_past c.args.text.now c.as_slice.result.now c.in_ok-tree.next (omega (arith, c.if-next-len.false, c.len.ensures, ap length c.as_slice.ensures.value)))
+returns-clause-tree c =
+    at_tree c.args.text.now c.args.tokens.now c.end_of.result (spots_of c.args.text.now c.as_slice.result.now) _ _
+    (ap (spots_of c.args.text.now) c.as_slice.ensures.value ∙ c.in_ok-terminals.ensures.spots)
+    (c.in_ok-tree.ensures.runs 1 [] refl) c.in_ok-tree.ensures.reads
+    (spots_past c.args.text.now c.as_slice.result.now c.in_ok-tree.next
+    (omega (arith, c.if-next-len.false, c.len.ensures, ap length c.as_slice.ensures.value)))

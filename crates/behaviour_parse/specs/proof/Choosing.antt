@@ -14,11 +14,15 @@ use Rattle.aadl_tree.specs.declared.mark.Mark.TheVariants as k
 -- the parentheses of a loop
 abbrev pub head_parts : LoopHead → List (Part ℕ)
 head_parts x =
-    plain k.ParenOpen ∷ (identifier_parts (identifier_view kept_place x.variable) ++ (plain k.Colon ∷ (reference_parts (reference_view kept_place x.data_type) ++ (plain k.In
+    plain k.ParenOpen ∷ (identifier_parts (identifier_view kept_place x.variable)
+    ++ (plain k.Colon ∷ (reference_parts (reference_view kept_place x.data_type) ++ (plain k.In
     ∷ (bound_parts x.low ++ (plain k.Range ∷ (bound_parts x.high ++ plain k.ParenClose ∷ [])))))))
 
 -- a choice behind its `if`
 abbrev pub choice_parts : Choice → List (Part ℕ)
 choice_parts x =
-    test_parts (expression_view kept_place (out-Choice x).test) ++ (actions_parts (actions_view kept_place (out-Choice x).actions)
-    ++ (elsifs_parts (elsifs_view kept_place (out-Choice x).elsifs.items) ++ (otherwise_parts (otherwise_of (option_map (λ b. actions_view kept_place b.value) (out-Choice x).otherwise)) ++ (plain k.End ∷ (plain k.If ∷ [])))))
+    test_parts (expression_view kept_place (out-Choice x).test)
+    ++ (actions_parts (actions_view kept_place (out-Choice x).actions)
+    ++ (elsifs_parts (elsifs_view kept_place (out-Choice x).elsifs.items)
+    ++ (otherwise_parts (otherwise_of (option_map (λ b. actions_view kept_place b.value) (out-Choice x).otherwise))
+    ++ (plain k.End ∷ (plain k.If ∷ [])))))

@@ -12,8 +12,11 @@ goes state frame fresh e = if nat_eq e.source state then opens e.trigger frame f
 
 -- the dispatch transition of a state
 abbrev pub dispatch_from : ℕ → List Edge → Option Edge
-dispatch_from state edges = find (λ (e : Edge). is_dispatch e.trigger) (filter (λ (e : Edge). nat_eq e.source state) edges)
+dispatch_from state edges =
+    find (λ (e : Edge). is_dispatch e.trigger) (filter (λ (e : Edge). nat_eq e.source state) edges)
 
 -- goes along the first transition of the state, if there is one
 abbrev pub move : List Edge → List Bool → Fired → Result Fired Trap
-move edges fresh at = on_value (first_open (filter (λ (e : Edge). nat_eq e.source at.frame.state) edges) at.frame fresh) (λ e. along e fresh at)
+move edges fresh at =
+    on_value (first_open (filter (λ (e : Edge). nat_eq e.source at.frame.state) edges) at.frame fresh)
+    (λ e. along e fresh at)

@@ -17,12 +17,18 @@ Standing = StepState × List PortValue
 
 -- where a step stands, as a frame that no trap halted, and its outputs
 abbrev pub fired : Standing → StepInputs → Fired
-fired at inputs = record { frame = record { state = at.0.state; vars = at.0.vars.items; held = inputs.held.now; halt = None }; outs = at.1 }
+fired at inputs =
+    record {
+      frame = record { state = at.0.state; vars = at.0.vars.items; held = inputs.held.now; halt = None };
+      outs = at.1;
+    }
 
 -- a part of a step with this answer leads from here to there as is meant
-abbrev pub Leads : Result (Unit {0}) EarlyEnd → (List Bool → Fired → Result Fired Trap) → StepInputs → Standing → Standing → Type 0
+abbrev pub Leads : Result (Unit {0}) EarlyEnd → (List Bool → Fired → Result Fired Trap) → StepInputs → Standing
+    → Standing → Type 0
 Leads result meant inputs before after = Left result (fired after inputs) (meant (fresh inputs) (fired before inputs))
 
 -- the whole step from a state: its dispatch transition, and on to a complete state
 abbrev pub reacted : BehaviourParts → ℕ → List Bool → Fired → Result Fired Trap
-reacted b state fresh' at = on_value (along (dispatched b state) fresh' at) (λ next. settled (length b.states) b fresh' next)
+reacted b state fresh' at =
+    on_value (along (dispatched b state) fresh' at) (λ next. settled (length b.states) b fresh' next)

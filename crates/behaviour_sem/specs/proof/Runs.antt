@@ -23,14 +23,19 @@ abbrev pub effect_of : Values → Effect
 effect_of values = effect values.0.items values.1
 
 -- a run with this answer goes from these values to those as is meant
-abbrev pub Runs : Result (Unit {0}) EarlyEnd → (Frame → List Bool → List PortValue → Result Effect Trap) → StepInputs → Values → Values → Type 0
-Runs result meant inputs before after = Left result (effect_of after) (meant (seen before.0.items inputs) (fresh inputs) before.1)
+abbrev pub Runs : Result (Unit {0}) EarlyEnd → (Frame → List Bool → List PortValue → Result Effect Trap) → StepInputs
+    → Values → Values → Type 0
+Runs result meant inputs before after =
+    Left result (effect_of after) (meant (seen before.0.items inputs) (fresh inputs) before.1)
 
 -- a run with this answer of the first branch whose guard is true, if there is one, goes from these values to those as is meant
 abbrev pub RunsFirst : Result Bool EarlyEnd → Branches → StepInputs → Values → Values → Type 0
 RunsFirst result branches inputs before after =
-    (otherwise : Result Effect Trap) → Chose result (effect_of after) (effect_of before) otherwise (act_first branches (seen before.0.items inputs) (fresh inputs) before.1 otherwise)
+    (otherwise : Result Effect Trap)
+    → Chose result (effect_of after) (effect_of before) otherwise
+    (act_first branches (seen before.0.items inputs) (fresh inputs) before.1 otherwise)
 
 -- one turn of a loop: its number stands behind the variables
 abbrev pub turn : ℤ → Actions → Frame → List Bool → List PortValue → Result Effect Trap
-turn number body frame fresh' outs = without_loop (length frame.vars) (acts body (with_vars frame (frame.vars ++ number ∷ [])) fresh' outs)
+turn number body frame fresh' outs =
+    without_loop (length frame.vars) (acts body (with_vars frame (frame.vars ++ number ∷ [])) fresh' outs)

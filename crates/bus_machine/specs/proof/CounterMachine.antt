@@ -49,7 +49,8 @@ early_arrival = Start a None ∷ Finish a ∷ Send a None ∷ Arrive to_b 0 None
 
 abbrev pub early_lines : List (List ℕ)
 early_lines =
-    codes "start p.a 0 _" ∷ codes "finish p.a 0" ∷ codes "send p.a 0 _" ∷ codes "arrive p.b.i 0 _ early" ∷ codes "stop early p.b.i 0 _" ∷ []
+    codes "start p.a 0 _" ∷ codes "finish p.a 0" ∷ codes "send p.a 0 _" ∷ codes "arrive p.b.i 0 _ early"
+    ∷ codes "stop early p.b.i 0 _" ∷ []
 
 -- ---- a message that comes twice, and one that is lost
 abbrev pub lost_message : List BusEvent

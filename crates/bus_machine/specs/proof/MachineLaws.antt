@@ -18,8 +18,10 @@ OpeningAgrees = (run : Run) → IsRunOf run → Agrees run (opening run)
 
 -- each step keeps the agreement, losses and repeats included
 abbrev pub StepKeepsAgreement : Type 0
-StepKeepsAgreement = (run : Run) (s t : BusState) (e : BusEvent) → IsRunOf run → Agrees run s → IsStep run s e t → Agrees run t
+StepKeepsAgreement =
+    (run : Run) (s t : BusState) (e : BusEvent) → IsRunOf run → Agrees run s → IsStep run s e t → Agrees run t
 
 -- what a journal replays to agrees
 abbrev pub ReplayAgrees : Type 0
-ReplayAgrees = (run : Run) (journal : List JournalEntry) (s : BusState) → IsRunOf run → Replays run journal s → Agrees run s
+ReplayAgrees =
+    (run : Run) (journal : List JournalEntry) (s : BusState) → IsRunOf run → Replays run journal s → Agrees run s

@@ -16,12 +16,15 @@ IsNamed x = IsTrue (is_word x.spelling)
 
 -- the names of ports, subcomponents, variables and states are words
 pub record HasWords (tree : PackageTree ℕ) : Type 0 where
-  pub ports : (n : ℕ) (x : TypeDeclaration ℕ) → slice_get tree.declarations n ≡ Some (type x) → All (λ (f : Feature ℕ). IsNamed f.name) x.features
+  pub ports : (n : ℕ) (x : TypeDeclaration ℕ) → slice_get tree.declarations n ≡ Some (type x)
+      → All (λ (f : Feature ℕ). IsNamed f.name) x.features
   pub subs : (n : ℕ) (x : Implementation ℕ) → slice_get tree.declarations n ≡ Some (implementation x)
       → All (λ (s : Subcomponent ℕ). IsNamed s.name) x.subcomponents
-  pub variables : (n : ℕ) (x : Implementation ℕ) (b : ℕ × AnnexTree ℕ) → slice_get tree.declarations n ≡ Some (implementation x)
+  pub variables : (n : ℕ) (x : Implementation ℕ) (b : ℕ × AnnexTree ℕ)
+      → slice_get tree.declarations n ≡ Some (implementation x)
       → slice_get (behaviours x.annexes) 0 ≡ Some b → All IsNamed (variables_of b.1)
-  pub states : (n : ℕ) (x : Implementation ℕ) (b : ℕ × AnnexTree ℕ) → slice_get tree.declarations n ≡ Some (implementation x)
+  pub states : (n : ℕ) (x : Implementation ℕ) (b : ℕ × AnnexTree ℕ)
+      → slice_get tree.declarations n ≡ Some (implementation x)
       → slice_get (behaviours x.annexes) 0 ≡ Some b → All IsNamed (states_of b.1)
 
 -- ---- names that differ, whatever the case of their letters
@@ -33,10 +36,12 @@ pub record NamesDiffer (tree : PackageTree ℕ) (x : Implementation ℕ) : Type 
   pub members : Differ (port_entries (ports_of tree x) ++ member_entries x)
   pub values : (b : ℕ × AnnexTree ℕ) → slice_get (behaviours x.annexes) 0 ≡ Some b → is_thread x.category ≡ true
       → Differ (port_entries (ports_of tree x) ++ variable_entries b.1)
-  pub states : (b : ℕ × AnnexTree ℕ) → slice_get (behaviours x.annexes) 0 ≡ Some b → is_thread x.category ≡ true → Differ (state_entries b.1)
+  pub states : (b : ℕ × AnnexTree ℕ) → slice_get (behaviours x.annexes) 0 ≡ Some b → is_thread x.category ≡ true
+      → Differ (state_entries b.1)
 
 -- what is known of all names of a package
 pub record AreNamed (tree : PackageTree ℕ) : Type 0 where
   pub words : HasWords tree
-  pub differ : (root n : ℕ) (x : Implementation ℕ) → package_faults tree root ≡ [] → slice_get tree.declarations n ≡ Some (implementation x)
+  pub differ : (root n : ℕ) (x : Implementation ℕ) → package_faults tree root ≡ []
+      → slice_get tree.declarations n ≡ Some (implementation x)
       → NamesDiffer tree x

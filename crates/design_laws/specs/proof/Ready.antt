@@ -32,12 +32,15 @@ FitsMeaning b loops (LoopVariable n) kind = (length b.vars ≤ n) × (n < length
 
 -- so each name of a scope, within `loops` loops; the next loop's variable has the number behind all others
 pub record FitsScope (b : BehaviourParts) (loops : ℕ) (scope : Scope) : Type 0 where
-  pub entries : (name : List ℕ) (e : DeclaredName) → entry_named scope name ≡ Some e → FitsMeaning b loops e.meaning e.kind
+  pub entries : (name : List ℕ) (e : DeclaredName) → entry_named scope name ≡ Some e
+      → FitsMeaning b loops e.meaning e.kind
   pub next : scope.next ≡ length b.vars + loops
 
 -- ---- the states of a transition are declared
 abbrev pub is_declared : List StateAt → Transition ℕ → Bool
-is_declared states t = nat_lt (state_number states t.source.spelling) (length states) && nat_lt (state_number states t.target.spelling) (length states)
+is_declared states t =
+    nat_lt (state_number states t.source.spelling) (length states)
+    && nat_lt (state_number states t.target.spelling) (length states)
 
 -- ---- the whole
 pub record IsReady (values : DeclaredValues) (scope : Scope) (annex : AnnexTree ℕ) : Type 0 where

@@ -13,7 +13,9 @@ queue_of list room = record { entries = list; spare = room }
 
 -- the order of entries: by due reading, then by link, then by round
 abbrev pub comes_before : DueEntry → DueEntry → Bool
-comes_before a b = nat_lt a.due b.due || nat_eq a.due b.due && (nat_lt a.link.0 b.link.0 || nat_eq a.link.0 b.link.0 && nat_lt a.round b.round)
+comes_before a b =
+    nat_lt a.due b.due || nat_eq a.due b.due
+    && (nat_lt a.link.0 b.link.0 || nat_eq a.link.0 b.link.0 && nat_lt a.round b.round)
 
 -- no entry comes before one that stands before it
 abbrev pub IsRising : List DueEntry → Type 0
@@ -24,7 +26,8 @@ is_entry a b = nat_eq a.due b.due && nat_eq a.link.0 b.link.0 && nat_eq a.round 
 
 -- the entries with one more, behind those that it does not come before
 abbrev pub with_entry : DueEntry → List DueEntry → List DueEntry
-with_entry entry entries = filter (λ other. not (comes_before entry other)) entries ++ entry ∷ filter (comes_before entry) entries
+with_entry entry entries =
+    filter (λ other. not (comes_before entry other)) entries ++ entry ∷ filter (comes_before entry) entries
 
 -- the entries without the first that is this one, or all where none is
 abbrev pub without_entry : DueEntry → List DueEntry → List DueEntry

@@ -9,8 +9,10 @@ copies_of standings = map (λ s. s.copy) standings
 
 -- no copy is of a round above its own top, or above the top of one behind it
 abbrev pub AreTopped : List RingEntry → Type 0
-AreTopped standings = All (λ s. s.copy.round ≤ s.top) standings × AllPairs (λ ahead s. ahead.copy.round ≤ s.top) standings
+AreTopped standings =
+    All (λ s. s.copy.round ≤ s.top) standings × AllPairs (λ ahead s. ahead.copy.round ≤ s.top) standings
 
 -- the copies ahead of a place are of rounds below this one
 abbrev pub AreBelow : ℕ → ℕ → List RingEntry → Type 0
-AreBelow round place standings = (k : ℕ) → k < place → (d : RingEntry) → (slice_index_or standings k d).copy.round < round
+AreBelow round place standings =
+    (k : ℕ) → k < place → (d : RingEntry) → (slice_index_or standings k d).copy.round < round

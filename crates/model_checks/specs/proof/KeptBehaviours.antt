@@ -13,4 +13,5 @@ behaviour_at tree number = option_and_then (behaviour_in tree) (implementation_a
 
 -- what is kept for a number is the behaviour of its implementation
 abbrev pub AreKept : PackageTree ℕ → List (ℕ × BehaviourParts) → Type 0
-AreKept tree kept = (number : ℕ) (b : BehaviourParts) → lookup (nat_eq number) kept ≡ Some b → behaviour_at tree number ≡ Some b
+AreKept tree kept =
+    (number : ℕ) (b : BehaviourParts) → lookup (nat_eq number) kept ≡ Some b → behaviour_at tree number ≡ Some b

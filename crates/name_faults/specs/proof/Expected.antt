@@ -8,7 +8,8 @@ use Rattle.aadl_names.specs.PackageFaults.{behaviour_faults}
 
 abbrev pub annex_uses : PackageTree ℕ → Implementation ℕ → Bool → Annex ℕ → List PackageFault
 annex_uses tree x expected annex =
-    elim annex.content as (λ _. List PackageFault) [ foreign bytes ↦ [] | behaviour b ↦ if expected then behaviour_faults tree x b else WrongKind annex.at ∷ [] ]
+    elim annex.content as (λ _. List PackageFault)
+    [ foreign bytes ↦ [] | behaviour b ↦ if expected then behaviour_faults tree x b else WrongKind annex.at ∷ [] ]
 
 abbrev pub still_expected : Bool → Annex ℕ → Bool
 still_expected expected annex = elim annex.content as (λ _. Bool) [ foreign bytes ↦ expected | behaviour b ↦ false ]

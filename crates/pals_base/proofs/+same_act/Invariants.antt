@@ -7,10 +7,12 @@ use Rattle.pals_base.proofs.+same_act.Given as goal
 abbrev pub invariant-same::actions::same_acts-loop-at : goal.invariant-same::actions::same_acts-loop-at
 invariant-same::actions::same_acts-loop-at l =
     (length l.left ≡ length l.right)
-    × ((actions_along l.left ≡ actions_along l.right) ↔ (actions_along (drop l.at l.left) ≡ actions_along (drop l.at l.right)))
+    × ((actions_along l.left ≡ actions_along l.right)
+    ↔ (actions_along (drop l.at l.left) ≡ actions_along (drop l.at l.right)))
 
 -- and so of branches
 abbrev pub invariant-same::actions::same_branches-loop-at : goal.invariant-same::actions::same_branches-loop-at
 invariant-same::actions::same_branches-loop-at l =
     (length l.left ≡ length l.right)
-    × ((branches_along l.left ≡ branches_along l.right) ↔ (branches_along (drop l.at l.left) ≡ branches_along (drop l.at l.right)))
+    × ((branches_along l.left ≡ branches_along l.right)
+    ↔ (branches_along (drop l.at l.left) ≡ branches_along (drop l.at l.right)))

@@ -7,4 +7,5 @@ use Rattle.pals_base.proofs.+same_expr.Given as goal
 abbrev pub invariant-same::expressions::same_operands-loop-at : goal.invariant-same::expressions::same_operands-loop-at
 invariant-same::expressions::same_operands-loop-at l =
     (length l.left ≡ length l.right)
-    × ((operands_along l.left ≡ operands_along l.right) ↔ (operands_along (drop l.at l.left) ≡ operands_along (drop l.at l.right)))
+    × ((operands_along l.left ≡ operands_along l.right)
+    ↔ (operands_along (drop l.at l.left) ≡ operands_along (drop l.at l.right)))

@@ -90,7 +90,8 @@ abbrev mutual
   expression_back (gcons (gnum (suc (suc (suc (suc zero))))) v) = Neg (expression_back v)
   expression_back (gcons (gnum (suc (suc (suc (suc (suc zero)))))) v) = Abs (expression_back v)
   expression_back (gcons (gnum (suc (suc (suc (suc (suc (suc zero))))))) v) = Not (expression_back v)
-  expression_back (gcons (gnum (suc (suc (suc (suc (suc (suc (suc n)))))))) (gcons a b)) = Chain (expression_back a) (operands_back b)
+  expression_back (gcons (gnum (suc (suc (suc (suc (suc (suc (suc n)))))))) (gcons a b)) =
+      Chain (expression_back a) (operands_back b)
   expression_back v = Variable 0
 
   pub operands_back : Gv → Operands
@@ -107,7 +108,8 @@ mutual
   expression_there (Abs e) = ap Abs (expression_there e)
   expression_there (Not e) = ap Not (expression_there e)
   expression_there (Chain first rest) =
-      ap (λ f. Chain f (operands_back (operands_to rest))) (expression_there first) ∙ ap (λ r. Chain first r) (operands_there rest)
+      ap (λ f. Chain f (operands_back (operands_to rest))) (expression_there first)
+      ∙ ap (λ r. Chain first r) (operands_there rest)
 
   pub operands_there : (os : Operands) → operands_back (operands_to os) ≡ os
   operands_there NoMore = refl
@@ -137,7 +139,8 @@ abbrev mutual
   action_back (gcons (gnum zero) (gcons (gnum x) v)) = Assign x (expression_back v)
   action_back (gcons (gnum (suc zero)) (gcons (gnum p) v)) = Emit p (expression_back v)
   action_back (gcons (gnum (suc (suc zero))) (gcons a b)) = If (branches_back a) (actions_back b)
-  action_back (gcons (gnum (suc (suc (suc n)))) (gcons low (gcons high body))) = For (int_back low) (int_back high) (actions_back body)
+  action_back (gcons (gnum (suc (suc (suc n)))) (gcons low (gcons high body))) =
+      For (int_back low) (int_back high) (actions_back body)
   action_back v = Assign 0 (Variable 0)
 
   pub actions_back : Gv → Actions
@@ -153,7 +156,8 @@ mutual
   action_there (Assign x e) = ap (Assign x) (expression_there e)
   action_there (Emit p e) = ap (Emit p) (expression_there e)
   action_there (If branches otherwise) =
-      ap (λ b. If b (actions_back (actions_to otherwise))) (branches_there branches) ∙ ap (λ o. If branches o) (actions_there otherwise)
+      ap (λ b. If b (actions_back (actions_to otherwise))) (branches_there branches)
+      ∙ ap (λ o. If branches o) (actions_there otherwise)
   action_there (For low high body) =
       ap (λ l. For l (int_back (int_to high)) (actions_back (actions_to body))) (int_there low)
       ∙ ap (λ h. For low h (actions_back (actions_to body))) (int_there high)
@@ -161,7 +165,8 @@ mutual
 
   pub actions_there : (as' : Actions) → actions_back (actions_to as') ≡ as'
   actions_there Nothing = refl
-  actions_there (Do a rest) = ap (λ b. Do b (actions_back (actions_to rest))) (action_there a) ∙ ap (λ r. Do a r) (actions_there rest)
+  actions_there (Do a rest) =
+      ap (λ b. Do b (actions_back (actions_to rest))) (action_there a) ∙ ap (λ r. Do a r) (actions_there rest)
 
   pub branches_there : (bs : Branches) → branches_back (branches_to bs) ≡ bs
   branches_there NoBranch = refl
@@ -188,10 +193,12 @@ trigger_there Always = refl
 trigger_there (When e) = ap When (expression_there e)
 
 abbrev pub trigger_code : Coded Trigger
-trigger_code = record { code = trigger_to; inj = λ s t same. sym (trigger_there s) ∙ ap trigger_back same ∙ trigger_there t }
+trigger_code =
+    record { code = trigger_to; inj = λ s t same. sym (trigger_there s) ∙ ap trigger_back same ∙ trigger_there t }
 
 abbrev pub actions_code : Coded Actions
-actions_code = record { code = actions_to; inj = λ s t same. sym (actions_there s) ∙ ap actions_back same ∙ actions_there t }
+actions_code =
+    record { code = actions_to; inj = λ s t same. sym (actions_there s) ∙ ap actions_back same ∙ actions_there t }
 
 abbrev pub edge_code : Coded Edge
 edge_code =

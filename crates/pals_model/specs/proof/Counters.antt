@@ -27,7 +27,9 @@ only_state = record { name = codes "s"; complete = true }
 
 -- x := x + i + 1; o!(x)
 abbrev counting : Actions
-counting = Do (Assign 0 (Chain (Variable 0) (Then Add (PortRead 0) (Then Add (Literal (pos 1)) NoMore)))) (Do (Emit 0 (Variable 0)) Nothing)
+counting =
+    Do (Assign 0 (Chain (Variable 0) (Then Add (PortRead 0) (Then Add (Literal (pos 1)) NoMore))))
+    (Do (Emit 0 (Variable 0)) Nothing)
 
 abbrev on_dispatch : Edge
 on_dispatch = record { source = 0; target = 0; trigger = Dispatch; actions = counting }
@@ -50,7 +52,8 @@ abbrev numbered : ℕ → NodeNo
 numbered n = record { 0 = n }
 
 abbrev linked : ℕ → ℕ → Link
-linked source target = record { source = numbered source; out_port = 0; target = numbered target; in_port = 0; adaptor = None }
+linked source target =
+    record { source = numbered source; out_port = 0; target = numbered target; in_port = 0; adaptor = None }
 
 abbrev counter_bounds : Gamma
 counter_bounds = record { eps = 1000000; alpha_min = 0; alpha_max = 3000000; mu_min = 1000000; mu_max = 4000000 }

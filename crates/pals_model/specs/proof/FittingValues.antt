@@ -34,7 +34,8 @@ VarsFit b vars = (x : ℕ) (v : VarDecl) → slice_get b.vars x ≡ Some v → F
 
 -- each held input fits its in port's kind
 abbrev pub HeldFit : BehaviourParts → List ℤ → Type 0
-HeldFit b held = (p : ℕ) (port : PortDecl) → slice_get b.ins p ≡ Some port → Fits port.kind (slice_index_or held p (pos 0))
+HeldFit b held =
+    (p : ℕ) (port : PortDecl) → slice_get b.ins p ≡ Some port → Fits port.kind (slice_index_or held p (pos 0))
 
 -- the values of one step at ports of these types
 abbrev pub PortsFit : List PortDecl → List PortValue → Type 0

@@ -10,7 +10,9 @@ use Rattle.pals_model.specs.declared.sources.PortSource.TheVariants as source
 
 -- the table with this source for each in port
 abbrev pub table_of : List Component → (ℕ → ℕ → PortSource) → List (List PortSource)
-table_of components source_at = map (λ numbered. map (source_at numbered.0) (upwards 0 (length numbered.1.behaviour.ins))) (enumerate_from 0 components)
+table_of components source_at =
+    map (λ numbered. map (source_at numbered.0) (upwards 0 (length numbered.1.behaviour.ins)))
+    (enumerate_from 0 components)
 
 -- nothing comes to any in port
 abbrev pub nothing : ℕ → ℕ → PortSource
@@ -22,7 +24,8 @@ fed_from design at node port = from_feed design (position_from (feed_goes_to nod
 
 -- all feeds, and the links from a number on
 abbrev pub linked_from : DesignParts → ℕ → ℕ → ℕ → PortSource
-linked_from design at node port = from_link (position_from (link_goes_to node port) at (drop at design.links)) (fed_from design 0 node port)
+linked_from design at node port =
+    from_link (position_from (link_goes_to node port) at (drop at design.links)) (fed_from design 0 node port)
 
 -- a table with another source for one in port
 abbrev pub with_source : List (List PortSource) → ℕ → ℕ → PortSource → List (List PortSource)

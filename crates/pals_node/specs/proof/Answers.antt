@@ -87,7 +87,8 @@ abbrev pub NoneRuns : NodeValue → Type 0
 NoneRuns n = (i : ℕ) → n.state.phase ≢ Running i
 
 -- ---- Send
-pub record Sends (old : NodeValue) (reading : Option ℕ) (new : NodeValue) (messages : List (List PortValue)) : Type 0 where
+pub record Sends (old : NodeValue) (reading : Option ℕ) (new : NodeValue)
+    (messages : List (List PortValue)) : Type 0 where
   pub may : may_send old.program.plan old.state ≡ true
   pub due : is_early reading (release_alarm old.program.plan old.state) ≡ false
   pub state : new ≡ with_state old (sent_from old.rounds old.state)

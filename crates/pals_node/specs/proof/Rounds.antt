@@ -18,7 +18,8 @@ empty_part plan =
     record { frame = initial plan.behaviour; outs = replicate (length plan.taps) (replicate plan.rate Absent) }
 
 -- what a round needs is made
-pub record IsBegun (plan : Plan) (env : List PortValue) (slots : List (Option (List PortValue))) (room : RoundRoom) : Type 0 where
+pub record IsBegun (plan : Plan) (env : List PortValue) (slots : List (Option (List PortValue)))
+    (room : RoundRoom) : Type 0 where
   pub vectors_are : room.vectors ≡ vectors_of plan env slots
   pub outs_are : room.outs ≡ replicate (length plan.behaviour.outs) (replicate plan.rate Absent)
   pub messages_are : room.messages ≡ replicate (length plan.out_links) (replicate plan.rate Absent)

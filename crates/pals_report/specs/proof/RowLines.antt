@@ -14,7 +14,8 @@ use Rattle.pals_model.specs.RoundTexts.{part_lines, tap_line, tap_lines}
 abbrev pub lines_at_place : DesignParts → ℕ → Tap → Option Part → List (List ℕ)
 lines_at_place design place tap None = []
 lines_at_place design place tap (Some part) =
-    tap_line (out_kind (slice_get design.components tap.source.0) tap.out_port) tap (slice_index_or part.outs place []) ∷ []
+    tap_line (out_kind (slice_get design.components tap.source.0) tap.out_port) tap
+    (slice_index_or part.outs place []) ∷ []
 
 -- the lines of components, which are numbered from a number on
 abbrev pub components_from : (ℕ → Option Part) → ℕ → List Component → List (List ℕ)
@@ -24,7 +25,8 @@ components_from part_of node components =
 -- the lines of root out ports, which are numbered from a number on
 abbrev pub taps_from : DesignParts → (ℕ → Option Part) → ℕ → List Tap → List (List ℕ)
 taps_from design part_of number taps =
-    flat_map (λ numbered. tap_lines design numbered.0 numbered.1 (part_of numbered.1.source.0)) (enumerate_from number taps)
+    flat_map (λ numbered. tap_lines design numbered.0 numbered.1 (part_of numbered.1.source.0))
+    (enumerate_from number taps)
 
 -- what all components of the synchronous composition leave after a round
 abbrev pub ArePartsOf : DesignParts → Env → ℕ → (ℕ → Option Part) → Type 0

@@ -21,7 +21,8 @@ stays_inside pair link =
 
 -- no other pair shares a component with this one
 pub record StandsApart (pairs : List Pair) (index : ℕ) : Type 0 where
-  pub others : (other : ℕ) (a b : Pair) → other ≢ index → slice_get pairs index ≡ Some a → slice_get pairs other ≡ Some b → AreApart a b
+  pub others : (other : ℕ) (a b : Pair) → other ≢ index → slice_get pairs index ≡ Some a
+      → slice_get pairs other ≡ Some b → AreApart a b
 
 pub record CanBeFused (design : DesignParts) (pairs : List Pair) (index : ℕ) : Type 0 where
   pub pair : (a : Pair) → slice_get pairs index ≡ Some a → IsPair design a

@@ -12,7 +12,8 @@ use Rattle.pals_model.specs.Composition.{Configuration}
 use Rattle.plant_fuse.specs.Fused.{Inputs, frame_before, vector_of, inputs_to, messages_before}
 
 abbrev pub made_at : DesignParts → List Pair → Env → Inputs → ℕ → Component → ℕ → Fired
-made_at design pairs env ins node c step = fire c.behaviour (frame_before ins node c step) (vector_of design pairs env ins node c step)
+made_at design pairs env ins node c step =
+    fire c.behaviour (frame_before ins node c step) (vector_of design pairs env ins node c step)
 
 -- the inputs of fewer rounds
 abbrev pub first_rounds : DesignParts → ℕ → Inputs → Inputs

@@ -18,43 +18,61 @@ use Rattle.plant_fuse.specs.FusedText.{fused_parts, IsFusedReport}
 
 -- the equations have a solution for each number of rounds
 abbrev pub SolutionExists : Type 0
-SolutionExists = (design : DesignParts) (pairs : List Pair) (env : Env) (rounds : ℕ) → IsDesign design → ArePairs design pairs →
+SolutionExists =
+    (design : DesignParts) (pairs : List Pair) (env : Env) (rounds : ℕ) → IsDesign design → ArePairs design pairs →
     (ins : Inputs) × IsFused design pairs env rounds ins
 
 -- and no two
 abbrev pub SolutionIsOne : Type 0
-SolutionIsOne = (design : DesignParts) (pairs : List Pair) (env : Env) (rounds : ℕ) (ins other : Inputs) → IsDesign design → ArePairs design pairs →
+SolutionIsOne =
+    (design : DesignParts) (pairs : List Pair) (env : Env) (rounds : ℕ) (ins other : Inputs) → IsDesign design
+    → ArePairs design pairs →
     IsFused design pairs env rounds ins → IsFused design pairs env rounds other → ins ≡ other
 
 -- and the solution for one round more begins with it
 abbrev pub SolutionGoesOn : Type 0
-SolutionGoesOn = (design : DesignParts) (pairs : List Pair) (env : Env) (rounds : ℕ) (ins : Inputs) → IsDesign design → ArePairs design pairs →
+SolutionGoesOn =
+    (design : DesignParts) (pairs : List Pair) (env : Env) (rounds : ℕ) (ins : Inputs) → IsDesign design
+    → ArePairs design pairs →
     IsFused design pairs env (suc rounds) ins → IsFused design pairs env rounds (first_rounds design rounds ins)
 
 -- each step goes on from the frame before it, at the vector that it reads, and leaves what it makes: so the steps can be made one
 -- after the other
 abbrev pub StepsAreMade : Type 0
-StepsAreMade = (design : DesignParts) (pairs : List Pair) (env : Env) (rounds : ℕ) (ins : Inputs) (node : ℕ) (c : Component) (step : ℕ) → IsDesign design → ArePairs design pairs →
+StepsAreMade =
+    (design : DesignParts) (pairs : List Pair) (env : Env) (rounds : ℕ) (ins : Inputs) (node : ℕ) (c : Component)
+    (step : ℕ) → IsDesign design → ArePairs design pairs →
     IsFused design pairs env rounds ins → slice_get design.components node ≡ Some c → step < rounds * c.rate →
     (frame_before ins node c (suc step) ≡ (made_at design pairs env ins node c step).frame)
-    × ((port : ℕ) → left_by design ins node port step ≡ slice_index_or (made_at design pairs env ins node c step).outs port Absent)
+    × ((port : ℕ) → left_by design ins node port step
+    ≡ slice_index_or (made_at design pairs env ins node c step).outs port Absent)
 
 -- what stands after one round more comes from what stood before by one round of these equations
 abbrev pub RoundsGoOn : Type 0
-RoundsGoOn = (design : DesignParts) (pairs : List Pair) (env : Env) (rounds : ℕ) (ins : Inputs) → IsDesign design → ArePairs design pairs →
+RoundsGoOn =
+    (design : DesignParts) (pairs : List Pair) (env : Env) (rounds : ℕ) (ins : Inputs) → IsDesign design
+    → ArePairs design pairs →
     IsFused design pairs env (suc rounds) ins →
-    IsFusedRound design pairs (values_at env rounds) (fused design pairs rounds (first_rounds design rounds ins)) (last_round design rounds ins)
-    × (fused design pairs (suc rounds) ins ≡ after_round design pairs (fused design pairs rounds (first_rounds design rounds ins)) (last_round design rounds ins))
+    IsFusedRound design pairs (values_at env rounds) (fused design pairs rounds (first_rounds design rounds ins))
+    (last_round design rounds ins)
+    × (fused design pairs (suc rounds) ins
+    ≡ after_round design pairs (fused design pairs rounds (first_rounds design rounds ins))
+    (last_round design rounds ins))
 
 -- and no two inputs of a round meet these
 abbrev pub RoundIsOne : Type 0
-RoundIsOne = (design : DesignParts) (pairs : List Pair) (values : List PortValue) (before : Configuration) (vectors other : Inputs) → ArePairs design pairs →
+RoundIsOne =
+    (design : DesignParts) (pairs : List Pair) (values : List PortValue) (before : Configuration)
+    (vectors other : Inputs) → ArePairs design pairs →
     IsFusedRound design pairs values before vectors → IsFusedRound design pairs values before other → vectors ≡ other
 
 -- so what is made round by round stands, after any number of rounds, where the solution for these rounds does
 abbrev pub RoundsFollow : Type 0
-RoundsFollow = (design : DesignParts) (pairs : List Pair) (env : Env) (at : ℕ → Configuration) (vectors : ℕ → Inputs) (rounds : ℕ) (ins : Inputs) → IsDesign design → ArePairs design pairs →
-    AreRounds design pairs env rounds at vectors → IsFused design pairs env rounds ins → at rounds ≡ fused design pairs rounds ins
+RoundsFollow =
+    (design : DesignParts) (pairs : List Pair) (env : Env) (at : ℕ → Configuration) (vectors : ℕ → Inputs) (rounds : ℕ)
+    (ins : Inputs) → IsDesign design → ArePairs design pairs →
+    AreRounds design pairs env rounds at vectors → IsFused design pairs env rounds ins
+    → at rounds ≡ fused design pairs rounds ins
 
 -- without pairs it is the composition
 abbrev pub WithoutPairs : Type 0
@@ -63,7 +81,9 @@ WithoutPairs = (design : DesignParts) (env : Env) (rounds : ℕ) (ins : Inputs) 
 
 -- states that follow one another stand where the solution does, and their parts are what the components leave in each round
 abbrev pub StatesFollow : Type 0
-StatesFollow = (design : DesignParts) (pairs : List Pair) (env : Env) (at : ℕ → FuseState) (rounds : ℕ) (ins : Inputs) → IsDesign design → ArePairs design pairs →
+StatesFollow =
+    (design : DesignParts) (pairs : List Pair) (env : Env) (at : ℕ → FuseState) (rounds : ℕ) (ins : Inputs)
+    → IsDesign design → ArePairs design pairs →
     AreStates design pairs env rounds at → IsFused design pairs env rounds ins →
     ((at rounds).configuration ≡ fused design pairs rounds ins)
     × ((round : ℕ) → round < rounds → (at (suc round)).parts ≡ fused_parts design ins round)
@@ -71,12 +91,15 @@ StatesFollow = (design : DesignParts) (pairs : List Pair) (env : Env) (at : ℕ 
 -- ---- the report
 -- there is one
 abbrev pub ReportExists : Type 0
-ReportExists = (design : DesignParts) (pairs : List Pair) (env : Env) (rounds : ℕ) → IsDesign design → ArePairs design pairs →
+ReportExists =
+    (design : DesignParts) (pairs : List Pair) (env : Env) (rounds : ℕ) → IsDesign design → ArePairs design pairs →
     (text : List ℕ) × IsFusedReport design pairs env rounds text
 
 -- and no two
 abbrev pub ReportIsOne : Type 0
-ReportIsOne = (design : DesignParts) (pairs : List Pair) (env : Env) (rounds : ℕ) (text other : List ℕ) → IsDesign design → ArePairs design pairs →
+ReportIsOne =
+    (design : DesignParts) (pairs : List Pair) (env : Env) (rounds : ℕ) (text other : List ℕ) → IsDesign design
+    → ArePairs design pairs →
     IsFusedReport design pairs env rounds text → IsFusedReport design pairs env rounds other → text ≡ other
 
 -- without pairs it is that of the composition

@@ -17,4 +17,5 @@ sent_from inside (Some stage) port = cut (sent_count inside stage) (column port 
 
 -- the message of a link, from the rows of its source
 abbrev pub sent_on : List Pair → List Stage → Link → List PortValue
-sent_on pairs stages link = sent_from (is_inside (partner_of pairs link.source.0) link) (slice_get stages link.source.0) link.out_port
+sent_on pairs stages link =
+    sent_from (is_inside (partner_of pairs link.source.0) link) (slice_get stages link.source.0) link.out_port

@@ -32,7 +32,8 @@ brought_at round seat step source = slice_index_or (brought round seat.component
 
 -- on a link from the partner the value in the row that it left last, and before its first row the last place of the link's message
 abbrev pub from_partner : RoundInputs → ℕ → ℕ → Link → Option (List PortValue) → PortValue
-from_partner round rate number link None = slice_index_or (slice_index_or round.messages.now number []) (rate - 1) Absent
+from_partner round rate number link None =
+    slice_index_or (slice_index_or round.messages.now number []) (rate - 1) Absent
 from_partner round rate number link (Some row) = slice_index_or row link.out_port Absent
 
 abbrev pub from_link : RoundInputs → Seat → ℕ → Option (List PortValue) → ℕ → Option Link → PortValue
@@ -44,7 +45,8 @@ from_link round seat step last number (Some link) =
 abbrev pub side_value : RoundInputs → Seat → ℕ → Option (List PortValue) → PortSource → PortValue
 side_value round seat step last source.Nothing = brought_at round seat step source.Nothing
 side_value round seat step last (source.Feed feed root) = brought_at round seat step (source.Feed feed root)
-side_value round seat step last (source.Link number) = from_link round seat step last number (slice_get round.design.now.links number)
+side_value round seat step last (source.Link number) =
+    from_link round seat step last number (slice_get round.design.now.links number)
 
 -- the input vector of a step, where the partner left this row last
 abbrev pub side_vector : RoundInputs → Seat → ℕ → Option (List PortValue) → List PortValue
@@ -68,7 +70,8 @@ controller_vector round seat rows step = side_vector round seat step (Some (row_
 
 -- ---- what is left
 -- the rows and the frame that steps at these vectors leave
-pub record IsMade (b : BehaviourParts) (from : Frame) (vectors : List (List PortValue)) (rows : List (List PortValue)) (to : Frame) : Type 0 where
+pub record IsMade (b : BehaviourParts) (from : Frame) (vectors : List (List PortValue)) (rows : List (List PortValue))
+    (to : Frame) : Type 0 where
   pub rows_are : rows ≡ outputs b from vectors
   pub frame_is : to ≡ frame_after b from vectors
 
@@ -83,8 +86,10 @@ work from rows to = record { from = from; rows = rows; to = to }
 
 -- the first steps of both, each side reading what the other leaves
 pub record AreMade (round : RoundInputs) (plant controller : Seat) (steps : ℕ) (p c : Work) : Type 0 where
-  pub plant_is : IsMade plant.component.behaviour p.from (map (plant_vector round plant c.rows) (upwards 0 steps)) p.rows p.to
-  pub controller_is : IsMade controller.component.behaviour c.from (map (controller_vector round controller p.rows) (upwards 0 steps)) c.rows c.to
+  pub plant_is : IsMade plant.component.behaviour p.from
+      (map (plant_vector round plant c.rows) (upwards 0 steps)) p.rows p.to
+  pub controller_is : IsMade controller.component.behaviour c.from
+      (map (controller_vector round controller p.rows) (upwards 0 steps)) c.rows c.to
 
 -- ---- room for the steps of a component
 pub record FitsGiven (given : StepContext) (stage : Stage) (part : Part) : Type 0 where
@@ -97,9 +102,11 @@ pub record FitsGiven (given : StepContext) (stage : Stage) (part : Part) : Type 
 abbrev pub side_work : PairedComponent → Stage → Part → Work
 side_work side stage part = work side.given.from.now stage.rows part.frame
 
-pub record AreSidesRun (round : RoundInputs) (plant controller : PairedComponent) (plant_stage controller_stage : Stage) (plant_part controller_part : Part) : Type 0 where
+pub record AreSidesRun (round : RoundInputs) (plant controller : PairedComponent) (plant_stage controller_stage : Stage)
+    (plant_part controller_part : Part) : Type 0 where
   pub made :
       AreMade round (seat_of plant) (seat_of controller) plant.given.component.now.rate
       (side_work plant plant_stage plant_part) (side_work controller controller_stage controller_part)
   pub plant_shows : plant_part.outs ≡ map (λ port. column port plant_stage.rows) plant.given.taps.now
-  pub controller_shows : controller_part.outs ≡ map (λ port. column port controller_stage.rows) controller.given.taps.now
+  pub controller_shows : controller_part.outs
+      ≡ map (λ port. column port controller_stage.rows) controller.given.taps.now

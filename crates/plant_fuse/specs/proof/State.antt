@@ -33,14 +33,22 @@ pub record FuseState : Type 0 where
 abbrev pub state_code : Coded FuseState
 state_code =
     code_by (DesignParts × (List Pair × (List Frame × (List (List PortValue) × List Part))))
-    (coded× design_parts.coded (coded× (coded_list all_pairs.coded) (coded× (coded_list frames.coded) (coded× (coded_list (coded_list ports.coded)) (coded_list parts.coded)))))
+    (coded× design_parts.coded
+    (coded× (coded_list all_pairs.coded)
+    (coded× (coded_list frames.coded) (coded× (coded_list (coded_list ports.coded)) (coded_list parts.coded)))))
     (λ s. (s.design, (s.pairs, (s.configuration.frames, (s.configuration.messages, s.parts)))))
-    (λ p. record { design = p.0; pairs = p.1.0; configuration = record { frames = p.1.1.0; messages = p.1.1.1.0 }; parts = p.1.1.1.1 })
+    (λ p. record {
+      design = p.0;
+      pairs = p.1.0;
+      configuration = record { frames = p.1.1.0; messages = p.1.1.1.0 };
+      parts = p.1.1.1.1;
+    })
     (λ _. refl)
 
 -- before the first round: as the composition begins
 abbrev pub begun : DesignParts → List Pair → FuseState
-begun design pairs = record { design = design; pairs = pairs; configuration = opening design; parts = opening_parts design }
+begun design pairs =
+    record { design = design; pairs = pairs; configuration = opening design; parts = opening_parts design }
 
 -- ---- one round further
 -- what a component leaves in a round with these input vectors: its frame, and the whole tuple of each of its taps
@@ -51,7 +59,8 @@ part_after design before vectors node c = record {
 }
 
 abbrev pub parts_after : DesignParts → Configuration → Inputs → List Part
-parts_after design before vectors = map (λ numbered. part_after design before vectors numbered.0 numbered.1) (enumerate_from 0 design.components)
+parts_after design before vectors =
+    map (λ numbered. part_after design before vectors numbered.0 numbered.1) (enumerate_from 0 design.components)
 
 abbrev pub advanced : FuseState → Inputs → FuseState
 advanced state vectors = record {
@@ -68,6 +77,7 @@ pub record IsAdvanced (old : FuseState) (values : List PortValue) (new : FuseSta
   pub leaves : new ≡ advanced old vectors
 
 -- states that follow one another through the first rounds of an environment
-pub record AreStates (design : DesignParts) (pairs : List Pair) (env : Env) (rounds : ℕ) (at : ℕ → FuseState) : Type 0 where
+pub record AreStates (design : DesignParts) (pairs : List Pair) (env : Env) (rounds : ℕ)
+    (at : ℕ → FuseState) : Type 0 where
   pub begins : at 0 ≡ begun design pairs
   pub goes_on : (round : ℕ) → round < rounds → IsAdvanced (at round) (values_at env round) (at (suc round))

@@ -29,5 +29,6 @@ SomeMeetingEnds =
 -- some run whose first list ends before its send stops where the second counter misses its message
 abbrev pub SomeListEnds : Type 0
 SomeListEnds =
-    (clocks : List ClockState) × (journal : List JournalEntry) × (s : BusState) × Runs (counters_for 2) (Lists clocks) journal s
+    (clocks : List ClockState) × (journal : List JournalEntry) × (s : BusState)
+    × Runs (counters_for 2) (Lists clocks) journal s
     × (s.stop ≡ Some (stop.Missed to_b 0 (Some 18000000) NotSent))

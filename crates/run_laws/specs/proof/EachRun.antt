@@ -22,4 +22,5 @@ InListRuns P =
 
 -- in each run whose nodes meet
 abbrev pub InMeetings : (Run → List JournalEntry → BusState → Type 0) → Type 0
-InMeetings P = (run : Run) (journal : List JournalEntry) (s : BusState) → IsRunOf run → Runs run Meet journal s → P run journal s
+InMeetings P =
+    (run : Run) (journal : List JournalEntry) (s : BusState) → IsRunOf run → Runs run Meet journal s → P run journal s

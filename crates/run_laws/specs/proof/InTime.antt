@@ -33,11 +33,14 @@ IsAfterAlarm run number round = let source = (link_at run.design number).source.
 -- each message is in time for the start that takes it, and none is due at a start of its own round, or of an earlier one
 abbrev pub InTime : Run → Clocks → Type 0
 InTime run Meet = EachLink run (λ number. (round : ℕ) → (IsLate run number round → ⊥) × IsAfterAlarm run number round)
-InTime run (Lists clocks) = EachLink run (λ number. (round : ℕ) → IsTimely run clocks number round × IsAfterStarts run clocks number round)
+InTime run (Lists clocks) =
+    EachLink run (λ number. (round : ℕ) → IsTimely run clocks number round × IsAfterStarts run clocks number round)
 
 -- in a run with such lists no stop stands
 abbrev pub NoneStops : Type 0
-NoneStops = InRuns (λ run later journal s. (clocks : Clocks) → lists_in later ≡ lists_in clocks → InTime run clocks → s.stop ≡ None)
+NoneStops =
+    InRuns (λ run later journal s. (clocks : Clocks) → lists_in later ≡ lists_in clocks → InTime run clocks
+    → s.stop ≡ None)
 
 -- where nodes meet, delays within the bounds are in time
 abbrev pub BoundsAreInTime : Type 0
@@ -47,15 +50,18 @@ BoundsAreInTime = (run : Run) → IsRunOf run → DelaysFit run → InTime run M
 -- the first node that is not done has come to its list's end, and waits for this target
 abbrev pub EndsFirst : Run → Clocks → BusState → ℕ → ℕ → Type 0
 EndsFirst run Meet s node goal = ⊥
-EndsFirst run (Lists clocks) s node goal = (first : IsFirstEnded run clocks s node) × (target (plan_of run.design node) first.ended.0 ≡ goal)
+EndsFirst run (Lists clocks) s node goal =
+    (first : IsFirstEnded run clocks s node) × (target (plan_of run.design node) first.ended.0 ≡ goal)
 
 -- two runs with the same lists whose nodes have come to their ends are both done, or the same node ends first in both, at the same
 -- target
 abbrev pub EndsAreOne : Type 0
 EndsAreOne =
-    (run : Run) (one two : Clocks) (journal more : List JournalEntry) (s t : BusState) → IsRunOf run → Runs run one journal s
+    (run : Run) (one two : Clocks) (journal more : List JournalEntry) (s t : BusState) → IsRunOf run
+    → Runs run one journal s
     → Runs run two more t → lists_in one ≡ lists_in two → AllAtEnd run one s → AllAtEnd run two t
-    → (AllDone run s × AllDone run t) ⊎ ((node goal : ℕ) × EndsFirst run one s node goal × EndsFirst run two t node goal)
+    → (AllDone run s × AllDone run t)
+    ⊎ ((node goal : ℕ) × EndsFirst run one s node goal × EndsFirst run two t node goal)
 
 -- the picks of each node reach its last target; where nodes meet they always do
 abbrev pub AllPicked : Run → Clocks → Type 0
@@ -64,5 +70,6 @@ AllPicked run (Lists clocks) = EachNode run (λ node. PicksAll run clocks node)
 
 -- with such lists all are done then
 abbrev pub PickedAreDone : Type 0
-PickedAreDone = InRuns (λ run later journal s. (clocks : Clocks) → lists_in later ≡ lists_in clocks → AllPicked run clocks
+PickedAreDone =
+    InRuns (λ run later journal s. (clocks : Clocks) → lists_in later ≡ lists_in clocks → AllPicked run clocks
     → AllAtEnd run later s → AllDone run s)

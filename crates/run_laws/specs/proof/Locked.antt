@@ -28,9 +28,11 @@ RunsReplay = InRuns (λ run clocks journal s. Replays run journal s × Agrees ru
 -- a list that answers has picked for its node's next action
 abbrev pub ListPicks : Type 0
 ListPicks =
-    (run : Run) (clocks : List ClockState) (s : BusState) (node : ℕ) (action : NodeAction) → node < length run.design.components
+    (run : Run) (clocks : List ClockState) (s : BusState) (node : ℕ) (action : NodeAction)
+    → node < length run.design.components
     → upcoming (plan_of run.design node) (node_at s node) ≡ Some action
-    → Picks run clocks s node (slice_set clocks node (standing_at (clock_at clocks node) (left_for run clocks node action)))
+    → Picks run clocks s node
+    (slice_set clocks node (standing_at (clock_at clocks node) (left_for run clocks node action)))
 
 -- one all of whose readings are below that action's target has ended
 abbrev pub ListEnds : Type 0

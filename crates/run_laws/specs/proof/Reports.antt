@@ -16,9 +16,11 @@ TextsHaveLines = (lines : List (List ℕ)) → All IsLine lines → lines_of (te
 -- ---- reports
 -- the rows of a report are the composition's, and whole
 abbrev pub ReportsHaveRows : Type 0
-ReportsHaveRows = (design : DesignParts) (env : Env) (rounds : ℕ) → wrong_row design env (report_lines design env rounds) ≡ None
+ReportsHaveRows =
+    (design : DesignParts) (env : Env) (rounds : ℕ) → wrong_row design env (report_lines design env rounds) ≡ None
 
 -- no line of it has the form of a journal's line
 abbrev pub ReportsHaveNoForms : Type 0
 ReportsHaveNoForms =
-    (design : DesignParts) (env : Env) (rounds : ℕ) → IsDesign design → All (λ line. form_of line ≡ None) (report_lines design env rounds)
+    (design : DesignParts) (env : Env) (rounds : ℕ) → IsDesign design
+    → All (λ line. form_of line ≡ None) (report_lines design env rounds)

@@ -45,18 +45,22 @@ ShowsTime run (entry.Stopped why) = StopShowsTime run why
 -- ---- verdicts
 -- of each run of a design, and all lines
 abbrev pub OfTraces : (Run → List (List ℕ) → ℕ → Option Stop → Type 0) → Type 0
-OfTraces P = (run : Run) (lines : List (List ℕ)) (rounds : ℕ) (stop : Option Stop) → IsRunOf run → P run lines rounds stop
+OfTraces P =
+    (run : Run) (lines : List (List ℕ)) (rounds : ℕ) (stop : Option Stop) → IsRunOf run → P run lines rounds stop
 
 -- what is judged sound is the trace of a history that is over
 abbrev pub SoundAreTraces : Type 0
-SoundAreTraces = OfTraces (λ run lines rounds stop. verdict run lines ≡ Sound rounds stop → IsTraceOf run lines rounds stop)
+SoundAreTraces =
+    OfTraces (λ run lines rounds stop. verdict run lines ≡ Sound rounds stop → IsTraceOf run lines rounds stop)
 
 -- and each such trace is judged sound
 abbrev pub TracesAreSound : Type 0
-TracesAreSound = OfTraces (λ run lines rounds stop. IsTraceOf run lines rounds stop → verdict run lines ≡ Sound rounds stop)
+TracesAreSound =
+    OfTraces (λ run lines rounds stop. IsTraceOf run lines rounds stop → verdict run lines ≡ Sound rounds stop)
 
 abbrev pub SoundIsTrace : Type 0
-SoundIsTrace = OfTraces (λ run lines rounds stop. (verdict run lines ≡ Sound rounds stop) ↔ IsTraceOf run lines rounds stop)
+SoundIsTrace =
+    OfTraces (λ run lines rounds stop. (verdict run lines ≡ Sound rounds stop) ↔ IsTraceOf run lines rounds stop)
 
 -- ---- histories
 -- the journal of a history replays to its state, its readings don't fall, and each entry shows its time
@@ -66,7 +70,8 @@ pub record KeepsTimes (run : Run) (journal : List JournalEntry) (s : BusState) :
   pub times : All (ShowsTime run) journal
 
 abbrev pub HistoriesReplay : Type 0
-HistoriesReplay = (run : Run) (journal : List JournalEntry) (s : BusState) → History run journal s → KeepsTimes run journal s
+HistoriesReplay =
+    (run : Run) (journal : List JournalEntry) (s : BusState) → History run journal s → KeepsTimes run journal s
 
 -- ---- runs
 -- what nodes do that keep to their clocks is a history
@@ -81,4 +86,5 @@ RunsAreTraces = InRuns (λ run clocks journal s. run.rounds ≤ ROUNDS → AreRe
 -- ---- lines
 -- a line that tells an entry of a design is that entry's line, letter by letter
 abbrev pub ToldAreLines : Type 0
-ToldAreLines = (design : DesignParts) (line : List ℕ) (e : JournalEntry) → told design line ≡ Some e → line ≡ entry_line design e
+ToldAreLines =
+    (design : DesignParts) (line : List ℕ) (e : JournalEntry) → told design line ≡ Some e → line ≡ entry_line design e

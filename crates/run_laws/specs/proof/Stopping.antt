@@ -32,7 +32,8 @@ pub record TimesFit (plan : Plan) (clocks : Clocks) (node : ℕ) (journal : List
       → IsFor clocks (alarm plan.period round + plan.release_offset) at
 
 abbrev pub AllTimesFit : Type 0
-AllTimesFit = InRuns (λ run clocks journal s. EachNode run (λ node. TimesFit (plan_of run.design node) clocks node journal))
+AllTimesFit =
+    InRuns (λ run clocks journal s. EachNode run (λ node. TimesFit (plan_of run.design node) clocks node journal))
 
 -- ---- stops
 -- the reading of a stop is that of the start of this round of the link's target
@@ -59,7 +60,8 @@ abbrev pub StopFits : Run → Clocks → List JournalEntry → BusState → Opti
 StopFits run clocks journal s None = Unit {0}
 StopFits run clocks journal s (Some (stop.Missed link round reading cause)) =
     (x : StopsAt run clocks s link.0 reading) × ((node_at s x.link.target.0).count ≡ round + 1)
-    × CauseFits run clocks s x.link.source.0 (due_of (delay_of run.delays link.0) (sends x.link.source.0 journal) round) x.at cause
+    × CauseFits run clocks s x.link.source.0
+    (due_of (delay_of run.delays link.0) (sends x.link.source.0 journal) round) x.at cause
 StopFits run clocks journal s (Some (stop.Early link round reading)) =
     (x : StopsAt run clocks s link.0 reading) × ((node_at s x.link.target.0).count ≤ round)
     × ((d : ℕ) × (due_of (delay_of run.delays link.0) (sends x.link.source.0 journal) round ≡ Some d) × (d ≤ x.at))

@@ -60,7 +60,8 @@ copies round (c ∷ cs) = one_if (is_of round c) + copies round cs
 
 -- where the message of a round is that its source has sent: once in flight, in its slot, taken by a start, or taken by an early stop
 pub data Whereabouts (round count : ℕ) (slot : Option (List PortValue)) (flying : ℕ) (taken : Option ℕ) : Type 0 where
-  in_flight : flying ≡ 1 → count ≤ round + 1 → (count ≡ round + 1 → slot ≡ None) → Whereabouts round count slot flying taken
+  in_flight : flying ≡ 1 → count ≤ round + 1 → (count ≡ round + 1 → slot ≡ None)
+      → Whereabouts round count slot flying taken
   in_slot : flying ≡ 0 → count ≡ round + 1 → is_some slot ≡ true → Whereabouts round count slot flying taken
   was_taken : flying ≡ 0 → round + 1 < count → Whereabouts round count slot flying taken
   came_early : flying ≡ 0 → taken ≡ Some round → Whereabouts round count slot flying taken
@@ -100,4 +101,5 @@ LinksAreTimed = InRuns (λ run clocks journal s. EachLink run (λ number.
 -- the journal shows as many starts and sends of a node as it has started and sent rounds
 abbrev pub RoundsAreShown : Type 0
 RoundsAreShown = InRuns (λ run clocks journal s. (node : ℕ) →
-    (length (starts node journal) ≡ (node_at s node).count) × (length (sends node journal) ≡ sent_rounds (node_at s node)))
+    (length (starts node journal) ≡ (node_at s node).count)
+    × (length (sends node journal) ≡ sent_rounds (node_at s node)))

@@ -9,7 +9,13 @@ use Rattle.run_laws.specs.Traces.{verdict}
 use Rattle.pals_runs.specs.declared.verdicts.TraceRule.TheVariants as rule
 
 abbrev pub counters_run : Run
-counters_run = record { design = two_counters; env = no_env; rounds = 1; delays = record { lists = map (λ (_ : Link). 1000000 ∷ []) two_counters.links } }
+counters_run =
+    record {
+      design = two_counters;
+      env = no_env;
+      rounds = 1;
+      delays = record { lists = map (λ (_ : Link). 1000000 ∷ []) two_counters.links };
+    }
 
 abbrev pub rows : List ℕ → List (List ℕ)
 rows first = codes "round 0" ∷ first ∷ codes "p.b s x=1" ∷ []

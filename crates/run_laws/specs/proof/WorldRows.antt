@@ -23,7 +23,8 @@ at_first index (Some why) later = Some (index, why)
 
 abbrev pub refused_from : ℕ → Run → World → List Event → Option (ℕ × EventFault)
 refused_from index run w [] = None
-refused_from index run w (e ∷ events) = at_first index (fault_of run w e) (refused_from (index + 1) run (world_after run w e) events)
+refused_from index run w (e ∷ events) =
+    at_first index (fault_of run w e) (refused_from (index + 1) run (world_after run w e) events)
 
 abbrev pub refused : Run → List Event → Option (ℕ × EventFault)
 refused run events = refused_from 0 run (opening_world run) events
@@ -35,7 +36,8 @@ both at = Pass at (at ∷ at ∷ [])
 pub record EventsAreRefused : Type 0 where
   pub late : refused (counters_world 1) (both 10000000 ∷ []) ≡ Some (0, fault.PastDeadline (which.Node a) 9999999)
   pub apart : refused (counters_world 1) (Pass 1000000 (0 ∷ 1000000 ∷ []) ∷ []) ≡ Some (0, fault.ClockApart a 0)
-  pub early : refused (counters_world 1) (both 9000000 ∷ Start a ∷ Finish a ∷ Send a ∷ []) ≡ Some (3, fault.NotDue a 10000000 9000000)
+  pub early : refused (counters_world 1) (both 9000000 ∷ Start a ∷ Finish a ∷ Send a ∷ [])
+      ≡ Some (3, fault.NotDue a 10000000 9000000)
   pub phase : refused (counters_world 1) (Finish b ∷ []) ≡ Some (0, fault.WrongPhase b)
   pub message : refused (counters_world 1) (Arrive to_b 0 ∷ []) ≡ Some (0, fault.NoSuchMessage to_b 0)
 
@@ -70,7 +72,8 @@ EarliestSender = Leaves (counters_world 1) earliest_sender
 
 abbrev pub LatestSender : Type 0
 LatestSender = Leaves (counters_world 2) latest_sender
-    (codes "round 0" ∷ codes "p.a s x=1" ∷ codes "p.b s x=1" ∷ codes "round 1" ∷ codes "p.b s x=3" ∷ codes "sent p.a.i 0 (1)" ∷ codes "sent p.b.i 0 (1)" ∷ [])
+    (codes "round 0" ∷ codes "p.a s x=1" ∷ codes "p.b s x=1" ∷ codes "round 1" ∷ codes "p.b s x=3"
+    ∷ codes "sent p.a.i 0 (1)" ∷ codes "sent p.b.i 0 (1)" ∷ [])
 
 -- a message that arrives less than the least delay after its send
 abbrev pub too_soon_events : List Event

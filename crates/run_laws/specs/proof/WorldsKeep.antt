@@ -53,7 +53,8 @@ pub record KeepsNode (g : Gamma) (plan : Plan) (n : NodeState) (time since ready
 -- clock, or for the last step that is sent
 pub record IsSentAt (g : Gamma) (plan : Plan) (round time moment : ℕ) : Type 0 where
   pub due : alarm plan.period round + plan.release_offset < moment + g.eps
-  pub prompt : moment < alarm plan.period round + g.eps + max (backoff g) ((plan.sent_steps - 1) * plan.step_period + g.alpha_max)
+  pub prompt : moment < alarm plan.period round + g.eps
+      + max (backoff g) ((plan.sent_steps - 1) * plan.step_period + g.alpha_max)
   pub past : moment ≤ time
 
 -- a moment for each round that it has sent
@@ -114,8 +115,10 @@ pub record HasMoments (run : Run) (w : World) : Type 0 where
 
 pub record KeepsLink (run : Run) (w : World) (number target port : ℕ) : Type 0 where
   pub once : (round : ℕ)
-      → IsOnce (node_at w.bus target).count (slot_at (node_at w.bus target) port) (rounds_sent_on run w.bus number) (flight_at w.bus number) round
-  pub in_time : (round : ℕ) → is_in_flight round (flight_at w.bus number) ≡ true → w.time ≤ message_deadline run w number round
+      → IsOnce (node_at w.bus target).count (slot_at (node_at w.bus target) port) (rounds_sent_on run w.bus number)
+      (flight_at w.bus number) round
+  pub in_time : (round : ℕ) → is_in_flight round (flight_at w.bus number) ≡ true
+      → w.time ≤ message_deadline run w number round
 
 pub record KeepsTime (run : Run) (w : World) : Type 0 where
   -- no stop stands, and the bus agrees with the composition
@@ -127,7 +130,8 @@ pub record KeepsTime (run : Run) (w : World) : Type 0 where
   -- the time is at most every last allowed time
   pub in_time : (node : ℕ) → node < length run.design.components → IsInTime w.time (node_deadline run w node)
   pub nodes : (node : ℕ) → node < length run.design.components
-      → KeepsNode run.design.gamma (plan_of run.design node) (node_at w.bus node) w.time (since_at w node) (ready_at w node)
+      → KeepsNode run.design.gamma (plan_of run.design node) (node_at w.bus node) w.time (since_at w node)
+      (ready_at w node)
   pub sends : (node : ℕ) → node < length run.design.components
       → KeepsSends run.design.gamma (plan_of run.design node) (node_at w.bus node) w.time (sendings w node)
   pub links : (number : ℕ) → number < length run.design.links

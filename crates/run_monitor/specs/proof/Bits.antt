@@ -12,7 +12,8 @@ bit_at bits k = slice_index_or bits k false
 -- ---- one frame
 -- what a form says of a frame of a component, where it reads that component; else the bit from before
 abbrev pub seen_bit : FlatForm → ℕ → Frame → Bool → Bool
-seen_bit (flat.Var of variable op number) node frame before = if nat_eq of.0 node then compares op (variable_in frame variable) number else before
+seen_bit (flat.Var of variable op number) node frame before =
+    if nat_eq of.0 node then compares op (variable_in frame variable) number else before
 seen_bit (flat.Halted of) node frame before = if nat_eq of.0 node then is_some frame.halt else before
 seen_bit e node frame before = before
 
@@ -41,10 +42,12 @@ next_bit (flat.Since f g) k begun kept now own = ((begun && bit_at kept k) && bi
 
 -- ---- all bits
 abbrev pub AreSeen : List FlatForm → ℕ → Frame → List Bool → List Bool → Type 0
-AreSeen es node frame old new = (k : ℕ) (e : FlatForm) → slice_get es k ≡ Some e → bit_at new k ≡ seen_bit e node frame (bit_at old k)
+AreSeen es node frame old new =
+    (k : ℕ) (e : FlatForm) → slice_get es k ≡ Some e → bit_at new k ≡ seen_bit e node frame (bit_at old k)
 
 abbrev pub AreOfRow : List FlatForm → List Frame → List Bool → List Bool → Type 0
 AreOfRow es row old new = (k : ℕ) (e : FlatForm) → slice_get es k ≡ Some e → bit_at new k ≡ row_bit e row (bit_at old k)
 
 abbrev pub AreNext : List FlatForm → Bool → List Bool → List Bool → List Bool → Type 0
-AreNext es begun kept old new = (k : ℕ) (e : FlatForm) → slice_get es k ≡ Some e → bit_at new k ≡ next_bit e k begun kept new (bit_at old k)
+AreNext es begun kept old new =
+    (k : ℕ) (e : FlatForm) → slice_get es k ≡ Some e → bit_at new k ≡ next_bit e k begun kept new (bit_at old k)

@@ -59,4 +59,6 @@ OneText = watch_text two_counters no_env 3 one ≡
     ++ line (codes "watch rounds 3 first none")
 
 abbrev pub AreViolated : Type 0
-AreViolated = (is_violated two_counters no_env 3 (formulas_of two) ≡ true) × (is_violated two_counters no_env 3 (formulas_of one) ≡ false)
+AreViolated =
+    (is_violated two_counters no_env 3 (formulas_of two) ≡ true)
+    × (is_violated two_counters no_env 3 (formulas_of one) ≡ false)

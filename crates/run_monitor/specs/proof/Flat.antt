@@ -52,4 +52,5 @@ pub record Adds (old new : List FlatForm) (at : ℕ) (f : Formula) : Type 0 wher
   pub last : length new ≡ at + 1
   pub is : formula_at (forms_of new) at ≡ f
   -- and what the added forms read it names
-  pub named : (k node : ℕ) → length old ≤ k → k < length new → reads (formula_at (forms_of new) k) node ≡ true → names f node ≡ true
+  pub named : (k node : ℕ) → length old ≤ k → k < length new → reads (formula_at (forms_of new) k) node ≡ true
+      → names f node ≡ true

@@ -59,4 +59,5 @@ SaidAtOnce = (f : Formula) (design : DesignParts) (env : Env) (round rounds : �
 abbrev pub RowsGoOn : Type 0
 RowsGoOn = (design : DesignParts) (env : Env) (rounds : ℕ) (properties : List (List ℕ × Formula)) →
     watched_rows design env (suc rounds) properties
-    ≡ watched_rows design env rounds properties ++ text_of (watched_lines properties (history design env (suc rounds)) rounds)
+    ≡ watched_rows design env rounds properties
+    ++ text_of (watched_lines properties (history design env (suc rounds)) rounds)

@@ -37,7 +37,8 @@ pub record WatchesOn (m : MonitorsState) (fs : List Formula) (h : List (List Fra
   pub says : said_by m ≡ verdicts fs (h ++ row ∷ []) (length h)
 
 -- with the frames of a round of a design
-pub record WatchesRound (m : MonitorsState) (design : DesignParts) (env : Env) (fs : List Formula) (round : ℕ) : Type 0 where
+pub record WatchesRound (m : MonitorsState) (design : DesignParts) (env : Env) (fs : List Formula)
+    (round : ℕ) : Type 0 where
   pub watched : HasWatched m fs (history design env (round + 1))
   pub says : said_by m ≡ verdicts fs (history design env (round + 1)) round
 

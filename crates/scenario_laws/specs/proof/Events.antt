@@ -26,10 +26,12 @@ EventsAreLoose =
 -- ---- of any command
 abbrev pub EventsAreFew : Type 0
 EventsAreFew =
-    (bytes : List ℕ) (command : Command) (design : DesignParts) (scenario : Scenario) → Means bytes design command (Ok scenario)
+    (bytes : List ℕ) (command : Command) (design : DesignParts) (scenario : Scenario)
+    → Means bytes design command (Ok scenario)
     → length scenario.events ≤ LIST_ITEMS
 
 abbrev pub TracesAreFew : Type 0
 TracesAreFew =
-    (bytes : List ℕ) (command : Command) (design : DesignParts) (scenario : Scenario) → Means bytes design command (Ok scenario)
+    (bytes : List ℕ) (command : Command) (design : DesignParts) (scenario : Scenario)
+    → Means bytes design command (Ok scenario)
     → length scenario.trace ≤ LIST_ITEMS

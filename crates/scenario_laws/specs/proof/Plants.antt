@@ -9,5 +9,6 @@ use Rattle.plant_fuse.specs.Fused.{ArePairs}
 -- both of a pair are there, at one rate, the plant is linked to its controller alone, and no component stands in two pairs
 abbrev pub PairsCanBeFused : Type 0
 PairsCanBeFused =
-    (bytes : List ℕ) (command : Command) (design : DesignParts) (scenario : Scenario) → Means bytes design command (Ok scenario)
+    (bytes : List ℕ) (command : Command) (design : DesignParts) (scenario : Scenario)
+    → Means bytes design command (Ok scenario)
     → ArePairs design scenario.plants

@@ -13,7 +13,8 @@ abbrev pub Numbers : BTreeMap (String Global) ℕ → ℕ → List (List ℕ) �
 Numbers table start names = (name : List ℕ) → get_by_text table name ≡ position_from (bytes_eq name) start names
 
 -- what the tables of a design give
-pub record AreTables (design : DesignParts) (nodes links feeds : BTreeMap (String Global) ℕ) (roots : List (List ℕ)) : Type 0 where
+pub record AreTables (design : DesignParts) (nodes links feeds : BTreeMap (String Global) ℕ)
+    (roots : List (List ℕ)) : Type 0 where
   pub nodes_are : (name : List ℕ) → get_by_text nodes name ≡ node_named design name
   pub links_are : (name : List ℕ) → get_by_text links name ≡ link_named design name
   pub feeds_are : (name : List ℕ) → get_by_text feeds name ≡ position (bytes_eq name) (feed_names design)

@@ -12,9 +12,12 @@ DesignStays = (design : DesignParts) (env : Env) (rounds : ℕ) → (state_after
 
 -- after any number of rounds of an environment, its configuration is that of the composition
 abbrev pub StandsAtComposition : Type 0
-StandsAtComposition = (design : DesignParts) (env : Env) (rounds : ℕ) → (state_after design env rounds).configuration ≡ comp design env rounds
+StandsAtComposition =
+    (design : DesignParts) (env : Env) (rounds : ℕ)
+    → (state_after design env rounds).configuration ≡ comp design env rounds
 
 -- after a round its parts are those of that round
 abbrev pub HasPartsOfRound : Type 0
 HasPartsOfRound = (design : DesignParts) (env : Env) (round : ℕ) →
-    (state_after design env (suc round)).parts ≡ map (λ node. part design env node round) (upwards 0 (length design.components))
+    (state_after design env (suc round)).parts
+    ≡ map (λ node. part design env node round) (upwards 0 (length design.components))

@@ -14,7 +14,8 @@ pub record HasRoom (design : DesignParts) (parts : List Part) (messages : List (
   pub messages_fit : map (λ (tuple : List PortValue). length tuple) messages ≡ message_sizes design
 
 -- the tables are the design's, and there is room for its components
-pub record IsReady (design : DesignParts) (sources : List (List PortSource)) (taps : List (List ℕ)) (stages : List Stage) : Type 0 where
+pub record IsReady (design : DesignParts) (sources : List (List PortSource)) (taps : List (List ℕ))
+    (stages : List Stage) : Type 0 where
   pub sources_are : sources ≡ all_sources design
   pub taps_are : taps ≡ all_taps design
   pub stages_fit : map stage_size stages ≡ stage_sizes design

@@ -43,13 +43,16 @@ own_part round frames node c = record {
 }
 
 -- the part and the rows of a component
-pub record IsStepped (round : RoundInputs) (frames : List Frame) (parts : List Part) (stages : List Stage) (node : ℕ) (c : Component) : Type 0 where
+pub record IsStepped (round : RoundInputs) (frames : List Frame) (parts : List Part) (stages : List Stage) (node : ℕ)
+    (c : Component) : Type 0 where
   pub part : slice_get parts node ≡ Some (own_part round frames node c)
   pub rows : slice_get (map (λ (s : Stage). s.rows) stages) node ≡ Some (own_rows round frames node c)
 
 -- the parts and the rows of all components
 abbrev pub AreStepped : RoundInputs → List Frame → List Part → List Stage → Type 0
-AreStepped round frames parts stages = (node : ℕ) (c : Component) → slice_get round.design.now.components node ≡ Some c → IsStepped round frames parts stages node c
+AreStepped round frames parts stages =
+    (node : ℕ) (c : Component) → slice_get round.design.now.components node ≡ Some c
+    → IsStepped round frames parts stages node c
 
 -- what a stage sends on an out port
 abbrev pub sent_from : Option Stage → ℕ → List PortValue

@@ -37,13 +37,15 @@ pub record PartSize : Type 0 where
   pub outs : List ℕ
 
 abbrev pub part_size : Part → PartSize
-part_size part = record { frame = frame_size part.frame; outs = map (λ (tuple : List PortValue). length tuple) part.outs }
+part_size part =
+    record { frame = frame_size part.frame; outs = map (λ (tuple : List PortValue). length tuple) part.outs }
 
 abbrev pub part_size_of : Component → List ℕ → PartSize
 part_size_of c taps = record { frame = frame_size_of c; outs = map (λ (port : ℕ). c.rate) taps }
 
 abbrev pub part_sizes : DesignParts → List PartSize
-part_sizes design = map (λ numbered. part_size_of numbered.1 (tap_ports design.taps numbered.0)) (enumerate_from 0 design.components)
+part_sizes design =
+    map (λ numbered. part_size_of numbered.1 (tap_ports design.taps numbered.0)) (enumerate_from 0 design.components)
 
 -- ---- stages: their inputs and outputs, the frame before a step, the places of each row, and how many steps are sent
 pub record StageSize : Type 0 where
@@ -72,7 +74,8 @@ stage_size_of sent c = record {
 }
 
 abbrev pub stage_sizes : DesignParts → List StageSize
-stage_sizes design = map (λ (c : Component). stage_size_of (sent_steps design.gamma design.period c.rate) c) design.components
+stage_sizes design =
+    map (λ (c : Component). stage_size_of (sent_steps design.gamma design.period c.rate) c) design.components
 
 -- ---- messages: a place for each step of the source
 abbrev pub message_sizes : DesignParts → List ℕ

@@ -29,7 +29,8 @@ pub record ProductState : Type 0 where
 abbrev pub state_code : Coded ProductState
 state_code =
     code_by (DesignParts × (List Frame × (List (List PortValue) × List Part)))
-    (coded× design_parts.coded (coded× (coded_list frames.coded) (coded× (coded_list (coded_list ports.coded)) (coded_list parts.coded))))
+    (coded× design_parts.coded
+    (coded× (coded_list frames.coded) (coded× (coded_list (coded_list ports.coded)) (coded_list parts.coded))))
     (λ s. (s.design, (s.configuration.frames, (s.configuration.messages, s.parts))))
     (λ p. record { design = p.0; configuration = record { frames = p.1.0; messages = p.1.1.0 }; parts = p.1.1.1 })
     (λ _. refl)
@@ -40,7 +41,11 @@ parts_of design all = map (part_of design all) (upwards 0 (length design.compone
 
 -- before the first round: each component with its initial frame and no values
 abbrev pub opening_part : DesignParts → ℕ → Component → Part
-opening_part design node c = record { frame = initial c.behaviour; outs = map (λ (port : ℕ). replicate c.rate Absent) (tap_ports design.taps node) }
+opening_part design node c =
+    record {
+      frame = initial c.behaviour;
+      outs = map (λ (port : ℕ). replicate c.rate Absent) (tap_ports design.taps node);
+    }
 
 abbrev pub opening_parts : DesignParts → List Part
 opening_parts design = map (λ numbered. opening_part design numbered.0 numbered.1) (enumerate_from 0 design.components)

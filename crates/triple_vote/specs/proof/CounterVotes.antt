@@ -14,7 +14,14 @@ use Rattle.triple_vote.specs.proof.VoteLaws.{AreFaults, NameOneEach}
 
 -- a replica of p.a sends 100 on p.b.i
 abbrev pub liar : ℕ → VoteFault
-liar replica = record { source = record { 0 = 0 }; replica = replica; link = record { 0 = 1 }; target_replica = 1; values = Present (pos 100) ∷ [] }
+liar replica =
+    record {
+      source = record { 0 = 0 };
+      replica = replica;
+      link = record { 0 = 1 };
+      target_replica = 1;
+      values = Present (pos 100) ∷ [];
+    }
 
 -- in round 0
 abbrev pub first_round : List VoteFault → ℕ → List VoteFault
@@ -26,7 +33,8 @@ abbrev pub xs_in : Voted → List ℤ
 xs_in v = flat_map (λ frames. map (λ (frame : Frame). slice_index_or frame.vars 0 (pos 0)) frames) v.frames
 
 abbrev pub counted : List VoteFault → List (List ℤ)
-counted faults = map (λ round. xs_in (vcomp two_counters no_env (true ∷ false ∷ []) (first_round faults) (suc round))) (upwards 0 3)
+counted faults =
+    map (λ round. xs_in (vcomp two_counters no_env (true ∷ false ∷ []) (first_round faults) (suc round))) (upwards 0 3)
 
 abbrev pub four : ℕ → List ℤ
 four x = pos x ∷ pos x ∷ pos x ∷ pos x ∷ []
@@ -46,15 +54,21 @@ text_with faults = vreport two_counters no_env (true ∷ false ∷ []) (first_ro
 
 abbrev pub OneLiarText : Type 0
 OneLiarText = text_with (liar 2 ∷ []) ≡
-    line (codes "round 0") ++ line (codes "p.a#1 s x=1") ++ line (codes "p.a#2 s x=1") ++ line (codes "p.a#3 s x=1") ++ line (codes "p.b s x=1")
-    ++ line (codes "round 1") ++ line (codes "p.a#1 s x=3") ++ line (codes "p.a#2 s x=3") ++ line (codes "p.a#3 s x=3") ++ line (codes "p.b s x=3")
-    ++ line (codes "round 2") ++ line (codes "p.a#1 s x=7") ++ line (codes "p.a#2 s x=7") ++ line (codes "p.a#3 s x=7") ++ line (codes "p.b s x=7")
+    line (codes "round 0") ++ line (codes "p.a#1 s x=1") ++ line (codes "p.a#2 s x=1") ++ line (codes "p.a#3 s x=1")
+    ++ line (codes "p.b s x=1")
+    ++ line (codes "round 1") ++ line (codes "p.a#1 s x=3") ++ line (codes "p.a#2 s x=3") ++ line (codes "p.a#3 s x=3")
+    ++ line (codes "p.b s x=3")
+    ++ line (codes "round 2") ++ line (codes "p.a#1 s x=7") ++ line (codes "p.a#2 s x=7") ++ line (codes "p.a#3 s x=7")
+    ++ line (codes "p.b s x=7")
 
 abbrev pub TwoLiarsText : Type 0
 TwoLiarsText = text_with (liar 2 ∷ liar 1 ∷ []) ≡
-    line (codes "round 0") ++ line (codes "p.a#1 s x=1") ++ line (codes "p.a#2 s x=1") ++ line (codes "p.a#3 s x=1") ++ line (codes "p.b s x=1")
-    ++ line (codes "round 1") ++ line (codes "p.a#1 s x=3") ++ line (codes "p.a#2 s x=3") ++ line (codes "p.a#3 s x=3") ++ line (codes "p.b s x=102")
-    ++ line (codes "round 2") ++ line (codes "p.a#1 s x=106") ++ line (codes "p.a#2 s x=106") ++ line (codes "p.a#3 s x=106") ++ line (codes "p.b s x=106")
+    line (codes "round 0") ++ line (codes "p.a#1 s x=1") ++ line (codes "p.a#2 s x=1") ++ line (codes "p.a#3 s x=1")
+    ++ line (codes "p.b s x=1")
+    ++ line (codes "round 1") ++ line (codes "p.a#1 s x=3") ++ line (codes "p.a#2 s x=3") ++ line (codes "p.a#3 s x=3")
+    ++ line (codes "p.b s x=102")
+    ++ line (codes "round 2") ++ line (codes "p.a#1 s x=106") ++ line (codes "p.a#2 s x=106")
+    ++ line (codes "p.a#3 s x=106") ++ line (codes "p.b s x=106")
 
 -- ---- one liar is such as the laws allow
 abbrev pub OneLiarIsFault : Type 0

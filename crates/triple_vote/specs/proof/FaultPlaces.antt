@@ -17,7 +17,8 @@ is_placed links f = nat_lt f.link.0 links && (is_replica f.replica && is_replica
 
 -- the number of a fault is put at its place
 abbrev pub with_fault : ℕ → List (Option ℕ) → VoteFault → ℕ → List (Option ℕ)
-with_fault links places f n = if is_placed links f then slice_set places (place f.link.0 f.replica f.target_replica) (Some n) else places
+with_fault links places f n =
+    if is_placed links f then slice_set places (place f.link.0 f.replica f.target_replica) (Some n) else places
 
 -- the fault of a number, none where there is no number
 abbrev pub fault_at : List VoteFault → Option ℕ → Option VoteFault
@@ -28,7 +29,8 @@ fault_at faults (Some n) = slice_get faults n
 abbrev pub AreFirstOn : List VoteFault → ℕ → List (Option ℕ) → Type 0
 AreFirstOn faults l places =
     (replica target : ℕ) → replica < 3 → target < 3
-    → fault_at faults (slice_index_or places (place l (suc replica) (suc target)) None) ≡ find (is_fault l (suc replica) (suc target)) faults
+    → fault_at faults (slice_index_or places (place l (suc replica) (suc target)) None)
+    ≡ find (is_fault l (suc replica) (suc target)) faults
 
 -- and of so many links
 abbrev pub AreFirst : List VoteFault → ℕ → List (Option ℕ) → Type 0

@@ -53,18 +53,21 @@ abbrev pub frame_made : DesignParts → List PortValue → List (List PortValue)
 frame_made design values heard frames node c =
     frame_after c.behaviour (slice_index_or frames node no_frame) (inputs_of design values heard node c)
 
-abbrev pub rows_made : DesignParts → List PortValue → List (List PortValue) → List Frame → ℕ → Component → List (List PortValue)
+abbrev pub rows_made : DesignParts → List PortValue → List (List PortValue) → List Frame → ℕ → Component
+    → List (List PortValue)
 rows_made design values heard frames node c =
     outputs c.behaviour (slice_index_or frames node no_frame) (inputs_of design values heard node c)
 
 -- its frame, and the rows of its stage
-pub record IsRun (design : DesignParts) (values : List PortValue) (heard : List (List PortValue)) (frames : List Frame) (next : List Part) (stages : List Stage)
+pub record IsRun (design : DesignParts) (values : List PortValue) (heard : List (List PortValue)) (frames : List Frame)
+    (next : List Part) (stages : List Stage)
     (node : ℕ) (c : Component) : Type 0 where
   pub frame : slice_get (frames_of next) node ≡ Some (frame_made design values heard frames node c)
   pub rows : slice_get (map (λ (s : Stage). s.rows) stages) node ≡ Some (rows_made design values heard frames node c)
 
 -- those of all components that are there
-abbrev pub AreRun : DesignParts → List PortValue → List (List PortValue) → List Bool → List Frame → List Part → List Stage → Type 0
+abbrev pub AreRun : DesignParts → List PortValue → List (List PortValue) → List Bool → List Frame → List Part
+    → List Stage → Type 0
 AreRun design values heard there frames next stages =
     (node : ℕ) (c : Component) → slice_get design.components node ≡ Some c → is_there there node ≡ true
     → IsRun design values heard frames next stages node c
@@ -92,18 +95,23 @@ pub record StaysPut (old new : Layer) : Type 0 where
   pub there : new.there ≡ old.there
   pub parts : new.parts ≡ old.parts
 
-abbrev pub own_rows_of : DesignParts → List PortValue → List (List PortValue) → Layer → ℕ → Component → List (List PortValue)
+abbrev pub own_rows_of : DesignParts → List PortValue → List (List PortValue) → Layer → ℕ → Component
+    → List (List PortValue)
 own_rows_of design values heard layer node c = rows_made design values heard (frames_of layer.parts) node c
 
 -- it has the next frame, the messages and the whole tuples of each component that is there
-pub record IsMade (design : DesignParts) (values : List PortValue) (heard : List (List PortValue)) (layer : Layer) : Type 0 where
+pub record IsMade (design : DesignParts) (values : List PortValue) (heard : List (List PortValue))
+    (layer : Layer) : Type 0 where
   pub frames : (node : ℕ) (c : Component) → slice_get design.components node ≡ Some c → is_there layer.there node ≡ true
       → slice_get (frames_of layer.next) node ≡ Some (frame_made design values heard (frames_of layer.parts) node c)
-  pub sent : (l : ℕ) (link : Link) (c : Component) → slice_get design.links l ≡ Some link → slice_get design.components link.source.0 ≡ Some c
+  pub sent : (l : ℕ) (link : Link) (c : Component) → slice_get design.links l ≡ Some link
+      → slice_get design.components link.source.0 ≡ Some c
       → is_there layer.there link.source.0 ≡ true
       → slice_get layer.sent l
-      ≡ Some (cut (sent_steps design.gamma design.period c.rate) (column link.out_port (own_rows_of design values heard layer link.source.0 c)))
-  pub shown : (n : ℕ) (tap : Tap) (c : Component) → slice_get design.taps n ≡ Some tap → slice_get design.components tap.source.0 ≡ Some c
+      ≡ Some (cut (sent_steps design.gamma design.period c.rate)
+      (column link.out_port (own_rows_of design values heard layer link.source.0 c)))
+  pub shown : (n : ℕ) (tap : Tap) (c : Component) → slice_get design.taps n ≡ Some tap
+      → slice_get design.components tap.source.0 ≡ Some c
       → is_there layer.there tap.source.0 ≡ true
       → slice_get layer.shown n ≡ Some (column tap.out_port (own_rows_of design values heard layer tap.source.0 c))
 

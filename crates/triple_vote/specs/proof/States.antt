@@ -27,9 +27,15 @@ voted_code =
     code_by (DesignParts × (List Bool × (List (List Frame) × (List (List (List PortValue)) × List (List PortValue)))))
     (coded× design_parts.coded
     (coded× (coded_list coded_bool)
-    (coded× (coded_list (coded_list frames.coded)) (coded× (coded_list (coded_list (coded_list ports.coded))) (coded_list (coded_list ports.coded))))))
+    (coded× (coded_list (coded_list frames.coded))
+    (coded× (coded_list (coded_list (coded_list ports.coded))) (coded_list (coded_list ports.coded))))))
     (λ s. (s.design, (s.replicated, (s.voted.frames, (s.voted.received, s.shown)))))
-    (λ p. record { design = p.0; replicated = p.1.0; voted = record { frames = p.1.1.0; received = p.1.1.1.0 }; shown = p.1.1.1.1 })
+    (λ p. record {
+      design = p.0;
+      replicated = p.1.0;
+      voted = record { frames = p.1.1.0; received = p.1.1.1.0 };
+      shown = p.1.1.1.1;
+    })
     (λ _. refl)
 
 -- before the first round
@@ -53,4 +59,5 @@ vadvanced s values faults = record {
 -- after a number of rounds of an environment, with the faults of each round
 abbrev pub vstate_after : DesignParts → Env → List Bool → (ℕ → List VoteFault) → ℕ → VotedState
 vstate_after design env replicated faults zero = vbegun design replicated
-vstate_after design env replicated faults (suc round) = vadvanced (vstate_after design env replicated faults round) (values_at env round) (faults round)
+vstate_after design env replicated faults (suc round) =
+    vadvanced (vstate_after design env replicated faults round) (values_at env round) (faults round)

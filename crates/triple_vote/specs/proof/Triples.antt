@@ -49,13 +49,15 @@ voted_of design replicated parts heard = record {
 -- what a replica receives on a link from what those of its source made, whether it has three or one
 abbrev pub received_of : Bool → List VoteFault → List (List (List PortValue)) → ℕ → ℕ → List PortValue
 received_of three faults sent l target =
-    if three then vote_of (λ replica. fault_or (find (is_fault l (suc replica) (suc target)) faults) (tuple_of sent replica l))
+    if three then vote_of (λ replica.
+    fault_or (find (is_fault l (suc replica) (suc target)) faults) (tuple_of sent replica l))
     else tuple_of sent 0 l
 
 -- those of all links whose target has this replica
 abbrev pub AreReceived : DesignParts → List Bool → List VoteFault → List Layer → ℕ → List (List PortValue) → Type 0
 AreReceived design replicated faults layers target heard =
-    (l : ℕ) (link : Link) → slice_get design.links l ≡ Some link → is_there (slice_index_or (there_in layers) target []) link.target.0 ≡ true
+    (l : ℕ) (link : Link) → slice_get design.links l ≡ Some link
+    → is_there (slice_index_or (there_in layers) target []) link.target.0 ≡ true
     → slice_get heard l ≡ Some (received_of (is_replicated replicated link.source.0) faults (sent_in layers) l target)
 
 -- what a root out port shows of it
@@ -64,7 +66,8 @@ shown_of three shown n = if three then vote_of (λ replica. tuple_of shown repli
 
 abbrev pub AreShown : DesignParts → List Bool → List Layer → List (List PortValue) → Type 0
 AreShown design replicated layers shown =
-    (n : ℕ) (tap : Tap) → slice_get design.taps n ≡ Some tap → slice_get shown n ≡ Some (shown_of (is_replicated replicated tap.source.0) (shown_in layers) n)
+    (n : ℕ) (tap : Tap) → slice_get design.taps n ≡ Some tap
+    → slice_get shown n ≡ Some (shown_of (is_replicated replicated tap.source.0) (shown_in layers) n)
 
 -- three tuples of one size in a place
 abbrev pub AreOfSize : List (List (List PortValue)) → ℕ → ℕ → Type 0
@@ -88,7 +91,8 @@ pub record StayPut (old new : List Layer) : Type 0 where
 -- each layer is made from what its replicas received
 abbrev pub AreMade : DesignParts → List PortValue → List (List (List PortValue)) → List Layer → Type 0
 AreMade design values heard layers =
-    (replica : ℕ) (layer : Layer) → slice_get layers replica ≡ Some layer → IsMade design values (slice_index_or heard replica []) layer
+    (replica : ℕ) (layer : Layer) → slice_get layers replica ≡ Some layer
+    → IsMade design values (slice_index_or heard replica []) layer
 
 -- each layer's replicas receive
 abbrev pub AllReceived : DesignParts → List Bool → List VoteFault → List Layer → List (List (List PortValue)) → Type 0
@@ -117,15 +121,18 @@ pub record AreHeard (design : DesignParts) (heard : List (List (List PortValue))
 pub record AreOpened (design : DesignParts) (replicated : List Bool) (layers : List Layer) : Type 0 where
   pub layers_fit : AreThree design layers
   pub layers_are : HaveReplicas design replicated (there_in layers)
-  pub frames : (replica : ℕ) → replica < 3 → frames_of (slice_index_or (parts_in layers) replica []) ≡ (opening design).frames
+  pub frames : (replica : ℕ) → replica < 3
+      → frames_of (slice_index_or (parts_in layers) replica []) ≡ (opening design).frames
 
 -- the tables are the design's
-pub record HasTables (design : DesignParts) (replicated : List Bool) (sources : List (List PortSource)) (stages : List Stage) : Type 0 where
+pub record HasTables (design : DesignParts) (replicated : List Bool) (sources : List (List PortSource))
+    (stages : List Stage) : Type 0 where
   pub replicated_fit : length replicated ≡ length design.components
   pub sources_are : sources ≡ all_sources design
   pub stages_fit : map stage_size stages ≡ stage_sizes design
 
-pub record HasReplicas (design : DesignParts) (replicated : List Bool) (layers : List Layer) (heard : List (List (List PortValue))) (shown : List (List PortValue)) : Type 0 where
+pub record HasReplicas (design : DesignParts) (replicated : List Bool) (layers : List Layer)
+    (heard : List (List (List PortValue))) (shown : List (List PortValue)) : Type 0 where
   pub layers_fit : AreThree design layers
   pub layers_are : HaveReplicas design replicated (there_in layers)
   pub heard_fit : AreHeard design heard

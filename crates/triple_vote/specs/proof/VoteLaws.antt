@@ -36,66 +36,87 @@ AreFaults design faults = (round : ℕ) → All (IsFault design) (faults round)
 
 -- of each component at most one replica is named, in whatever rounds
 abbrev pub NameOneEach : (ℕ → List VoteFault) → Type 0
-NameOneEach faults = (m n : ℕ) (f g : VoteFault) → Contains (faults m) f → Contains (faults n) g → f.source.0 ≡ g.source.0 → f.replica ≡ g.replica
+NameOneEach faults =
+    (m n : ℕ) (f g : VoteFault) → Contains (faults m) f → Contains (faults n) g → f.source.0 ≡ g.source.0
+    → f.replica ≡ g.replica
 
 -- where it is so, no two replicas are at fault towards one reader in one round
 abbrev pub OneNamedIsOutvoted : Type 0
-OneNamedIsOutvoted = (design : DesignParts) (faults : ℕ → List VoteFault) → AreFaults design faults → NameOneEach faults → AreOutvoted faults
+OneNamedIsOutvoted =
+    (design : DesignParts) (faults : ℕ → List VoteFault) → AreFaults design faults → NameOneEach faults
+    → AreOutvoted faults
 
 -- ---- with at most one at fault, nothing shows it
 -- each replica is in its component's state of the composition
 abbrev pub ReplicasAreStates : Type 0
 ReplicasAreStates =
-    (design : DesignParts) (env : Env) (replicated : List Bool) (faults : ℕ → List VoteFault) → IsDesign design → AreFaults design faults → AreOutvoted faults
+    (design : DesignParts) (env : Env) (replicated : List Bool) (faults : ℕ → List VoteFault) → IsDesign design
+    → AreFaults design faults → AreOutvoted faults
     → (node replica rounds : ℕ) → node < length design.components → replica < copies_of replicated node
     → frame_at (vcomp design env replicated faults rounds) node replica ≡ state design env node rounds
 
 -- each replica receives the message of the composition
 abbrev pub ReceivedAreMessages : Type 0
 ReceivedAreMessages =
-    (design : DesignParts) (env : Env) (replicated : List Bool) (faults : ℕ → List VoteFault) → IsDesign design → AreFaults design faults → AreOutvoted faults
-    → (l target round : ℕ) (link : Link) → slice_get design.links l ≡ Some link → target < copies_of replicated link.target.0
+    (design : DesignParts) (env : Env) (replicated : List Bool) (faults : ℕ → List VoteFault) → IsDesign design
+    → AreFaults design faults → AreOutvoted faults
+    → (l target round : ℕ) (link : Link) → slice_get design.links l ≡ Some link
+    → target < copies_of replicated link.target.0
     → received_at (vcomp design env replicated faults (suc round)) l target ≡ msg design env l round
 
 -- each root out port shows the tuple of the composition
 abbrev pub TapsShowTuples : Type 0
 TapsShowTuples =
-    (design : DesignParts) (env : Env) (replicated : List Bool) (faults : ℕ → List VoteFault) → IsDesign design → AreFaults design faults → AreOutvoted faults
+    (design : DesignParts) (env : Env) (replicated : List Bool) (faults : ℕ → List VoteFault) → IsDesign design
+    → AreFaults design faults → AreOutvoted faults
     → (n round : ℕ) (tap : Tap) → slice_get design.taps n ≡ Some tap
-    → vshown design env replicated faults tap round ≡ tuple_of (steps_of_round design env round) tap.source.0 tap.out_port
+    → vshown design env replicated faults tap round
+    ≡ tuple_of (steps_of_round design env round) tap.source.0 tap.out_port
 
 -- so the report is that of the composition, with each line of a replicated component three times
 abbrev pub ReportIsThrice : Type 0
 ReportIsThrice =
-    (design : DesignParts) (env : Env) (replicated : List Bool) (faults : ℕ → List VoteFault) (n : ℕ) → IsDesign design → AreFaults design faults → AreOutvoted faults
+    (design : DesignParts) (env : Env) (replicated : List Bool) (faults : ℕ → List VoteFault) (n : ℕ) → IsDesign design
+    → AreFaults design faults → AreOutvoted faults
     → vreport design env replicated faults n ≡ thrice design env replicated n
 
 -- which without replicas is the report of the composition
 abbrev pub ThriceWithoutReplicas : Type 0
 ThriceWithoutReplicas =
-    (design : DesignParts) (env : Env) (replicated : List Bool) (n : ℕ) → ((node : ℕ) → is_replicated replicated node ≡ false)
+    (design : DesignParts) (env : Env) (replicated : List Bool) (n : ℕ)
+    → ((node : ℕ) → is_replicated replicated node ≡ false)
     → thrice design env replicated n ≡ report design env n
 
 -- ---- without replicas it is the composition, whatever the faults
 abbrev pub alone : Configuration → Voted
-alone c = record { frames = map (λ (frame : Frame). frame ∷ []) c.frames; received = map (λ (message : List PortValue). message ∷ []) c.messages }
+alone c =
+    record {
+      frames = map (λ (frame : Frame). frame ∷ []) c.frames;
+      received = map (λ (message : List PortValue). message ∷ []) c.messages;
+    }
 
 abbrev pub NoReplicasAreComposition : Type 0
 NoReplicasAreComposition =
-    (design : DesignParts) (env : Env) (replicated : List Bool) (faults : ℕ → List VoteFault) (rounds : ℕ) → IsDesign design
-    → ((node : ℕ) → is_replicated replicated node ≡ false) → vcomp design env replicated faults rounds ≡ alone (comp design env rounds)
+    (design : DesignParts) (env : Env) (replicated : List Bool) (faults : ℕ → List VoteFault) (rounds : ℕ)
+    → IsDesign design
+    → ((node : ℕ) → is_replicated replicated node ≡ false)
+    → vcomp design env replicated faults rounds ≡ alone (comp design env rounds)
 
 -- ---- what contracts see after a number of rounds
-pub record StandsAt (design : DesignParts) (env : Env) (replicated : List Bool) (faults : ℕ → List VoteFault) (rounds : ℕ) : Type 0 where
+pub record StandsAt (design : DesignParts) (env : Env) (replicated : List Bool) (faults : ℕ → List VoteFault)
+    (rounds : ℕ) : Type 0 where
   pub design_is : (vstate_after design env replicated faults rounds).design ≡ design
   pub replicated_is : (vstate_after design env replicated faults rounds).replicated ≡ replicated
   pub voted_is : (vstate_after design env replicated faults rounds).voted ≡ vcomp design env replicated faults rounds
 
 abbrev pub StandsAtVotes : Type 0
-StandsAtVotes = (design : DesignParts) (env : Env) (replicated : List Bool) (faults : ℕ → List VoteFault) (rounds : ℕ) → StandsAt design env replicated faults rounds
+StandsAtVotes =
+    (design : DesignParts) (env : Env) (replicated : List Bool) (faults : ℕ → List VoteFault) (rounds : ℕ)
+    → StandsAt design env replicated faults rounds
 
 -- and what each root out port showed in the last of them
 abbrev pub ShowsVotes : Type 0
 ShowsVotes =
     (design : DesignParts) (env : Env) (replicated : List Bool) (faults : ℕ → List VoteFault) (round : ℕ)
-    → (vstate_after design env replicated faults (suc round)).shown ≡ map (λ tap. vshown design env replicated faults tap round) design.taps
+    → (vstate_after design env replicated faults (suc round)).shown
+    ≡ map (λ tap. vshown design env replicated faults tap round) design.taps

@@ -22,7 +22,8 @@ pub record RingsAddUp : Type 0 where
 
 -- each number of a ring is from 0 to 999, so the sum of all fits 64 bits
 abbrev pub RingNumbersAreSmall : Type 0
-RingNumbersAreSmall = (n rounds node : ℕ) → (pos 0 ≤ℤ ring_number n rounds node) × (ring_number n rounds node <ℤ pos 1000)
+RingNumbersAreSmall =
+    (n rounds node : ℕ) → (pos 0 ≤ℤ ring_number n rounds node) × (ring_number n rounds node <ℤ pos 1000)
 
 -- ---- a ring in a world
 abbrev pub ring_run : ℕ → ℕ → Run

@@ -52,7 +52,8 @@ begins rate node number =
 
 abbrev pub starts_at : DesignParts → ℕ → ℕ → ℕ → List Event
 starts_at design rounds moment node =
-    event_of (which (step_time design node) (step_count design rounds node) moment) (begins (plan_of design node).rate node)
+    event_of (which (step_time design node) (step_count design rounds node) moment)
+    (begins (plan_of design node).rate node)
 
 abbrev pub finishes_at : DesignParts → ℕ → ℕ → ℕ → List Event
 finishes_at design rounds moment node =
@@ -96,7 +97,8 @@ AreMoments design rounds from (moment ∷ later) =
 -- one Pass to each of them, and what comes at it
 abbrev pub schedule_at : DesignParts → ℕ → List ℕ → List Event
 schedule_at design rounds moments =
-    flat_map (λ moment. event.Pass moment (replicate (length design.components) moment) ∷ events_at design rounds moment) moments
+    flat_map (λ moment. event.Pass moment (replicate (length design.components) moment)
+    ∷ events_at design rounds moment) moments
 
 -- the events of all moments
 abbrev pub IsScheduleOf : DesignParts → ℕ → List Event → Type 0

@@ -10,11 +10,14 @@ pub returns-in-Some : goal.returns-in-Some
 returns-in-Some c =
     let tree = placed c.args.wires.now.uses.names.tree.now in
     on_ok_weaker c.report.result
-    (λ e. both_found tree c.args.ways.now.root c.args.number c.args.at (connection_view kept_place c.in-Some.connection.now) c.args.wire (sym c.in-Some.ensures)
-    c.requires.wire c.has-is_on_way.result c.is_second-is_second.result c.args.finder.now c.report.new.finder c.has-is_on_way.ensures
+    (λ e. both_found tree c.args.ways.now.root c.args.number c.args.at
+    (connection_view kept_place c.in-Some.connection.now) c.args.wire (sym c.in-Some.ensures)
+    c.requires.wire c.has-is_on_way.result c.is_second-is_second.result c.args.finder.now c.report.new.finder
+    c.has-is_on_way.ensures
     c.is_second-is_second.ensures e)
     c.report.ensures
 
 pub returns-in-None : goal.returns-in-None
 returns-in-None c =
-    nothing_at (placed c.args.wires.now.uses.names.tree.now) c.args.ways.now.root c.args.number c.args.at c.args.finder.now (sym c.in-None.ensures)
+    nothing_at (placed c.args.wires.now.uses.names.tree.now) c.args.ways.now.root c.args.number c.args.at
+    c.args.finder.now (sym c.in-None.ensures)

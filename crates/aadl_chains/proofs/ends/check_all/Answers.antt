@@ -12,11 +12,13 @@ check-requires-clause-wire c =
     ∙ slice_get-get_or items c.loop-at.at (record { source = None; target = None }) (omega arith)
 
 pub loop-at-init : goal.loop-at-init
-loop-at-init c = found_none (placed c.args.wires.now.uses.names.tree.now) c.args.ways.now.root c.args.number c.args.finder.now
+loop-at-init c =
+    found_none (placed c.args.wires.now.uses.names.tree.now) c.args.ways.now.root c.args.number c.args.finder.now
 
 pub loop-at-preserved : goal.loop-at-preserved
 loop-at-preserved c =
-    found_more (placed c.args.wires.now.uses.names.tree.now) c.args.ways.now.root c.args.number c.loop-at.at c.args.finder.now c.loop-at.finder c.check.new.finder
+    found_more (placed c.args.wires.now.uses.names.tree.now) c.args.ways.now.root c.args.number c.loop-at.at
+    c.args.finder.now c.loop-at.finder c.check.new.finder
     c.loop-at.invariant
     c.in_ok-check.ensures
 
@@ -24,4 +26,5 @@ pub returns : goal.returns
 returns c =
     let tree = placed c.args.wires.now.uses.names.tree.now in
     let same = ap (λ (l : List Wire). length l) c.wires-wire-items.ensures in
-    found_all tree c.args.ways.now.root c.args.number c.loop-at.at c.args.finder.now c.loop-at.finder (omega arith) c.loop-at.invariant
+    found_all tree c.args.ways.now.root c.args.number c.loop-at.at c.args.finder.now c.loop-at.finder (omega arith)
+    c.loop-at.invariant

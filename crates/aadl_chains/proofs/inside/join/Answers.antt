@@ -10,9 +10,11 @@ returns-in-Some c =
     let tree = placed c.args.wires.now.uses.names.tree.now in
     on_ok_weaker c.add.result
     (λ e. subst (IsJoined tree c.args.direction c.args.number c.args.wire c.args.ports.now) (sym e)
-    (one_joined tree c.args.direction c.args.ports.now c.args.number c.in-Some.port c.args.wire (sym c.joined.ensures ∙ c.in-Some.is)))
+    (one_joined tree c.args.direction c.args.ports.now c.args.number c.in-Some.port c.args.wire
+    (sym c.joined.ensures ∙ c.in-Some.is)))
     c.add.ensures
 
 pub returns-in-None : goal.returns-in-None
 returns-in-None c =
-    none_joined (placed c.args.wires.now.uses.names.tree.now) c.args.direction c.args.ports.now c.args.number c.args.wire (sym c.joined.ensures ∙ c.in-None.is)
+    none_joined (placed c.args.wires.now.uses.names.tree.now) c.args.direction c.args.ports.now c.args.number
+    c.args.wire (sym c.joined.ensures ∙ c.in-None.is)

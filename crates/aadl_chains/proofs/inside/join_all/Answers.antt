@@ -5,4 +5,5 @@ use Rattle.aadl_chains.proofs.inside.join_all.Goals as goal
 
 pub returns-then-is_thread : goal.returns-then-is_thread
 returns-then-is_thread c =
-    thread_joined (placed c.args.wires.now.uses.names.tree.now) c.args.direction c.args.number c.args.ports.now (sym c.is_thread.ensures ∙ c.if-is_thread.true)
+    thread_joined (placed c.args.wires.now.uses.names.tree.now) c.args.direction c.args.number c.args.ports.now
+    (sym c.is_thread.ensures ∙ c.if-is_thread.true)

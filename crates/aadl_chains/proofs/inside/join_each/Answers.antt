@@ -8,7 +8,8 @@ use Rattle.aadl_chains.proofs.Joining.{none_yet, one_more, all_joined}
 use Rattle.aadl_chains.proofs.inside.join_each.Goals as goal
 
 pub loop-wire-init : goal.loop-wire-init
-loop-wire-init c = none_yet (placed c.args.wires.now.uses.names.tree.now) c.args.direction c.args.number c.args.ports.now
+loop-wire-init c =
+    none_yet (placed c.args.wires.now.uses.names.tree.now) c.args.direction c.args.number c.args.ports.now
 
 pub loop-wire-preserved : goal.loop-wire-preserved
 loop-wire-preserved c =
@@ -20,11 +21,13 @@ loop-wire-preserved c =
     let is : slice_get (wires_at tree n) i ≡ Some wire =
     ap (λ (l : List Wire). slice_get l i) (sym c.wires-wire-items.ensures)
     ∙ slice_get-get_or items i (record { source = None; target = None }) c.loop-wire-test.true in
-    one_more tree c.args.direction n i wire c.args.ports.now c.loop-wire.ports c.join.new.ports c.requires is (Contains-from_slice_get (wires_at tree n) i wire is)
+    one_more tree c.args.direction n i wire c.args.ports.now c.loop-wire.ports c.join.new.ports c.requires is
+    (Contains-from_slice_get (wires_at tree n) i wire is)
     c.in_ok-join.ensures c.loop-wire.invariant
 
 pub returns : goal.returns
 returns c =
     let tree = placed c.args.wires.now.uses.names.tree.now in
     let same = ap (λ (l : List Wire). length l) c.wires-wire-items.ensures in
-    all_joined tree c.args.direction c.args.number c.loop-wire.wire-index c.args.ports.now c.loop-wire.ports (omega arith) c.loop-wire.invariant
+    all_joined tree c.args.direction c.args.number c.loop-wire.wire-index c.args.ports.now c.loop-wire.ports
+    (omega arith) c.loop-wire.invariant

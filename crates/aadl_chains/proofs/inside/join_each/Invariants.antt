@@ -3,4 +3,5 @@ use Rattle.aadl_chains.proofs.Joining.{FrontJoined}
 use Rattle.aadl_chains.proofs.inside.join_each.Given as goal
 
 abbrev pub invariant-loop-wire : goal.invariant-loop-wire
-invariant-loop-wire l = FrontJoined (placed l.wires.uses.names.tree.now) l.direction l.number l.wire-index l.initial.ports l.ports
+invariant-loop-wire l =
+    FrontJoined (placed l.wires.uses.names.tree.now) l.direction l.number l.wire-index l.initial.ports l.ports

@@ -16,6 +16,7 @@ returns c =
     let least = c.requires.root in
     let counted = c.in_ok-counts.ensures c.args.root (omega (arith, size, least)) in
     tells LINKS c.count_at.result
-    (more_links tree c.args.root c.requires.declared (one_each tree c.args.root c.requires.ends) c.requires.no_thread LINKS c.count_at.result
+    (more_links tree c.args.root c.requires.declared (one_each tree c.args.root c.requires.ends) c.requires.no_thread
+    LINKS c.count_at.result
     (subst (IsNumber (LINKS + 1) (EndsLink tree c.args.root))
     (sym (c.count_at.ensures ∙ ap (λ (xs : List ℕ). slice_index xs c.args.root) c.as_slice.ensures.value)) counted))

@@ -15,20 +15,24 @@ use Rattle.aadl_chains.proofs.links.link_counts.Goals as goal
 pub links_below-count-requires-clause-takes : goal.links_below-count-requires-clause-takes
 links_below-count-requires-clause-takes c =
     let keys = c.args.order.now.keys in
-    known_below (placed c.args.wires.now.uses.names.tree.now) c.args.limit keys c.requires.order.sequence c.loop-at.at c.in-Some.number.now _
+    known_below (placed c.args.wires.now.uses.names.tree.now) c.args.limit keys c.requires.order.sequence c.loop-at.at
+    c.in-Some.number.now _
     (sym c.in-Some.ensures.key) (λ k m lt e. c.in_ok-takes.ensures m (Contains-from_slice_get keys k m e))
 
 pub links_below-count-requires-clause-counts : goal.links_below-count-requires-clause-counts
 links_below-count-requires-clause-counts c = λ s m e.
     let tree = placed c.args.wires.now.uses.names.tree.now in
     subst (λ (xs : List ℕ). IsNumber c.args.limit (EndsLink tree m) (get_or xs m 0)) (sym c.as_slice.ensures.value)
-    (front_known (λ n. IsNumber c.args.limit (EndsLink tree n)) 0 (containment tree) c.args.order.now.keys c.loop-at.at c.loop-at.counts.items
-    c.loop-at.invariant c.in-Some.number.now c.requires.order.sequence (sym c.in-Some.ensures.key) s m (below-same tree c.in-Some.number.now s ∙ e))
+    (front_known (λ n. IsNumber c.args.limit (EndsLink tree n)) 0 (containment tree) c.args.order.now.keys c.loop-at.at
+    c.loop-at.counts.items
+    c.loop-at.invariant c.in-Some.number.now c.requires.order.sequence (sym c.in-Some.ensures.key) s m
+    (below-same tree c.in-Some.number.now s ∙ e))
 
 pub loop-at-init : goal.loop-at-init
 loop-at-init c =
     let tree = placed c.args.wires.now.uses.names.tree.now in
-    no_front (λ n. IsNumber c.args.limit (EndsLink tree n)) 0 (containment tree) c.args.order.now.keys c.in_ok-counts.counts.items
+    no_front (λ n. IsNumber c.args.limit (EndsLink tree n)) 0 (containment tree) c.args.order.now.keys
+    c.in_ok-counts.counts.items
     (c.in_ok-counts.ensures ∙ (c.len.ensures ∙ sym (length-map tree.declarations (targets_in tree))))
 
 pub put-requires : goal.put-requires
@@ -49,7 +53,8 @@ loop-at-preserved c =
       | in-Some w ↦
           subst (λ v. FrontOf right 0 g keys (at + 1) v.items) (sym w.counts-is)
           (subst (FrontOf right 0 g keys (at + 1)) (sym w.put.ensures)
-          (front_more right 0 g keys at counts c.loop-at.invariant w.in-Some.number.now w.links_below-count.result c.requires.order.sequence
+          (front_more right 0 g keys at counts c.loop-at.invariant w.in-Some.number.now w.links_below-count.result
+          c.requires.order.sequence
           (sym w.in-Some.ensures.key) w.links_below-count.ensures))
       | in_default w ↦
           subst (λ v. FrontOf right 0 g keys (at + 1) v.items) (sym w.counts-is)
@@ -59,5 +64,6 @@ loop-at-preserved c =
 pub returns : goal.returns
 returns c =
     let tree = placed c.args.wires.now.uses.names.tree.now in
-    front_all (λ n. IsNumber c.args.limit (EndsLink tree n)) 0 (containment tree) c.args.order.now.keys c.loop-at.at c.loop-at.counts.items c.loop-at.invariant
+    front_all (λ n. IsNumber c.args.limit (EndsLink tree n)) 0 (containment tree) c.args.order.now.keys c.loop-at.at
+    c.loop-at.counts.items c.loop-at.invariant
     c.requires.order (omega arith)

@@ -16,10 +16,12 @@ loop-at-init c = none_carried (placed c.args.wires.now.uses.names.tree.now) c.ar
 
 pub loop-at-preserved : goal.loop-at-preserved
 loop-at-preserved c =
-    carried_more (placed c.args.wires.now.uses.names.tree.now) c.args.limit c.args.number c.loop-at.at c.loop-at.count c.carried.result c.add_up_to-count.result
+    carried_more (placed c.args.wires.now.uses.names.tree.now) c.args.limit c.args.number c.loop-at.at c.loop-at.count
+    c.carried.result c.add_up_to-count.result
     c.loop-at.invariant c.carried.ensures c.add_up_to-count.ensures
 
 pub returns : goal.returns
 returns c =
     let same = ap (λ (l : List Wire). length l) c.wires-wire-items.ensures in
-    carried_all (placed c.args.wires.now.uses.names.tree.now) c.args.limit c.args.number c.loop-at.at c.loop-at.count (omega arith) c.loop-at.invariant
+    carried_all (placed c.args.wires.now.uses.names.tree.now) c.args.limit c.args.number c.loop-at.at c.loop-at.count
+    (omega arith) c.loop-at.invariant

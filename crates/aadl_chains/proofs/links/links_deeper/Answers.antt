@@ -8,12 +8,15 @@ loop-target-init c = none_deeper (placed c.args.wires.now.uses.names.tree.now) c
 
 pub loop-target-preserved : goal.loop-target-preserved
 loop-target-preserved c =
-    deeper_more (placed c.args.wires.now.uses.names.tree.now) c.args.limit c.args.number c.loop-target.target-index c.loop-target.count c.add_up_to-count.result
-    c.args.counts.now c.targets-target-items.result.now c.targets-target-items.ensures c.loop-target-test.true c.requires c.loop-target.invariant
+    deeper_more (placed c.args.wires.now.uses.names.tree.now) c.args.limit c.args.number c.loop-target.target-index
+    c.loop-target.count c.add_up_to-count.result
+    c.args.counts.now c.targets-target-items.result.now c.targets-target-items.ensures c.loop-target-test.true
+    c.requires c.loop-target.invariant
     (c.add_up_to-count.ensures ∙ ap (λ n. min c.args.limit (c.loop-target.count + n)) c.count_of.ensures)
 
 pub returns : goal.returns
 returns c =
     let size = ap length c.targets-target-items.ensures in
-    deeper_all (placed c.args.wires.now.uses.names.tree.now) c.args.limit c.args.number c.loop-target.target-index c.loop-target.count
+    deeper_all (placed c.args.wires.now.uses.names.tree.now) c.args.limit c.args.number c.loop-target.target-index
+    c.loop-target.count
     (omega (arith, size, c.loop-target-test.false)) c.loop-target.invariant

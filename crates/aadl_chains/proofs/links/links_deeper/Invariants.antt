@@ -5,4 +5,5 @@ use Rattle.aadl_chains.proofs.links.links_deeper.Given as goal
 
 -- below the subcomponents so far
 abbrev pub invariant-loop-target : goal.invariant-loop-target
-invariant-loop-target l = IsNumber l.limit (AmongFirst (Deeper (placed l.wires.uses.names.tree.now) l.number) l.target-index) l.count
+invariant-loop-target l =
+    IsNumber l.limit (AmongFirst (Deeper (placed l.wires.uses.names.tree.now) l.number) l.target-index) l.count

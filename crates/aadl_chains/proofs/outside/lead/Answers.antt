@@ -13,10 +13,12 @@ returns-in-Some c =
     let inside = c.args.inside.now.ports in
     on_ok_weaker c.add.result
     (λ e. subst (IsLed tree root d inside c.args.number c.args.wire c.args.ports.now) (sym e)
-    (one_led tree root d inside c.requires.inside c.args.ports.now c.args.number c.args.wire c.in-Some.port (sym c.led.ensures ∙ c.in-Some.is)))
+    (one_led tree root d inside c.requires.inside c.args.ports.now c.args.number c.args.wire c.in-Some.port
+    (sym c.led.ensures ∙ c.in-Some.is)))
     c.add.ensures
 
 pub returns-in-None : goal.returns-in-None
 returns-in-None c =
-    none_led (placed c.args.wires.now.uses.names.tree.now) c.args.side.root c.args.side.direction c.args.inside.now.ports c.requires.inside c.args.ports.now
+    none_led (placed c.args.wires.now.uses.names.tree.now) c.args.side.root c.args.side.direction
+    c.args.inside.now.ports c.requires.inside c.args.ports.now
     c.args.number c.args.wire (sym c.led.ensures ∙ c.in-None.is)

@@ -3,4 +3,6 @@ use Rattle.aadl_chains.proofs.Leading.{FrontLed}
 use Rattle.aadl_chains.proofs.outside.lead_each.Given as goal
 
 abbrev pub invariant-loop-wire : goal.invariant-loop-wire
-invariant-loop-wire l = FrontLed (placed l.wires.uses.names.tree.now) l.side.root l.side.direction l.number l.wire-index l.initial.ports l.ports
+invariant-loop-wire l =
+    FrontLed (placed l.wires.uses.names.tree.now) l.side.root l.side.direction l.number l.wire-index
+    l.initial.ports l.ports

@@ -7,13 +7,17 @@ use Rattle.aadl_chains.proofs.outside.lead_if_used.Goals as goal
 
 pub lead_each-requires-clause-used : goal.lead_each-requires-clause-used
 lead_each-requires-clause-used c =
-    (c.requires.used c.args.number).0 (Contains-list_any nat_eq eqb-true c.args.used.now.keys c.args.number (sym c.contains.ensures ∙ c.if-contains.true))
+    (c.requires.used c.args.number).0
+    (Contains-list_any nat_eq eqb-true c.args.used.now.keys c.args.number
+    (sym c.contains.ensures ∙ c.if-contains.true))
 
 pub returns-then-contains : goal.returns-then-contains
 returns-then-contains c =
     on_ok_weaker c.lead_each.result
     (λ led. inl (
-      (c.requires.used c.args.number).0 (Contains-list_any nat_eq eqb-true c.args.used.now.keys c.args.number (sym c.contains.ensures ∙ c.if-contains.true)),
+      (c.requires.used c.args.number).0
+          (Contains-list_any nat_eq eqb-true c.args.used.now.keys c.args.number
+          (sym c.contains.ensures ∙ c.if-contains.true)),
       led,
     ))
     c.lead_each.ensures
@@ -21,7 +25,8 @@ returns-then-contains c =
 pub returns-else-contains : goal.returns-else-contains
 returns-else-contains c =
     inr (
-      (λ u. true≢false (sym (list_any_by_number c.args.used.now.keys c.args.number ((c.requires.used c.args.number).1 u))
+      (λ u. true≢false (sym (list_any_by_number c.args.used.now.keys c.args.number
+          ((c.requires.used c.args.number).1 u))
           ∙ (sym c.contains.ensures ∙ c.if-contains.false))),
       refl,
     )

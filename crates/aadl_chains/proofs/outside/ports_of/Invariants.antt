@@ -3,4 +3,5 @@ use Rattle.aadl_chains.proofs.Falling.{BackLed}
 use Rattle.aadl_chains.proofs.outside.ports_of.Given as goal
 
 abbrev pub invariant-loop-at : goal.invariant-loop-at
-invariant-loop-at l = BackLed (placed l.wires.uses.names.tree.now) l.side.root l.side.direction l.order.keys l.at l.ports
+invariant-loop-at l =
+    BackLed (placed l.wires.uses.names.tree.now) l.side.root l.side.direction l.order.keys l.at l.ports

@@ -9,13 +9,15 @@ use Rattle.aadl_chains.proofs.walks.descend.Goals as goal
 pub down-init : goal.down-init
 down-init c = (
   c.requires.out,
-  λ root one stands. descend_first (placed c.args.wires.now.uses.names.tree.now) root c.requires.declared one c.args.path.items c.args.number
+  λ root one stands. descend_first (placed c.args.wires.now.uses.names.tree.now) root c.requires.declared one
+      c.args.path.items c.args.number
       c.args.port stands c.requires.out,
 )
 
 pub down-smaller : goal.down-smaller
 down-smaller c =
-    rank_falls (placed c.args.wires.now.uses.names.tree.now) c.args.order.now.keys c.requires.order c.down.here c.in-Some.lower.sub c.in-Some.lower.number
+    rank_falls (placed c.args.wires.now.uses.names.tree.now) c.args.order.now.keys c.requires.order c.down.here
+    c.in-Some.lower.sub c.in-Some.lower.number
     c.in-Some.ensures.2
 
 pub down-preserved : goal.down-preserved
@@ -25,15 +27,18 @@ down-preserved c =
     let lower = c.in-Some.lower in (
       c.in-Some.ensures.3,
       λ root one stands.
-          subst (λ (way : List ℕ). Descending tree root end way lower.number lower.port) (sym c.in_ok-push-in-Some.ensures.items)
-          (descend_more tree root c.requires.declared one end c.down.way.items c.down.here c.down.out c.in-Some.ensures.0 lower.sub lower.port lower.number
+          subst (λ (way : List ℕ). Descending tree root end way lower.number lower.port)
+          (sym c.in_ok-push-in-Some.ensures.items)
+          (descend_more tree root c.requires.declared one end c.down.way.items c.down.here c.down.out
+          c.in-Some.ensures.0 lower.sub lower.port lower.number
           c.in-Some.ensures.1 c.in-Some.ensures.2 (c.down.invariant.1 root one stands)),
     )
 
 pub returns-in-None : goal.returns-in-None
 returns-in-None c = λ root one stands.
     let end : Port = record { path = reverse c.args.path.items; port = c.args.port } in
-    descend_none (placed c.args.wires.now.uses.names.tree.now) root c.requires.declared one end c.down.way.items c.down.here c.down.out
+    descend_none (placed c.args.wires.now.uses.names.tree.now) root c.requires.declared one end c.down.way.items
+    c.down.here c.down.out
     (sym c.is_thread.ensures ∙ c.down-test.true) c.in-None.ensures (c.down.invariant.1 root one stands)
 
 pub returns : goal.returns

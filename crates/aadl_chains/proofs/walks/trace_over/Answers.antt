@@ -10,7 +10,9 @@ use Rattle.aadl_chains.proofs.walks.trace_over.Goals as goal
 
 pub lower_of-lower-requires : goal.lower_of-lower-requires
 lower_of-lower-requires c =
-    let f = crossing_from (placed c.args.wires.now.uses.names.tree.now) c.args.root c.requires.declared (reverse c.args.path.now) c.args.port
+    let f =
+    crossing_from (placed c.args.wires.now.uses.names.tree.now) c.args.root c.requires.declared
+    (reverse c.args.path.now) c.args.port
     (crossing c.args.path.now c.args.crossed) c.requires.climbs in
     (c.args.crossed.sub, c.args.crossed.port, f.number, refl, f.names, f.goes_out)
 
@@ -19,8 +21,12 @@ returns c =
     let tree = placed c.args.wires.now.uses.names.tree.now in
     let to : Port = record { path = reverse c.args.path.now; port = c.args.port } in
     let way = c.in_ok-way.way.items in
-    let turned = ap reverse c.in_ok-way.ensures ∙ reverse-append (take c.args.crossed.depth c.args.path.now) (c.args.crossed.sub ∷ []) in
+    let turned =
+    ap reverse c.in_ok-way.ensures
+    ∙ reverse-append (take c.args.crossed.depth c.args.path.now) (c.args.crossed.sub ∷ []) in
     subst (Traces tree c.args.root to) (sym c.route_from.ensures)
-    (over_route tree c.args.root c.requires.declared c.requires.one c.requires.no_thread to (crossing c.args.path.now c.args.crossed) c.in_ok-begin.begin way
-    c.lower_of-lower.result c.requires.thread c.requires.climbs turned c.lower_of-lower.ensures.is c.lower_of-lower.ensures.names
+    (over_route tree c.args.root c.requires.declared c.requires.one c.requires.no_thread to
+    (crossing c.args.path.now c.args.crossed) c.in_ok-begin.begin way
+    c.lower_of-lower.result c.requires.thread c.requires.climbs turned c.lower_of-lower.ensures.is
+    c.lower_of-lower.ensures.names
     (λ stands. c.in_ok-begin.ensures c.args.root c.requires.one stands))

@@ -17,8 +17,10 @@ returns-clause-only c text tree again h g = only_so text tree again h g
 
 pub returns-clause-of_tree : goal.returns-clause-of_tree
 returns-clause-of_tree c tree =
-    ∥∥₁_map tree.given (λ g. subst (λ (m : PackageTree (Unit {0})). HasTree (canon m) m) (package_tied no_place kept_place tree)
-    (subst (λ (text : List ℕ). HasTree text (package_to no_place (placed tree))) (sym (canon_of (placed tree))) (reads_back g.0 (placed tree) g.1)))
+    ∥∥₁_map tree.given (λ g.
+    subst (λ (m : PackageTree (Unit {0})). HasTree (canon m) m) (package_tied no_place kept_place tree)
+    (subst (λ (text : List ℕ). HasTree text (package_to no_place (placed tree))) (sym (canon_of (placed tree)))
+    (reads_back g.0 (placed tree) g.1)))
 
 pub returns-clause-places : goal.returns-clause-places
 returns-clause-places c tree = canon_of tree

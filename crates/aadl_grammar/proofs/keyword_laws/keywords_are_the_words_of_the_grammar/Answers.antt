@@ -6,7 +6,16 @@ use Rattle.aadl_grammar.proofs.KeywordWaysOf.{outside_reached, inside_reached}
 use Rattle.aadl_grammar.proofs.keyword_laws.keywords_are_the_words_of_the_grammar.Goals as goal
 
 pub returns-clause-outside : goal.returns-clause-outside
-returns-clause-outside c m = (outside_reached m, λ h. listed_if_it_comes keywords_outside sides.outside outside_stays outside_fine whole_package outside_first m h.0 h.1)
+returns-clause-outside c m = (
+  outside_reached m,
+  λ h.
+      listed_if_it_comes keywords_outside sides.outside outside_stays outside_fine whole_package
+      outside_first m h.0 h.1,
+)
 
 pub returns-clause-inside : goal.returns-clause-inside
-returns-clause-inside c m = (inside_reached m, λ h. listed_if_it_comes keywords_inside sides.inside inside_stays inside_fine annex_body inside_first m h.0 h.1)
+returns-clause-inside c m = (
+  inside_reached m,
+  λ h. listed_if_it_comes keywords_inside sides.inside inside_stays inside_fine annex_body
+      inside_first m h.0 h.1,
+)

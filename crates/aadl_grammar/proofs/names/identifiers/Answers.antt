@@ -8,14 +8,19 @@ use Rattle.aadl_grammar.proofs.names.identifiers.Goals as goal
 pub returns-in_err-first : goal.returns-in_err-first
 unfolding move depth
 returns-in_err-first c = record {
-  runs = λ outer below h. exits _ _ _ _ _ _ _ c.from_residual.ensures.1 (c.in_err-first.ensures.runs outer (s.more_identifiers ∷ below) (omega arith));
+  runs =
+      λ outer below h. exits _ _ _ _ _ _ _ c.from_residual.ensures.1
+      (c.in_err-first.ensures.runs outer (s.more_identifiers ∷ below) (omega arith));
   reads = no_reads _ _ _ c.from_residual.ensures.1;
 }
 
 pub returns-in_err-others : goal.returns-in_err-others
 unfolding move depth
 returns-in_err-others c = record {
-  runs = λ outer below h. exits _ _ _ _ _ _ _ c.from_residual-in_err-others.ensures.1 (along _ _ _ (c.in_ok-first.ensures.runs outer (s.more_identifiers ∷ below) (omega arith)) (c.in_err-others.ensures.runs outer (below) (omega arith)));
+  runs =
+      λ outer below h. exits _ _ _ _ _ _ _ c.from_residual-in_err-others.ensures.1
+      (along _ _ _ (c.in_ok-first.ensures.runs outer (s.more_identifiers ∷ below) (omega arith))
+      (c.in_err-others.ensures.runs outer (below) (omega arith)));
   reads = no_reads _ _ _ c.from_residual-in_err-others.ensures.1;
 }
 

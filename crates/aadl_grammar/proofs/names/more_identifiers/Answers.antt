@@ -14,8 +14,11 @@ use Rattle.aadl_grammar.proofs.names.more_identifiers.Goals as goal
 pub returns-in_err-next : goal.returns-in_err-next
 unfolding move depth
 returns-in_err-next c = record {
-  runs = λ outer below h. exits _ _ _ _ _ _ _ c.from_residual.ensures.1 (along _ _ _ (c.loop-behind.invariant.runs outer below (omega arith)
-      ∙ takes_row outer c.args.reader.now.end s.more_identifiers (below) c.in-Some.ensures refl (omega arith)) (c.in_err-next.ensures.runs outer (s.more_identifiers ∷ below) (omega arith)));
+  runs =
+      λ outer below h. exits _ _ _ _ _ _ _ c.from_residual.ensures.1
+      (along _ _ _ (c.loop-behind.invariant.runs outer below (omega arith)
+      ∙ takes_row outer c.args.reader.now.end s.more_identifiers (below) c.in-Some.ensures refl (omega arith))
+      (c.in_err-next.ensures.runs outer (s.more_identifiers ∷ below) (omega arith)));
   reads = no_reads _ _ _ c.from_residual.ensures.1;
 }
 
@@ -25,13 +28,17 @@ loop-behind-preserved c = record {
   runs = λ outer below h. c.loop-behind.invariant.runs outer below (omega arith)
       ∙ takes_row outer c.args.reader.now.end s.more_identifiers (below) c.in-Some.ensures refl (omega arith)
       ∙ c.in_ok-next.ensures.runs outer (s.more_identifiers ∷ below) (omega arith);
-  reads = pushed (behind k.Comma identifier_parts) (identifier_view kept_place) c.loop-behind.found.items c.push.new.self.items c.in_ok-next.next c.in_ok-push.ensures.items c.loop-behind.invariant.reads (marked c.in-Some.ensures c.in_ok-next.ensures.reads);
+  reads =
+      pushed (behind k.Comma identifier_parts) (identifier_view kept_place) c.loop-behind.found.items
+      c.push.new.self.items c.in_ok-next.next c.in_ok-push.ensures.items c.loop-behind.invariant.reads
+      (marked c.in-Some.ensures c.in_ok-next.ensures.reads);
 }
 
 pub returns : goal.returns
 unfolding move depth
 returns c = record {
   runs = λ outer below h. c.loop-behind.invariant.runs outer below (omega arith)
-      ∙ omits_unless outer c.args.reader.now.end s.more_identifiers (below) (here c.args.reader.now c.loop-behind.rest) refl (c.in_default.ensures, tt);
+      ∙ omits_unless outer c.args.reader.now.end s.more_identifiers (below) (here c.args.reader.now c.loop-behind.rest)
+      refl (c.in_default.ensures, tt);
   reads = c.loop-behind.invariant.reads;
 }

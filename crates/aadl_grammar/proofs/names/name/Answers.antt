@@ -9,22 +9,32 @@ use Rattle.aadl_grammar.proofs.names.name.Goals as goal
 pub returns-in_err-first : goal.returns-in_err-first
 unfolding move depth
 returns-in_err-first c = record {
-  runs = λ outer below h. exits _ _ _ _ _ _ _ c.from_residual.ensures.1 (along _ _ _ (begins_as outer c.args.reader.now.end s.name s.identifier (s.names ∷ []) (below) (here c.args.reader.now c.args.at) refl refl refl) (c.in_err-first.ensures.runs outer (s.names ∷ below) (omega arith)));
+  runs =
+      λ outer below h. exits _ _ _ _ _ _ _ c.from_residual.ensures.1
+      (along _ _ _ (begins_as outer c.args.reader.now.end s.name s.identifier (s.names ∷ []) (below)
+      (here c.args.reader.now c.args.at) refl refl refl)
+      (c.in_err-first.ensures.runs outer (s.names ∷ below) (omega arith)));
   reads = no_reads _ _ _ c.from_residual.ensures.1;
 }
 
 pub returns-in_err-others : goal.returns-in_err-others
 unfolding move depth
 returns-in_err-others c = record {
-  runs = λ outer below h. exits _ _ _ _ _ _ _ c.from_residual-in_err-others.ensures.1 (along _ _ _ (begins_as outer c.args.reader.now.end s.name s.identifier (s.names ∷ []) (below) (here c.args.reader.now c.args.at) refl refl refl
-      ∙ c.in_ok-first.ensures.runs outer (s.names ∷ below) (omega arith)) (c.in_err-others.ensures.runs outer (below) (omega arith)));
+  runs =
+      λ outer below h. exits _ _ _ _ _ _ _ c.from_residual-in_err-others.ensures.1
+      (along _ _ _ (begins_as outer c.args.reader.now.end s.name s.identifier (s.names ∷ []) (below)
+      (here c.args.reader.now c.args.at) refl refl refl
+      ∙ c.in_ok-first.ensures.runs outer (s.names ∷ below) (omega arith))
+      (c.in_err-others.ensures.runs outer (below) (omega arith)));
   reads = no_reads _ _ _ c.from_residual-in_err-others.ensures.1;
 }
 
 pub returns : goal.returns
 unfolding move depth
 returns c = record {
-  runs = λ outer below h. begins_as outer c.args.reader.now.end s.name s.identifier (s.names ∷ []) (below) (here c.args.reader.now c.args.at) refl refl refl
+  runs =
+      λ outer below h. begins_as outer c.args.reader.now.end s.name s.identifier (s.names ∷ []) (below)
+      (here c.args.reader.now c.args.at) refl refl refl
       ∙ c.in_ok-first.ensures.runs outer (s.names ∷ below) (omega arith)
       ∙ c.in_ok-others.ensures.runs outer (below) (omega arith);
   reads = then c.in_ok-first.ensures.reads c.in_ok-others.ensures.reads;

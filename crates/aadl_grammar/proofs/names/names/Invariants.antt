@@ -13,8 +13,11 @@ use Rattle.aadl_grammar.proofs.names.names.Given as goal
 
 abbrev pub invariant-loop-behind : goal.invariant-loop-behind
 invariant-loop-behind l = record {
-  runs : (outer : ℕ) (below : Stack) → outer + depth below ≤ GREATEST_NESTING → fate outer l.reader.end (s.names ∷ below) (here l.reader l.at) ≡ fate outer l.reader.end (s.names ∷ below) (here l.reader l.rest);
-  reads : Reads (flat_map (behind k.Scope identifier_parts) (map (identifier_view kept_place) l.found.items)) (here l.reader l.at) (here l.reader l.rest);
+  runs : (outer : ℕ) (below : Stack) → outer + depth below ≤ GREATEST_NESTING
+      → fate outer l.reader.end (s.names ∷ below) (here l.reader l.at)
+      ≡ fate outer l.reader.end (s.names ∷ below) (here l.reader l.rest);
+  reads : Reads (flat_map (behind k.Scope identifier_parts) (map (identifier_view kept_place) l.found.items))
+      (here l.reader l.at) (here l.reader l.rest);
 }
 
 abbrev pub decreases-loop-behind : goal.decreases-loop-behind

@@ -11,8 +11,11 @@ use Rattle.aadl_grammar.proofs.names.reference.Given as goal
 
 abbrev pub invariant-loop-behind : goal.invariant-loop-behind
 invariant-loop-behind l = record {
-  runs : (outer : ℕ) (below : Stack) → outer + depth below ≤ GREATEST_NESTING → fate outer l.reader.end (s.reference ∷ below) (here l.reader l.at) ≡ fate outer l.reader.end (s.names ∷ s.dot_identifier ∷ below) (here l.reader l.rest);
-  reads : Reads (flat_map qualifier_parts (map (identifier_view kept_place) l.qualifiers.items) ++ identifier_parts (identifier_view kept_place l.type_name)) (here l.reader l.at) (here l.reader l.rest);
+  runs : (outer : ℕ) (below : Stack) → outer + depth below ≤ GREATEST_NESTING
+      → fate outer l.reader.end (s.reference ∷ below) (here l.reader l.at)
+      ≡ fate outer l.reader.end (s.names ∷ s.dot_identifier ∷ below) (here l.reader l.rest);
+  reads : Reads (flat_map qualifier_parts (map (identifier_view kept_place) l.qualifiers.items)
+      ++ identifier_parts (identifier_view kept_place l.type_name)) (here l.reader l.at) (here l.reader l.rest);
 }
 
 abbrev pub decreases-loop-behind : goal.decreases-loop-behind

@@ -17,50 +17,76 @@ use Rattle.aadl_grammar.proofs.values.+value.Goals as goal
 pub values-returns-in-Some : goal.values-returns-in-Some
 unfolding move depth
 values-returns-in-Some t c = record {
-  runs = λ outer below h. omits_unless outer c.args.reader.now.end s.values (s.only k.ParenClose ∷ below) (here c.args.reader.now c.args.at) refl (misses_at (rows s.values) c.in-Some.ensures refl)
-      ∙ takes_row outer c.args.reader.now.end (s.only k.ParenClose) (below) c.in-Some.ensures (only_takes k.ParenClose) (omega arith);
-  reads = respelled (ap (λ l. values_parts (values_view kept_place l) ++ plain k.ParenClose ∷ []) (sym c.new.ensures.items)) (marked c.in-Some.ensures nothing);
+  runs =
+      λ outer below h. omits_unless outer c.args.reader.now.end s.values (s.only k.ParenClose ∷ below)
+      (here c.args.reader.now c.args.at) refl (misses_at (rows s.values) c.in-Some.ensures refl)
+      ∙ takes_row outer c.args.reader.now.end (s.only k.ParenClose) (below) c.in-Some.ensures (only_takes k.ParenClose)
+      (omega arith);
+  reads =
+      respelled (ap (λ l. values_parts (values_view kept_place l) ++ plain k.ParenClose ∷ []) (sym c.new.ensures.items))
+      (marked c.in-Some.ensures nothing);
 }
 
 pub values-returns-in_err-first : goal.values-returns-in_err-first
 unfolding move depth
 values-returns-in_err-first t c = record {
-  runs = λ outer below h. exits _ _ _ _ _ _ _ c.from_residual.ensures.1 (along _ _ _ (before_closer outer c.args.reader.now.end s.values s.value [] (s.more_values ∷ []) k.ParenClose below (here c.args.reader.now c.args.at) refl refl refl tt c.in_default.ensures) (c.in_err-first.ensures.runs outer (s.more_values ∷ s.only k.ParenClose ∷ below) (omega arith)));
+  runs =
+      λ outer below h. exits _ _ _ _ _ _ _ c.from_residual.ensures.1
+      (along _ _ _ (before_closer outer c.args.reader.now.end s.values s.value [] (s.more_values ∷ []) k.ParenClose
+      below (here c.args.reader.now c.args.at) refl refl refl tt c.in_default.ensures)
+      (c.in_err-first.ensures.runs outer (s.more_values ∷ s.only k.ParenClose ∷ below) (omega arith)));
   reads = no_reads _ _ _ c.from_residual.ensures.1;
 }
 
 pub values-returns-in_err-values : goal.values-returns-in_err-values
 unfolding move depth
 values-returns-in_err-values t c = record {
-  runs = λ outer below h. exits _ _ _ _ _ _ _ c.from_residual-in_err-values.ensures.1 (along _ _ _ (before_closer outer c.args.reader.now.end s.values s.value [] (s.more_values ∷ []) k.ParenClose below (here c.args.reader.now c.args.at) refl refl refl tt c.in_default.ensures
-      ∙ c.in_ok-first.ensures.runs outer (s.more_values ∷ s.only k.ParenClose ∷ below) (omega arith)) (c.in_err-values.ensures.runs outer (s.only k.ParenClose ∷ below) (omega arith)));
+  runs =
+      λ outer below h. exits _ _ _ _ _ _ _ c.from_residual-in_err-values.ensures.1
+      (along _ _ _ (before_closer outer c.args.reader.now.end s.values s.value [] (s.more_values ∷ []) k.ParenClose
+      below (here c.args.reader.now c.args.at) refl refl refl tt c.in_default.ensures
+      ∙ c.in_ok-first.ensures.runs outer (s.more_values ∷ s.only k.ParenClose ∷ below) (omega arith))
+      (c.in_err-values.ensures.runs outer (s.only k.ParenClose ∷ below) (omega arith)));
   reads = no_reads _ _ _ c.from_residual-in_err-values.ensures.1;
 }
 
 pub values-returns-in_err-end : goal.values-returns-in_err-end
 unfolding move depth
 values-returns-in_err-end t c = record {
-  runs = λ outer below h. exits _ _ _ _ _ _ _ c.from_residual-in_err-end.ensures.1 (along _ _ _ (before_closer outer c.args.reader.now.end s.values s.value [] (s.more_values ∷ []) k.ParenClose below (here c.args.reader.now c.args.at) refl refl refl tt c.in_default.ensures
+  runs =
+      λ outer below h. exits _ _ _ _ _ _ _ c.from_residual-in_err-end.ensures.1
+      (along _ _ _ (before_closer outer c.args.reader.now.end s.values s.value [] (s.more_values ∷ []) k.ParenClose
+      below (here c.args.reader.now c.args.at) refl refl refl tt c.in_default.ensures
       ∙ c.in_ok-first.ensures.runs outer (s.more_values ∷ s.only k.ParenClose ∷ below) (omega arith)
-      ∙ c.in_ok-values.ensures.runs outer (s.only k.ParenClose ∷ below) (omega arith)) (c.in_err-end.ensures.runs outer (below) (omega arith)));
+      ∙ c.in_ok-values.ensures.runs outer (s.only k.ParenClose ∷ below) (omega arith))
+      (c.in_err-end.ensures.runs outer (below) (omega arith)));
   reads = no_reads _ _ _ c.from_residual-in_err-end.ensures.1;
 }
 
 pub values-returns : goal.values-returns
 unfolding move depth
 values-returns t c = record {
-  runs = λ outer below h. before_closer outer c.args.reader.now.end s.values s.value [] (s.more_values ∷ []) k.ParenClose below (here c.args.reader.now c.args.at) refl refl refl tt c.in_default.ensures
+  runs =
+      λ outer below h. before_closer outer c.args.reader.now.end s.values s.value [] (s.more_values ∷ []) k.ParenClose
+      below (here c.args.reader.now c.args.at) refl refl refl tt c.in_default.ensures
       ∙ c.in_ok-first.ensures.runs outer (s.more_values ∷ s.only k.ParenClose ∷ below) (omega arith)
       ∙ c.in_ok-values.ensures.runs outer (s.only k.ParenClose ∷ below) (omega arith)
       ∙ c.in_ok-end.ensures.runs outer (below) (omega arith);
-  reads = respelled (ap (λ l. values_parts (values_view kept_place l) ++ plain k.ParenClose ∷ []) (sym c.in_ok-insert.ensures.items)) (then (then c.in_ok-first.ensures.reads c.in_ok-values.ensures.reads) (marked c.in_ok-end.ensures.reads nothing));
+  reads =
+      respelled (ap (λ l. values_parts (values_view kept_place l) ++ plain k.ParenClose ∷ [])
+      (sym c.in_ok-insert.ensures.items))
+      (then (then c.in_ok-first.ensures.reads c.in_ok-values.ensures.reads)
+      (marked c.in_ok-end.ensures.reads nothing));
 }
 
 pub more_values-returns-in_err-next : goal.more_values-returns-in_err-next
 unfolding move depth
 more_values-returns-in_err-next t c = record {
-  runs = λ outer below h. exits _ _ _ _ _ _ _ c.from_residual.ensures.1 (along _ _ _ (c.loop-behind.invariant.runs outer below (omega arith)
-      ∙ takes_row outer c.args.reader.now.end s.more_values (below) c.in-Some.ensures refl (omega arith)) (c.in_err-next.ensures.runs outer (s.more_values ∷ below) (omega arith)));
+  runs =
+      λ outer below h. exits _ _ _ _ _ _ _ c.from_residual.ensures.1
+      (along _ _ _ (c.loop-behind.invariant.runs outer below (omega arith)
+      ∙ takes_row outer c.args.reader.now.end s.more_values (below) c.in-Some.ensures refl (omega arith))
+      (c.in_err-next.ensures.runs outer (s.more_values ∷ below) (omega arith)));
   reads = no_reads _ _ _ c.from_residual.ensures.1;
 }
 
@@ -70,14 +96,17 @@ more_values-loop-behind-preserved t c = record {
   runs = λ outer below h. c.loop-behind.invariant.runs outer below (omega arith)
       ∙ takes_row outer c.args.reader.now.end s.more_values (below) c.in-Some.ensures refl (omega arith)
       ∙ c.in_ok-next.ensures.runs outer (s.more_values ∷ below) (omega arith);
-  reads = more_values_push c.loop-behind.found.items c.push.new.self.items c.in_ok-next.next c.in_ok-push.ensures.items c.loop-behind.invariant.reads (marked c.in-Some.ensures c.in_ok-next.ensures.reads);
+  reads =
+      more_values_push c.loop-behind.found.items c.push.new.self.items c.in_ok-next.next c.in_ok-push.ensures.items
+      c.loop-behind.invariant.reads (marked c.in-Some.ensures c.in_ok-next.ensures.reads);
 }
 
 pub more_values-returns : goal.more_values-returns
 unfolding move depth
 more_values-returns t c = record {
   runs = λ outer below h. c.loop-behind.invariant.runs outer below (omega arith)
-      ∙ omits_unless outer c.args.reader.now.end s.more_values (below) (here c.args.reader.now c.loop-behind.rest) refl (c.in_default.ensures, tt);
+      ∙ omits_unless outer c.args.reader.now.end s.more_values (below) (here c.args.reader.now c.loop-behind.rest) refl
+      (c.in_default.ensures, tt);
   reads = c.loop-behind.invariant.reads;
 }
 
@@ -88,89 +117,136 @@ more_values-loop-behind-smaller t c = shorter c.in-Some.ensures c.in_ok-next.ens
 pub value-returns-in_err-inner : goal.value-returns-in_err-inner
 unfolding move depth
 value-returns-in_err-inner t c = record {
-  runs = λ outer below h. exits _ _ _ _ _ _ _ c.from_residual.ensures.1 (too_deep _ _ _ c.in_err-inner.ensures.1 (deep_row outer c.args.reader.now.end s.value (below) c.in-Some.ensures refl (omega (arith, c.in_err-inner.ensures.0))));
+  runs =
+      λ outer below h. exits _ _ _ _ _ _ _ c.from_residual.ensures.1
+      (too_deep _ _ _ c.in_err-inner.ensures.1
+      (deep_row outer c.args.reader.now.end s.value (below) c.in-Some.ensures refl
+      (omega (arith, c.in_err-inner.ensures.0))));
   reads = no_reads _ _ _ c.from_residual.ensures.1;
 }
 
 pub value-returns-in_err-values : goal.value-returns-in_err-values
 unfolding move depth
 value-returns-in_err-values t c = record {
-  runs = λ outer below h. exits _ _ _ _ _ _ _ c.from_residual-in_err-values.ensures.1 (along _ _ _ (takes_row outer c.args.reader.now.end s.value (below) c.in-Some.ensures refl (omega (arith, c.in_ok-inner.ensures))) (c.in_err-values.ensures.runs outer (below) (omega (arith, c.in_ok-inner.ensures))));
+  runs =
+      λ outer below h. exits _ _ _ _ _ _ _ c.from_residual-in_err-values.ensures.1
+      (along _ _ _ (takes_row outer c.args.reader.now.end s.value (below) c.in-Some.ensures refl
+      (omega (arith, c.in_ok-inner.ensures)))
+      (c.in_err-values.ensures.runs outer (below) (omega (arith, c.in_ok-inner.ensures))));
   reads = no_reads _ _ _ c.from_residual-in_err-values.ensures.1;
 }
 
 pub value-returns-in-Some : goal.value-returns-in-Some
 unfolding move depth
 value-returns-in-Some t c = record {
-  runs = λ outer below h. takes_row outer c.args.reader.now.end s.value (below) c.in-Some.ensures refl (omega (arith, c.in_ok-inner.ensures))
+  runs =
+      λ outer below h. takes_row outer c.args.reader.now.end s.value (below) c.in-Some.ensures refl
+      (omega (arith, c.in_ok-inner.ensures))
       ∙ c.in_ok-values.ensures.runs outer (below) (omega (arith, c.in_ok-inner.ensures));
-  reads = respelled (ap value_parts (sym (view-List kept_place c.in_ok-values.values))) (marked c.in-Some.ensures c.in_ok-values.ensures.reads);
+  reads =
+      respelled (ap value_parts (sym (view-List kept_place c.in_ok-values.values)))
+      (marked c.in-Some.ensures c.in_ok-values.ensures.reads);
 }
 
 pub value-returns-in_err-inner-2 : goal.value-returns-in_err-inner-2
 unfolding move depth
 value-returns-in_err-inner-2 t c = record {
-  runs = λ outer below h. exits _ _ _ _ _ _ _ c.from_residual-in_err-inner-2.ensures.1 (too_deep _ _ _ c.in_err-inner-2.ensures.1 (deep_row outer c.args.reader.now.end s.value (below) c.in-Some-take.ensures refl (omega (arith, c.in_err-inner-2.ensures.0))));
+  runs =
+      λ outer below h. exits _ _ _ _ _ _ _ c.from_residual-in_err-inner-2.ensures.1
+      (too_deep _ _ _ c.in_err-inner-2.ensures.1
+      (deep_row outer c.args.reader.now.end s.value (below) c.in-Some-take.ensures refl
+      (omega (arith, c.in_err-inner-2.ensures.0))));
   reads = no_reads _ _ _ c.from_residual-in_err-inner-2.ensures.1;
 }
 
 pub value-returns-in_err-fields : goal.value-returns-in_err-fields
 unfolding move depth
 value-returns-in_err-fields t c = record {
-  runs = λ outer below h. exits _ _ _ _ _ _ _ c.from_residual-in_err-fields.ensures.1 (along _ _ _ (takes_row outer c.args.reader.now.end s.value (below) c.in-Some-take.ensures refl (omega (arith, c.in_ok-inner-2.ensures))) (c.in_err-fields.ensures.runs outer (s.only k.BracketClose ∷ below) (omega (arith, c.in_ok-inner-2.ensures))));
+  runs =
+      λ outer below h. exits _ _ _ _ _ _ _ c.from_residual-in_err-fields.ensures.1
+      (along _ _ _ (takes_row outer c.args.reader.now.end s.value (below) c.in-Some-take.ensures refl
+      (omega (arith, c.in_ok-inner-2.ensures)))
+      (c.in_err-fields.ensures.runs outer (s.only k.BracketClose ∷ below)
+      (omega (arith, c.in_ok-inner-2.ensures))));
   reads = no_reads _ _ _ c.from_residual-in_err-fields.ensures.1;
 }
 
 pub value-returns-in_err-end : goal.value-returns-in_err-end
 unfolding move depth
 value-returns-in_err-end t c = record {
-  runs = λ outer below h. exits _ _ _ _ _ _ _ c.from_residual-in_err-end.ensures.1 (along _ _ _ (takes_row outer c.args.reader.now.end s.value (below) c.in-Some-take.ensures refl (omega (arith, c.in_ok-inner-2.ensures))
-      ∙ c.in_ok-fields.ensures.runs outer (s.only k.BracketClose ∷ below) (omega (arith, c.in_ok-inner-2.ensures))) (c.in_err-end.ensures.runs outer (below) (omega (arith, c.in_ok-inner-2.ensures))));
+  runs =
+      λ outer below h. exits _ _ _ _ _ _ _ c.from_residual-in_err-end.ensures.1
+      (along _ _ _ (takes_row outer c.args.reader.now.end s.value (below) c.in-Some-take.ensures refl
+      (omega (arith, c.in_ok-inner-2.ensures))
+      ∙ c.in_ok-fields.ensures.runs outer (s.only k.BracketClose ∷ below) (omega (arith, c.in_ok-inner-2.ensures)))
+      (c.in_err-end.ensures.runs outer (below) (omega (arith, c.in_ok-inner-2.ensures))));
   reads = no_reads _ _ _ c.from_residual-in_err-end.ensures.1;
 }
 
 pub value-returns-in-Some-take : goal.value-returns-in-Some-take
 unfolding move depth
 value-returns-in-Some-take t c = record {
-  runs = λ outer below h. takes_row outer c.args.reader.now.end s.value (below) c.in-Some-take.ensures refl (omega (arith, c.in_ok-inner-2.ensures))
+  runs =
+      λ outer below h. takes_row outer c.args.reader.now.end s.value (below) c.in-Some-take.ensures refl
+      (omega (arith, c.in_ok-inner-2.ensures))
       ∙ c.in_ok-fields.ensures.runs outer (s.only k.BracketClose ∷ below) (omega (arith, c.in_ok-inner-2.ensures))
       ∙ c.in_ok-end.ensures.runs outer (below) (omega (arith, c.in_ok-inner-2.ensures));
-  reads = respelled (ap value_parts (sym (view-Record kept_place c.in_ok-fields.fields))) (marked c.in-Some-take.ensures (then c.in_ok-fields.ensures.reads (marked c.in_ok-end.ensures.reads nothing)));
+  reads =
+      respelled (ap value_parts (sym (view-Record kept_place c.in_ok-fields.fields)))
+      (marked c.in-Some-take.ensures (then c.in_ok-fields.ensures.reads (marked c.in_ok-end.ensures.reads nothing)));
 }
 
 pub value-returns-in_err-path : goal.value-returns-in_err-path
 unfolding move depth
 value-returns-in_err-path t c = record {
-  runs = λ outer below h. exits _ _ _ _ _ _ _ c.from_residual-in_err-path.ensures.1 (along _ _ _ (takes_row outer c.args.reader.now.end s.value (below) c.in-Some-take-2.ensures refl (omega arith)) (c.in_err-path.ensures.runs outer (below) (omega arith)));
+  runs =
+      λ outer below h. exits _ _ _ _ _ _ _ c.from_residual-in_err-path.ensures.1
+      (along _ _ _ (takes_row outer c.args.reader.now.end s.value (below) c.in-Some-take-2.ensures refl (omega arith))
+      (c.in_err-path.ensures.runs outer (below) (omega arith)));
   reads = no_reads _ _ _ c.from_residual-in_err-path.ensures.1;
 }
 
 pub value-returns-in-Some-take-2 : goal.value-returns-in-Some-take-2
 unfolding move depth
 value-returns-in-Some-take-2 t c = record {
-  runs = λ outer below h. takes_row outer c.args.reader.now.end s.value (below) c.in-Some-take-2.ensures refl (omega arith)
+  runs =
+      λ outer below h. takes_row outer c.args.reader.now.end s.value (below) c.in-Some-take-2.ensures refl (omega arith)
       ∙ c.in_ok-path.ensures.runs outer (below) (omega arith);
-  reads = respelled (ap value_parts (sym (view-Reference kept_place c.in_ok-path.path))) (marked c.in-Some-take-2.ensures c.in_ok-path.ensures.reads);
+  reads =
+      respelled (ap value_parts (sym (view-Reference kept_place c.in_ok-path.path)))
+      (marked c.in-Some-take-2.ensures c.in_ok-path.ensures.reads);
 }
 
 pub value-returns-in_err-classifier : goal.value-returns-in_err-classifier
 unfolding move depth
 value-returns-in_err-classifier t c = record {
-  runs = λ outer below h. exits _ _ _ _ _ _ _ c.from_residual-in_err-classifier.ensures.1 (along _ _ _ (takes_row outer c.args.reader.now.end s.value (below) c.in-Some-take-3.ensures refl (omega arith)) (c.in_err-classifier.ensures.runs outer (below) (omega arith)));
+  runs =
+      λ outer below h. exits _ _ _ _ _ _ _ c.from_residual-in_err-classifier.ensures.1
+      (along _ _ _ (takes_row outer c.args.reader.now.end s.value (below) c.in-Some-take-3.ensures refl (omega arith))
+      (c.in_err-classifier.ensures.runs outer (below) (omega arith)));
   reads = no_reads _ _ _ c.from_residual-in_err-classifier.ensures.1;
 }
 
 pub value-returns-in-Some-take-3 : goal.value-returns-in-Some-take-3
 unfolding move depth
 value-returns-in-Some-take-3 t c = record {
-  runs = λ outer below h. takes_row outer c.args.reader.now.end s.value (below) c.in-Some-take-3.ensures refl (omega arith)
+  runs =
+      λ outer below h. takes_row outer c.args.reader.now.end s.value (below) c.in-Some-take-3.ensures refl (omega arith)
       ∙ c.in_ok-classifier.ensures.runs outer (below) (omega arith);
-  reads = respelled (ap value_parts (sym (view-Classifier kept_place c.in_ok-classifier.classifier))) (marked c.in-Some-take-3.ensures c.in_ok-classifier.ensures.reads);
+  reads =
+      respelled (ap value_parts (sym (view-Classifier kept_place c.in_ok-classifier.classifier)))
+      (marked c.in-Some-take-3.ensures c.in_ok-classifier.ensures.reads);
 }
 
 pub value-plain_value-requires : goal.value-plain_value-requires
 unfolding move depth
-value-plain_value-requires t c = (c.in_default.ensures, (c.in_default-take.ensures, (c.in_default-take-2.ensures, (c.in_default-take-3.ensures, tt))))
+value-plain_value-requires t c = (
+  c.in_default.ensures,
+  (
+    c.in_default-take.ensures,
+    (c.in_default-take-2.ensures, (c.in_default-take-3.ensures, tt)),
+  ),
+)
 
 pub value-returns : goal.value-returns
 unfolding move depth
@@ -179,69 +255,128 @@ value-returns t c = with_room c.args.room c.plain_value.ensures
 pub association-returns-in_err-name : goal.association-returns-in_err-name
 unfolding move depth
 association-returns-in_err-name t c = record {
-  runs = λ outer below h. exits _ _ _ _ _ _ _ c.from_residual.ensures.1 (along _ _ _ (begins_as outer c.args.reader.now.end s.association s.name (s.operator ∷ s.constant ∷ s.value ∷ s.applies ∷ s.only k.Semicolon ∷ []) (below) (here c.args.reader.now c.args.at) refl refl refl) (c.in_err-name.ensures.runs outer (s.operator ∷ s.constant ∷ s.value ∷ s.applies ∷ s.only k.Semicolon ∷ below) (omega arith)));
+  runs =
+      λ outer below h. exits _ _ _ _ _ _ _ c.from_residual.ensures.1
+      (along _ _ _ (begins_as outer c.args.reader.now.end s.association s.name
+      (s.operator ∷ s.constant ∷ s.value ∷ s.applies ∷ s.only k.Semicolon ∷ []) (below)
+      (here c.args.reader.now c.args.at) refl refl refl)
+      (c.in_err-name.ensures.runs outer
+      (s.operator ∷ s.constant ∷ s.value ∷ s.applies ∷ s.only k.Semicolon ∷ below) (omega arith)));
   reads = no_reads _ _ _ c.from_residual.ensures.1;
 }
 
 pub association-returns-in_err-operator : goal.association-returns-in_err-operator
 unfolding move depth
 association-returns-in_err-operator t c = record {
-  runs = λ outer below h. exits _ _ _ _ _ _ _ c.from_residual-in_err-operator.ensures.1 (along _ _ _ (begins_as outer c.args.reader.now.end s.association s.name (s.operator ∷ s.constant ∷ s.value ∷ s.applies ∷ s.only k.Semicolon ∷ []) (below) (here c.args.reader.now c.args.at) refl refl refl
-      ∙ c.in_ok-name.ensures.runs outer (s.operator ∷ s.constant ∷ s.value ∷ s.applies ∷ s.only k.Semicolon ∷ below) (omega arith)) (c.in_err-operator.ensures.runs outer (s.constant ∷ s.value ∷ s.applies ∷ s.only k.Semicolon ∷ below) (omega arith)));
+  runs =
+      λ outer below h. exits _ _ _ _ _ _ _ c.from_residual-in_err-operator.ensures.1
+      (along _ _ _ (begins_as outer c.args.reader.now.end s.association s.name
+      (s.operator ∷ s.constant ∷ s.value ∷ s.applies ∷ s.only k.Semicolon ∷ []) (below)
+      (here c.args.reader.now c.args.at) refl refl refl
+      ∙ c.in_ok-name.ensures.runs outer (s.operator ∷ s.constant ∷ s.value ∷ s.applies ∷ s.only k.Semicolon ∷ below)
+      (omega arith)) (c.in_err-operator.ensures.runs outer
+      (s.constant ∷ s.value ∷ s.applies ∷ s.only k.Semicolon ∷ below) (omega arith)));
   reads = no_reads _ _ _ c.from_residual-in_err-operator.ensures.1;
 }
 
 pub association-returns-in_err-value : goal.association-returns-in_err-value
 unfolding move depth
 association-returns-in_err-value t c = record {
-  runs = λ outer below h. exits _ _ _ _ _ _ _ c.from_residual-in_err-value.ensures.1 (along _ _ _ (begins_as outer c.args.reader.now.end s.association s.name (s.operator ∷ s.constant ∷ s.value ∷ s.applies ∷ s.only k.Semicolon ∷ []) (below) (here c.args.reader.now c.args.at) refl refl refl
-      ∙ c.in_ok-name.ensures.runs outer (s.operator ∷ s.constant ∷ s.value ∷ s.applies ∷ s.only k.Semicolon ∷ below) (omega arith)
-      ∙ c.in_ok-operator.ensures.runs outer (s.constant ∷ s.value ∷ s.applies ∷ s.only k.Semicolon ∷ below) (omega arith)
-      ∙ flag_runs outer c.args.reader.now.end s.constant (s.value ∷ s.applies ∷ s.only k.Semicolon ∷ below) k.Constant c.has-constant.result.0 (here c.args.reader.now c.in_ok-operator.next) (here c.args.reader.now c.has-constant.result.1) refl refl refl (omega arith) c.has-constant.ensures) (c.in_err-value.ensures.runs outer (s.applies ∷ s.only k.Semicolon ∷ below) (omega arith)));
+  runs =
+      λ outer below h. exits _ _ _ _ _ _ _ c.from_residual-in_err-value.ensures.1
+      (along _ _ _ (begins_as outer c.args.reader.now.end s.association s.name
+      (s.operator ∷ s.constant ∷ s.value ∷ s.applies ∷ s.only k.Semicolon ∷ []) (below)
+      (here c.args.reader.now c.args.at) refl refl refl
+      ∙ c.in_ok-name.ensures.runs outer (s.operator ∷ s.constant ∷ s.value ∷ s.applies ∷ s.only k.Semicolon ∷ below)
+      (omega arith)
+      ∙ c.in_ok-operator.ensures.runs outer (s.constant ∷ s.value ∷ s.applies ∷ s.only k.Semicolon ∷ below)
+      (omega arith)
+      ∙ flag_runs outer c.args.reader.now.end s.constant (s.value ∷ s.applies ∷ s.only k.Semicolon ∷ below) k.Constant
+      c.has-constant.result.0 (here c.args.reader.now c.in_ok-operator.next)
+      (here c.args.reader.now c.has-constant.result.1) refl refl refl (omega arith) c.has-constant.ensures)
+      (c.in_err-value.ensures.runs outer (s.applies ∷ s.only k.Semicolon ∷ below) (omega arith)));
   reads = no_reads _ _ _ c.from_residual-in_err-value.ensures.1;
 }
 
 pub association-returns-in_err-applies_to : goal.association-returns-in_err-applies_to
 unfolding move depth
 association-returns-in_err-applies_to t c = record {
-  runs = λ outer below h. exits _ _ _ _ _ _ _ c.from_residual-in_err-applies_to.ensures.1 (along _ _ _ (begins_as outer c.args.reader.now.end s.association s.name (s.operator ∷ s.constant ∷ s.value ∷ s.applies ∷ s.only k.Semicolon ∷ []) (below) (here c.args.reader.now c.args.at) refl refl refl
-      ∙ c.in_ok-name.ensures.runs outer (s.operator ∷ s.constant ∷ s.value ∷ s.applies ∷ s.only k.Semicolon ∷ below) (omega arith)
-      ∙ c.in_ok-operator.ensures.runs outer (s.constant ∷ s.value ∷ s.applies ∷ s.only k.Semicolon ∷ below) (omega arith)
-      ∙ flag_runs outer c.args.reader.now.end s.constant (s.value ∷ s.applies ∷ s.only k.Semicolon ∷ below) k.Constant c.has-constant.result.0 (here c.args.reader.now c.in_ok-operator.next) (here c.args.reader.now c.has-constant.result.1) refl refl refl (omega arith) c.has-constant.ensures
-      ∙ c.in_ok-value.ensures.runs outer (s.applies ∷ s.only k.Semicolon ∷ below) (omega arith)) (c.in_err-applies_to.ensures.runs outer (s.only k.Semicolon ∷ below) (omega arith)));
+  runs =
+      λ outer below h. exits _ _ _ _ _ _ _ c.from_residual-in_err-applies_to.ensures.1
+      (along _ _ _ (begins_as outer c.args.reader.now.end s.association s.name
+      (s.operator ∷ s.constant ∷ s.value ∷ s.applies ∷ s.only k.Semicolon ∷ []) (below)
+      (here c.args.reader.now c.args.at) refl refl refl
+      ∙ c.in_ok-name.ensures.runs outer (s.operator ∷ s.constant ∷ s.value ∷ s.applies ∷ s.only k.Semicolon ∷ below)
+      (omega arith)
+      ∙ c.in_ok-operator.ensures.runs outer (s.constant ∷ s.value ∷ s.applies ∷ s.only k.Semicolon ∷ below)
+      (omega arith)
+      ∙ flag_runs outer c.args.reader.now.end s.constant (s.value ∷ s.applies ∷ s.only k.Semicolon ∷ below) k.Constant
+      c.has-constant.result.0 (here c.args.reader.now c.in_ok-operator.next)
+      (here c.args.reader.now c.has-constant.result.1) refl refl refl (omega arith) c.has-constant.ensures
+      ∙ c.in_ok-value.ensures.runs outer (s.applies ∷ s.only k.Semicolon ∷ below) (omega arith))
+      (c.in_err-applies_to.ensures.runs outer (s.only k.Semicolon ∷ below) (omega arith)));
   reads = no_reads _ _ _ c.from_residual-in_err-applies_to.ensures.1;
 }
 
 pub association-returns-in_err-end : goal.association-returns-in_err-end
 unfolding move depth
 association-returns-in_err-end t c = record {
-  runs = λ outer below h. exits _ _ _ _ _ _ _ c.from_residual-in_err-end.ensures.1 (along _ _ _ (begins_as outer c.args.reader.now.end s.association s.name (s.operator ∷ s.constant ∷ s.value ∷ s.applies ∷ s.only k.Semicolon ∷ []) (below) (here c.args.reader.now c.args.at) refl refl refl
-      ∙ c.in_ok-name.ensures.runs outer (s.operator ∷ s.constant ∷ s.value ∷ s.applies ∷ s.only k.Semicolon ∷ below) (omega arith)
-      ∙ c.in_ok-operator.ensures.runs outer (s.constant ∷ s.value ∷ s.applies ∷ s.only k.Semicolon ∷ below) (omega arith)
-      ∙ flag_runs outer c.args.reader.now.end s.constant (s.value ∷ s.applies ∷ s.only k.Semicolon ∷ below) k.Constant c.has-constant.result.0 (here c.args.reader.now c.in_ok-operator.next) (here c.args.reader.now c.has-constant.result.1) refl refl refl (omega arith) c.has-constant.ensures
+  runs =
+      λ outer below h. exits _ _ _ _ _ _ _ c.from_residual-in_err-end.ensures.1
+      (along _ _ _ (begins_as outer c.args.reader.now.end s.association s.name
+      (s.operator ∷ s.constant ∷ s.value ∷ s.applies ∷ s.only k.Semicolon ∷ []) (below)
+      (here c.args.reader.now c.args.at) refl refl refl
+      ∙ c.in_ok-name.ensures.runs outer (s.operator ∷ s.constant ∷ s.value ∷ s.applies ∷ s.only k.Semicolon ∷ below)
+      (omega arith)
+      ∙ c.in_ok-operator.ensures.runs outer (s.constant ∷ s.value ∷ s.applies ∷ s.only k.Semicolon ∷ below)
+      (omega arith)
+      ∙ flag_runs outer c.args.reader.now.end s.constant (s.value ∷ s.applies ∷ s.only k.Semicolon ∷ below) k.Constant
+      c.has-constant.result.0 (here c.args.reader.now c.in_ok-operator.next)
+      (here c.args.reader.now c.has-constant.result.1) refl refl refl (omega arith) c.has-constant.ensures
       ∙ c.in_ok-value.ensures.runs outer (s.applies ∷ s.only k.Semicolon ∷ below) (omega arith)
-      ∙ c.in_ok-applies_to.ensures.runs outer (s.only k.Semicolon ∷ below) (omega arith)) (c.in_err-end.ensures.runs outer (below) (omega arith)));
+      ∙ c.in_ok-applies_to.ensures.runs outer (s.only k.Semicolon ∷ below) (omega arith))
+      (c.in_err-end.ensures.runs outer (below) (omega arith)));
   reads = no_reads _ _ _ c.from_residual-in_err-end.ensures.1;
 }
 
 pub association-returns : goal.association-returns
 unfolding move depth
 association-returns t c = record {
-  runs = λ outer below h. begins_as outer c.args.reader.now.end s.association s.name (s.operator ∷ s.constant ∷ s.value ∷ s.applies ∷ s.only k.Semicolon ∷ []) (below) (here c.args.reader.now c.args.at) refl refl refl
-      ∙ c.in_ok-name.ensures.runs outer (s.operator ∷ s.constant ∷ s.value ∷ s.applies ∷ s.only k.Semicolon ∷ below) (omega arith)
-      ∙ c.in_ok-operator.ensures.runs outer (s.constant ∷ s.value ∷ s.applies ∷ s.only k.Semicolon ∷ below) (omega arith)
-      ∙ flag_runs outer c.args.reader.now.end s.constant (s.value ∷ s.applies ∷ s.only k.Semicolon ∷ below) k.Constant c.has-constant.result.0 (here c.args.reader.now c.in_ok-operator.next) (here c.args.reader.now c.has-constant.result.1) refl refl refl (omega arith) c.has-constant.ensures
+  runs =
+      λ outer below h. begins_as outer c.args.reader.now.end s.association s.name
+      (s.operator ∷ s.constant ∷ s.value ∷ s.applies ∷ s.only k.Semicolon ∷ []) (below)
+      (here c.args.reader.now c.args.at) refl refl refl
+      ∙ c.in_ok-name.ensures.runs outer (s.operator ∷ s.constant ∷ s.value ∷ s.applies ∷ s.only k.Semicolon ∷ below)
+      (omega arith)
+      ∙ c.in_ok-operator.ensures.runs outer (s.constant ∷ s.value ∷ s.applies ∷ s.only k.Semicolon ∷ below)
+      (omega arith)
+      ∙ flag_runs outer c.args.reader.now.end s.constant (s.value ∷ s.applies ∷ s.only k.Semicolon ∷ below) k.Constant
+      c.has-constant.result.0 (here c.args.reader.now c.in_ok-operator.next)
+      (here c.args.reader.now c.has-constant.result.1) refl refl refl (omega arith) c.has-constant.ensures
       ∙ c.in_ok-value.ensures.runs outer (s.applies ∷ s.only k.Semicolon ∷ below) (omega arith)
       ∙ c.in_ok-applies_to.ensures.runs outer (s.only k.Semicolon ∷ below) (omega arith)
       ∙ c.in_ok-end.ensures.runs outer (below) (omega arith);
-  reads = respelled (ap association_parts (sym (view-association kept_place c.in_ok-name.name c.in_ok-operator.operator c.has-constant.result.0 c.in_ok-value.value c.in_ok-applies_to.applies_to))) (then c.in_ok-name.ensures.reads (then c.in_ok-operator.ensures.reads (then (flagged k.Constant c.has-constant.result.0 c.has-constant.ensures) (then c.in_ok-value.ensures.reads (then c.in_ok-applies_to.ensures.reads (marked c.in_ok-end.ensures.reads nothing))))));
+  reads =
+      respelled (ap association_parts
+      (sym (view-association kept_place c.in_ok-name.name c.in_ok-operator.operator c.has-constant.result.0
+      c.in_ok-value.value c.in_ok-applies_to.applies_to)))
+      (then c.in_ok-name.ensures.reads
+      (then c.in_ok-operator.ensures.reads
+      (then (flagged k.Constant c.has-constant.result.0 c.has-constant.ensures)
+      (then c.in_ok-value.ensures.reads
+      (then c.in_ok-applies_to.ensures.reads
+      (marked c.in_ok-end.ensures.reads nothing))))));
 }
 
 pub associations-returns-in_err-next : goal.associations-returns-in_err-next
 unfolding move depth
 associations-returns-in_err-next t c = record {
-  runs = λ outer below h. exits _ _ _ _ _ _ _ c.from_residual.ensures.1 (along _ _ _ (c.loop-found.invariant.runs outer below (omega arith)
-      ∙ enters_as outer c.args.reader.now.end s.associations s.association (s.associations ∷ []) (below) refl refl (starts_at (rw c.loop-found-test.true at c.is_word.ensures)) refl) (c.in_err-next.ensures.runs outer (s.associations ∷ below) (omega arith)));
+  runs =
+      λ outer below h. exits _ _ _ _ _ _ _ c.from_residual.ensures.1
+      (along _ _ _ (c.loop-found.invariant.runs outer below (omega arith)
+      ∙ enters_as outer c.args.reader.now.end s.associations s.association (s.associations ∷ []) (below) refl refl
+      (starts_at (rw c.loop-found-test.true at c.is_word.ensures)) refl)
+      (c.in_err-next.ensures.runs outer (s.associations ∷ below) (omega arith)));
   reads = no_reads _ _ _ c.from_residual.ensures.1;
 }
 
@@ -249,17 +384,23 @@ pub associations-loop-found-preserved : goal.associations-loop-found-preserved
 unfolding move depth
 associations-loop-found-preserved t c = record {
   runs = λ outer below h. c.loop-found.invariant.runs outer below (omega arith)
-      ∙ enters_as outer c.args.reader.now.end s.associations s.association (s.associations ∷ []) (below) refl refl (starts_at (rw c.loop-found-test.true at c.is_word.ensures)) refl
+      ∙ enters_as outer c.args.reader.now.end s.associations s.association (s.associations ∷ []) (below) refl refl
+      (starts_at (rw c.loop-found-test.true at c.is_word.ensures)) refl
       ∙ c.in_ok-next.ensures.runs outer (s.associations ∷ below) (omega arith);
-  reads = associations_push c.loop-found.found.items c.push.new.self.items c.in_ok-next.next c.in_ok-push.ensures.items c.loop-found.invariant.reads c.in_ok-next.ensures.reads;
+  reads =
+      associations_push c.loop-found.found.items c.push.new.self.items c.in_ok-next.next c.in_ok-push.ensures.items
+      c.loop-found.invariant.reads c.in_ok-next.ensures.reads;
 }
 
 pub associations-returns : goal.associations-returns
 unfolding move depth
 associations-returns t c = record {
   runs = λ outer below h. c.loop-found.invariant.runs outer below (omega arith)
-      ∙ omits_unless outer c.args.reader.now.end s.associations (below) (here c.args.reader.now c.loop-found.rest) refl (rw c.loop-found-test.false at c.is_word.ensures, tt);
-  reads = respelled (sym (ap (λ l. associations_parts (associations_view kept_place l)) c.shrink_to_fit.ensures.items)) c.loop-found.invariant.reads;
+      ∙ omits_unless outer c.args.reader.now.end s.associations (below) (here c.args.reader.now c.loop-found.rest) refl
+      (rw c.loop-found-test.false at c.is_word.ensures, tt);
+  reads =
+      respelled (sym (ap (λ l. associations_parts (associations_view kept_place l)) c.shrink_to_fit.ensures.items))
+      c.loop-found.invariant.reads;
 }
 
 pub associations-loop-found-smaller : goal.associations-loop-found-smaller

@@ -25,7 +25,9 @@ decreases-associations l = 8 * l.room + 2
 
 abbrev pub invariant-more_values-loop-behind : goal.invariant-more_values-loop-behind
 invariant-more_values-loop-behind l = record {
-  runs : (outer : ℕ) (below : Stack) → outer + depth below + l.room ≡ GREATEST_NESTING → fate outer l.reader.end (s.more_values ∷ below) (here l.reader l.at) ≡ fate outer l.reader.end (s.more_values ∷ below) (here l.reader l.rest);
+  runs : (outer : ℕ) (below : Stack) → outer + depth below + l.room ≡ GREATEST_NESTING
+      → fate outer l.reader.end (s.more_values ∷ below) (here l.reader l.at)
+      ≡ fate outer l.reader.end (s.more_values ∷ below) (here l.reader l.rest);
   reads : Reads (more_values_parts (values_view kept_place l.found.items)) (here l.reader l.at) (here l.reader l.rest);
 }
 
@@ -34,8 +36,11 @@ decreases-more_values-loop-behind l = length (here l.reader l.rest)
 
 abbrev pub invariant-associations-loop-found : goal.invariant-associations-loop-found
 invariant-associations-loop-found l = record {
-  runs : (outer : ℕ) (below : Stack) → outer + depth below + l.room ≡ GREATEST_NESTING → fate outer l.reader.end (s.associations ∷ below) (here l.reader l.at) ≡ fate outer l.reader.end (s.associations ∷ below) (here l.reader l.rest);
-  reads : Reads (associations_parts (associations_view kept_place l.found.items)) (here l.reader l.at) (here l.reader l.rest);
+  runs : (outer : ℕ) (below : Stack) → outer + depth below + l.room ≡ GREATEST_NESTING
+      → fate outer l.reader.end (s.associations ∷ below) (here l.reader l.at)
+      ≡ fate outer l.reader.end (s.associations ∷ below) (here l.reader l.rest);
+  reads : Reads (associations_parts (associations_view kept_place l.found.items)) (here l.reader l.at)
+      (here l.reader l.rest);
 }
 
 abbrev pub decreases-associations-loop-found : goal.decreases-associations-loop-found

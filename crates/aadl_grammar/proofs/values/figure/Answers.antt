@@ -13,22 +13,27 @@ use Rattle.aadl_grammar.proofs.values.figure.Goals as goal
 
 pub returns-in-Some : goal.returns-in-Some
 unfolding move depth
-returns-in-Some c = let f : SFits w64 c.in-Some.value = search rules in let e : to_z w64 (of_z w64 c.in-Some.value) ≡ c.in-Some.value = grind (arith, to_z-of_z) in record {
-  runs = λ outer below h. takes_row outer c.args.reader.now.end s.figure (below) c.in-Some.ensures refl (omega arith);
-  reads = respelled (ap (λ z. token (whole z) [] ∷ []) (sym e)) (told c.in-Some.ensures nothing);
-}
+returns-in-Some c = let f : SFits w64 c.in-Some.value = search rules in
+    let e : to_z w64 (of_z w64 c.in-Some.value) ≡ c.in-Some.value = grind (arith, to_z-of_z) in record {
+      runs = λ outer below h. takes_row outer c.args.reader.now.end s.figure (below) c.in-Some.ensures refl (omega arith);
+      reads = respelled (ap (λ z. token (whole z) [] ∷ []) (sym e)) (told c.in-Some.ensures nothing);
+    }
 
 pub returns-in-Some-2 : goal.returns-in-Some-2
 unfolding move depth
 returns-in-Some-2 c = record {
-  runs = λ outer below h. takes_row outer c.args.reader.now.end s.figure (below) (rw c.in-Some-2.is at c.in_ok-bytes.ensures.ok) refl (omega arith);
+  runs =
+      λ outer below h. takes_row outer c.args.reader.now.end s.figure (below)
+      (rw c.in-Some-2.is at c.in_ok-bytes.ensures.ok) refl (omega arith);
   reads = told (rw c.in-Some-2.is at c.in_ok-bytes.ensures.ok) nothing;
 }
 
 pub returns-in-None : goal.returns-in-None
 unfolding move depth
 returns-in-None c = record {
-  runs = λ outer below h. refuses_unless outer c.args.reader.now.end s.figure (below) (here c.args.reader.now c.args.at) refl (c.in_default.ensures, (rw c.in-None.is at c.in_ok-bytes.ensures.ok, tt))
+  runs =
+      λ outer below h. refuses_unless outer c.args.reader.now.end s.figure (below) (here c.args.reader.now c.args.at)
+      refl (c.in_default.ensures, (rw c.in-None.is at c.in_ok-bytes.ensures.ok, tt))
       ∙ ap syntax_at (sym c.place.ensures);
   reads = tt;
 }

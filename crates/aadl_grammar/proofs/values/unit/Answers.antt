@@ -9,13 +9,17 @@ use Rattle.aadl_grammar.proofs.values.unit.Goals as goal
 pub returns-in-Some : goal.returns-in-Some
 unfolding move depth
 returns-in-Some c = record {
-  runs = λ outer below h. takes_row outer c.args.reader.now.end s.unit (below) (a_word_at (rw c.in-Some.is at c.in_ok-found.ensures.ok)) refl (omega arith);
+  runs =
+      λ outer below h. takes_row outer c.args.reader.now.end s.unit (below)
+      (a_word_at (rw c.in-Some.is at c.in_ok-found.ensures.ok)) refl (omega arith);
   reads = named (rw c.in-Some.is at c.in_ok-found.ensures.ok);
 }
 
 pub returns-in-None : goal.returns-in-None
 unfolding move depth
 returns-in-None c = record {
-  runs = λ outer below h. omits_unless outer c.args.reader.now.end s.unit (below) (here c.args.reader.now c.args.at) refl (rw c.in-None.is at c.in_ok-found.ensures.ok, tt);
+  runs =
+      λ outer below h. omits_unless outer c.args.reader.now.end s.unit (below) (here c.args.reader.now c.args.at) refl
+      (rw c.in-None.is at c.in_ok-found.ensures.ok, tt);
   reads = nothing;
 }

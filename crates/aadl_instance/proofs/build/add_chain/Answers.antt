@@ -16,8 +16,10 @@ trace_back-requires-clause-thread c =
     let net = c.args.network.now in
     let tree = placed net.wires.now.uses.names.tree.now in
     let path = reverse c.args.node.now.path.now in (
-      thread_listed tree net.root (paths_of net.threads.now) c.requires.ready.settled.threads c.args.node.now.number.0 path c.requires.node.numbered,
-      is_in-at tree net.root (port path c.args.port) c.args.node.now.declaration c.requires.node.stands ∙ c.requires.goes_in,
+      thread_listed tree net.root (paths_of net.threads.now) c.requires.ready.settled.threads c.args.node.now.number.0
+          path c.requires.node.numbered,
+      is_in-at tree net.root (port path c.args.port) c.args.node.now.declaration c.requires.node.stands
+          ∙ c.requires.goes_in,
     )
 
 pub node_end-to-requires-clause-port : goal.node_end-to-requires-clause-port
@@ -26,7 +28,8 @@ node_end-to-requires-clause-port c =
     let tree = placed net.wires.now.uses.names.tree.now in
     let path = reverse c.args.node.now.path.now in
     in_within (ports_at tree (component_at tree net.root path)) c.args.port
-    (is_in-at tree net.root (port path c.args.port) c.args.node.now.declaration c.requires.node.stands ∙ c.requires.goes_in)
+    (is_in-at tree net.root (port path c.args.port) c.args.node.now.declaration c.requires.node.stands
+    ∙ c.requires.goes_in)
 
 pub chain_by-requires-clause-begins : goal.chain_by-requires-clause-begins
 chain_by-requires-clause-begins c =
@@ -45,7 +48,8 @@ returns-in_ok-chain-in-Some c =
     let route = c.in-Some.route in
     on_ok_weaker c.push.result
     (λ added into.
-    route_added tree net.root c.requires.ready.settled.no_thread paths c.requires.ready.settled.threads.in_order c.args.node.now.number.0 c.args.port path
+    route_added tree net.root c.requires.ready.settled.no_thread paths c.requires.ready.settled.threads.in_order
+    c.args.node.now.number.0 c.args.port path
     c.requires.node.numbered route
     c.in_ok-chain-in-Some.chain c.args.incoming.now c.push.new.self
     (subst (Traces tree net.root to) c.in-Some.is c.in_ok-route.ensures)
@@ -57,6 +61,7 @@ returns-in-None c = λ into.
     let net = c.args.network.now in
     let tree = placed net.wires.now.uses.names.tree.now in
     let path = reverse c.args.node.now.path.now in
-    none_added tree net.root c.requires.ready.settled.no_thread (paths_of net.threads.now) c.requires.ready.settled.threads.in_order
+    none_added tree net.root c.requires.ready.settled.no_thread (paths_of net.threads.now)
+    c.requires.ready.settled.threads.in_order
     c.args.node.now.number.0 c.args.port path c.requires.node.numbered c.args.incoming.now
     (subst (Traces tree net.root (port path c.args.port)) c.in-None.is c.in_ok-route.ensures) into

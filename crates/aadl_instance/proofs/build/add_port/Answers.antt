@@ -12,7 +12,10 @@ returns-else-is_in c = λ into.
     let tree = placed net.wires.now.uses.names.tree.now in
     let paths = paths_of net.threads.now in
     let path = reverse c.args.node.now.path.now in
-    out_added tree net.root c.requires.ready.settled.no_thread paths c.requires.ready.settled.threads.in_order c.args.node.now.number.0 c.args.port path c.requires.node.numbered
+    out_added tree net.root c.requires.ready.settled.no_thread paths c.requires.ready.settled.threads.in_order
+    c.args.node.now.number.0 c.args.port path c.requires.node.numbered
     c.args.incoming.now
-    (thread_listed tree net.root paths c.requires.ready.settled.threads c.args.node.now.number.0 path c.requires.node.numbered)
-    (is_in-at tree net.root (port path c.args.port) c.args.node.now.declaration c.requires.node.stands ∙ (sym c.is_in.ensures ∙ c.if-is_in.false)) into
+    (thread_listed tree net.root paths c.requires.ready.settled.threads c.args.node.now.number.0 path
+    c.requires.node.numbered)
+    (is_in-at tree net.root (port path c.args.port) c.args.node.now.declaration c.requires.node.stands
+    ∙ (sym c.is_in.ensures ∙ c.if-is_in.false)) into

@@ -15,15 +15,18 @@ unreachable-requires c =
     let tree = placed net.wires.now.uses.names.tree.now in
     let path = reverse c.args.path.now in
     let there = stands tree net.root path
-    (thread_listed tree net.root (paths_of net.threads.now) c.requires.ready.settled.threads c.args.number.0 path c.requires.thread) in
+    (thread_listed tree net.root (paths_of net.threads.now) c.requires.ready.settled.threads c.args.number.0 path
+    c.requires.thread) in
     c.in_default.not-Some there.0 (c.standing.ensures ∙ there.1)
 
 pub returns : goal.returns
 returns c = λ into.
     let net = c.args.network.now in
     let tree = placed net.wires.now.uses.names.tree.now in
-    let size = sym (length-map c.ports-port-end.result.now (feature_view kept_place)) ∙ ap length c.ports-port-end.ensures in
+    let size =
+    sym (length-map c.ports-port-end.result.now (feature_view kept_place)) ∙ ap length c.ports-port-end.ensures in
     let past = c.loop-port-test.false in
     let all : length (ports_at tree (implementation_at tree c.in-Some.declaration)) ≤ c.loop-port.port = omega arith in
-    into_thread tree net.root (paths_of net.threads.now) c.requires.ready.settled.no_thread c.args.number.0 c.loop-port.port c.in-Some.declaration (reverse c.args.path.now)
+    into_thread tree net.root (paths_of net.threads.now) c.requires.ready.settled.no_thread c.args.number.0
+    c.loop-port.port c.in-Some.declaration (reverse c.args.path.now)
     c.loop-port.incoming c.requires.thread (sym c.standing.ensures ∙ c.in-Some.is) all (c.loop-port.invariant into)

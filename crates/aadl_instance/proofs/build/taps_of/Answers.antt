@@ -19,7 +19,8 @@ pub returns : goal.returns
 returns c =
     let net = c.args.network.now in
     let tree = placed net.wires.now.uses.names.tree.now in
-    let size = sym (length-map c.ports-port-end.result.now (feature_view kept_place)) ∙ ap length c.ports-port-end.ensures in
+    let size =
+    sym (length-map c.ports-port-end.result.now (feature_view kept_place)) ∙ ap length c.ports-port-end.ensures in
     let past = c.loop-port-test.false in
     let all : length (ports_at tree (implementation_at tree net.root)) ≤ c.loop-port.port = omega arith in
     taps_whole tree net.root (paths_of net.threads.now) c.loop-port.port c.loop-port.taps all c.loop-port.invariant

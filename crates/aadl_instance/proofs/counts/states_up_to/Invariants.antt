@@ -6,4 +6,6 @@ use Rattle.aadl_instance.proofs.Counted.{words}
 use Rattle.aadl_instance.proofs.counts.states_up_to.Given as goal
 
 abbrev pub invariant-loop-declared : goal.invariant-loop-declared
-invariant-loop-declared l = l.count ≡ min l.limit (words (λ v. identifiers v.names) (state_view kept_place) (take l.declared-index l.declared-items))
+invariant-loop-declared l =
+    l.count ≡ min l.limit (words (λ v. identifiers v.names) (state_view kept_place)
+    (take l.declared-index l.declared-items))

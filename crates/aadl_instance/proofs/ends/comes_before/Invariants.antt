@@ -4,4 +4,5 @@ use Rattle.aadl_instance.proofs.ends.comes_before.Given as goal
 
 -- what is left decides
 abbrev pub invariant-loop-at : goal.invariant-loop-at
-invariant-loop-at l = (path_before (drop l.at l.path) (drop l.at l.other) ≡ path_before l.path l.other) × (l.at ≤ length l.path)
+invariant-loop-at l =
+    (path_before (drop l.at l.path) (drop l.at l.other) ≡ path_before l.path l.other) × (l.at ≤ length l.path)

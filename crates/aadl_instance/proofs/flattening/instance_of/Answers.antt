@@ -10,7 +10,8 @@ pub threads_at-requires : goal.threads_at-requires
 threads_at-requires c =
     let checked = c.args.checked in
     let tree = placed checked.wires.uses.names.tree.now in
-    all_stand tree checked.root c.from.result.now (all_listed tree checked.root c.from.result.now _ c.from.ensures c.in_ok-paths.ensures)
+    all_stand tree checked.root c.from.result.now
+    (all_listed tree checked.root c.from.result.now _ c.from.ensures c.in_ok-paths.ensures)
 
 pub incoming_of-requires : goal.incoming_of-requires
 incoming_of-requires c =
@@ -37,8 +38,10 @@ returns-clause-instance c = λ name root.
     let checked = c.args.checked in
     let tree = placed checked.wires.uses.names.tree.now in
     instance_is tree checked c.requires.checked (paths_of c.from.result.now)
-    (all_listed tree checked.root c.from.result.now _ c.from.ensures c.in_ok-paths.ensures) name c.in_ok-threads.threads c.in_ok-incoming.incoming.links
-    c.in_ok-incoming.incoming.feeds c.in_ok-taps.taps root (c.in_ok-threads.ensures ∙ threads_same tree checked.root c.from.result.now)
+    (all_listed tree checked.root c.from.result.now _ c.from.ensures c.in_ok-paths.ensures) name c.in_ok-threads.threads
+    c.in_ok-incoming.incoming.links
+    c.in_ok-incoming.incoming.feeds c.in_ok-taps.taps root
+    (c.in_ok-threads.ensures ∙ threads_same tree checked.root c.from.result.now)
     c.in_ok-incoming.ensures.links c.in_ok-incoming.ensures.feeds c.in_ok-taps.ensures
 
 pub invariant_of-result : goal.invariant_of-result
@@ -46,13 +49,16 @@ invariant_of-result c =
     let checked = c.args.checked in
     let tree = placed checked.wires.uses.names.tree.now in
     let whole = instance_is tree checked c.requires.checked (paths_of c.from.result.now)
-    (all_listed tree checked.root c.from.result.now _ c.from.ensures c.in_ok-paths.ensures) c.requires.name.0 c.in_ok-threads.threads
+    (all_listed tree checked.root c.from.result.now _ c.from.ensures c.in_ok-paths.ensures) c.requires.name.0
+    c.in_ok-threads.threads
     c.in_ok-incoming.incoming.links c.in_ok-incoming.incoming.feeds c.in_ok-taps.taps c.requires.name.1
-    (c.in_ok-threads.ensures ∙ threads_same tree checked.root c.from.result.now) c.in_ok-incoming.ensures.links c.in_ok-incoming.ensures.feeds
+    (c.in_ok-threads.ensures ∙ threads_same tree checked.root c.from.result.now) c.in_ok-incoming.ensures.links
+    c.in_ok-incoming.ensures.feeds
     c.in_ok-taps.ensures in
     record {
       flat = subst
-          (λ (w : Wires). ∥ IsInstance (placed w.uses.names.tree.now) checked.root c.in_ok-threads.threads c.in_ok-incoming.incoming.links
+          (λ (w : Wires). ∥ IsInstance (placed w.uses.names.tree.now) checked.root c.in_ok-threads.threads
+          c.in_ok-incoming.incoming.links
           c.in_ok-incoming.incoming.feeds c.in_ok-taps.taps ∥₁)
           (sym c.into_wires.ensures) ∣ whole.0 ∣₁;
     }

@@ -20,4 +20,5 @@ returns c = λ limit p. let most = last_line limit in c.loop-limit.invariant lim
 pub returns-then-branch : goal.returns-then-branch
 returns-then-branch c =
     passed_earlier (IsPassed (placed c.args.wires.now.uses.names.tree.now) c.args.root) _ c.loop-limit.limit-index
-    (limit_line c.loop-limit.limit-index _ c.loop-limit-test.true) c.loop-limit.invariant (c.in_ok-is_passed.ensures.0 c.if-branch.true)
+    (limit_line c.loop-limit.limit-index _ c.loop-limit-test.true) c.loop-limit.invariant
+    (c.in_ok-is_passed.ensures.0 c.if-branch.true)

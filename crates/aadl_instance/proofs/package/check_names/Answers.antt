@@ -7,8 +7,10 @@ use Rattle.aadl_instance.proofs.package.check_names.Goals as goal
 
 pub returns-in-Some : goal.returns-in-Some
 returns-in-Some c = inr (name_fault (placed c.args.wires.uses.names.tree.now) c.args.root c.in-Some.fault
-    (subst (FirstOf (package_faults (placed c.args.wires.uses.names.tree.now) c.args.root)) c.in-Some.is c.in_ok-fault.ensures))
+    (subst (FirstOf (package_faults (placed c.args.wires.uses.names.tree.now) c.args.root)) c.in-Some.is
+    c.in_ok-fault.ensures))
 
 pub check_recursion-requires-clause-names : goal.check_recursion-requires-clause-names
 check_recursion-requires-clause-names c =
-    subst (FirstOf (package_faults (placed c.args.wires.uses.names.tree.now) c.args.root)) c.in-None.is c.in_ok-fault.ensures
+    subst (FirstOf (package_faults (placed c.args.wires.uses.names.tree.now) c.args.root)) c.in-None.is
+    c.in_ok-fault.ensures

@@ -14,7 +14,8 @@ use Rattle.aadl_instance.proofs.package.check_package.Goals as goal
 
 pub check_names-requires : goal.check_names-requires
 check_names-requires c =
-    subst (λ (t : PackageTree). IsRoot (placed t) c.in-Some.root) (sym (c.in_ok-wires-in-Some.ensures ∙ c.in_ok-uses-in-Some.ensures ∙ c.in_ok-names-in-Some.ensures))
+    subst (λ (t : PackageTree). IsRoot (placed t) c.in-Some.root)
+    (sym (c.in_ok-wires-in-Some.ensures ∙ c.in_ok-uses-in-Some.ensures ∙ c.in_ok-names-in-Some.ensures))
     (is_root_at (placed c.args.tree.now) c.args.name.now c.in-Some.root (sym c.in_ok-root.ensures ∙ c.in-Some.is))
 
 pub returns-in_ok-wires-in-Some : goal.returns-in_ok-wires-in-Some
@@ -26,13 +27,16 @@ returns-in_ok-wires-in-Some c =
     matched
     (λ (x : Checked). (x.root ≡ root) × (x.wires.uses.names.tree.now ≡ c.in_ok-wires-in-Some.wires.uses.names.tree.now)
     × IsChecked (placed c.in_ok-wires-in-Some.wires.uses.names.tree.now) x)
-    (λ (x : Checked). (root_number tree c.args.name.now ≡ Some x.root) × (x.wires.uses.names.tree.now ≡ c.args.tree.now) × IsChecked tree x)
-    (λ (f : PackageFault). (f ≡ Memory) ⊎ IsFirstByLine (FoundIn (placed c.in_ok-wires-in-Some.wires.uses.names.tree.now) root) f)
+    (λ (x : Checked). (root_number tree c.args.name.now ≡ Some x.root) × (x.wires.uses.names.tree.now ≡ c.args.tree.now)
+    × IsChecked tree x)
+    (λ (f : PackageFault). (f ≡ Memory)
+    ⊎ IsFirstByLine (FoundIn (placed c.in_ok-wires-in-Some.wires.uses.names.tree.now) root) f)
     (λ (f : PackageFault). (f ≡ Memory) ⊎ IsFault tree c.args.name.now f) c.check_names.result
     (λ x h. (is ∙ ap Some (sym h.0), h.1 ∙ same, subst (λ (t : PackageTree). IsChecked (placed t) x) same h.2))
     (λ f h. elim h [
       | inl m ↦ inl m
-      | inr g ↦ inr (root_fault tree c.args.name.now root is f (subst (λ (t : PackageTree). IsFirstByLine (FoundIn (placed t) root) f) same g))
+      | inr g ↦ inr (root_fault tree c.args.name.now root is f
+          (subst (λ (t : PackageTree). IsFirstByLine (FoundIn (placed t) root) f) same g))
     ])
     c.check_names.ensures
 

@@ -6,7 +6,8 @@ use Rattle.aadl_instance.proofs.Lines.{recursion_fault}
 use Rattle.aadl_instance.proofs.package.check_recursion.Goals as goal
 
 pub returns-in-Some : goal.returns-in-Some
-returns-in-Some c = inr (recursion_fault (placed c.args.wires.uses.names.tree.now) c.args.root c.in-Some.fault c.requires.names
+returns-in-Some c =
+    inr (recursion_fault (placed c.args.wires.uses.names.tree.now) c.args.root c.in-Some.fault c.requires.names
     (subst (FirstIn (IsRecursive (placed c.args.wires.uses.names.tree.now))) c.in-Some.is c.in_ok-fault.ensures))
 
 pub check_wires-requires-clause-recursion : goal.check_wires-requires-clause-recursion

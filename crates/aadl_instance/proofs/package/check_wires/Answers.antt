@@ -22,10 +22,24 @@ connection_fault-requires c = record {
 
 pub returns-in-Some : goal.returns-in-Some
 returns-in-Some c =
-    let checked : Checked = record { wires = c.args.wires; order = c.in_ok-order.order; used = c.in_ok-used.used; root = c.args.root } in
+    let checked : Checked = record {
+      wires = c.args.wires;
+      order = c.in_ok-order.order;
+      used = c.in_ok-used.used;
+      root = c.args.root;
+    } in
     inr (subst (FindsFault (placed c.args.wires.uses.names.tree.now) checked) c.in-Some.is c.in_ok-fault.ensures)
 
 pub returns : goal.returns
 returns c =
-    let checked : Checked = record { wires = c.args.wires; order = c.in_ok-order.order; used = c.in_ok-used.used; root = c.args.root } in
-    (refl, refl, subst (FindsFault (placed c.args.wires.uses.names.tree.now) checked) c.in-None.is c.in_ok-fault.ensures)
+    let checked : Checked = record {
+      wires = c.args.wires;
+      order = c.in_ok-order.order;
+      used = c.in_ok-used.used;
+      root = c.args.root;
+    } in (
+      refl,
+      refl,
+      subst (FindsFault (placed c.args.wires.uses.names.tree.now) checked) c.in-None.is
+          c.in_ok-fault.ensures,
+    )

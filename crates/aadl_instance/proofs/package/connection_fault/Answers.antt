@@ -13,13 +13,17 @@ pub first_end_fault-requires-clause-used : goal.first_end_fault-requires-clause-
 first_end_fault-requires-clause-used c = c.requires.used
 
 pub first_end_fault-requires-clause-declared : goal.first_end_fault-requires-clause-declared
-first_end_fault-requires-clause-declared c = declared (placed c.args.checked.now.wires.uses.names.tree.now) c.args.checked.now.root c.requires.names
+first_end_fault-requires-clause-declared c =
+    declared (placed c.args.checked.now.wires.uses.names.tree.now) c.args.checked.now.root c.requires.names
 
 pub returns-in-Some : goal.returns-in-Some
 returns-in-Some c =
-    end_fault (placed c.args.checked.now.wires.uses.names.tree.now) c.args.checked.now.root c.in-Some.fault c.requires.names c.requires.recursion
-    (subst (FirstIn (IsEndFault (placed c.args.checked.now.wires.uses.names.tree.now) c.args.checked.now.root)) c.in-Some.is c.in_ok-fault.ensures)
+    end_fault (placed c.args.checked.now.wires.uses.names.tree.now) c.args.checked.now.root c.in-Some.fault
+    c.requires.names c.requires.recursion
+    (subst (FirstIn (IsEndFault (placed c.args.checked.now.wires.uses.names.tree.now) c.args.checked.now.root))
+    c.in-Some.is c.in_ok-fault.ensures)
 
 pub limit_fault-requires-clause-ends : goal.limit_fault-requires-clause-ends
 limit_fault-requires-clause-ends c =
-    subst (FirstIn (IsEndFault (placed c.args.checked.now.wires.uses.names.tree.now) c.args.checked.now.root)) c.in-None.is c.in_ok-fault.ensures
+    subst (FirstIn (IsEndFault (placed c.args.checked.now.wires.uses.names.tree.now) c.args.checked.now.root))
+    c.in-None.is c.in_ok-fault.ensures

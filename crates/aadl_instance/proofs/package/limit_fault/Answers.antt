@@ -21,18 +21,21 @@ first_limit-requires-clause-ends c = c.requires.ends
 
 pub first_limit-requires-clause-root : goal.first_limit-requires-clause-root
 first_limit-requires-clause-root c =
-    root_declared (placed c.args.checked.now.wires.uses.names.tree.now) c.args.checked.now.root c.requires.ordered.is_root
+    root_declared (placed c.args.checked.now.wires.uses.names.tree.now) c.args.checked.now.root
+    c.requires.ordered.is_root
 
 pub first_limit-requires-clause-no_thread : goal.first_limit-requires-clause-no_thread
 first_limit-requires-clause-no_thread c =
-    root_no_thread (placed c.args.checked.now.wires.uses.names.tree.now) c.args.checked.now.root c.requires.ordered.is_root
+    root_no_thread (placed c.args.checked.now.wires.uses.names.tree.now) c.args.checked.now.root
+    c.requires.ordered.is_root
 
 pub returns-in_ok-what-in-Some : goal.returns-in_ok-what-in-Some
 returns-in_ok-what-in-Some c =
     let tree = placed c.args.checked.now.wires.uses.names.tree.now in
     let o = c.requires.ordered in
     let first = subst (IsFirstPassed tree c.args.checked.now.root) c.in-Some.is c.in_ok-limit.ensures in
-    limit_fault tree c.args.checked.now.root c.in-Some.limit _ (silent_five tree c.args.checked.now.root o.names o.recursion c.requires.ends)
+    limit_fault tree c.args.checked.now.root c.in-Some.limit _
+    (silent_five tree c.args.checked.now.root o.names o.recursion c.requires.ends)
     (c.in_ok-what-in-Some.ensures ∙ c.name.ensures) first.0 first.1
 
 pub returns-in-None : goal.returns-in-None
@@ -41,6 +44,8 @@ returns-in-None c =
     let o = c.requires.ordered in
     record {
       ordered = o;
-      silent = all_silent tree c.args.checked.now.root (silent_five tree c.args.checked.now.root o.names o.recursion c.requires.ends)
+      silent =
+          all_silent tree c.args.checked.now.root
+          (silent_five tree c.args.checked.now.root o.names o.recursion c.requires.ends)
           (subst (IsFirstPassed tree c.args.checked.now.root) c.in-None.is c.in_ok-limit.ensures);
     }

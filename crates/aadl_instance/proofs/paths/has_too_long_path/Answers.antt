@@ -20,10 +20,19 @@ returns c =
     let rows = ap length c.containment.ensures in
     let size = length-map tree.declarations (targets_in tree) in
     let heaviest = c.in_ok-found.ensures root (omega (arith, rows, size, c.requires.root)) in
-    let marked = subst (λ (m : List Bool). IsHeaviest (PATH_BYTES + 2) c.containment.result.now m c.in_ok-weights.weights root (get_or found root None)) (c.as_slice-2.ensures.value ∙ c.in_ok-marks.ensures) heaviest in
-    let weighed = subst (λ (w : List (List ℕ)). IsHeaviest (PATH_BYTES + 2) c.containment.result.now (thread_marks tree) w root (get_or found root None))
-    (c.in_ok-weights.ensures ∙ ap (λ (l : List _). map weights_in (map (declaration_view kept_place) l)) c.as_slice.ensures.value) marked in
-    let whole = subst (λ (g : Graph). IsHeaviest (PATH_BYTES + 2) g (thread_marks tree) (name_weights tree) root (get_or found root None)) c.containment.ensures weighed in
-    let test : c.is_over.result ≡ is_over (get_or found root None) = c.is_over.ensures ∙ ap (λ l. is_over (get_or l root None)) c.as_slice-3.ensures.value in
+    let marked =
+    subst (λ (m : List Bool).
+    IsHeaviest (PATH_BYTES + 2) c.containment.result.now m c.in_ok-weights.weights root
+    (get_or found root None)) (c.as_slice-2.ensures.value ∙ c.in_ok-marks.ensures) heaviest in
+    let weighed =
+    subst (λ (w : List (List ℕ)).
+    IsHeaviest (PATH_BYTES + 2) c.containment.result.now (thread_marks tree) w root (get_or found root None))
+    (c.in_ok-weights.ensures
+    ∙ ap (λ (l : List _). map weights_in (map (declaration_view kept_place) l)) c.as_slice.ensures.value) marked in
+    let whole =
+    subst (λ (g : Graph). IsHeaviest (PATH_BYTES + 2) g (thread_marks tree) (name_weights tree) root
+    (get_or found root None)) c.containment.ensures weighed in
+    let test : c.is_over.result ≡ is_over (get_or found root None) = c.is_over.ensures
+    ∙ ap (λ l. is_over (get_or l root None)) c.as_slice-3.ensures.value in
     let tells = tells_long tree root (get_or found root None) whole in
     (λ e. tells.0 (sym test ∙ e), λ t. test ∙ tells.1 t)

@@ -5,4 +5,5 @@ use Rattle.aadl_instance.specs.proof.Paths.{weights_in}
 use Rattle.aadl_instance.proofs.paths.name_weights.Given as goal
 
 abbrev pub invariant-loop-declaration : goal.invariant-loop-declaration
-invariant-loop-declaration l = l.weights ≡ map weights_in (map (declaration_view kept_place) (take l.declaration-index l.declarations))
+invariant-loop-declaration l =
+    l.weights ≡ map weights_in (map (declaration_view kept_place) (take l.declaration-index l.declarations))

@@ -6,4 +6,7 @@ use Rattle.aadl_instance.proofs.thread_parts.has_too_many.Given as goal
 
 -- none of the first ones
 abbrev pub invariant-loop-number : goal.invariant-loop-number
-invariant-loop-number l = (n : ℕ) (x : Implementation ℕ) → n < l.number-counter → IsUsedThread (placed l.wires.uses.names.tree.now) l.used.keys n x → most l.part < count_of (placed l.wires.uses.names.tree.now) x l.part → ⊥
+invariant-loop-number l =
+    (n : ℕ) (x : Implementation ℕ) → n < l.number-counter
+    → IsUsedThread (placed l.wires.uses.names.tree.now) l.used.keys n x
+    → most l.part < count_of (placed l.wires.uses.names.tree.now) x l.part → ⊥

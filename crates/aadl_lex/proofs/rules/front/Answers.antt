@@ -6,8 +6,10 @@ use Rattle.aadl_lex.proofs.rules.front.Goals as goal
 
 pub returns-then-ne-clause-within : goal.returns-then-ne-clause-within
 returns-then-ne-clause-within c =
-    subst (λ (x : First). IsWithin (length c.args.text.now) x) (sym c.annex_first.ensures) (annex_within c.args.reading c.args.at c.args.text.now (omega arith))
+    subst (λ (x : First). IsWithin (length c.args.text.now) x) (sym c.annex_first.ensures)
+    (annex_within c.args.reading c.args.at c.args.text.now (omega arith))
 
 pub returns-else-starts_with-2-clause-within : goal.returns-else-starts_with-2-clause-within
 returns-else-starts_with-2-clause-within c =
-    subst (λ (x : First). IsWithin (length c.args.text.now) x) (sym c.symbol_first.ensures) (symbol_within c.args.at c.args.text.now (omega arith))
+    subst (λ (x : First). IsWithin (length c.args.text.now) x) (sym c.symbol_first.ensures)
+    (symbol_within c.args.at c.args.text.now (omega arith))

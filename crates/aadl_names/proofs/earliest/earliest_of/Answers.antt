@@ -10,10 +10,14 @@ loop-number-init c = λ name. ap (λ o. sooner o (earliest name 0 c.args.entries
 
 pub loop-number-preserved : goal.loop-number-preserved
 loop-number-preserved c = λ name.
-    next_earliest name c.args.entries.now c.loop-number.number c.index-entries-number.result _ _ _ (omega arith) c.index-entries-number.is
+    next_earliest name c.args.entries.now c.loop-number.number c.index-entries-number.result _ _ _ (omega arith)
+    c.index-entries-number.is
     (c.in_ok-add_spot.ensures name ∙ ap (λ n. sooner (value_of c.loop-number.table name)
-    (cond (same_name name n) (Some (record { number = c.loop-number.number; at = c.index-entries-number.result.at })) None)) c.as_str.ensures)
+    (cond (same_name name n) (Some (record { number = c.loop-number.number; at = c.index-entries-number.result.at }))
+    None)) c.as_str.ensures)
     (c.loop-number.invariant name)
 
 pub returns : goal.returns
-returns c = λ name. last_earliest name c.args.entries.now c.loop-number.number _ _ c.loop-number-test.false (c.loop-number.invariant name)
+returns c =
+    λ name. last_earliest name c.args.entries.now c.loop-number.number _ _ c.loop-number-test.false
+    (c.loop-number.invariant name)

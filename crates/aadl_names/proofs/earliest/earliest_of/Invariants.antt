@@ -5,4 +5,6 @@ use Rattle.aadl_names.proofs.earliest.earliest_of.Given as goal
 
 -- what is left may have the earliest one
 abbrev pub invariant-loop-number : goal.invariant-loop-number
-invariant-loop-number l = (name : List ℕ) → sooner (value_of l.table name) (earliest name l.number (drop l.number l.entries)) ≡ earliest name 0 l.entries
+invariant-loop-number l =
+    (name : List ℕ) → sooner (value_of l.table name) (earliest name l.number (drop l.number l.entries))
+    ≡ earliest name 0 l.entries

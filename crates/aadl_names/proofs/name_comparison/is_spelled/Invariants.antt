@@ -9,5 +9,6 @@ use Rattle.aadl_names.proofs.name_comparison.is_spelled.Given as goal
 -- the words that are left decide
 abbrev pub invariant-loop-word : goal.invariant-loop-word
 invariant-loop-word l =
-    same_name (flat_map (λ y. codes "::" ++ y.spelling) (map (identifier_view kept_place) (drop l.word-index l.word-items))) l.rest
+    same_name (flat_map (λ y. codes "::" ++ y.spelling)
+    (map (identifier_view kept_place) (drop l.word-index l.word-items))) l.rest
     ≡ same_name (spelled_name (name_view kept_place l.name)) l.text

@@ -6,4 +6,6 @@ use Rattle.aadl_names.specs.Resolving.{first_number, is_implementation}
 use Rattle.aadl_names.proofs.names.implementations_of.Given as goal
 
 abbrev pub invariant-loop-number : goal.invariant-loop-number
-invariant-loop-number l = (name : List ℕ) → value_of l.table name ≡ first_number (is_implementation name) (map (declaration_view kept_place) (take l.number l.declarations))
+invariant-loop-number l =
+    (name : List ℕ) → value_of l.table name
+    ≡ first_number (is_implementation name) (map (declaration_view kept_place) (take l.number l.declarations))

@@ -7,9 +7,12 @@ use Rattle.aadl_names.proofs.names.port_numbers.Goals as goal
 
 pub loop-number-preserved : goal.loop-number-preserved
 loop-number-preserved c = λ name.
-    next_first (feature_view kept_place) (λ p. same_name name p.name.spelling) c.args.ports.now c.loop-number.number c.index-ports-number.result _ _
+    next_first (feature_view kept_place) (λ p. same_name name p.name.spelling) c.args.ports.now c.loop-number.number
+    c.index-ports-number.result _ _
     (omega arith) c.index-ports-number.is (c.loop-number.invariant name) (c.in_ok-add_word.ensures name)
 
 pub returns : goal.returns
-returns c = λ name. last_first (feature_view kept_place) (λ p. same_name name p.name.spelling) c.args.ports.now c.loop-number.number _
+returns c =
+    λ name. last_first (feature_view kept_place) (λ p. same_name name p.name.spelling) c.args.ports.now
+    c.loop-number.number _
     c.loop-number-test.false (c.loop-number.invariant name)

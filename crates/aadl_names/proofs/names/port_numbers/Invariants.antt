@@ -6,4 +6,5 @@ use Rattle.aadl_names.specs.Resolving.{port_named}
 use Rattle.aadl_names.proofs.names.port_numbers.Given as goal
 
 abbrev pub invariant-loop-number : goal.invariant-loop-number
-invariant-loop-number l = (name : List ℕ) → value_of l.table name ≡ port_named (map (feature_view kept_place) (take l.number l.ports)) name
+invariant-loop-number l =
+    (name : List ℕ) → value_of l.table name ≡ port_named (map (feature_view kept_place) (take l.number l.ports)) name

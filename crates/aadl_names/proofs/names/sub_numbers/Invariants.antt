@@ -6,4 +6,5 @@ use Rattle.aadl_names.specs.Resolving.{sub_named}
 use Rattle.aadl_names.proofs.names.sub_numbers.Given as goal
 
 abbrev pub invariant-loop-number : goal.invariant-loop-number
-invariant-loop-number l = (name : List ℕ) → value_of l.table name ≡ sub_named (map (subcomponent_view kept_place) (take l.number l.subs)) name
+invariant-loop-number l =
+    (name : List ℕ) → value_of l.table name ≡ sub_named (map (subcomponent_view kept_place) (take l.number l.subs)) name

@@ -6,4 +6,6 @@ use Rattle.aadl_names.specs.Resolving.{first_number, is_type}
 use Rattle.aadl_names.proofs.names.types_of.Given as goal
 
 abbrev pub invariant-loop-number : goal.invariant-loop-number
-invariant-loop-number l = (name : List ℕ) → value_of l.table name ≡ first_number (is_type name) (map (declaration_view kept_place) (take l.number l.declarations))
+invariant-loop-number l =
+    (name : List ℕ) → value_of l.table name
+    ≡ first_number (is_type name) (map (declaration_view kept_place) (take l.number l.declarations))

@@ -8,16 +8,23 @@ use Rattle.aadl_names.proofs.numbered.implementation_at.Goals as goal
 pub returns-in-Some-Implementation : goal.returns-in-Some-Implementation
 returns-in-Some-Implementation c =
     let got = c.in-Some-Implementation.ensures.lookup in
-    sym (ap implementation_in (declaration_there c.args.tree.now c.args.number c.deref.result.now (Some (declarations.Implementation c.in-Some-Implementation.x)) c.deref.ensures.value
-    (slice_get_read c.deref.result.now _ c.args.number c.in-Some-Implementation.field-0.now refl got.3.0 got.1 ∙ ap Some c.in-Some-Implementation.field-0-is)))
+    sym (ap implementation_in
+    (declaration_there c.args.tree.now c.args.number c.deref.result.now
+    (Some (declarations.Implementation c.in-Some-Implementation.x)) c.deref.ensures.value
+    (slice_get_read c.deref.result.now _ c.args.number c.in-Some-Implementation.field-0.now refl got.3.0 got.1
+    ∙ ap Some c.in-Some-Implementation.field-0-is)))
 
 pub returns-in-Some-Type : goal.returns-in-Some-Type
 returns-in-Some-Type c =
     let got = c.in-Some-Type.ensures.lookup in
-    sym (ap implementation_in (declaration_there c.args.tree.now c.args.number c.deref.result.now (Some (declarations.Type c.in-Some-Type.field-0-0)) c.deref.ensures.value
-    (slice_get_read c.deref.result.now _ c.args.number c.in-Some-Type.field-0.now refl got.3.0 got.1 ∙ ap Some c.in-Some-Type.field-0-is)))
+    sym (ap implementation_in
+    (declaration_there c.args.tree.now c.args.number c.deref.result.now
+    (Some (declarations.Type c.in-Some-Type.field-0-0)) c.deref.ensures.value
+    (slice_get_read c.deref.result.now _ c.args.number c.in-Some-Type.field-0.now refl got.3.0 got.1
+    ∙ ap Some c.in-Some-Type.field-0-is)))
 
 pub returns-in-None : goal.returns-in-None
 returns-in-None c =
-    sym (ap implementation_in (declaration_there c.args.tree.now c.args.number c.deref.result.now None c.deref.ensures.value
+    sym (ap implementation_in
+    (declaration_there c.args.tree.now c.args.number c.deref.result.now None c.deref.ensures.value
     (slice_get_past c.deref.result.now c.args.number c.in-None.ensures.lookup.3)))

@@ -8,7 +8,8 @@ use Rattle.aadl_names.proofs.numbered.subcomponent_at.Goals as goal
 
 pub returns-in-Some : goal.returns-in-Some
 returns-in-Some c =
-    view_lent (subcomponent_view kept_place) c.in-Some.x.now.subcomponents.items c.deref.result.now c.args.sub c.get.result c.deref.ensures.value c.get.ensures.lookup
+    view_lent (subcomponent_view kept_place) c.in-Some.x.now.subcomponents.items c.deref.result.now c.args.sub
+    c.get.result c.deref.ensures.value c.get.ensures.lookup
     ∙ ap (λ x. slice_get (subcomponents_of x) c.args.sub) c.in-Some.ensures
 
 pub returns-in-None : goal.returns-in-None

@@ -10,15 +10,19 @@ pub returns-in-Some-Type : goal.returns-in-Some-Type
 returns-in-Some-Type c =
     let got = c.in-Some-Type.ensures.lookup in
     sym (ap (type_numbered (placed c.args.tree.now)) c.in_ok-number.was
-    ∙ ap type_in (declaration_there c.args.tree.now c.in_ok-number.field-0 c.deref.result.now (Some (declarations.Type c.in-Some-Type.x)) c.deref.ensures.value
-    (slice_get_read c.deref.result.now _ c.in_ok-number.field-0 c.in-Some-Type.field-0.now refl got.3.0 got.1 ∙ ap Some c.in-Some-Type.field-0-is)))
+    ∙ ap type_in (declaration_there c.args.tree.now c.in_ok-number.field-0 c.deref.result.now
+    (Some (declarations.Type c.in-Some-Type.x)) c.deref.ensures.value
+    (slice_get_read c.deref.result.now _ c.in_ok-number.field-0 c.in-Some-Type.field-0.now refl got.3.0 got.1
+    ∙ ap Some c.in-Some-Type.field-0-is)))
 
 pub returns-in-Some-Implementation : goal.returns-in-Some-Implementation
 returns-in-Some-Implementation c =
     let got = c.in-Some-Implementation.ensures.lookup in
     sym (ap (type_numbered (placed c.args.tree.now)) c.in_ok-number.was
-    ∙ ap type_in (declaration_there c.args.tree.now c.in_ok-number.field-0 c.deref.result.now (Some (declarations.Implementation c.in-Some-Implementation.field-0-0)) c.deref.ensures.value
-    (slice_get_read c.deref.result.now _ c.in_ok-number.field-0 c.in-Some-Implementation.field-0.now refl got.3.0 got.1 ∙ ap Some c.in-Some-Implementation.field-0-is)))
+    ∙ ap type_in (declaration_there c.args.tree.now c.in_ok-number.field-0 c.deref.result.now
+    (Some (declarations.Implementation c.in-Some-Implementation.field-0-0)) c.deref.ensures.value
+    (slice_get_read c.deref.result.now _ c.in_ok-number.field-0 c.in-Some-Implementation.field-0.now refl got.3.0 got.1
+    ∙ ap Some c.in-Some-Implementation.field-0-is)))
 
 pub returns-in-None : goal.returns-in-None
 returns-in-None c =

@@ -9,4 +9,5 @@ use Rattle.aadl_names.proofs.spelling.spelled_name.Given as goal
 abbrev pub invariant-loop-word : goal.invariant-loop-word
 invariant-loop-word l =
     spec.spelled_name (name_view kept_place l.name)
-    ≡ string_bytes l.text ++ flat_map (λ y. codes "::" ++ y.spelling) (map (identifier_view kept_place) (drop l.word-index l.word-items))
+    ≡ string_bytes l.text ++ flat_map (λ y. codes "::" ++ y.spelling)
+    (map (identifier_view kept_place) (drop l.word-index l.word-items))

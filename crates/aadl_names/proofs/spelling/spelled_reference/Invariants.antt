@@ -9,4 +9,5 @@ use Rattle.aadl_names.proofs.spelling.spelled_reference.Given as goal
 abbrev pub invariant-loop-word : goal.invariant-loop-word
 invariant-loop-word l =
     flat_map (λ (y : Identifier _). y.spelling ++ codes "::") (map (identifier_view kept_place) l.word-items)
-    ≡ string_bytes l.text ++ flat_map (λ (y : Identifier _). y.spelling ++ codes "::") (map (identifier_view kept_place) (drop l.word-index l.word-items))
+    ≡ string_bytes l.text ++ flat_map (λ (y : Identifier _). y.spelling ++ codes "::")
+    (map (identifier_view kept_place) (drop l.word-index l.word-items))

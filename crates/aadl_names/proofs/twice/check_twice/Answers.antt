@@ -11,5 +11,8 @@ pub loop-entry-preserved : goal.loop-entry-preserved
 loop-entry-preserved c =
     let xs = c.args.entries.now in
     let x = c.entry-item.result in
-    next_found (λ ys. flat_map (again xs) ys) (again xs) (λ y ys. refl) _ _ _ _ _ _ c.loop-entry-test.true c.entry-item.is c.loop-entry.invariant
-    (c.in_ok-check_entry.ensures ∙ ap (found c.loop-entry.finder) (ap (λ o. again_by o x) (c.in_ok-table.ensures x.name) ∙ sym (again-earliest xs x)))
+    next_found (λ ys. flat_map (again xs) ys) (again xs) (λ y ys. refl) _ _ _ _ _ _ c.loop-entry-test.true
+    c.entry-item.is c.loop-entry.invariant
+    (c.in_ok-check_entry.ensures
+    ∙ ap (found c.loop-entry.finder)
+    (ap (λ o. again_by o x) (c.in_ok-table.ensures x.name) ∙ sym (again-earliest xs x)))

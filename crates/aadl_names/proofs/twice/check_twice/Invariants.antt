@@ -7,4 +7,5 @@ use Rattle.aadl_names.proofs.twice.check_twice.Given as goal
 -- what is left is still to be looked at
 abbrev pub invariant-loop-entry : goal.invariant-loop-entry
 invariant-loop-entry l =
-    found l.initial.finder (flat_map (again l.entries) l.entries) ≡ found l.finder (flat_map (again l.entries) (drop l.entry-index l.entries))
+    found l.initial.finder (flat_map (again l.entries) l.entries)
+    ≡ found l.finder (flat_map (again l.entries) (drop l.entry-index l.entries))

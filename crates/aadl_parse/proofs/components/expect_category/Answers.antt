@@ -10,14 +10,18 @@ use Rattle.aadl_parse.proofs.components.expect_category.Goals as goal
 pub returns-in-Some : goal.returns-in-Some
 unfolding move depth
 returns-in-Some c = record {
-  runs = λ outer below h. takes_row outer c.args.reader.now.end s.category below (c.in-Some.ensures) (category_moves c.in-Some.found.0) (omega arith);
+  runs =
+      λ outer below h. takes_row outer c.args.reader.now.end s.category below (c.in-Some.ensures)
+      (category_moves c.in-Some.found.0) (omega arith);
   reads = marked c.in-Some.ensures nothing;
 }
 
 pub returns-in-None : goal.returns-in-None
 unfolding move depth
 returns-in-None c = record {
-  runs = λ outer below h. refuses_unless outer c.args.reader.now.end s.category below (here c.args.reader.now c.args.at) refl c.in-None.ensures
+  runs =
+      λ outer below h. refuses_unless outer c.args.reader.now.end s.category below (here c.args.reader.now c.args.at)
+      refl c.in-None.ensures
       ∙ ap syntax_at (sym c.place.ensures);
   reads = tt;
 }

@@ -11,8 +11,11 @@ use Rattle.aadl_parse.proofs.components.subcomponent_list.Given as goal
 
 abbrev pub invariant-loop-found : goal.invariant-loop-found
 invariant-loop-found l = record {
-  runs : (outer : ℕ) (below : Stack) → outer + depth below + l.room ≡ GREATEST_NESTING → fate outer l.reader.end (s.subcomponent_list ∷ below) (here l.reader l.at) ≡ fate outer l.reader.end (s.subcomponent_list ∷ below) (here l.reader l.rest);
-  reads : Reads (flat_map subcomponent_parts (map (subcomponent_view kept_place) l.found.items)) (here l.reader l.at) (here l.reader l.rest);
+  runs : (outer : ℕ) (below : Stack) → outer + depth below + l.room ≡ GREATEST_NESTING
+      → fate outer l.reader.end (s.subcomponent_list ∷ below) (here l.reader l.at)
+      ≡ fate outer l.reader.end (s.subcomponent_list ∷ below) (here l.reader l.rest);
+  reads : Reads (flat_map subcomponent_parts (map (subcomponent_view kept_place) l.found.items)) (here l.reader l.at)
+      (here l.reader l.rest);
 }
 
 abbrev pub decreases-loop-found : goal.decreases-loop-found

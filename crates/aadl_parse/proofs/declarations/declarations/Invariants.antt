@@ -11,8 +11,11 @@ use Rattle.aadl_parse.proofs.declarations.declarations.Given as goal
 
 abbrev pub invariant-loop-category : goal.invariant-loop-category
 invariant-loop-category l = record {
-  runs : (outer : ℕ) (below : Stack) → outer + depth below + l.room ≡ GREATEST_NESTING → fate outer l.reader.end (s.declarations ∷ below) (here l.reader l.at) ≡ fate outer l.reader.end (s.declarations ∷ below) (here l.reader l.next);
-  reads : Reads (flat_map declaration_parts (map (declaration_view kept_place) l.found.items)) (here l.reader l.at) (here l.reader l.next);
+  runs : (outer : ℕ) (below : Stack) → outer + depth below + l.room ≡ GREATEST_NESTING
+      → fate outer l.reader.end (s.declarations ∷ below) (here l.reader l.at)
+      ≡ fate outer l.reader.end (s.declarations ∷ below) (here l.reader l.next);
+  reads : Reads (flat_map declaration_parts (map (declaration_view kept_place) l.found.items)) (here l.reader l.at)
+      (here l.reader l.next);
 }
 
 abbrev pub decreases-loop-category : goal.decreases-loop-category

@@ -13,8 +13,11 @@ use Rattle.aadl_parse.proofs.declarations.more_names.Given as goal
 
 abbrev pub invariant-loop-behind : goal.invariant-loop-behind
 invariant-loop-behind l = record {
-  runs : (outer : ℕ) (below : Stack) → outer + depth below ≤ GREATEST_NESTING → fate outer l.reader.end (s.more_names ∷ below) (here l.reader l.at) ≡ fate outer l.reader.end (s.more_names ∷ below) (here l.reader l.rest);
-  reads : Reads (flat_map (behind k.Comma name_parts) (map (name_view kept_place) l.found.items)) (here l.reader l.at) (here l.reader l.rest);
+  runs : (outer : ℕ) (below : Stack) → outer + depth below ≤ GREATEST_NESTING
+      → fate outer l.reader.end (s.more_names ∷ below) (here l.reader l.at)
+      ≡ fate outer l.reader.end (s.more_names ∷ below) (here l.reader l.rest);
+  reads : Reads (flat_map (behind k.Comma name_parts) (map (name_view kept_place) l.found.items)) (here l.reader l.at)
+      (here l.reader l.rest);
 }
 
 abbrev pub decreases-loop-behind : goal.decreases-loop-behind

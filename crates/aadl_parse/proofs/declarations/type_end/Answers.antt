@@ -10,33 +10,48 @@ use Rattle.aadl_parse.proofs.declarations.type_end.Goals as goal
 pub returns-in_err-keyword : goal.returns-in_err-keyword
 unfolding move depth
 returns-in_err-keyword c = record {
-  runs = λ outer below h. exits _ _ _ _ _ _ _ c.from_residual.ensures.1 (along _ _ _ (begins_as outer c.args.reader.now.end s.type_end (s.only k.End) (s.identifier ∷ s.only k.Semicolon ∷ []) (below) (here c.args.reader.now c.args.at) refl refl refl) (c.in_err-keyword.ensures.runs outer (s.identifier ∷ s.only k.Semicolon ∷ below) (omega arith)));
+  runs =
+      λ outer below h. exits _ _ _ _ _ _ _ c.from_residual.ensures.1
+      (along _ _ _ (begins_as outer c.args.reader.now.end s.type_end (s.only k.End)
+      (s.identifier ∷ s.only k.Semicolon ∷ []) (below) (here c.args.reader.now c.args.at) refl refl refl)
+      (c.in_err-keyword.ensures.runs outer (s.identifier ∷ s.only k.Semicolon ∷ below) (omega arith)));
   reads = no_reads _ _ _ c.from_residual.ensures.1;
 }
 
 pub returns-in_err-name : goal.returns-in_err-name
 unfolding move depth
 returns-in_err-name c = record {
-  runs = λ outer below h. exits _ _ _ _ _ _ _ c.from_residual-in_err-name.ensures.1 (along _ _ _ (begins_as outer c.args.reader.now.end s.type_end (s.only k.End) (s.identifier ∷ s.only k.Semicolon ∷ []) (below) (here c.args.reader.now c.args.at) refl refl refl
-      ∙ c.in_ok-keyword.ensures.runs outer (s.identifier ∷ s.only k.Semicolon ∷ below) (omega arith)) (c.in_err-name.ensures.runs outer (s.only k.Semicolon ∷ below) (omega arith)));
+  runs =
+      λ outer below h. exits _ _ _ _ _ _ _ c.from_residual-in_err-name.ensures.1
+      (along _ _ _ (begins_as outer c.args.reader.now.end s.type_end (s.only k.End)
+      (s.identifier ∷ s.only k.Semicolon ∷ []) (below) (here c.args.reader.now c.args.at) refl refl refl
+      ∙ c.in_ok-keyword.ensures.runs outer (s.identifier ∷ s.only k.Semicolon ∷ below) (omega arith))
+      (c.in_err-name.ensures.runs outer (s.only k.Semicolon ∷ below) (omega arith)));
   reads = no_reads _ _ _ c.from_residual-in_err-name.ensures.1;
 }
 
 pub returns-in_err-end : goal.returns-in_err-end
 unfolding move depth
 returns-in_err-end c = record {
-  runs = λ outer below h. exits _ _ _ _ _ _ _ c.from_residual-in_err-end.ensures.1 (along _ _ _ (begins_as outer c.args.reader.now.end s.type_end (s.only k.End) (s.identifier ∷ s.only k.Semicolon ∷ []) (below) (here c.args.reader.now c.args.at) refl refl refl
+  runs =
+      λ outer below h. exits _ _ _ _ _ _ _ c.from_residual-in_err-end.ensures.1
+      (along _ _ _ (begins_as outer c.args.reader.now.end s.type_end (s.only k.End)
+      (s.identifier ∷ s.only k.Semicolon ∷ []) (below) (here c.args.reader.now c.args.at) refl refl refl
       ∙ c.in_ok-keyword.ensures.runs outer (s.identifier ∷ s.only k.Semicolon ∷ below) (omega arith)
-      ∙ c.in_ok-name.ensures.runs outer (s.only k.Semicolon ∷ below) (omega arith)) (c.in_err-end.ensures.runs outer (below) (omega arith)));
+      ∙ c.in_ok-name.ensures.runs outer (s.only k.Semicolon ∷ below) (omega arith))
+      (c.in_err-end.ensures.runs outer (below) (omega arith)));
   reads = no_reads _ _ _ c.from_residual-in_err-end.ensures.1;
 }
 
 pub returns : goal.returns
 unfolding move depth
 returns c = record {
-  runs = λ outer below h. begins_as outer c.args.reader.now.end s.type_end (s.only k.End) (s.identifier ∷ s.only k.Semicolon ∷ []) (below) (here c.args.reader.now c.args.at) refl refl refl
+  runs =
+      λ outer below h. begins_as outer c.args.reader.now.end s.type_end (s.only k.End)
+      (s.identifier ∷ s.only k.Semicolon ∷ []) (below) (here c.args.reader.now c.args.at) refl refl refl
       ∙ c.in_ok-keyword.ensures.runs outer (s.identifier ∷ s.only k.Semicolon ∷ below) (omega arith)
       ∙ c.in_ok-name.ensures.runs outer (s.only k.Semicolon ∷ below) (omega arith)
       ∙ c.in_ok-end.ensures.runs outer (below) (omega arith);
-  reads = marked c.in_ok-keyword.ensures.reads (then c.in_ok-name.ensures.reads (marked c.in_ok-end.ensures.reads nothing));
+  reads =
+      marked c.in_ok-keyword.ensures.reads (then c.in_ok-name.ensures.reads (marked c.in_ok-end.ensures.reads nothing));
 }

@@ -11,8 +11,11 @@ use Rattle.aadl_parse.proofs.declarations.withs.Given as goal
 
 abbrev pub invariant-loop-keyword : goal.invariant-loop-keyword
 invariant-loop-keyword l = record {
-  runs : (outer : ℕ) (below : Stack) → outer + depth below ≤ GREATEST_NESTING → fate outer l.reader.end (s.withs ∷ below) (here l.reader l.at) ≡ fate outer l.reader.end (s.withs ∷ below) (here l.reader l.rest);
-  reads : Reads (flat_map with_parts (map (with_view kept_place) l.found.items)) (here l.reader l.at) (here l.reader l.rest);
+  runs : (outer : ℕ) (below : Stack) → outer + depth below ≤ GREATEST_NESTING
+      → fate outer l.reader.end (s.withs ∷ below) (here l.reader l.at)
+      ≡ fate outer l.reader.end (s.withs ∷ below) (here l.reader l.rest);
+  reads : Reads (flat_map with_parts (map (with_view kept_place) l.found.items)) (here l.reader l.at)
+      (here l.reader l.rest);
 }
 
 abbrev pub decreases-loop-keyword : goal.decreases-loop-keyword

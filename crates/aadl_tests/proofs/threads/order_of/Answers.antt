@@ -5,4 +5,6 @@ use Rattle.aadl_uses.specs.Uses.{IsRecursive}
 use Rattle.aadl_tests.proofs.threads.order_of.Goals as goal
 
 pub order-requires : goal.order-requires
-order-requires c = λ fault. subst (FirstIn (IsRecursive (placed c.args.uses.now.names.tree.now))) c.in-None.is c.in_ok-first_recursive.ensures fault
+order-requires c =
+    λ fault. subst (FirstIn (IsRecursive (placed c.args.uses.now.names.tree.now))) c.in-None.is
+    c.in_ok-first_recursive.ensures fault

@@ -9,5 +9,6 @@ use Rattle.aadl_tree.proofs.spelling.spelled_as.Goals as goal
 pub loop-mark-preserved : goal.loop-mark-preserved
 loop-mark-preserved c =
     c.loop-mark.invariant
-    ∙ find_past (λ m. str_eq_ignore_ascii_case c.args.word.now (mark_text m)) c.args.marks.now c.loop-mark.mark-index k.Package (omega arith)
+    ∙ find_past (λ m. str_eq_ignore_ascii_case c.args.word.now (mark_text m)) c.args.marks.now c.loop-mark.mark-index
+    k.Package (omega arith)
     (unspelled _ _ _ (rw c.text.ensures at c.eq_ignore_ascii_case.ensures.test) c.if-eq_ignore_ascii_case.false)

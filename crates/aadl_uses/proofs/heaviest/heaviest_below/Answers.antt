@@ -7,7 +7,9 @@ use Rattle.aadl_uses.proofs.heaviest.heaviest_below.Goals as goal
 
 pub put-requires : goal.put-requires
 put-requires c =
-    let least = c.requires.sequence.declared c.in-Some.number.now (Contains-from_slice_get c.args.order.now.keys c.loop-at.at c.in-Some.number.now (sym c.in-Some.ensures.key)) in
+    let least =
+    c.requires.sequence.declared c.in-Some.number.now
+    (Contains-from_slice_get c.args.order.now.keys c.loop-at.at c.in-Some.number.now (sym c.in-Some.ensures.key)) in
     omega (arith, least, c.loop-at.invariant.size)
 
 pub loop-at-preserved : goal.loop-at-preserved
@@ -20,11 +22,15 @@ loop-at-preserved c =
       | in-Some w ↦
           subst (λ v. FrontOf right None g keys (at + 1) v.items) (sym w.found-is)
           (subst (FrontOf right None g keys (at + 1)) (sym w.put.ensures)
-          (front_more right None g keys at c.loop-at.found.items c.loop-at.invariant w.in-Some.number.now w.heaviest_of-heaviest.result c.requires.sequence (sym w.in-Some.ensures.key) w.heaviest_of-heaviest.ensures))
+          (front_more right None g keys at c.loop-at.found.items c.loop-at.invariant w.in-Some.number.now
+          w.heaviest_of-heaviest.result c.requires.sequence (sym w.in-Some.ensures.key)
+          w.heaviest_of-heaviest.ensures))
       | in_default w ↦
-          subst (λ v. FrontOf right None g keys (at + 1) v.items) (sym w.found-is) (front_past right None g keys at c.loop-at.found.items c.loop-at.invariant (sym w.in_default.ensures.key))
+          subst (λ v. FrontOf right None g keys (at + 1) v.items) (sym w.found-is)
+          (front_past right None g keys at c.loop-at.found.items c.loop-at.invariant (sym w.in_default.ensures.key))
     ]
 
 pub returns : goal.returns
 returns c =
-    front_all (IsHeaviest c.args.limit c.args.graph.now c.args.marks.now c.args.weights.now) None c.args.graph.now c.args.order.now.keys c.loop-at.at c.loop-at.found.items c.loop-at.invariant c.requires (omega arith)
+    front_all (IsHeaviest c.args.limit c.args.graph.now c.args.marks.now c.args.weights.now) None c.args.graph.now
+    c.args.order.now.keys c.loop-at.at c.loop-at.found.items c.loop-at.invariant c.requires (omega arith)

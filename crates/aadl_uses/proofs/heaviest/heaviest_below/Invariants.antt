@@ -4,4 +4,5 @@ use Rattle.aadl_uses.specs.proof.Weights.{IsHeaviest}
 use Rattle.aadl_uses.proofs.heaviest.heaviest_below.Given as goal
 
 abbrev pub invariant-loop-at : goal.invariant-loop-at
-invariant-loop-at l = FrontOf (IsHeaviest l.limit l.graph l.marks l.weights) None l.graph l.order.keys l.at l.found.items
+invariant-loop-at l =
+    FrontOf (IsHeaviest l.limit l.graph l.marks l.weights) None l.graph l.order.keys l.at l.found.items

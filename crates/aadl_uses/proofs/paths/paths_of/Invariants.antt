@@ -6,4 +6,5 @@ use Rattle.aadl_uses.proofs.paths.paths_of.Given as goal
 
 -- the paths that begin with the subcomponents so far
 abbrev pub invariant-loop-sub : goal.invariant-loop-sub
-invariant-loop-sub l = AreListed (Begun l.graph l.marks l.number l.sub) path_before (map (λ path. path.items) l.row.items)
+invariant-loop-sub l =
+    AreListed (Begun l.graph l.marks l.number l.sub) path_before (map (λ path. path.items) l.row.items)

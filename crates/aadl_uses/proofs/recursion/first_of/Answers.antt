@@ -9,5 +9,7 @@ loop-suspect-preserved c =
     let xs = c.args.suspects.now in
     let i = c.loop-suspect.suspect-index in
     let none : ℕ × ℕ = (0, 0) in
-    first_more (placed c.args.uses.now.names.tree.now) xs i (get_or xs i none) c.loop-suspect.first c.in_ok-first.first c.loop-suspect-test.true
-    (get_or_default xs i (get_or xs i none) none c.loop-suspect-test.true) c.loop-suspect.invariant c.in_ok-first.ensures
+    first_more (placed c.args.uses.now.names.tree.now) xs i (get_or xs i none) c.loop-suspect.first c.in_ok-first.first
+    c.loop-suspect-test.true
+    (get_or_default xs i (get_or xs i none) none c.loop-suspect-test.true) c.loop-suspect.invariant
+    c.in_ok-first.ensures

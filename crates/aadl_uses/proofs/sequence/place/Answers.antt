@@ -19,6 +19,9 @@ returns-else-number-len c =
     let old = c.args.order.now.keys in
     elim c.else-number-len.branch [
       | else-number-len-via-then-number-len+else-are_there w ↦
-          placed_not g n old (λ lt. misses_by g n old (ap (list_all (is_there old)) (sym w.targets.ensures) ∙ (sym w.are_there.ensures ∙ w.if-are_there.false)))
-      | else-number-len-via-else-number-len w ↦ placed_not g n old (λ lt. absurd (omega (arith, lt, w.if-number-len.false, c.len.ensures)))
+          placed_not g n old (λ lt.
+          misses_by g n old (ap (list_all (is_there old)) (sym w.targets.ensures)
+          ∙ (sym w.are_there.ensures ∙ w.if-are_there.false)))
+      | else-number-len-via-else-number-len w ↦
+          placed_not g n old (λ lt. absurd (omega (arith, lt, w.if-number-len.false, c.len.ensures)))
     ]

@@ -16,8 +16,10 @@ loop-sub-preserved c =
     elim c.if-is_suspect.branch [
       | then-is_suspect+in_ok-push w ↦
           subst (λ f. AreSuspected g levels any n (at + 1) old f.items) (sym w.found-is)
-          (suspected_more g levels any n at old so_far c.loop-sub.invariant w.push.new.self.items w.in_ok-push.ensures.items)
+          (suspected_more g levels any n at old so_far c.loop-sub.invariant w.push.new.self.items
+          w.in_ok-push.ensures.items)
       | else-is_suspect w ↦
           subst (λ f. AreSuspected g levels any n (at + 1) old f.items) (sym w.found-is)
-          (suspected_skip g levels any n at old so_far c.loop-sub.invariant (ap (is_suspect levels any n) (sym c.below.ensures) ∙ (sym c.is_suspect.ensures ∙ w.if-is_suspect.false)))
+          (suspected_skip g levels any n at old so_far c.loop-sub.invariant
+          (ap (is_suspect levels any n) (sym c.below.ensures) ∙ (sym c.is_suspect.ensures ∙ w.if-is_suspect.false)))
     ]

@@ -5,4 +5,5 @@ use Rattle.aadl_uses.specs.proof.Suspects.{is_above, level_in}
 use Rattle.aadl_uses.proofs.suspect.rises.Given as goal
 
 abbrev pub invariant-loop-number : goal.invariant-loop-number
-invariant-loop-number l = (n : ℕ) → n < l.number → list_any (is_above l.levels (level_in l.levels n)) (targets_in l.graph n) ≡ false
+invariant-loop-number l =
+    (n : ℕ) → n < l.number → list_any (is_above l.levels (level_in l.levels n)) (targets_in l.graph n) ≡ false

@@ -14,7 +14,8 @@ loop-number-preserved c =
     let old = c.loop-number.found.items in
     let new = c.add_suspects.new.found.items in
     suspects_more g levels any at old new c.loop-number.invariant
-    (subst (λ (l : List ℕ). AreSuspected g l any at (length (targets_in g at)) old new) c.as_slice-in-loop-number.ensures.value c.in_ok-add_suspects.ensures)
+    (subst (λ (l : List ℕ). AreSuspected g l any at (length (targets_in g at)) old new)
+    c.as_slice-in-loop-number.ensures.value c.in_ok-add_suspects.ensures)
 
 pub returns : goal.returns
 returns c =
@@ -22,5 +23,6 @@ returns c =
     let levels = c.in_ok-levels.levels.items in
     let any = c.rises-any.result in
     suspects_all g levels any c.loop-number.number c.loop-number.found.items
-    (subst (λ (l : List ℕ). any ≡ false → (k : ℕ) → k < length g → list_any (is_above l (level_in l k)) (targets_in g k) ≡ false) c.as_slice.ensures.value c.rises-any.ensures)
+    (subst (λ (l : List ℕ). any ≡ false → (k : ℕ) → k < length g
+    → list_any (is_above l (level_in l k)) (targets_in g k) ≡ false) c.as_slice.ensures.value c.rises-any.ensures)
     (omega arith) c.loop-number.invariant

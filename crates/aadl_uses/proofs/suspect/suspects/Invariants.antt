@@ -4,4 +4,6 @@ use Rattle.aadl_uses.specs.proof.Suspects.{is_suspect}
 use Rattle.aadl_uses.proofs.suspect.suspects.Given as goal
 
 abbrev pub invariant-loop-number : goal.invariant-loop-number
-invariant-loop-number l = (n s : ℕ) → n < l.number → is_suspect l.levels.items l.any n (below_in l.graph n s) ≡ true → Contains l.found.items (n, s)
+invariant-loop-number l =
+    (n s : ℕ) → n < l.number → is_suspect l.levels.items l.any n (below_in l.graph n s) ≡ true
+    → Contains l.found.items (n, s)

@@ -6,4 +6,6 @@ use Rattle.aadl_uses.specs.proof.Types.{type_in}
 use Rattle.aadl_uses.proofs.types.types_of.Given as goal
 
 abbrev pub invariant-loop-declaration : goal.invariant-loop-declaration
-invariant-loop-declaration l = l.types ≡ map (type_in (placed l.names.tree.now)) (map (declaration_view kept_place) (take l.declaration-index l.declarations))
+invariant-loop-declaration l =
+    l.types ≡ map (type_in (placed l.names.tree.now))
+    (map (declaration_view kept_place) (take l.declaration-index l.declarations))

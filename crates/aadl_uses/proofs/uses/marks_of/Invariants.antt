@@ -5,4 +5,6 @@ use Rattle.aadl_uses.specs.proof.Threads.{is_thread_declaration}
 use Rattle.aadl_uses.proofs.uses.marks_of.Given as goal
 
 abbrev pub invariant-loop-declaration : goal.invariant-loop-declaration
-invariant-loop-declaration l = l.marks.items ≡ map is_thread_declaration (map (declaration_view kept_place) (take l.declaration-index l.declarations))
+invariant-loop-declaration l =
+    l.marks.items ≡ map is_thread_declaration
+    (map (declaration_view kept_place) (take l.declaration-index l.declarations))

@@ -11,6 +11,7 @@ pub returns-in-Implementation : goal.returns-in-Implementation
 returns-in-Implementation c =
     let tree = placed c.args.names.now.tree.now in
     ok_items (λ v. v.items) c.targets_of_subs.result _ _
-    (ap (λ (l : List _). map (λ sub. referred tree sub.classifier) (map (subcomponent_view kept_place) l)) c.as_slice.ensures.value
+    (ap (λ (l : List _). map (λ sub. referred tree sub.classifier) (map (subcomponent_view kept_place) l))
+    c.as_slice.ensures.value
     ∙ sym (ap (λ d. targets_in tree (declaration_view kept_place d)) c.in-Implementation.is))
     c.targets_of_subs.ensures

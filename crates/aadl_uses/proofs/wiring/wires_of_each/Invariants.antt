@@ -8,5 +8,7 @@ use Rattle.aadl_uses.specs.Wiring.{wire_of}
 use Rattle.aadl_uses.proofs.wiring.wires_of_each.Given as goal
 
 abbrev pub invariant-loop-connection : goal.invariant-loop-connection
-invariant-loop-connection l = (x : Implementation ℕ) → implementation_at (placed l.uses.names.tree.now) l.number ≡ Some x
-    → l.wires ≡ map (wire_of (placed l.uses.names.tree.now) x) (map (connection_view kept_place) (take l.connection-index l.connections))
+invariant-loop-connection l =
+    (x : Implementation ℕ) → implementation_at (placed l.uses.names.tree.now) l.number ≡ Some x
+    → l.wires ≡ map (wire_of (placed l.uses.names.tree.now) x)
+    (map (connection_view kept_place) (take l.connection-index l.connections))

@@ -6,4 +6,6 @@ use Rattle.aadl_uses.specs.proof.Wiring.{wires_in}
 use Rattle.aadl_uses.proofs.wiring.wiring_of.Given as goal
 
 abbrev pub invariant-loop-number : goal.invariant-loop-number
-invariant-loop-number l = l.wiring ≡ map (wires_in (placed l.uses.names.tree.now)) (map (declaration_view kept_place) (take l.number l.declarations))
+invariant-loop-number l =
+    l.wiring ≡ map (wires_in (placed l.uses.names.tree.now))
+    (map (declaration_view kept_place) (take l.number l.declarations))

@@ -8,4 +8,5 @@ use Rattle.analysis_fields.proofs.faults.read_faults.Given as goal
 abbrev pub invariant-loop-item : goal.invariant-loop-item
 invariant-loop-item l =
     let step = with_fault l.names l.replicas in
-    (through step l.faults (map view (drop l.item-index l.items)) ≡ through step [] (map view l.items)) × (l.places.keys ≡ map place_of l.faults)
+    (through step l.faults (map view (drop l.item-index l.items)) ≡ through step [] (map view l.items))
+    × (l.places.keys ≡ map place_of l.faults)

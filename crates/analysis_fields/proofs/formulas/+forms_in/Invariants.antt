@@ -8,4 +8,5 @@ decreases-forms_in l = l.levels
 
 -- the formulas of the parts that were looked at
 abbrev pub invariant-loop-part : goal.invariant-loop-part
-invariant-loop-part l = l.forms ≡ min (1 + sum_by (forms_in (l.levels - 1)) (map view (take l.part-index l.parts))) (2 ^ 64 - 1)
+invariant-loop-part l =
+    l.forms ≡ min (1 + sum_by (forms_in (l.levels - 1)) (map view (take l.part-index l.parts))) (2 ^ 64 - 1)

@@ -9,4 +9,6 @@ decreases-is_shallow l = l.levels
 
 -- the parts that were looked at are shallow
 abbrev pub invariant-loop-part : goal.invariant-loop-part
-invariant-loop-part l = list_all (is_shallow (l.levels - 1)) (map view (drop l.part-index l.parts)) ≡ list_all (is_shallow (l.levels - 1)) (map view l.parts)
+invariant-loop-part l =
+    list_all (is_shallow (l.levels - 1)) (map view (drop l.part-index l.parts))
+    ≡ list_all (is_shallow (l.levels - 1)) (map view l.parts)

@@ -5,4 +5,5 @@ use Rattle.analysis_fields.specs.Processors.{is_text}
 use Rattle.analysis_fields.proofs.processors.are_texts.Given as goal
 
 abbrev pub invariant-loop-value : goal.invariant-loop-value
-invariant-loop-value l = list_all is_text (map view (drop l.value-index l.values)) ≡ list_all is_text (map view l.values)
+invariant-loop-value l =
+    list_all is_text (map view (drop l.value-index l.values)) ≡ list_all is_text (map view l.values)

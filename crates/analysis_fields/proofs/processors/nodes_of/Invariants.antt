@@ -6,5 +6,6 @@ use Rattle.analysis_fields.proofs.processors.nodes_of.Given as goal
 -- the components so far, and those among the owners that are left
 abbrev pub invariant-loop-node : goal.invariant-loop-node
 invariant-loop-node l =
-    l.nodes ++ map (λ numbered. node_no numbered.0) (filter (λ numbered. nat_eq numbered.1 l.number) (enumerate_from l.node (drop l.node l.owners)))
+    l.nodes ++ map (λ numbered. node_no numbered.0)
+    (filter (λ numbered. nat_eq numbered.1 l.number) (enumerate_from l.node (drop l.node l.owners)))
     ≡ map (λ numbered. node_no numbered.0) (filter (λ numbered. nat_eq numbered.1 l.number) (enumerate_from 0 l.owners))

@@ -8,4 +8,5 @@ use Rattle.analysis_fields.proofs.processors.place_all.Given as goal
 abbrev pub invariant-loop-name : goal.invariant-loop-name
 invariant-loop-name l =
     let step = with_processor l.names in
-    (through step (l.owners, l.processors) (map entry_of l.name-iterator) ≡ through step (l.initial.owners, []) (map entry_of l.initial.name-iterator))
+    (through step (l.owners, l.processors) (map entry_of l.name-iterator)
+    ≡ through step (l.initial.owners, []) (map entry_of l.initial.name-iterator))

@@ -14,7 +14,8 @@ abbrev pub invariant-resolve_actions-loop-action : goal.invariant-resolve_action
 invariant-resolve_actions-loop-action l =
     let first = action_view kept_place (out-Actions l.actions).first in
     let xs = mores_view kept_place (take l.action-index l.action-items) in
-    ReadsActions (Do (action_of l.scope first) (mores_of l.scope xs)) (action_findings l.scope l.around first ++ mores_findings l.scope l.around xs) l.acts.items l.fn.found l.found
+    ReadsActions (Do (action_of l.scope first) (mores_of l.scope xs))
+    (action_findings l.scope l.around first ++ mores_findings l.scope l.around xs) l.acts.items l.fn.found l.found
 
 -- and so of branches
 abbrev pub invariant-resolve_choice-loop-elsif : goal.invariant-resolve_choice-loop-elsif
@@ -22,5 +23,6 @@ invariant-resolve_choice-loop-elsif l =
     let e = expression_view kept_place (out-Choice l.choice).test in
     let a = actions_view kept_place (out-Choice l.choice).actions in
     let xs = elsifs_view kept_place (take l.elsif-index l.elsif-items) in
-    ReadsBranches (Where (expression_of l.scope e) (actions_of l.scope a) (elsifs_of l.scope xs)) (branch_findings l.scope l.around e a ++ elsifs_findings l.scope l.around xs)
+    ReadsBranches (Where (expression_of l.scope e) (actions_of l.scope a) (elsifs_of l.scope xs))
+    (branch_findings l.scope l.around e a ++ elsifs_findings l.scope l.around xs)
     l.branches.items l.fn.found l.found

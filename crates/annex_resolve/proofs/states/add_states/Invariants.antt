@@ -6,4 +6,8 @@ use Rattle.annex_resolve.specs.Behaviours.{state_at}
 use Rattle.annex_resolve.proofs.states.add_states.Given as goal
 
 abbrev pub invariant-loop-name : goal.invariant-loop-name
-invariant-loop-name l = l.states ≡ l.fn.states ++ state_at (state_view kept_place l.declaration) (identifier_view kept_place l.declaration.names.first) ∷ map (state_at (state_view kept_place l.declaration)) (map (identifier_view kept_place) (take l.name-index l.name-items))
+invariant-loop-name l =
+    l.states ≡ l.fn.states ++ state_at (state_view kept_place l.declaration)
+    (identifier_view kept_place l.declaration.names.first)
+    ∷ map (state_at (state_view kept_place l.declaration))
+    (map (identifier_view kept_place) (take l.name-index l.name-items))

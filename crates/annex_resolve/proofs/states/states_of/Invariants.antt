@@ -6,4 +6,5 @@ use Rattle.annex_resolve.specs.Behaviours.{states_in}
 use Rattle.annex_resolve.proofs.states.states_of.Given as goal
 
 abbrev pub invariant-loop-declaration : goal.invariant-loop-declaration
-invariant-loop-declaration l = l.states ≡ flat_map states_in (map (state_view kept_place) (take l.declaration-index l.declaration-items))
+invariant-loop-declaration l =
+    l.states ≡ flat_map states_in (map (state_view kept_place) (take l.declaration-index l.declaration-items))

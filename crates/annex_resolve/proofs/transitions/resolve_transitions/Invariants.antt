@@ -6,5 +6,8 @@ use Rattle.annex_resolve.specs.Behaviours.{edge_of, transition_findings}
 use Rattle.annex_resolve.proofs.transitions.resolve_transitions.Given as goal
 
 abbrev pub invariant-loop-transition : goal.invariant-loop-transition
-invariant-loop-transition l = (l.edges ≡ map (edge_of l.scope l.states) (map (transition_view kept_place) (take l.transition-index l.transitions)))
-    × (l.found ≡ l.fn.found ++ flat_map (transition_findings l.scope) (map (transition_view kept_place) (take l.transition-index l.transitions)))
+invariant-loop-transition l =
+    (l.edges ≡ map (edge_of l.scope l.states)
+    (map (transition_view kept_place) (take l.transition-index l.transitions)))
+    × (l.found ≡ l.fn.found ++ flat_map (transition_findings l.scope)
+    (map (transition_view kept_place) (take l.transition-index l.transitions)))

@@ -5,4 +5,5 @@ use Rattle.annex_resolve.specs.Behaviours.{leg_of}
 use Rattle.annex_resolve.proofs.ways.legs_of.Given as goal
 
 abbrev pub invariant-loop-transition : goal.invariant-loop-transition
-invariant-loop-transition l = l.legs ≡ map (leg_of l.states) (map (transition_view kept_place) (take l.transition-index l.transitions))
+invariant-loop-transition l =
+    l.legs ≡ map (leg_of l.states) (map (transition_view kept_place) (take l.transition-index l.transitions))

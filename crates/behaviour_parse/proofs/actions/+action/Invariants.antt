@@ -31,7 +31,9 @@ decreases-choice l = 8 * l.room + 5
 
 abbrev pub invariant-elsifs-loop-behind : goal.invariant-elsifs-loop-behind
 invariant-elsifs-loop-behind l = record {
-  runs : (outer : ℕ) (below : Stack) → outer + depth below + l.room ≡ GREATEST_NESTING → fate outer l.reader.end (s.elsifs ∷ below) (here l.reader l.at) ≡ fate outer l.reader.end (s.elsifs ∷ below) (here l.reader l.rest);
+  runs : (outer : ℕ) (below : Stack) → outer + depth below + l.room ≡ GREATEST_NESTING
+      → fate outer l.reader.end (s.elsifs ∷ below) (here l.reader l.at)
+      ≡ fate outer l.reader.end (s.elsifs ∷ below) (here l.reader l.rest);
   reads : Reads (elsifs_parts (elsifs_view kept_place l.found.items)) (here l.reader l.at) (here l.reader l.rest);
 }
 
@@ -40,8 +42,11 @@ decreases-elsifs-loop-behind l = length (here l.reader l.rest)
 
 abbrev pub invariant-actions-loop-behind : goal.invariant-actions-loop-behind
 invariant-actions-loop-behind l = record {
-  runs : (outer : ℕ) (below : Stack) → outer + depth below + l.room ≡ GREATEST_NESTING → fate outer l.reader.end (s.actions ∷ below) (here l.reader l.at) ≡ fate outer l.reader.end (s.mores ∷ below) (here l.reader l.rest);
-  reads : Reads (action_parts (action_view kept_place l.first) ++ mores_parts (mores_view kept_place l.others.items)) (here l.reader l.at) (here l.reader l.rest);
+  runs : (outer : ℕ) (below : Stack) → outer + depth below + l.room ≡ GREATEST_NESTING
+      → fate outer l.reader.end (s.actions ∷ below) (here l.reader l.at)
+      ≡ fate outer l.reader.end (s.mores ∷ below) (here l.reader l.rest);
+  reads : Reads (action_parts (action_view kept_place l.first) ++ mores_parts (mores_view kept_place l.others.items))
+      (here l.reader l.at) (here l.reader l.rest);
 }
 
 abbrev pub decreases-actions-loop-behind : goal.decreases-actions-loop-behind

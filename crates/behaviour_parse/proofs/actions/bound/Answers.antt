@@ -13,11 +13,23 @@ use Rattle.behaviour_parse.proofs.actions.bound.Goals as goal
 
 pub returns-in-Some : goal.returns-in-Some
 unfolding move depth
-returns-in-Some c = let f : SFits w64 c.in-Some.value = search rules in let e : to_z w64 (of_z w64 c.in-Some.value) ≡ c.in-Some.value = grind (arith, to_z-of_z) in record {
-  runs = λ outer below h. bound_runs c.has-negative.result.0 outer c.args.reader.now.end below (here c.args.reader.now c.args.at) (omega arith) c.has-negative.ensures c.in-Some.ensures;
-  reads = then (flagged k.Minus c.has-negative.result.0 c.has-negative.ensures) (respelled (ap (λ z. token (whole z) [] ∷ []) (sym e)) (told c.in-Some.ensures nothing));
-}
+returns-in-Some c = let f : SFits w64 c.in-Some.value = search rules in
+    let e : to_z w64 (of_z w64 c.in-Some.value) ≡ c.in-Some.value = grind (arith, to_z-of_z) in record {
+      runs =
+          λ outer below h. bound_runs c.has-negative.result.0 outer c.args.reader.now.end below
+          (here c.args.reader.now c.args.at) (omega arith) c.has-negative.ensures c.in-Some.ensures;
+      reads =
+          then (flagged k.Minus c.has-negative.result.0 c.has-negative.ensures)
+          (respelled (ap (λ z. token (whole z) [] ∷ []) (sym e)) (told c.in-Some.ensures nothing));
+    }
 
 pub returns-in-None : goal.returns-in-None
 unfolding move depth
-returns-in-None c = record { runs = λ outer below h. bound_refuses c.has-negative.result.0 outer c.args.reader.now.end below (here c.args.reader.now c.args.at) (here c.args.reader.now c.has-negative.result.1) (omega arith) c.has-negative.ensures c.in-None.ensures ∙ ap syntax_at (sym c.place.ensures); reads = tt }
+returns-in-None c =
+    record {
+      runs = λ outer below h.
+          bound_refuses c.has-negative.result.0 outer c.args.reader.now.end below (here c.args.reader.now c.args.at)
+          (here c.args.reader.now c.has-negative.result.1) (omega arith) c.has-negative.ensures c.in-None.ensures
+          ∙ ap syntax_at (sym c.place.ensures);
+      reads = tt;
+    }

@@ -12,7 +12,9 @@ use Rattle.behaviour_parse.proofs.actions.plain_action.Goals as goal
 pub returns-in_default : goal.returns-in_default
 unfolding move depth
 returns-in_default c = record {
-  runs = λ outer below h. refuses_unless outer c.args.reader.now.end s.action (below) (here c.args.reader.now c.args.at) refl (rw c.in_default.is at c.in_ok-target.ensures.ok, c.requires)
+  runs =
+      λ outer below h. refuses_unless outer c.args.reader.now.end s.action (below) (here c.args.reader.now c.args.at)
+      refl (rw c.in_default.is at c.in_ok-target.ensures.ok, c.requires)
       ∙ ap syntax_at (sym c.place.ensures);
   reads = tt;
 }
@@ -20,25 +22,37 @@ returns-in_default c = record {
 pub returns-in_err-value : goal.returns-in_err-value
 unfolding move depth
 returns-in_err-value c = record {
-  runs = λ outer below h. exits _ _ _ _ _ _ _ c.from_residual-in_err-value.ensures.1 (along _ _ _ (takes_row outer c.args.reader.now.end s.action (below) (a_word_at (rw c.in-Some.is at c.in_ok-target.ensures.ok)) refl (omega arith)
-      ∙ takes_row outer c.args.reader.now.end s.after_target (below) c.in-Some-take.ensures refl (omega arith)) (c.in_err-value.ensures.runs outer (below) (omega arith)));
+  runs =
+      λ outer below h. exits _ _ _ _ _ _ _ c.from_residual-in_err-value.ensures.1
+      (along _ _ _ (takes_row outer c.args.reader.now.end s.action (below)
+      (a_word_at (rw c.in-Some.is at c.in_ok-target.ensures.ok)) refl (omega arith)
+      ∙ takes_row outer c.args.reader.now.end s.after_target (below) c.in-Some-take.ensures refl (omega arith))
+      (c.in_err-value.ensures.runs outer (below) (omega arith)));
   reads = no_reads _ _ _ c.from_residual-in_err-value.ensures.1;
 }
 
 pub returns-in-Some-take : goal.returns-in-Some-take
 unfolding move depth
 returns-in-Some-take c = record {
-  runs = λ outer below h. takes_row outer c.args.reader.now.end s.action (below) (a_word_at (rw c.in-Some.is at c.in_ok-target.ensures.ok)) refl (omega arith)
+  runs =
+      λ outer below h. takes_row outer c.args.reader.now.end s.action (below)
+      (a_word_at (rw c.in-Some.is at c.in_ok-target.ensures.ok)) refl (omega arith)
       ∙ takes_row outer c.args.reader.now.end s.after_target (below) c.in-Some-take.ensures refl (omega arith)
       ∙ c.in_ok-value.ensures.runs outer (below) (omega arith);
-  reads = respelled (ap action_parts (sym (view-Assign kept_place c.in-Some.target c.in_ok-value.value))) (then (named (rw c.in-Some.is at c.in_ok-target.ensures.ok)) (marked c.in-Some-take.ensures c.in_ok-value.ensures.reads));
+  reads =
+      respelled (ap action_parts (sym (view-Assign kept_place c.in-Some.target c.in_ok-value.value)))
+      (then (named (rw c.in-Some.is at c.in_ok-target.ensures.ok))
+      (marked c.in-Some-take.ensures c.in_ok-value.ensures.reads));
 }
 
 pub returns-in_default-take-2 : goal.returns-in_default-take-2
 unfolding move depth
 returns-in_default-take-2 c = record {
-  runs = λ outer below h. takes_row outer c.args.reader.now.end s.action (below) (a_word_at (rw c.in-Some.is at c.in_ok-target.ensures.ok)) refl (omega arith)
-      ∙ refuses_unless outer c.args.reader.now.end s.after_target (below) (here c.args.reader.now c.in-Some.next) refl (c.in_default-take.ensures, (c.in_default-take-2.ensures, tt))
+  runs =
+      λ outer below h. takes_row outer c.args.reader.now.end s.action (below)
+      (a_word_at (rw c.in-Some.is at c.in_ok-target.ensures.ok)) refl (omega arith)
+      ∙ refuses_unless outer c.args.reader.now.end s.after_target (below) (here c.args.reader.now c.in-Some.next) refl
+      (c.in_default-take.ensures, (c.in_default-take-2.ensures, tt))
       ∙ ap syntax_at (sym c.place-in_default-take-2.ensures);
   reads = tt;
 }
@@ -46,16 +60,25 @@ returns-in_default-take-2 c = record {
 pub returns-in_err-value-2 : goal.returns-in_err-value-2
 unfolding move depth
 returns-in_err-value-2 c = record {
-  runs = λ outer below h. exits _ _ _ _ _ _ _ c.from_residual-in_err-value-2.ensures.1 (along _ _ _ (takes_row outer c.args.reader.now.end s.action (below) (a_word_at (rw c.in-Some.is at c.in_ok-target.ensures.ok)) refl (omega arith)
-      ∙ takes_row outer c.args.reader.now.end s.after_target (below) c.in-Some-take-2.ensures refl (omega arith)) (c.in_err-value-2.ensures.runs outer (below) (omega arith)));
+  runs =
+      λ outer below h. exits _ _ _ _ _ _ _ c.from_residual-in_err-value-2.ensures.1
+      (along _ _ _ (takes_row outer c.args.reader.now.end s.action (below)
+      (a_word_at (rw c.in-Some.is at c.in_ok-target.ensures.ok)) refl (omega arith)
+      ∙ takes_row outer c.args.reader.now.end s.after_target (below) c.in-Some-take-2.ensures refl (omega arith))
+      (c.in_err-value-2.ensures.runs outer (below) (omega arith)));
   reads = no_reads _ _ _ c.from_residual-in_err-value-2.ensures.1;
 }
 
 pub returns : goal.returns
 unfolding move depth
 returns c = record {
-  runs = λ outer below h. takes_row outer c.args.reader.now.end s.action (below) (a_word_at (rw c.in-Some.is at c.in_ok-target.ensures.ok)) refl (omega arith)
+  runs =
+      λ outer below h. takes_row outer c.args.reader.now.end s.action (below)
+      (a_word_at (rw c.in-Some.is at c.in_ok-target.ensures.ok)) refl (omega arith)
       ∙ takes_row outer c.args.reader.now.end s.after_target (below) c.in-Some-take-2.ensures refl (omega arith)
       ∙ c.in_ok-value-2.ensures.runs outer (below) (omega arith);
-  reads = respelled (ap action_parts (sym (view-Send kept_place c.in-Some.target c.in_ok-value-2.value))) (then (named (rw c.in-Some.is at c.in_ok-target.ensures.ok)) (marked c.in-Some-take-2.ensures c.in_ok-value-2.ensures.reads));
+  reads =
+      respelled (ap action_parts (sym (view-Send kept_place c.in-Some.target c.in_ok-value-2.value)))
+      (then (named (rw c.in-Some.is at c.in_ok-target.ensures.ok))
+      (marked c.in-Some-take-2.ensures c.in_ok-value-2.ensures.reads));
 }

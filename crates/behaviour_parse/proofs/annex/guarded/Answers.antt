@@ -9,7 +9,9 @@ use Rattle.behaviour_parse.proofs.annex.guarded.Goals as goal
 pub returns-in_default : goal.returns-in_default
 unfolding move depth
 returns-in_default c = record {
-  runs = λ outer below h. refuses_unless outer c.args.reader.now.end s.guarded (below) (here c.args.reader.now c.args.at) refl (c.in_default.ensures, tt)
+  runs =
+      λ outer below h. refuses_unless outer c.args.reader.now.end s.guarded (below) (here c.args.reader.now c.args.at)
+      refl (c.in_default.ensures, tt)
       ∙ ap syntax_at (sym c.place.ensures);
   reads = tt;
 }
@@ -17,21 +19,31 @@ returns-in_default c = record {
 pub returns-in_err-inner : goal.returns-in_err-inner
 unfolding move depth
 returns-in_err-inner c = record {
-  runs = λ outer below h. exits _ _ _ _ _ _ _ c.from_residual.ensures.1 (too_deep _ _ _ c.in_err-inner.ensures.1 (deep_row outer c.args.reader.now.end s.guarded (below) c.in-Some.ensures refl (omega (arith, c.in_err-inner.ensures.0))));
+  runs =
+      λ outer below h. exits _ _ _ _ _ _ _ c.from_residual.ensures.1
+      (too_deep _ _ _ c.in_err-inner.ensures.1
+      (deep_row outer c.args.reader.now.end s.guarded (below) c.in-Some.ensures refl
+      (omega (arith, c.in_err-inner.ensures.0))));
   reads = no_reads _ _ _ c.from_residual.ensures.1;
 }
 
 pub returns-in_err-found : goal.returns-in_err-found
 unfolding move depth
 returns-in_err-found c = record {
-  runs = λ outer below h. exits _ _ _ _ _ _ _ c.from_residual-in_err-found.ensures.1 (along _ _ _ (takes_row outer c.args.reader.now.end s.guarded (below) c.in-Some.ensures refl (omega (arith, c.in_ok-inner.ensures))) (c.in_err-found.ensures.runs outer (below) (omega (arith, c.in_ok-inner.ensures))));
+  runs =
+      λ outer below h. exits _ _ _ _ _ _ _ c.from_residual-in_err-found.ensures.1
+      (along _ _ _ (takes_row outer c.args.reader.now.end s.guarded (below) c.in-Some.ensures refl
+      (omega (arith, c.in_ok-inner.ensures)))
+      (c.in_err-found.ensures.runs outer (below) (omega (arith, c.in_ok-inner.ensures))));
   reads = no_reads _ _ _ c.from_residual-in_err-found.ensures.1;
 }
 
 pub returns : goal.returns
 unfolding move depth
 returns c = record {
-  runs = λ outer below h. takes_row outer c.args.reader.now.end s.guarded (below) c.in-Some.ensures refl (omega (arith, c.in_ok-inner.ensures))
+  runs =
+      λ outer below h. takes_row outer c.args.reader.now.end s.guarded (below) c.in-Some.ensures refl
+      (omega (arith, c.in_ok-inner.ensures))
       ∙ c.in_ok-found.ensures.runs outer (below) (omega (arith, c.in_ok-inner.ensures));
   reads = marked c.in-Some.ensures c.in_ok-found.ensures.reads;
 }

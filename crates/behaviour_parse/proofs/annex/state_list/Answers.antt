@@ -14,8 +14,12 @@ use Rattle.behaviour_parse.proofs.annex.state_list.Goals as goal
 pub returns-in_err-next : goal.returns-in_err-next
 unfolding move depth
 returns-in_err-next c = record {
-  runs = λ outer below h. exits _ _ _ _ _ _ _ c.from_residual.ensures.1 (along _ _ _ (c.loop-found.invariant.runs outer below (omega arith)
-      ∙ enters_as outer c.args.reader.now.end s.state_list s.state (s.state_list ∷ []) (below) refl refl (starts_at (rw c.loop-found-test.true at c.is_word.ensures)) refl) (c.in_err-next.ensures.runs outer (s.state_list ∷ below) (omega arith)));
+  runs =
+      λ outer below h. exits _ _ _ _ _ _ _ c.from_residual.ensures.1
+      (along _ _ _ (c.loop-found.invariant.runs outer below (omega arith)
+      ∙ enters_as outer c.args.reader.now.end s.state_list s.state (s.state_list ∷ []) (below) refl refl
+      (starts_at (rw c.loop-found-test.true at c.is_word.ensures)) refl)
+      (c.in_err-next.ensures.runs outer (s.state_list ∷ below) (omega arith)));
   reads = no_reads _ _ _ c.from_residual.ensures.1;
 }
 
@@ -23,9 +27,12 @@ pub loop-found-preserved : goal.loop-found-preserved
 unfolding move depth
 loop-found-preserved c = record {
   runs = λ outer below h. c.loop-found.invariant.runs outer below (omega arith)
-      ∙ enters_as outer c.args.reader.now.end s.state_list s.state (s.state_list ∷ []) (below) refl refl (starts_at (rw c.loop-found-test.true at c.is_word.ensures)) refl
+      ∙ enters_as outer c.args.reader.now.end s.state_list s.state (s.state_list ∷ []) (below) refl refl
+      (starts_at (rw c.loop-found-test.true at c.is_word.ensures)) refl
       ∙ c.in_ok-next.ensures.runs outer (s.state_list ∷ below) (omega arith);
-  reads = pushed state_parts (state_view kept_place) c.loop-found.found.items c.push.new.self.items c.in_ok-next.next c.in_ok-push.ensures.items c.loop-found.invariant.reads c.in_ok-next.ensures.reads;
+  reads =
+      pushed state_parts (state_view kept_place) c.loop-found.found.items c.push.new.self.items c.in_ok-next.next
+      c.in_ok-push.ensures.items c.loop-found.invariant.reads c.in_ok-next.ensures.reads;
 }
 
 pub loop-found-smaller : goal.loop-found-smaller
@@ -36,6 +43,7 @@ pub returns : goal.returns
 unfolding move depth
 returns c = record {
   runs = λ outer below h. c.loop-found.invariant.runs outer below (omega arith)
-      ∙ omits_unless outer c.args.reader.now.end s.state_list (below) (here c.args.reader.now c.loop-found.rest) refl (rw c.loop-found-test.false at c.is_word.ensures, tt);
+      ∙ omits_unless outer c.args.reader.now.end s.state_list (below) (here c.args.reader.now c.loop-found.rest) refl
+      (rw c.loop-found-test.false at c.is_word.ensures, tt);
   reads = c.loop-found.invariant.reads;
 }

@@ -10,56 +10,94 @@ use Rattle.behaviour_parse.proofs.annex.variable.Goals as goal
 pub returns-in_err-names : goal.returns-in_err-names
 unfolding move depth
 returns-in_err-names c = record {
-  runs = λ outer below h. exits _ _ _ _ _ _ _ c.from_residual.ensures.1 (along _ _ _ (begins_as outer c.args.reader.now.end s.variable s.identifier (s.more_identifiers ∷ s.only k.Colon ∷ s.reference ∷ s.properties ∷ s.only k.Semicolon ∷ []) (below) (here c.args.reader.now c.args.at) refl refl refl) (c.in_err-names.ensures.runs outer (s.only k.Colon ∷ s.reference ∷ s.properties ∷ s.only k.Semicolon ∷ below) (omega arith)));
+  runs =
+      λ outer below h. exits _ _ _ _ _ _ _ c.from_residual.ensures.1
+      (along _ _ _ (begins_as outer c.args.reader.now.end s.variable s.identifier
+      (s.more_identifiers ∷ s.only k.Colon ∷ s.reference ∷ s.properties ∷ s.only k.Semicolon ∷ []) (below)
+      (here c.args.reader.now c.args.at) refl refl refl)
+      (c.in_err-names.ensures.runs outer
+      (s.only k.Colon ∷ s.reference ∷ s.properties ∷ s.only k.Semicolon ∷ below) (omega arith)));
   reads = no_reads _ _ _ c.from_residual.ensures.1;
 }
 
 pub returns-in_err-colon : goal.returns-in_err-colon
 unfolding move depth
 returns-in_err-colon c = record {
-  runs = λ outer below h. exits _ _ _ _ _ _ _ c.from_residual-in_err-colon.ensures.1 (along _ _ _ (begins_as outer c.args.reader.now.end s.variable s.identifier (s.more_identifiers ∷ s.only k.Colon ∷ s.reference ∷ s.properties ∷ s.only k.Semicolon ∷ []) (below) (here c.args.reader.now c.args.at) refl refl refl
-      ∙ c.in_ok-names.ensures.runs outer (s.only k.Colon ∷ s.reference ∷ s.properties ∷ s.only k.Semicolon ∷ below) (omega arith)) (c.in_err-colon.ensures.runs outer (s.reference ∷ s.properties ∷ s.only k.Semicolon ∷ below) (omega arith)));
+  runs =
+      λ outer below h. exits _ _ _ _ _ _ _ c.from_residual-in_err-colon.ensures.1
+      (along _ _ _ (begins_as outer c.args.reader.now.end s.variable s.identifier
+      (s.more_identifiers ∷ s.only k.Colon ∷ s.reference ∷ s.properties ∷ s.only k.Semicolon ∷ []) (below)
+      (here c.args.reader.now c.args.at) refl refl refl
+      ∙ c.in_ok-names.ensures.runs outer (s.only k.Colon ∷ s.reference ∷ s.properties ∷ s.only k.Semicolon ∷ below)
+      (omega arith)) (c.in_err-colon.ensures.runs outer (s.reference ∷ s.properties ∷ s.only k.Semicolon ∷ below)
+      (omega arith)));
   reads = no_reads _ _ _ c.from_residual-in_err-colon.ensures.1;
 }
 
 pub returns-in_err-data_type : goal.returns-in_err-data_type
 unfolding move depth
 returns-in_err-data_type c = record {
-  runs = λ outer below h. exits _ _ _ _ _ _ _ c.from_residual-in_err-data_type.ensures.1 (along _ _ _ (begins_as outer c.args.reader.now.end s.variable s.identifier (s.more_identifiers ∷ s.only k.Colon ∷ s.reference ∷ s.properties ∷ s.only k.Semicolon ∷ []) (below) (here c.args.reader.now c.args.at) refl refl refl
-      ∙ c.in_ok-names.ensures.runs outer (s.only k.Colon ∷ s.reference ∷ s.properties ∷ s.only k.Semicolon ∷ below) (omega arith)
-      ∙ c.in_ok-colon.ensures.runs outer (s.reference ∷ s.properties ∷ s.only k.Semicolon ∷ below) (omega arith)) (c.in_err-data_type.ensures.runs outer (s.properties ∷ s.only k.Semicolon ∷ below) (omega arith)));
+  runs =
+      λ outer below h. exits _ _ _ _ _ _ _ c.from_residual-in_err-data_type.ensures.1
+      (along _ _ _ (begins_as outer c.args.reader.now.end s.variable s.identifier
+      (s.more_identifiers ∷ s.only k.Colon ∷ s.reference ∷ s.properties ∷ s.only k.Semicolon ∷ []) (below)
+      (here c.args.reader.now c.args.at) refl refl refl
+      ∙ c.in_ok-names.ensures.runs outer (s.only k.Colon ∷ s.reference ∷ s.properties ∷ s.only k.Semicolon ∷ below)
+      (omega arith)
+      ∙ c.in_ok-colon.ensures.runs outer (s.reference ∷ s.properties ∷ s.only k.Semicolon ∷ below) (omega arith))
+      (c.in_err-data_type.ensures.runs outer (s.properties ∷ s.only k.Semicolon ∷ below) (omega arith)));
   reads = no_reads _ _ _ c.from_residual-in_err-data_type.ensures.1;
 }
 
 pub returns-in_err-properties : goal.returns-in_err-properties
 unfolding move depth
 returns-in_err-properties c = record {
-  runs = λ outer below h. exits _ _ _ _ _ _ _ c.from_residual-in_err-properties.ensures.1 (along _ _ _ (begins_as outer c.args.reader.now.end s.variable s.identifier (s.more_identifiers ∷ s.only k.Colon ∷ s.reference ∷ s.properties ∷ s.only k.Semicolon ∷ []) (below) (here c.args.reader.now c.args.at) refl refl refl
-      ∙ c.in_ok-names.ensures.runs outer (s.only k.Colon ∷ s.reference ∷ s.properties ∷ s.only k.Semicolon ∷ below) (omega arith)
+  runs =
+      λ outer below h. exits _ _ _ _ _ _ _ c.from_residual-in_err-properties.ensures.1
+      (along _ _ _ (begins_as outer c.args.reader.now.end s.variable s.identifier
+      (s.more_identifiers ∷ s.only k.Colon ∷ s.reference ∷ s.properties ∷ s.only k.Semicolon ∷ []) (below)
+      (here c.args.reader.now c.args.at) refl refl refl
+      ∙ c.in_ok-names.ensures.runs outer (s.only k.Colon ∷ s.reference ∷ s.properties ∷ s.only k.Semicolon ∷ below)
+      (omega arith)
       ∙ c.in_ok-colon.ensures.runs outer (s.reference ∷ s.properties ∷ s.only k.Semicolon ∷ below) (omega arith)
-      ∙ c.in_ok-data_type.ensures.runs outer (s.properties ∷ s.only k.Semicolon ∷ below) (omega arith)) (c.in_err-properties.ensures.runs outer (s.only k.Semicolon ∷ below) (omega arith)));
+      ∙ c.in_ok-data_type.ensures.runs outer (s.properties ∷ s.only k.Semicolon ∷ below) (omega arith))
+      (c.in_err-properties.ensures.runs outer (s.only k.Semicolon ∷ below) (omega arith)));
   reads = no_reads _ _ _ c.from_residual-in_err-properties.ensures.1;
 }
 
 pub returns-in_err-end : goal.returns-in_err-end
 unfolding move depth
 returns-in_err-end c = record {
-  runs = λ outer below h. exits _ _ _ _ _ _ _ c.from_residual-in_err-end.ensures.1 (along _ _ _ (begins_as outer c.args.reader.now.end s.variable s.identifier (s.more_identifiers ∷ s.only k.Colon ∷ s.reference ∷ s.properties ∷ s.only k.Semicolon ∷ []) (below) (here c.args.reader.now c.args.at) refl refl refl
-      ∙ c.in_ok-names.ensures.runs outer (s.only k.Colon ∷ s.reference ∷ s.properties ∷ s.only k.Semicolon ∷ below) (omega arith)
+  runs =
+      λ outer below h. exits _ _ _ _ _ _ _ c.from_residual-in_err-end.ensures.1
+      (along _ _ _ (begins_as outer c.args.reader.now.end s.variable s.identifier
+      (s.more_identifiers ∷ s.only k.Colon ∷ s.reference ∷ s.properties ∷ s.only k.Semicolon ∷ []) (below)
+      (here c.args.reader.now c.args.at) refl refl refl
+      ∙ c.in_ok-names.ensures.runs outer (s.only k.Colon ∷ s.reference ∷ s.properties ∷ s.only k.Semicolon ∷ below)
+      (omega arith)
       ∙ c.in_ok-colon.ensures.runs outer (s.reference ∷ s.properties ∷ s.only k.Semicolon ∷ below) (omega arith)
       ∙ c.in_ok-data_type.ensures.runs outer (s.properties ∷ s.only k.Semicolon ∷ below) (omega arith)
-      ∙ c.in_ok-properties.ensures.runs outer (s.only k.Semicolon ∷ below) (omega arith)) (c.in_err-end.ensures.runs outer (below) (omega arith)));
+      ∙ c.in_ok-properties.ensures.runs outer (s.only k.Semicolon ∷ below) (omega arith))
+      (c.in_err-end.ensures.runs outer (below) (omega arith)));
   reads = no_reads _ _ _ c.from_residual-in_err-end.ensures.1;
 }
 
 pub returns : goal.returns
 unfolding move depth
 returns c = record {
-  runs = λ outer below h. begins_as outer c.args.reader.now.end s.variable s.identifier (s.more_identifiers ∷ s.only k.Colon ∷ s.reference ∷ s.properties ∷ s.only k.Semicolon ∷ []) (below) (here c.args.reader.now c.args.at) refl refl refl
-      ∙ c.in_ok-names.ensures.runs outer (s.only k.Colon ∷ s.reference ∷ s.properties ∷ s.only k.Semicolon ∷ below) (omega arith)
+  runs =
+      λ outer below h. begins_as outer c.args.reader.now.end s.variable s.identifier
+      (s.more_identifiers ∷ s.only k.Colon ∷ s.reference ∷ s.properties ∷ s.only k.Semicolon ∷ []) (below)
+      (here c.args.reader.now c.args.at) refl refl refl
+      ∙ c.in_ok-names.ensures.runs outer (s.only k.Colon ∷ s.reference ∷ s.properties ∷ s.only k.Semicolon ∷ below)
+      (omega arith)
       ∙ c.in_ok-colon.ensures.runs outer (s.reference ∷ s.properties ∷ s.only k.Semicolon ∷ below) (omega arith)
       ∙ c.in_ok-data_type.ensures.runs outer (s.properties ∷ s.only k.Semicolon ∷ below) (omega arith)
       ∙ c.in_ok-properties.ensures.runs outer (s.only k.Semicolon ∷ below) (omega arith)
       ∙ c.in_ok-end.ensures.runs outer (below) (omega arith);
-  reads = then c.in_ok-names.ensures.reads (marked c.in_ok-colon.ensures.reads (then c.in_ok-data_type.ensures.reads (then c.in_ok-properties.ensures.reads (marked c.in_ok-end.ensures.reads nothing))));
+  reads =
+      then c.in_ok-names.ensures.reads
+      (marked c.in_ok-colon.ensures.reads
+      (then c.in_ok-data_type.ensures.reads
+      (then c.in_ok-properties.ensures.reads (marked c.in_ok-end.ensures.reads nothing))));
 }

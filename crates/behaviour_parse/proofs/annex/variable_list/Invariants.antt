@@ -11,8 +11,11 @@ use Rattle.behaviour_parse.proofs.annex.variable_list.Given as goal
 
 abbrev pub invariant-loop-found : goal.invariant-loop-found
 invariant-loop-found l = record {
-  runs : (outer : ℕ) (below : Stack) → outer + depth below + l.room ≡ GREATEST_NESTING → fate outer l.reader.end (s.variable_list ∷ below) (here l.reader l.at) ≡ fate outer l.reader.end (s.variable_list ∷ below) (here l.reader l.rest);
-  reads : Reads (flat_map variable_parts (map (variable_view kept_place) l.found.items)) (here l.reader l.at) (here l.reader l.rest);
+  runs : (outer : ℕ) (below : Stack) → outer + depth below + l.room ≡ GREATEST_NESTING
+      → fate outer l.reader.end (s.variable_list ∷ below) (here l.reader l.at)
+      ≡ fate outer l.reader.end (s.variable_list ∷ below) (here l.reader l.rest);
+  reads : Reads (flat_map variable_parts (map (variable_view kept_place) l.found.items)) (here l.reader l.at)
+      (here l.reader l.rest);
 }
 
 abbrev pub decreases-loop-found : goal.decreases-loop-found

@@ -9,14 +9,19 @@ use Rattle.behaviour_parse.proofs.annex.variables.Goals as goal
 pub returns-in_default : goal.returns-in_default
 unfolding move depth
 returns-in_default c = record {
-  runs = λ outer below h. omits_unless outer c.args.reader.now.end s.variables (below) (here c.args.reader.now c.args.at) refl (c.in_default.ensures, tt);
+  runs =
+      λ outer below h. omits_unless outer c.args.reader.now.end s.variables (below) (here c.args.reader.now c.args.at)
+      refl (c.in_default.ensures, tt);
   reads = nothing;
 }
 
 pub returns-in_err-found : goal.returns-in_err-found
 unfolding move depth
 returns-in_err-found c = record {
-  runs = λ outer below h. exits _ _ _ _ _ _ _ c.from_residual.ensures.1 (along _ _ _ (takes_row outer c.args.reader.now.end s.variables (below) c.in-Some.ensures refl (omega arith)) (c.in_err-found.ensures.runs outer (below) (omega arith)));
+  runs =
+      λ outer below h. exits _ _ _ _ _ _ _ c.from_residual.ensures.1
+      (along _ _ _ (takes_row outer c.args.reader.now.end s.variables (below) c.in-Some.ensures refl (omega arith))
+      (c.in_err-found.ensures.runs outer (below) (omega arith)));
   reads = no_reads _ _ _ c.from_residual.ensures.1;
 }
 

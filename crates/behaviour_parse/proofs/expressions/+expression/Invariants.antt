@@ -31,8 +31,11 @@ decreases-expression l = 8 * l.room + 6
 
 abbrev pub invariant-term-loop-operator : goal.invariant-term-loop-operator
 invariant-term-loop-operator l = record {
-  runs : (outer : ℕ) (below : Stack) → outer + depth below + l.room ≡ GREATEST_NESTING → fate outer l.reader.end (s.term ∷ below) (here l.reader l.at) ≡ fate outer l.reader.end (s.factors ∷ below) (here l.reader l.rest);
-  reads : Reads (factor_parts (factor_view kept_place l.first) ++ factors_parts (factors_view kept_place l.others.items)) (here l.reader l.at) (here l.reader l.rest);
+  runs : (outer : ℕ) (below : Stack) → outer + depth below + l.room ≡ GREATEST_NESTING
+      → fate outer l.reader.end (s.term ∷ below) (here l.reader l.at)
+      ≡ fate outer l.reader.end (s.factors ∷ below) (here l.reader l.rest);
+  reads : Reads (factor_parts (factor_view kept_place l.first)
+      ++ factors_parts (factors_view kept_place l.others.items)) (here l.reader l.at) (here l.reader l.rest);
 }
 
 abbrev pub decreases-term-loop-operator : goal.decreases-term-loop-operator
@@ -40,8 +43,11 @@ decreases-term-loop-operator l = length (here l.reader l.rest)
 
 abbrev pub invariant-terms-loop-sign : goal.invariant-terms-loop-sign
 invariant-terms-loop-sign l = record {
-  runs : (outer : ℕ) (below : Stack) → outer + depth below + l.room ≡ GREATEST_NESTING → fate outer l.reader.end (s.term ∷ s.terms ∷ below) (here l.reader l.at) ≡ fate outer l.reader.end (s.terms ∷ below) (here l.reader l.rest);
-  reads : Reads (term_parts (term_view kept_place l.first) ++ terms_parts (terms_view kept_place l.others.items)) (here l.reader l.at) (here l.reader l.rest);
+  runs : (outer : ℕ) (below : Stack) → outer + depth below + l.room ≡ GREATEST_NESTING
+      → fate outer l.reader.end (s.term ∷ s.terms ∷ below) (here l.reader l.at)
+      ≡ fate outer l.reader.end (s.terms ∷ below) (here l.reader l.rest);
+  reads : Reads (term_parts (term_view kept_place l.first) ++ terms_parts (terms_view kept_place l.others.items))
+      (here l.reader l.at) (here l.reader l.rest);
 }
 
 abbrev pub decreases-terms-loop-sign : goal.decreases-terms-loop-sign
@@ -49,8 +55,11 @@ decreases-terms-loop-sign l = length (here l.reader l.rest)
 
 abbrev pub invariant-expression-loop-operator : goal.invariant-expression-loop-operator
 invariant-expression-loop-operator l = record {
-  runs : (outer : ℕ) (below : Stack) → outer + depth below + l.room ≡ GREATEST_NESTING → fate outer l.reader.end (s.expression ∷ below) (here l.reader l.at) ≡ fate outer l.reader.end (s.relations ∷ below) (here l.reader l.rest);
-  reads : Reads (relation_parts (relation_view kept_place l.first) ++ relations_parts (relations_view kept_place l.others.items)) (here l.reader l.at) (here l.reader l.rest);
+  runs : (outer : ℕ) (below : Stack) → outer + depth below + l.room ≡ GREATEST_NESTING
+      → fate outer l.reader.end (s.expression ∷ below) (here l.reader l.at)
+      ≡ fate outer l.reader.end (s.relations ∷ below) (here l.reader l.rest);
+  reads : Reads (relation_parts (relation_view kept_place l.first)
+      ++ relations_parts (relations_view kept_place l.others.items)) (here l.reader l.at) (here l.reader l.rest);
 }
 
 abbrev pub decreases-expression-loop-operator : goal.decreases-expression-loop-operator

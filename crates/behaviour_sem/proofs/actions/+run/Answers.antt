@@ -26,8 +26,11 @@ run-returns-in_err-run_first-in-If-clause-runs t c =
     ∙ sym (act-If c.in-If.branches c.in-If.otherwise frame fresh outs)
     ∙ ap (λ a. act (action_of a) frame fresh outs) (sym c.in-If.is)) in
     subst (λ m. Left c.from_residual-in_err-run_first-in-If.result after m) meaning
-    (subst (λ r. Left r after (act_first (branches_along c.deref-in-If.result.now) frame fresh outs otherwise)) (sym answers)
-    (Left-chose-err stop after before after otherwise (act_first (branches_along c.deref-in-If.result.now) frame fresh outs otherwise) (c.in_err-run_first-in-If.ensures.runs otherwise)))
+    (subst (λ r. Left r after (act_first (branches_along c.deref-in-If.result.now) frame fresh outs otherwise))
+    (sym answers)
+    (Left-chose-err stop after before after otherwise
+    (act_first (branches_along c.deref-in-If.result.now) frame fresh outs otherwise)
+    (c.in_err-run_first-in-If.ensures.runs otherwise)))
 
 pub run-returns-then-branch-clause-runs : goal.run-returns-then-branch-clause-runs
 run-returns-then-branch-clause-runs t c =
@@ -41,7 +44,8 @@ run-returns-then-branch-clause-runs t c =
     ap (λ a. act (action_of a) frame fresh outs) c.in-If.is
     ∙ act-If c.in-If.branches c.in-If.otherwise frame fresh outs
     ∙ sym (ap (λ bs. act_first (branches_along bs) frame fresh outs otherwise) c.deref-in-If.ensures.value)
-    ∙ subst (λ found. Chose (Ok found) after before otherwise meant) c.if-branch.true (c.in_ok-run_first-in-If.ensures.runs otherwise)
+    ∙ subst (λ found. Chose (Ok found) after before otherwise meant) c.if-branch.true
+    (c.in_ok-run_first-in-If.ensures.runs otherwise)
 
 pub run-returns-else-branch-clause-runs : goal.run-returns-else-branch-clause-runs
 run-returns-else-branch-clause-runs t c =
@@ -54,15 +58,19 @@ run-returns-else-branch-clause-runs t c =
     let before = effect c.args.vars.now.items outs in
     let between = effect c.run_first.new.vars.items c.run_first.new.outs in
     let meant = act_first (branches_along c.deref-in-If.result.now) frame fresh outs otherwise in
-    let chose = subst (λ found. Chose (Ok found) between before otherwise meant) c.if-branch.false (c.in_ok-run_first-in-If.ensures.runs otherwise) in
+    let chose =
+    subst (λ found. Chose (Ok found) between before otherwise meant) c.if-branch.false
+    (c.in_ok-run_first-in-If.ensures.runs otherwise) in
     let same =
-    ap (λ as'. acts (actions_along as') (frame_of between.vars held) fresh between.outs) c.deref-else-branch.ensures.value
+    ap (λ as'. acts (actions_along as') (frame_of between.vars held) fresh between.outs)
+    c.deref-else-branch.ensures.value
     ∙ ap (λ (e : Effect). acts (actions_along others) (frame_of e.vars held) fresh e.outs) chose.1
     ∙ sym chose.0
     ∙ ap (λ bs. act_first (branches_along bs) frame fresh outs otherwise) c.deref-in-If.ensures.value
     ∙ sym (act-If c.in-If.branches c.in-If.otherwise frame fresh outs)
     ∙ ap (λ a. act (action_of a) frame fresh outs) (sym c.in-If.is) in
-    subst (λ m. Left c.run_all.result (effect c.run_all.new.vars.items c.run_all.new.outs) m) same c.run_all.ensures.runs
+    subst (λ m. Left c.run_all.result (effect c.run_all.new.vars.items c.run_all.new.outs) m) same
+    c.run_all.ensures.runs
 
 pub run-returns-in-For-clause-runs : goal.run-returns-in-For-clause-runs
 run-returns-in-For-clause-runs t c =
@@ -92,21 +100,28 @@ run_turns-loop-number-preserved t c =
     let after = effect c.run_turn.new.vars.items c.run_turn.new.outs in
     let more : number ≤ℤ high = grind (arith, ints) in
     let next : to_z w64 (of_z w64 (number +ℤ pos 1)) ≡ number +ℤ pos 1 = grind (arith, ints) in
-    let ran : body number before ≡ Ok after = (sym (ap (λ d. turn_after d acts' held fresh number before) c.loop-number.invariant.len) ∙ c.in_ok-run_turn.ensures.runs) in
+    let ran : body number before ≡ Ok after =
+    (sym (ap (λ d. turn_after d acts' held fresh number before) c.loop-number.invariant.len)
+    ∙ c.in_ok-run_turn.ensures.runs) in
     record {
       len = c.in_ok-run_turn.ensures.len ∙ c.loop-number.invariant.len;
-      rest = ap (λ n. for_each (numbers n high) body after) next ∙ for_each-more number high body before after more ran ∙ c.loop-number.invariant.rest;
+      rest =
+          ap (λ n. for_each (numbers n high) body after) next ∙ for_each-more number high body before after more ran
+          ∙ c.loop-number.invariant.rest;
     }
 
 pub run_turns-returns-clause-runs : goal.run_turns-returns-clause-runs
 run_turns-returns-clause-runs t c =
     let low = c.ranges.low in
     let high = c.ranges.high in
-    let body = turn_after (length c.args.vars.now.items) (actions_along c.args.body.now) c.args.inputs.held.now (map is_present c.args.inputs.present.now) in
+    let body =
+    turn_after (length c.args.vars.now.items) (actions_along c.args.body.now) c.args.inputs.held.now
+    (map is_present c.args.inputs.present.now) in
     let number = to_z w64 c.loop-number.number-bits in
     let over : c.args.high <ℤ number = grind (arith, ints) in
     let all = simp to_z-of_z at c.loop-number.invariant.rest in
-    sym all ∙ ap (λ ns. for_each ns body (effect c.loop-number.vars.items c.loop-number.outs)) (numbers-none number c.args.high over)
+    sym all ∙ ap (λ ns. for_each ns body (effect c.loop-number.vars.items c.loop-number.outs))
+    (numbers-none number c.args.high over)
 
 pub run_turns-returns-in_ok-run_turn-clause-runs : goal.run_turns-returns-in_ok-run_turn-clause-runs
 run_turns-returns-in_ok-run_turn-clause-runs t c =
@@ -122,7 +137,9 @@ run_turns-returns-in_ok-run_turn-clause-runs t c =
     let more : number ≤ℤ c.args.high = grind (arith, ints) in
     let over : c.args.high <ℤ (number +ℤ pos 1) = grind (arith, ints) in
     let all = simp to_z-of_z at c.loop-number.invariant.rest in
-    let ran : body number before ≡ Ok after = (sym (ap (λ d. turn_after d acts' held fresh number before) c.loop-number.invariant.len) ∙ c.in_ok-run_turn.ensures.runs) in
+    let ran : body number before ≡ Ok after =
+    (sym (ap (λ d. turn_after d acts' held fresh number before) c.loop-number.invariant.len)
+    ∙ c.in_ok-run_turn.ensures.runs) in
     sym all
     ∙ sym (for_each-more number c.args.high body before after more ran)
     ∙ ap (λ ns. for_each ns body after) (numbers-none (number +ℤ pos 1) c.args.high over)

@@ -27,14 +27,19 @@ invariant-run_first-loop-branch l =
     record {
       vars : l.vars.items ≡ l.fn.vars.items;
       outs : l.outs ≡ l.fn.outs;
-      rest : (otherwise : Result Effect Trap) → act_first (branches_along (drop l.branch-index l.branches)) frame fresh l.fn.outs otherwise ≡ act_first (branches_along l.branches) frame fresh l.fn.outs otherwise;
+      rest : (otherwise : Result Effect Trap)
+          → act_first (branches_along (drop l.branch-index l.branches)) frame fresh l.fn.outs otherwise
+          ≡ act_first (branches_along l.branches) frame fresh l.fn.outs otherwise;
     }
 
 -- the numbers that are left, from the variables and outputs so far, have the effect of all
 abbrev pub invariant-run_turns-loop-number : goal.invariant-run_turns-loop-number
 invariant-run_turns-loop-number l =
-    let body = turn_after (length l.fn.vars.items) (actions_along l.body) l.inputs.held.now (map is_present l.inputs.present.now) in
+    let body =
+    turn_after (length l.fn.vars.items) (actions_along l.body) l.inputs.held.now
+    (map is_present l.inputs.present.now) in
     record {
       len : length l.vars.items ≡ length l.fn.vars.items;
-      rest : for_each (numbers l.number l.high) body (effect l.vars.items l.outs) ≡ for_each (numbers l.low l.high) body (effect l.fn.vars.items l.fn.outs);
+      rest : for_each (numbers l.number l.high) body (effect l.vars.items l.outs)
+          ≡ for_each (numbers l.low l.high) body (effect l.fn.vars.items l.fn.outs);
     }

@@ -15,7 +15,8 @@ eval-returns-in_ok-left-in-Chain t c =
     let fresh = map is_present c.args.inputs.present.now in
     let left = c.in_ok-left-in-Chain.left in
     let fits : SFits w64 left = search rules in
-    let first : eval (tree_of c.in-Chain.first.value) frame fresh ≡ Ok left = (ap (λ e. eval (tree_of e) frame fresh) (sym c.deref-in-Chain.ensures) ∙ sym c.in_ok-left-in-Chain.ensures) in
+    let first : eval (tree_of c.in-Chain.first.value) frame fresh ≡ Ok left =
+    (ap (λ e. eval (tree_of e) frame fresh) (sym c.deref-in-Chain.ensures) ∙ sym c.in_ok-left-in-Chain.ensures) in
     let rest = simp to_z-of_z at c.eval_rest.ensures in
     rest
     ∙ ap (λ os. eval_rest (operands_along os) frame fresh left) c.deref-in-Chain-2.ensures.value

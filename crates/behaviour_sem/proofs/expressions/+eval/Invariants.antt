@@ -9,4 +9,5 @@ abbrev pub invariant-eval_rest-loop-operand : goal.invariant-eval_rest-loop-oper
 invariant-eval_rest-loop-operand l =
     let frame = seen l.vars l.inputs in
     let fresh' = fresh l.inputs in
-    eval_rest (operands_along (drop l.operand-index l.rest)) frame fresh' l.value ≡ eval_rest (operands_along l.rest) frame fresh' l.left
+    eval_rest (operands_along (drop l.operand-index l.rest)) frame fresh' l.value
+    ≡ eval_rest (operands_along l.rest) frame fresh' l.left

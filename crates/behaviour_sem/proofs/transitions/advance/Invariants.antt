@@ -13,6 +13,7 @@ invariant-loop-transition l =
     record {
       place : l.place ≡ l.fn.place;
       outs : l.outs ≡ l.fn.outs;
-      rest : first_open (filter (λ (e : Edge). nat_eq e.source l.fn.place.state) (drop l.transition-index l.transitions)) frame fresh
+      rest : first_open (filter (λ (e : Edge). nat_eq e.source l.fn.place.state)
+          (drop l.transition-index l.transitions)) frame fresh
           ≡ first_open (filter (λ (e : Edge). nat_eq e.source l.fn.place.state) l.transitions) frame fresh;
     }

@@ -8,5 +8,6 @@ invariant-loop-transition l =
     record {
       place : l.place ≡ l.fn.place;
       outs : l.outs ≡ l.fn.outs;
-      rest : dispatch_from l.fn.place.state (drop l.transition-index l.transitions) ≡ dispatch_from l.fn.place.state l.transitions;
+      rest : dispatch_from l.fn.place.state (drop l.transition-index l.transitions)
+          ≡ dispatch_from l.fn.place.state l.transitions;
     }

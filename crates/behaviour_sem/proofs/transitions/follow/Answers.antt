@@ -20,10 +20,12 @@ returns-in_err-run_all-clause-leads c =
     let after = effect c.run_all.new.vars.items c.run_all.new.outs in
     let answers : c.from_residual.result ≡ Err stop = search rules in
     let same =
-    ap (λ as'. acts (actions_along as') (frame_of at.frame.vars at.frame.held) (fresh c.args.inputs) at.outs) c.deref.ensures.value
+    ap (λ as'. acts (actions_along as') (frame_of at.frame.vars at.frame.held) (fresh c.args.inputs) at.outs)
+    c.deref.ensures.value
     ∙ ap meant c.transition.view_is in
     let left = subst (λ m. Left (Err stop) after m) same c.in_err-run_all.ensures.runs in
-    let reached = fired (record { state = at.frame.state; vars = c.run_all.new.vars }, c.run_all.new.outs) c.args.inputs in
+    let reached =
+    fired (record { state = at.frame.state; vars = c.run_all.new.vars }, c.run_all.new.outs) c.args.inputs in
     subst (λ r. Left r reached (along (Some edge) (fresh c.args.inputs) at)) (sym answers)
     (along-stops stop edge at (fresh c.args.inputs) after reached left)
 
@@ -34,7 +36,9 @@ returns-clause-leads c =
     let meant = λ (e : Edge). acts e.actions (frame_of at.frame.vars at.frame.held) (fresh c.args.inputs) at.outs in
     let after = effect c.run_all.new.vars.items c.run_all.new.outs in
     let same =
-    ap (λ as'. acts (actions_along as') (frame_of at.frame.vars at.frame.held) (fresh c.args.inputs) at.outs) c.deref.ensures.value
+    ap (λ as'. acts (actions_along as') (frame_of at.frame.vars at.frame.held) (fresh c.args.inputs) at.outs)
+    c.deref.ensures.value
     ∙ ap meant c.transition.view_is in
     along-ran edge at (fresh c.args.inputs) after.vars after.outs (sym same ∙ c.in_ok-run_all.ensures.runs)
-    ∙ ap (λ (e : Edge). Ok (fired (record { state = e.target; vars = c.run_all.new.vars }, c.run_all.new.outs) c.args.inputs)) (sym c.transition.view_is)
+    ∙ ap (λ (e : Edge). Ok (fired (record { state = e.target; vars = c.run_all.new.vars }, c.run_all.new.outs)
+    c.args.inputs)) (sym c.transition.view_is)

@@ -17,13 +17,19 @@ returns-in_err-advance-clause-leads c =
     let rest = length b.states - (c.loop.counter + 1) in
     let count : length b.states - c.loop.counter ≡ suc rest = omega arith in
     let under_way : is_complete b c.loop.place.state ≡ false =
-    (sym (ap (λ ss. completes (slice_get ss c.loop.place.state)) c.states.ensures.value) ∙ sym c.is_complete.ensures ∙ c.if-is_complete.false) in
+    (sym (ap (λ ss. completes (slice_get ss c.loop.place.state)) c.states.ensures.value) ∙ sym c.is_complete.ensures
+    ∙ c.if-is_complete.false) in
     let stop = c.in_err-advance.field-0.0 in
     let answers : c.from_residual.result ≡ Err stop = search rules in
-    let moved = subst (λ ts. Left (Err stop) after (move ts fresh at)) c.transitions.ensures.value c.in_err-advance.ensures.leads in
+    let moved =
+    subst (λ ts. Left (Err stop) after (move ts fresh at)) c.transitions.ensures.value
+    c.in_err-advance.ensures.leads in
     let stops = Left-stops stop (move b.transitions fresh at) (λ next. settled rest b fresh next) after after moved in
-    subst (λ r. Left r after (settled (length b.states) b fresh (fired (c.args.place.now, c.args.outs.now) c.args.inputs))) (sym answers)
-    (subst (λ m. Left (Err stop) after m) (sym (settled-more rest b fresh at under_way) ∙ sym (ap (λ n. settled n b fresh at) count) ∙ c.loop.invariant.rest) stops)
+    subst (λ r. Left r after
+    (settled (length b.states) b fresh (fired (c.args.place.now, c.args.outs.now) c.args.inputs))) (sym answers)
+    (subst (λ m. Left (Err stop) after m)
+    (sym (settled-more rest b fresh at under_way) ∙ sym (ap (λ n. settled n b fresh at) count)
+    ∙ c.loop.invariant.rest) stops)
 
 pub loop-preserved : goal.loop-preserved
 loop-preserved c =
@@ -33,12 +39,14 @@ loop-preserved c =
     let rest = length b.states - (c.loop.counter + 1) in
     let count : length b.states - c.loop.counter ≡ suc rest = omega arith in
     let under_way : is_complete b c.loop.place.state ≡ false =
-    (sym (ap (λ ss. completes (slice_get ss c.loop.place.state)) c.states.ensures.value) ∙ sym c.is_complete.ensures ∙ c.if-is_complete.false) in
+    (sym (ap (λ ss. completes (slice_get ss c.loop.place.state)) c.states.ensures.value) ∙ sym c.is_complete.ensures
+    ∙ c.if-is_complete.false) in
     let moved : move c.transitions.result.now fresh at ≡ Ok (fired (c.advance.new.place, c.advance.new.outs) c.args.inputs) = c.in_ok-advance.ensures.leads in
     record {
       len = c.in_ok-advance.ensures.len ∙ c.loop.invariant.len;
       rest =
-          sym (ap (λ r. on_value r (λ next. settled rest b fresh next)) (sym (ap (λ ts. move ts fresh at) c.transitions.ensures.value) ∙ moved))
+          sym (ap (λ r. on_value r (λ next. settled rest b fresh next))
+          (sym (ap (λ ts. move ts fresh at) c.transitions.ensures.value) ∙ moved))
           ∙ sym (settled-more rest b fresh at under_way)
           ∙ sym (ap (λ n. settled n b fresh at) count)
           ∙ c.loop.invariant.rest;

@@ -10,12 +10,14 @@ pub returns-then-period-le-HOUR : goal.returns-then-period-le-HOUR
 returns-then-period-le-HOUR c =
     let period = c.next_multiple_of-period.ensures in
     is_least_multiple _ _ _ _
-    (first_of_call _ _ _ _ _ _ c.common_multiple.ensures c.greatest_rate.ensures.value c.least_period-least.ensures period.lower_bound period.upper_bound period.multiple)
+    (first_of_call _ _ _ _ _ _ c.common_multiple.ensures c.greatest_rate.ensures.value c.least_period-least.ensures
+    period.lower_bound period.upper_bound period.multiple)
     c.if-period-le-HOUR.true
 
 pub returns-else-period-le-HOUR : goal.returns-else-period-le-HOUR
 returns-else-period-le-HOUR c =
     let period = c.next_multiple_of-period.ensures in
     has_no_multiple _ _ _ _
-    (first_of_call _ _ _ _ _ _ c.common_multiple.ensures c.greatest_rate.ensures.value c.least_period-least.ensures period.lower_bound period.upper_bound period.multiple)
+    (first_of_call _ _ _ _ _ _ c.common_multiple.ensures c.greatest_rate.ensures.value c.least_period-least.ensures
+    period.lower_bound period.upper_bound period.multiple)
     c.if-period-le-HOUR.false

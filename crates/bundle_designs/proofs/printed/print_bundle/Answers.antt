@@ -11,7 +11,8 @@ pub returns-clause-printed : goal.returns-clause-printed
 returns-clause-printed c =
     let parsed = c.in_ok-parsed.parsed in
     let tree = placed parsed.tree in
-    let without_places : _ ≡ canon tree = ap canon (sym (package_tied no_place kept_place parsed.tree)) ∙ canon_of tree in
+    let without_places : _ ≡ canon tree = ap canon (sym (package_tied no_place kept_place parsed.tree))
+    ∙ canon_of tree in
     record {
       design = parsed.text.now;
       scenario = parsed.scenario.now;

@@ -5,4 +5,6 @@ use Rattle.component_checks.specs.proof.Carried.{connections_carried}
 use Rattle.component_checks.proofs.carried_lists.all_of_connections.Given as goal
 
 abbrev pub invariant-loop-declaration : goal.invariant-loop-declaration
-invariant-loop-declaration l = l.carried ≡ map connections_carried (map (declaration_view kept_place) (take l.declaration-index l.declaration-items))
+invariant-loop-declaration l =
+    l.carried ≡ map connections_carried
+    (map (declaration_view kept_place) (take l.declaration-index l.declaration-items))

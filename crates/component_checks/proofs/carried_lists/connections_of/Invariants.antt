@@ -5,4 +5,6 @@ use Rattle.component_checks.specs.proof.Carried.{carried_by}
 use Rattle.component_checks.proofs.carried_lists.connections_of.Given as goal
 
 abbrev pub invariant-loop-connection : goal.invariant-loop-connection
-invariant-loop-connection l = l.carried ≡ map (λ c. carried_by c.properties) (map (connection_view kept_place) (take l.connection-index l.connections))
+invariant-loop-connection l =
+    l.carried ≡ map (λ c. carried_by c.properties)
+    (map (connection_view kept_place) (take l.connection-index l.connections))

@@ -9,4 +9,5 @@ use Rattle.component_checks.proofs.roots.add_root_findings.Goals as goal
 pub add_bound_findings-requires-clause-gamma : goal.add_bound_findings-requires-clause-gamma
 add_bound_findings-requires-clause-gamma c = λ x is.
     let tree = placed c.args.properties.now.uses.now.names.tree.now in
-    gamma_within (time_at (at_root tree c.args.root Skew)) (range_at (at_root tree c.args.root Execution)) (range_at (at_root tree c.args.root Network)) x (sym c.root_gamma-gamma.ensures ∙ is)
+    gamma_within (time_at (at_root tree c.args.root Skew)) (range_at (at_root tree c.args.root Execution))
+    (range_at (at_root tree c.args.root Network)) x (sym c.root_gamma-gamma.ensures ∙ is)

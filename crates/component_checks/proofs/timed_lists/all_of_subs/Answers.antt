@@ -10,11 +10,15 @@ pub loop-declaration-preserved : goal.loop-declaration-preserved
 loop-declaration-preserved c =
     let tree = placed c.args.uses.now.names.tree.now in
     let size = c.len-declaration-end.ensures in
-    made_next (subs_timed tree) (λ d. map (sub_timed tree) (subcomponents_of (implementation_in d))) tree.declarations c.loop-declaration.declaration c.loop-declaration.subs _ _ (λ d. refl)
-    (omega (arith, size, c.loop-declaration-test.true)) c.loop-declaration.invariant c.in_ok-subs_of.ensures c.in_ok-push.ensures.ok
+    made_next (subs_timed tree) (λ d. map (sub_timed tree) (subcomponents_of (implementation_in d))) tree.declarations
+    c.loop-declaration.declaration c.loop-declaration.subs _ _ (λ d. refl)
+    (omega (arith, size, c.loop-declaration-test.true)) c.loop-declaration.invariant c.in_ok-subs_of.ensures
+    c.in_ok-push.ensures.ok
 
 pub returns : goal.returns
 returns c =
     let tree = placed c.args.uses.now.names.tree.now in
     let size = c.len-declaration-end.ensures in
-    c.loop-declaration.invariant ∙ ap (map (subs_timed tree)) (take_all c.loop-declaration.declaration tree.declarations (omega (arith, size, c.loop-declaration-test.false)))
+    c.loop-declaration.invariant
+    ∙ ap (map (subs_timed tree))
+    (take_all c.loop-declaration.declaration tree.declarations (omega (arith, size, c.loop-declaration-test.false)))

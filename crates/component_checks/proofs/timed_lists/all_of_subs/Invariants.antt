@@ -4,4 +4,6 @@ use Rattle.component_checks.specs.proof.Timed.{subs_timed}
 use Rattle.component_checks.proofs.timed_lists.all_of_subs.Given as goal
 
 abbrev pub invariant-loop-declaration : goal.invariant-loop-declaration
-invariant-loop-declaration l = l.subs ≡ map (subs_timed (placed l.uses.names.tree.now)) (take l.declaration (placed l.uses.names.tree.now).declarations)
+invariant-loop-declaration l =
+    l.subs ≡ map (subs_timed (placed l.uses.names.tree.now))
+    (take l.declaration (placed l.uses.names.tree.now).declarations)

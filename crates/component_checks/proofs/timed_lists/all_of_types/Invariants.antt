@@ -5,4 +5,5 @@ use Rattle.component_checks.specs.proof.Timed.{type_timed}
 use Rattle.component_checks.proofs.timed_lists.all_of_types.Given as goal
 
 abbrev pub invariant-loop-declaration : goal.invariant-loop-declaration
-invariant-loop-declaration l = l.types ≡ map type_timed (map (declaration_view kept_place) (take l.declaration-index l.declaration-items))
+invariant-loop-declaration l =
+    l.types ≡ map type_timed (map (declaration_view kept_place) (take l.declaration-index l.declaration-items))

@@ -9,9 +9,12 @@ use Rattle.component_checks.proofs.Saying.{own_is}
 use Rattle.component_checks.proofs.timed_lists.own_of.Goals as goal
 
 pub returns-in_default : goal.returns-in_default
-returns-in_default c = c.none.ensures ∙ ap (λ o. timed_by (own_lists (placed c.args.uses.now.names.tree.now) o)) c.in_default.ensures
+returns-in_default c =
+    c.none.ensures ∙ ap (λ o. timed_by (own_lists (placed c.args.uses.now.names.tree.now) o)) c.in_default.ensures
 
 pub returns : goal.returns
 returns c =
-    own_is (placed c.args.uses.now.names.tree.now) c.args.number (implementation_view kept_place c.in-Some.x.now) _ _ _ _ _ c.requires c.in-Some.ensures c.type_number.ensures
-    (c.in_ok-own.ensures ∙ ap (λ l. timed_by (associations_view kept_place l ∷ [])) c.as_slice.ensures.value) c.numbered.ensures c.or.ensures
+    own_is (placed c.args.uses.now.names.tree.now) c.args.number (implementation_view kept_place c.in-Some.x.now) _ _ _
+    _ _ c.requires c.in-Some.ensures c.type_number.ensures
+    (c.in_ok-own.ensures ∙ ap (λ l. timed_by (associations_view kept_place l ∷ [])) c.as_slice.ensures.value)
+    c.numbered.ensures c.or.ensures

@@ -6,4 +6,5 @@ use Rattle.component_checks.proofs.timed_lists.subs_of.Given as goal
 
 abbrev pub invariant-loop-sub : goal.invariant-loop-sub
 invariant-loop-sub l =
-    l.timed ≡ map (sub_timed (placed l.uses.names.tree.now)) (take l.sub (subcomponents_of (implementation_at (placed l.uses.names.tree.now) l.declaration)))
+    l.timed ≡ map (sub_timed (placed l.uses.names.tree.now))
+    (take l.sub (subcomponents_of (implementation_at (placed l.uses.names.tree.now) l.declaration)))

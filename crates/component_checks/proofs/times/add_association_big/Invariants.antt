@@ -6,4 +6,6 @@ use Rattle.component_checks.specs.Times.{big_as}
 use Rattle.component_checks.proofs.times.add_association_big.Given as goal
 
 abbrev pub invariant-loop-property : goal.invariant-loop-property
-invariant-loop-property l = l.found ≡ l.fn.found ++ flat_map (big_as (association_view kept_place l.association)) (take l.property-index l.property-items)
+invariant-loop-property l =
+    l.found ≡ l.fn.found ++ flat_map (big_as (association_view kept_place l.association))
+    (take l.property-index l.property-items)

@@ -7,4 +7,5 @@ use Rattle.component_checks.proofs.times.add_times_too_big.Given as goal
 -- what is left is still to be added
 abbrev pub invariant-loop-association : goal.invariant-loop-association
 invariant-loop-association l =
-    l.fn.found ++ list_big l.holder (associations_view kept_place l.list) ≡ l.found ++ list_big l.holder (associations_view kept_place (drop l.association-index l.list))
+    l.fn.found ++ list_big l.holder (associations_view kept_place l.list)
+    ≡ l.found ++ list_big l.holder (associations_view kept_place (drop l.association-index l.list))

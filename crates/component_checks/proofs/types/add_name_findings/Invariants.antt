@@ -7,4 +7,5 @@ use Rattle.component_checks.proofs.types.add_name_findings.Given as goal
 
 abbrev pub invariant-loop-name : goal.invariant-loop-name
 invariant-loop-name l =
-    l.found ≡ l.fn.found ++ name_findings l.kind (identifier_view kept_place l.names.first) ++ flat_map (name_findings l.kind) (map (identifier_view kept_place) (take l.name-index l.name-items))
+    l.found ≡ l.fn.found ++ name_findings l.kind (identifier_view kept_place l.names.first)
+    ++ flat_map (name_findings l.kind) (map (identifier_view kept_place) (take l.name-index l.name-items))

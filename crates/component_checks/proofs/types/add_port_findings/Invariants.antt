@@ -6,4 +6,5 @@ use Rattle.component_checks.specs.Types.{port_findings}
 use Rattle.component_checks.proofs.types.add_port_findings.Given as goal
 
 abbrev pub invariant-loop-port : goal.invariant-loop-port
-invariant-loop-port l = l.found ≡ l.fn.found ++ flat_map port_findings (map (feature_view kept_place) (take l.port-index l.ports))
+invariant-loop-port l =
+    l.found ≡ l.fn.found ++ flat_map port_findings (map (feature_view kept_place) (take l.port-index l.ports))

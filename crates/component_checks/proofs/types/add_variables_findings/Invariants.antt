@@ -6,4 +6,6 @@ use Rattle.component_checks.specs.Types.{variable_findings}
 use Rattle.component_checks.proofs.types.add_variables_findings.Given as goal
 
 abbrev pub invariant-loop-variable : goal.invariant-loop-variable
-invariant-loop-variable l = l.found ≡ l.fn.found ++ flat_map variable_findings (map (variable_view kept_place) (take l.variable-index l.variable-items))
+invariant-loop-variable l =
+    l.found ≡ l.fn.found ++ flat_map variable_findings
+    (map (variable_view kept_place) (take l.variable-index l.variable-items))

@@ -7,4 +7,5 @@ use Rattle.component_checks.proofs.Singles.{no_only_text}
 use Rattle.component_checks.proofs.types.only_kind.Goals as goal
 
 pub returns-in_default-2 : goal.returns-in_default-2
-returns-in_default-2 c = ap text_kind (no_only_text (map (value_view kept_place) c.args.values.now) (rw length-map (omega arith)))
+returns-in_default-2 c =
+    ap text_kind (no_only_text (map (value_view kept_place) c.args.values.now) (rw length-map (omega arith)))

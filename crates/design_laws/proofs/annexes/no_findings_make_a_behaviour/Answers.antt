@@ -16,7 +16,9 @@ returns c = λ values scope at annex ready none.
     let states = states_of annex in
     let ts = transitions_of annex in
     let p = nothing_left (flat_map (transition_findings scope) ts) (rule_findings at b states ts) none in
-    let q = nothing_left (found_if (not (has_initial states)) at NO_INITIAL []) (flat_map (state_rules b (map (leg_of states) ts) (cycles_of b)) (enumerate_from 0 states)) p.1 in
+    let q =
+    nothing_left (found_if (not (has_initial states)) at NO_INITIAL [])
+    (flat_map (state_rules b (map (leg_of states) ts) (cycles_of b)) (enumerate_from 0 states)) p.1 in
     record {
       names = ready.names;
       firsts = ready.firsts;

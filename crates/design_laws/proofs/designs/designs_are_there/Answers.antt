@@ -2,4 +2,6 @@ use Rattle.design_laws.proofs.DesignsOfSoundPackages.{there_is}
 use Rattle.design_laws.proofs.designs.designs_are_there.Goals as goal
 
 pub returns : goal.returns
-returns c = λ tree s named shown nothing never. there_is c.no_findings_make_a_thread_behave.ensures tree s named shown nothing never
+returns c =
+    λ tree s named shown nothing never.
+    there_is c.no_findings_make_a_thread_behave.ensures tree s named shown nothing never

@@ -2,4 +2,6 @@ use Rattle.design_laws.proofs.DesignsOfSoundPackages.{keeps}
 use Rattle.design_laws.proofs.designs.designs_keep_their_rules.Goals as goal
 
 pub returns : goal.returns
-returns c = λ tree s named shown nothing design is. keeps c.no_findings_make_a_thread_behave.ensures tree s named shown nothing design is
+returns c =
+    λ tree s named shown nothing design is.
+    keeps c.no_findings_make_a_thread_behave.ensures tree s named shown nothing design is

@@ -14,12 +14,18 @@ loop-port-preserved c =
     elim c.match-port.branch [
       | in-Present w ↦
           let fits : SFits w64 w.in-Present.value = search rules in
-          let sum : to_z w128 c.match-port.sum-bits ≡ to_z w128 c.loop-port.sum-bits +ℤ w.in-Present.value = omega (arith, ints) in
+          let sum : to_z w128 c.match-port.sum-bits ≡ to_z w128 c.loop-port.sum-bits +ℤ w.in-Present.value =
+          omega (arith, ints) in
           let P : ℤ → ℕ → Type 0 = λ s n. IsSummed c.args.group.now (c.loop-port.port-index + 1) s n in
-          subst (λ s. P s c.match-port.count) (sym sum) (subst (P _) (sym w.count-is) (IsSummed-present _ _ _ _ w.in-Present.value c.loop-port-test.true w.in-Present.is fits c.loop-port.invariant))
+          subst (λ s. P s c.match-port.count) (sym sum)
+          (subst (P _) (sym w.count-is)
+          (IsSummed-present _ _ _ _ w.in-Present.value c.loop-port-test.true w.in-Present.is fits
+          c.loop-port.invariant))
       | in_default w ↦
           let P : ℤ → ℕ → Type 0 = λ s n. IsSummed c.args.group.now (c.loop-port.port-index + 1) s n in
-          subst (λ s. P s c.match-port.count) (sym w.sum-is) (subst (P _) (sym w.count-is) (IsSummed-absent _ _ _ _ c.loop-port-test.true w.in_default.is c.loop-port.invariant))
+          subst (λ s. P s c.match-port.count) (sym w.sum-is)
+          (subst (P _) (sym w.count-is)
+          (IsSummed-absent _ _ _ _ c.loop-port-test.true w.in_default.is c.loop-port.invariant))
     ]
 
 pub returns : goal.returns

@@ -11,6 +11,8 @@ use Rattle.input_adaptors.proofs.group.least.Goals as goal
 
 pub returns : goal.returns
 returns c =
-    reduce_from_yields_List _ c.filter_map.result _ c.min.ensures.ran (YieldsList-from_filter_map _ number_of (YieldsList-from_slice c.args.group.now (cc)) c.filter_map.ensures.closure (λ x r q k. search (rules, tests)))
+    reduce_from_yields_List _ c.filter_map.result _ c.min.ensures.ran
+    (YieldsList-from_filter_map _ number_of (YieldsList-from_slice c.args.group.now (cc))
+    c.filter_map.ensures.closure (λ x r q k. search (rules, tests)))
     ∙ reduce_agree (λ (x y : ℤ). min_by_ordering (int_cmp x y) x y) int_min lesser_is _
     ∙ ap (reduce int_min) (filter_map-number_of c.args.group.now)

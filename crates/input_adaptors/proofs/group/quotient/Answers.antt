@@ -12,4 +12,5 @@ mean_of_some sum (suc n) some = refl
 pub returns-else-count-eq0 : goal.returns-else-count-eq0
 returns-else-count-eq0 c =
     let some : 0 < c.args.count = omega arith in
-    ap Present (quotient_is c.args.sum c.args.count some c.ranges.count.fits c.ranges.sum c.requires.low c.requires.high) ∙ mean_of_some c.args.sum c.args.count some
+    ap Present (quotient_is c.args.sum c.args.count some c.ranges.count.fits c.ranges.sum c.requires.low
+    c.requires.high) ∙ mean_of_some c.args.sum c.args.count some

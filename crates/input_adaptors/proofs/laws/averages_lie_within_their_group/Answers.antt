@@ -6,7 +6,11 @@ use Rattle.input_adaptors.proofs.Means.{IsAboveSome-joined, IsBelowSome-joined}
 use Rattle.input_adaptors.proofs.laws.averages_lie_within_their_group.Goals as goal
 
 pub returns-clause-above : goal.returns-clause-above
-returns-clause-above c = λ p q k tuple v lower given. IsAboveSome-joined (group_at p q k tuple) v (joined-from Average p q k tuple (Present v) lower given)
+returns-clause-above c =
+    λ p q k tuple v lower given.
+    IsAboveSome-joined (group_at p q k tuple) v (joined-from Average p q k tuple (Present v) lower given)
 
 pub returns-clause-below : goal.returns-clause-below
-returns-clause-below c = λ p q k tuple v lower given. IsBelowSome-joined (group_at p q k tuple) v (joined-from Average p q k tuple (Present v) lower given)
+returns-clause-below c =
+    λ p q k tuple v lower given.
+    IsBelowSome-joined (group_at p q k tuple) v (joined-from Average p q k tuple (Present v) lower given)

@@ -4,4 +4,6 @@ use Rattle.input_adaptors.proofs.slower.join_all.Given as goal
 
 -- the places so far, and those of the groups that are left
 abbrev pub invariant-loop-group_number : goal.invariant-loop-group_number
-invariant-loop-group_number l = l.tuple ++ map (joined l.adaptor) (groups (l.count - l._group_number) l.m l.rest) ≡ map (joined l.adaptor) (groups l.count l.m l.fn.places)
+invariant-loop-group_number l =
+    l.tuple ++ map (joined l.adaptor) (groups (l.count - l._group_number) l.m l.rest)
+    ≡ map (joined l.adaptor) (groups l.count l.m l.fn.places)

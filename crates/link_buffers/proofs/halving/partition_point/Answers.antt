@@ -10,7 +10,8 @@ loop-low-preserved-then-pred g c =
       omega arith,
       c.loop-low.invariant.1,
       λ p test parted. (
-        pass_to p c.args.ring.now.items middle item (omega arith) c.standing_at.ensures parted (sym (test item true (says_at g.P.Fn c.if-pred.ensures refl))),
+        pass_to p c.args.ring.now.items middle item (omega arith) c.standing_at.ensures parted
+            (sym (test item true (says_at g.P.Fn c.if-pred.ensures refl))),
         (c.loop-low.invariant.2 p test parted).1,
       ),
     )
@@ -23,6 +24,7 @@ loop-low-preserved g c =
       omega arith,
       λ p test parted. (
         (c.loop-low.invariant.2 p test parted).0,
-        fail_from p c.args.ring.now.items middle item (omega arith) c.standing_at.ensures parted (sym (test item false (says_at g.P.Fn c.if-pred.ensures refl))),
+        fail_from p c.args.ring.now.items middle item (omega arith) c.standing_at.ensures parted
+            (sym (test item false (says_at g.P.Fn c.if-pred.ensures refl))),
       ),
     )

@@ -6,4 +6,5 @@ use Rattle.link_buffers.proofs.middle.put_by_front.Given as goal
 abbrev pub invariant-loop-moved : goal.invariant-loop-moved
 invariant-loop-moved g l =
     let whole = insert l.fn.ring.items l.ahead l.fn.item in
-    (l.ring ≡ buffer (remove whole (l.ahead - l.moved)) l.fn.ring.capacity) × (slice_get whole (l.ahead - l.moved) ≡ Some l.held)
+    (l.ring ≡ buffer (remove whole (l.ahead - l.moved)) l.fn.ring.capacity)
+    × (slice_get whole (l.ahead - l.moved) ≡ Some l.held)

@@ -9,7 +9,8 @@ resolve-requires-clause-small c = λ x is. c.requires.limits x (sym c.in-Some.en
 
 pub resolve-requires-clause-rules : goal.resolve-requires-clause-rules
 resolve-requires-clause-rules c = λ b is.
-    c.requires.rules b (sym (ap (option_and_then (behaviour_in (placed c.args.uses.now.names.tree.now))) c.in-Some.ensures) ∙ is)
+    c.requires.rules b (sym (ap (option_and_then (behaviour_in (placed c.args.uses.now.names.tree.now)))
+    c.in-Some.ensures) ∙ is)
 
 pub returns-in-Some-2-clause-value : goal.returns-in-Some-2-clause-value
 returns-in-Some-2-clause-value c =

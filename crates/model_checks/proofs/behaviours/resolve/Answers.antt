@@ -11,6 +11,7 @@ new-requires c = c.requires.rules c.in-Some.parts (sym c.in_ok-parts.ensures.par
 
 pub returns-clause-kept : goal.returns-clause-kept
 returns-clause-kept c =
-    kept_more (placed c.args.uses.now.names.tree.now) c.args.kept.now.entries c.insert.new.self.entries c.args.number c.in_ok-try_clone.field-0
+    kept_more (placed c.args.uses.now.names.tree.now) c.args.kept.now.entries c.insert.new.self.entries c.args.number
+    c.in_ok-try_clone.field-0
     (ap Some (c.in_ok-try_clone.ensures ∙ c.in_ok-behaviour.ensures) ∙ (sym c.in-Some.is ∙ c.in_ok-parts.ensures.parts))
     c.in_ok-insert.ensures.updates.0 c.requires.kept

@@ -7,5 +7,6 @@ use Rattle.model_checks.proofs.design.components.Given as goal
 -- the components so far, and the behaviours that are kept
 abbrev pub invariant-loop-thread : goal.invariant-loop-thread
 invariant-loop-thread l =
-    (Some l.components ≡ all_of (map (component_in (placed l.properties.uses.now.names.tree.now) l.root) (take l.thread-index l.threads)))
+    (Some l.components ≡ all_of
+    (map (component_in (placed l.properties.uses.now.names.tree.now) l.root) (take l.thread-index l.threads)))
     × AreKept (placed l.properties.uses.now.names.tree.now) l.kept.entries

@@ -11,10 +11,12 @@ pub components-requires-clause-limits : goal.components-requires-clause-limits
 components-requires-clause-limits c =
     let threads = c.as_slice.result.now in
     subst (λ tree. All (IsWithinLimits (placed tree)) threads) (sym c.requires.names)
-    (All-same (IsWithinLimits (placed c.args.instance.now.wires.uses.names.tree.now)) threads c.args.instance.now.threads c.as_slice.ensures.value (within_limits c.args.instance.now.flat))
+    (All-same (IsWithinLimits (placed c.args.instance.now.wires.uses.names.tree.now)) threads
+    c.args.instance.now.threads c.as_slice.ensures.value (within_limits c.args.instance.now.flat))
 
 pub components-requires-clause-rules : goal.components-requires-clause-rules
 components-requires-clause-rules c =
     let threads = c.as_slice.result.now in
     subst (λ tree. All (HasRules (placed tree)) threads) (sym c.requires.names)
-    (All-same (HasRules (placed c.args.instance.now.wires.uses.names.tree.now)) threads c.args.instance.now.threads c.as_slice.ensures.value c.requires.rules)
+    (All-same (HasRules (placed c.args.instance.now.wires.uses.names.tree.now)) threads c.args.instance.now.threads
+    c.as_slice.ensures.value c.requires.rules)

@@ -4,4 +4,5 @@ use Rattle.design_laws.specs.Designs.{all_of, feed_in}
 use Rattle.model_checks.proofs.design.feeds.Given as goal
 
 abbrev pub invariant-loop-chain : goal.invariant-loop-chain
-invariant-loop-chain l = Some l.feeds ≡ all_of (map (feed_in (placed l.properties.uses.now.names.tree.now)) (take l.chain-index l.chains))
+invariant-loop-chain l =
+    Some l.feeds ≡ all_of (map (feed_in (placed l.properties.uses.now.names.tree.now)) (take l.chain-index l.chains))

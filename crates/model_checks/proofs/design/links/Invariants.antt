@@ -4,4 +4,5 @@ use Rattle.design_laws.specs.Designs.{all_of, link_in}
 use Rattle.model_checks.proofs.design.links.Given as goal
 
 abbrev pub invariant-loop-chain : goal.invariant-loop-chain
-invariant-loop-chain l = Some l.links ≡ all_of (map (link_in (placed l.properties.uses.now.names.tree.now)) (take l.chain-index l.chains))
+invariant-loop-chain l =
+    Some l.links ≡ all_of (map (link_in (placed l.properties.uses.now.names.tree.now)) (take l.chain-index l.chains))

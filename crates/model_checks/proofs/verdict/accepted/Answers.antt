@@ -11,20 +11,27 @@ design_parts-requires-clause-rules c =
     let tree = placed c.args.instance.now.wires.uses.names.tree.now in
     let s = shown c.args.instance.now in
     let nothing : NothingFound tree s = c.no_violations_are_no_findings.ensures tree s c.requires.none in
-    c.behaviours_keep_their_rules.ensures tree s (c.texts_name.ensures c.args.instance.now.wires.uses.names.tree.now) c.args.instance.now.flat nothing
+    c.behaviours_keep_their_rules.ensures tree s (c.texts_name.ensures c.args.instance.now.wires.uses.names.tree.now)
+    c.args.instance.now.flat nothing
 
 pub unreachable-requires : goal.unreachable-requires
 unreachable-requires c =
     let tree = placed c.args.instance.now.wires.uses.names.tree.now in
     let s = shown c.args.instance.now in
     let nothing : NothingFound tree s = c.no_violations_are_no_findings.ensures tree s c.requires.none in
-    let missing : HasNoDesign tree s = MatchOption-at_none (HasNoDesign tree s) (λ design. IsDesignOf tree s design) c.in_default.is c.in_ok-parts.ensures in
-    c.designs_are_there.ensures tree s (c.texts_name.ensures c.args.instance.now.wires.uses.names.tree.now) c.args.instance.now.flat nothing missing
+    let missing : HasNoDesign tree s =
+    MatchOption-at_none (HasNoDesign tree s) (λ design. IsDesignOf tree s design) c.in_default.is
+    c.in_ok-parts.ensures in
+    c.designs_are_there.ensures tree s (c.texts_name.ensures c.args.instance.now.wires.uses.names.tree.now)
+    c.args.instance.now.flat nothing missing
 
 pub new-requires : goal.new-requires
 new-requires c =
     let tree = placed c.args.instance.now.wires.uses.names.tree.now in
     let s = shown c.args.instance.now in
     let nothing : NothingFound tree s = c.no_violations_are_no_findings.ensures tree s c.requires.none in
-    let is : IsDesignOf tree s c.in-Some.parts = MatchOption-at_some (HasNoDesign tree s) (λ design. IsDesignOf tree s design) c.in-Some.parts c.in-Some.is c.in_ok-parts.ensures in
-    c.designs_keep_their_rules.ensures tree s (c.texts_name.ensures c.args.instance.now.wires.uses.names.tree.now) c.args.instance.now.flat nothing c.in-Some.parts is
+    let is : IsDesignOf tree s c.in-Some.parts =
+    MatchOption-at_some (HasNoDesign tree s) (λ design. IsDesignOf tree s design) c.in-Some.parts c.in-Some.is
+    c.in_ok-parts.ensures in
+    c.designs_keep_their_rules.ensures tree s (c.texts_name.ensures c.args.instance.now.wires.uses.names.tree.now)
+    c.args.instance.now.flat nothing c.in-Some.parts is

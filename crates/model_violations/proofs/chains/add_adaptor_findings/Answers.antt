@@ -16,6 +16,9 @@ returns-then-is_plain c =
     let rates = c.args.rated.now.rates.now in
     let chain = c.args.chain.now in
     let carrier = connection_view kept_place c.args.connection.now in
-    nothing_added carrier.name.at (end_name tree threads chain.to) c.args.said.adaptor (option_map adaptor_named (adaptor_text carrier)) (end_kind tree threads chain.to)
-    c.end_rate-source.result (end_rate rates chain.from) c.end_rate-target.result (end_rate rates chain.to) c.args.found.now
-    (ap (λ said. said.adaptor) c.requires.said) c.end_rate-source.ensures.value c.end_rate-target.ensures.value (sym c.is_plain.ensures ∙ c.if-is_plain.true)
+    nothing_added carrier.name.at (end_name tree threads chain.to) c.args.said.adaptor
+    (option_map adaptor_named (adaptor_text carrier)) (end_kind tree threads chain.to)
+    c.end_rate-source.result (end_rate rates chain.from) c.end_rate-target.result (end_rate rates chain.to)
+    c.args.found.now
+    (ap (λ said. said.adaptor) c.requires.said) c.end_rate-source.ensures.value c.end_rate-target.ensures.value
+    (sym c.is_plain.ensures ∙ c.if-is_plain.true)

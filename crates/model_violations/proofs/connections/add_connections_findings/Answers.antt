@@ -15,12 +15,17 @@ loop-at-preserved c =
     let x = implementation_view kept_place c.args.x.now in
     let items = c.args.x.now.connections.items in
     let within : c.loop-at.at < length items = omega (arith, ap length c.deref-connection-items.ensures.value) in
-    let is = c.connection-item.is ∙ ap (λ l. get_or l c.loop-at.at c.connection-item.result) c.deref-connection-items.ensures.value in
-    one_more (connection_findings (placed c.args.wires.now.uses.names.tree.now) (carries c.args.carriers.now) c.args.number x) (connection_view kept_place) items c.loop-at.at c.connection-item.result c.args.found.now _ _ within
+    let is =
+    c.connection-item.is ∙ ap (λ l. get_or l c.loop-at.at c.connection-item.result)
+    c.deref-connection-items.ensures.value in
+    one_more (connection_findings (placed c.args.wires.now.uses.names.tree.now) (carries c.args.carriers.now)
+    c.args.number x) (connection_view kept_place) items c.loop-at.at c.connection-item.result
+    c.args.found.now _ _ within
     is c.loop-at.invariant
     (c.in_ok-add_connection_findings.ensures x
     (record {
       declared = ap implementation_in c.requires;
       listed = slice_get-map (connection_view kept_place) items c.loop-at.at
-          ∙ ap (option_map (connection_view kept_place)) (slice_get_read items (length items) c.loop-at.at c.connection-item.result refl within is);
+          ∙ ap (option_map (connection_view kept_place))
+          (slice_get_read items (length items) c.loop-at.at c.connection-item.result refl within is);
     }))

@@ -10,4 +10,7 @@ use Rattle.model_violations.proofs.connections.add_connections_findings.Given as
 
 abbrev pub invariant-loop-at : goal.invariant-loop-at
 invariant-loop-at l =
-    l.found ≡ l.fn.found ++ flat_map (connection_findings (placed l.wires.uses.names.tree.now) (carries l.carriers) l.number (implementation_view kept_place l.x)) (enumerate_from 0 (map (connection_view kept_place) (take l.at l.x.connections.items)))
+    l.found ≡ l.fn.found ++ flat_map
+    (connection_findings (placed l.wires.uses.names.tree.now) (carries l.carriers) l.number
+    (implementation_view kept_place l.x))
+    (enumerate_from 0 (map (connection_view kept_place) (take l.at l.x.connections.items)))

@@ -13,14 +13,16 @@ pub returns : goal.returns
 returns c =
     c.kind_in.ensures
     ∙ (ap (option_and_then (λ (f : Feature _). kind_in f.data_type))
-    (view_lent (feature_view kept_place) c.in_ok-of_type.of_type.now.features.items c.deref.result.now c.args.port (Some c.in_ok-port.port) c.deref.ensures.value c.in_ok-port.ensures.lookup)
+    (view_lent (feature_view kept_place) c.in_ok-of_type.of_type.now.features.items c.deref.result.now c.args.port
+    (Some c.in_ok-port.port) c.deref.ensures.value c.in_ok-port.ensures.lookup)
     ∙ ap (λ t. kind_numbered (features_of t) c.args.port) c.in_ok-of_type.ensures)
 
 pub returns-in_err-port : goal.returns-in_err-port
 returns-in_err-port c =
     c.from_residual-in_err-port.ensures
     ∙ (ap (option_and_then (λ (f : Feature _). kind_in f.data_type))
-    (view_lent (feature_view kept_place) c.in_ok-of_type.of_type.now.features.items c.deref.result.now c.args.port None c.deref.ensures.value c.in_err-port.ensures.lookup)
+    (view_lent (feature_view kept_place) c.in_ok-of_type.of_type.now.features.items c.deref.result.now c.args.port None
+    c.deref.ensures.value c.in_err-port.ensures.lookup)
     ∙ ap (λ t. kind_numbered (features_of t) c.args.port) c.in_ok-of_type.ensures)
 
 pub returns-in_err-of_type : goal.returns-in_err-of_type

@@ -8,10 +8,12 @@ use Rattle.aadl_names.specs.Resolving.{implementation_in}
 use Rattle.model_violations.proofs.declarations.add_declaration_findings.Goals as goal
 
 pub add_implementation_findings-requires-clause-number : goal.add_implementation_findings-requires-clause-number
-add_implementation_findings-requires-clause-number c = c.requires.number ∙ ap (λ d. Some (declaration_view kept_place d)) c.in-Implementation.is
+add_implementation_findings-requires-clause-number c =
+    c.requires.number ∙ ap (λ d. Some (declaration_view kept_place d)) c.in-Implementation.is
 
 pub add_implementation_findings-requires-clause-small : goal.add_implementation_findings-requires-clause-small
 add_implementation_findings-requires-clause-small c =
     let at : slice_get (placed c.args.wires.now.uses.names.tree.now).declarations c.args.number ≡ Some (implementation (implementation_view kept_place c.in-Implementation.x)) =
     c.requires.number ∙ ap (λ d. Some (declaration_view kept_place d)) c.in-Implementation.is in
-    λ thread. c.requires.small.each c.args.number (implementation_view kept_place c.in-Implementation.x) (sym c.contains-in-Implementation.ensures ∙ c.if-contains-2.true) (ap implementation_in at) thread
+    λ thread. c.requires.small.each c.args.number (implementation_view kept_place c.in-Implementation.x)
+    (sym c.contains-in-Implementation.ensures ∙ c.if-contains-2.true) (ap implementation_in at) thread

@@ -6,4 +6,5 @@ use Rattle.model_violations.specs.Declarations.{sub_findings}
 use Rattle.model_violations.proofs.declarations.add_subs_findings.Given as goal
 
 abbrev pub invariant-loop-sub : goal.invariant-loop-sub
-invariant-loop-sub l = l.found ≡ l.fn.found ++ flat_map sub_findings (map (subcomponent_view kept_place) (take l.sub-index l.subs))
+invariant-loop-sub l =
+    l.found ≡ l.fn.found ++ flat_map sub_findings (map (subcomponent_view kept_place) (take l.sub-index l.subs))

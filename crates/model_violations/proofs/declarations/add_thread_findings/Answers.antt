@@ -10,11 +10,14 @@ use Rattle.model_violations.proofs.declarations.add_thread_findings.Goals as goa
 
 pub resolve_implementation-requires : goal.resolve_implementation-requires
 resolve_implementation-requires c = λ x is.
-    subst (IsSmall (placed c.args.uses.now.names.tree.now)) (same_Some (implementation_view kept_place c.args.x.now) x (sym c.requires.number ∙ is)) (c.requires.small (ap is_thread c.in-Thread.is))
+    subst (IsSmall (placed c.args.uses.now.names.tree.now))
+    (same_Some (implementation_view kept_place c.args.x.now) x (sym c.requires.number ∙ is))
+    (c.requires.small (ap is_thread c.in-Thread.is))
 
 pub returns-in_ok-_behaviour-in-Thread : goal.returns-in_ok-_behaviour-in-Thread
 returns-in_ok-_behaviour-in-Thread c =
     let tree = placed c.args.uses.now.names.tree.now in
     let x = implementation_view kept_place c.args.x.now in
     c.in_ok-_behaviour-in-Thread.ensures.found x c.requires.number
-    ∙ ap (λ is. c.args.found.now ++ (if is then implementation_findings tree x else [])) (sym (ap is_thread c.in-Thread.is))
+    ∙ ap (λ is. c.args.found.now ++ (if is then implementation_findings tree x else []))
+    (sym (ap is_thread c.in-Thread.is))

@@ -7,5 +7,6 @@ use Rattle.model_violations.proofs.declared.ins_in.Goals as goal
 
 pub loop-port-preserved : goal.loop-port-preserved
 loop-port-preserved c =
-    kept_next port_of is_in (feature_view kept_place) c.args.ports.now c.loop-port.port-index c.port-item.result _ c.loop-port.ins _ c.loop-port-test.true c.port-item.is c.is_in.ensures c.loop-port.invariant
+    kept_next port_of is_in (feature_view kept_place) c.args.ports.now c.loop-port.port-index c.port-item.result _
+    c.loop-port.ins _ c.loop-port-test.true c.port-item.is c.is_in.ensures c.loop-port.invariant
     c.in_ok-add_port.ensures

@@ -8,5 +8,7 @@ use Rattle.model_violations.proofs.declared.outs_in.Goals as goal
 
 pub loop-port-preserved : goal.loop-port-preserved
 loop-port-preserved c =
-    kept_next port_of (λ f. not (is_in f)) (feature_view kept_place) c.args.ports.now c.loop-port.port-index c.port-item.result _ c.loop-port.outs _ c.loop-port-test.true c.port-item.is (ap not c.is_in.ensures) c.loop-port.invariant
+    kept_next port_of (λ f. not (is_in f)) (feature_view kept_place) c.args.ports.now c.loop-port.port-index
+    c.port-item.result _ c.loop-port.outs _ c.loop-port-test.true c.port-item.is (ap not c.is_in.ensures)
+    c.loop-port.invariant
     c.in_ok-add_port.ensures

@@ -7,6 +7,9 @@ use Rattle.model_violations.proofs.ignored.add_declarations.Goals as goal
 
 pub loop-number-preserved : goal.loop-number-preserved
 loop-number-preserved c =
-    let within : c.loop-number.number < length c.args.tree.now.declarations.items = omega (arith, ap length c.deref-declaration-items.ensures.value) in
-    one_more (declaration_ignored c.args.root c.args.root_type) (declaration_view kept_place) c.args.tree.now.declarations.items c.loop-number.number c.declaration-item.result c.args.found.now _ _ within
-    (c.declaration-item.is ∙ ap (λ l. get_or l c.loop-number.number c.declaration-item.result) c.deref-declaration-items.ensures.value) c.loop-number.invariant c.in_ok-add_declaration.ensures
+    let within : c.loop-number.number < length c.args.tree.now.declarations.items =
+    omega (arith, ap length c.deref-declaration-items.ensures.value) in
+    one_more (declaration_ignored c.args.root c.args.root_type) (declaration_view kept_place)
+    c.args.tree.now.declarations.items c.loop-number.number c.declaration-item.result c.args.found.now _ _ within
+    (c.declaration-item.is ∙ ap (λ l. get_or l c.loop-number.number c.declaration-item.result)
+    c.deref-declaration-items.ensures.value) c.loop-number.invariant c.in_ok-add_declaration.ensures

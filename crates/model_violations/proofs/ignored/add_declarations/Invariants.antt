@@ -8,4 +8,5 @@ use Rattle.model_violations.proofs.ignored.add_declarations.Given as goal
 
 abbrev pub invariant-loop-number : goal.invariant-loop-number
 invariant-loop-number l =
-    l.found ≡ l.fn.found ++ flat_map (declaration_ignored l.root l.root_type) (enumerate_from 0 (map (declaration_view kept_place) (take l.number l.tree.declarations.items)))
+    l.found ≡ l.fn.found ++ flat_map (declaration_ignored l.root l.root_type)
+    (enumerate_from 0 (map (declaration_view kept_place) (take l.number l.tree.declarations.items)))

@@ -6,4 +6,6 @@ use Rattle.model_violations.specs.Ignored.{connection_ignored}
 use Rattle.model_violations.proofs.ignored_declarations.add_connections.Given as goal
 
 abbrev pub invariant-loop-connection : goal.invariant-loop-connection
-invariant-loop-connection l = l.found ≡ l.fn.found ++ flat_map connection_ignored (map (connection_view kept_place) (take l.connection-index l.connections))
+invariant-loop-connection l =
+    l.found ≡ l.fn.found ++ flat_map connection_ignored
+    (map (connection_view kept_place) (take l.connection-index l.connections))

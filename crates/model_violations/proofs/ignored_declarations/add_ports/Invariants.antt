@@ -6,4 +6,5 @@ use Rattle.model_violations.specs.Ignored.{port_ignored}
 use Rattle.model_violations.proofs.ignored_declarations.add_ports.Given as goal
 
 abbrev pub invariant-loop-port : goal.invariant-loop-port
-invariant-loop-port l = l.found ≡ l.fn.found ++ flat_map port_ignored (map (feature_view kept_place) (take l.port-index l.ports))
+invariant-loop-port l =
+    l.found ≡ l.fn.found ++ flat_map port_ignored (map (feature_view kept_place) (take l.port-index l.ports))

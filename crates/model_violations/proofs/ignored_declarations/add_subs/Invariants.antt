@@ -6,4 +6,5 @@ use Rattle.model_violations.specs.Ignored.{sub_ignored}
 use Rattle.model_violations.proofs.ignored_declarations.add_subs.Given as goal
 
 abbrev pub invariant-loop-sub : goal.invariant-loop-sub
-invariant-loop-sub l = l.found ≡ l.fn.found ++ flat_map sub_ignored (map (subcomponent_view kept_place) (take l.sub-index l.subs))
+invariant-loop-sub l =
+    l.found ≡ l.fn.found ++ flat_map sub_ignored (map (subcomponent_view kept_place) (take l.sub-index l.subs))

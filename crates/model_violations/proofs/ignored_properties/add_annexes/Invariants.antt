@@ -6,4 +6,5 @@ use Rattle.model_violations.specs.Ignored.{annex_ignored}
 use Rattle.model_violations.proofs.ignored_properties.add_annexes.Given as goal
 
 abbrev pub invariant-loop-annex : goal.invariant-loop-annex
-invariant-loop-annex l = l.found ≡ l.fn.found ++ flat_map annex_ignored (map (annex_view kept_place) (take l.annex-index l.annexes))
+invariant-loop-annex l =
+    l.found ≡ l.fn.found ++ flat_map annex_ignored (map (annex_view kept_place) (take l.annex-index l.annexes))

@@ -7,5 +7,7 @@ use Rattle.model_violations.proofs.ignored_properties.add_list.Goals as goal
 
 pub loop-association-preserved : goal.loop-association-preserved
 loop-association-preserved c =
-    next_added (λ xs. ignored_in c.args.holder (associations_view kept_place xs)) (λ x. association_ignored c.args.holder (association_view kept_place x)) (λ x xs. refl) c.args.list.now c.loop-association.association-index _ _ _ _
+    next_added (λ xs. ignored_in c.args.holder (associations_view kept_place xs))
+    (λ x. association_ignored c.args.holder (association_view kept_place x)) (λ x xs. refl) c.args.list.now
+    c.loop-association.association-index _ _ _ _
     c.loop-association-test.true c.association-item.is c.loop-association.invariant c.in_ok-add_association.ensures

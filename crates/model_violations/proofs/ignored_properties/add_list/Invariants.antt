@@ -7,4 +7,5 @@ use Rattle.model_violations.proofs.ignored_properties.add_list.Given as goal
 -- what is left is still to be added
 abbrev pub invariant-loop-association : goal.invariant-loop-association
 invariant-loop-association l =
-    l.fn.found ++ ignored_in l.holder (associations_view kept_place l.list) ≡ l.found ++ ignored_in l.holder (associations_view kept_place (drop l.association-index l.list))
+    l.fn.found ++ ignored_in l.holder (associations_view kept_place l.list)
+    ≡ l.found ++ ignored_in l.holder (associations_view kept_place (drop l.association-index l.list))

@@ -6,4 +6,6 @@ use Rattle.model_violations.specs.Ignored.{variable_ignored}
 use Rattle.model_violations.proofs.ignored_properties.add_variables.Given as goal
 
 abbrev pub invariant-loop-variable : goal.invariant-loop-variable
-invariant-loop-variable l = l.found ≡ l.fn.found ++ flat_map variable_ignored (map (variable_view kept_place) (take l.variable-index l.variables))
+invariant-loop-variable l =
+    l.found ≡ l.fn.found ++ flat_map variable_ignored
+    (map (variable_view kept_place) (take l.variable-index l.variables))

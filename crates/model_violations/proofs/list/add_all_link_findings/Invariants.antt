@@ -5,4 +5,6 @@ use Rattle.model_violations.specs.proof.Chains.{tree_of}
 use Rattle.model_violations.proofs.list.add_all_link_findings.Given as goal
 
 abbrev pub invariant-loop-link : goal.invariant-loop-link
-invariant-loop-link l = l.found ≡ l.fn.found ++ flat_map (link_findings (tree_of l.rated) l.rated.threads.now l.rated.rates.now) (take l.link-index l.links)
+invariant-loop-link l =
+    l.found ≡ l.fn.found ++ flat_map (link_findings (tree_of l.rated) l.rated.threads.now l.rated.rates.now)
+    (take l.link-index l.links)

@@ -4,4 +4,6 @@ use Rattle.model_violations.specs.Violations.{place_of}
 use Rattle.model_violations.proofs.list.add_carriers.Given as goal
 
 abbrev pub invariant-loop-chain : goal.invariant-loop-chain
-invariant-loop-chain l = (n i : ℕ) → carries l.carriers n i ≡ (carries l.fn.carriers n i || carries (map place_of (take l.chain-index l.chains)) n i)
+invariant-loop-chain l =
+    (n i : ℕ) → carries l.carriers n i
+    ≡ (carries l.fn.carriers n i || carries (map place_of (take l.chain-index l.chains)) n i)

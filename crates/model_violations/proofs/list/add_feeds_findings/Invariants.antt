@@ -5,4 +5,6 @@ use Rattle.model_violations.specs.proof.Chains.{tree_of}
 use Rattle.model_violations.proofs.list.add_feeds_findings.Given as goal
 
 abbrev pub invariant-loop-feed : goal.invariant-loop-feed
-invariant-loop-feed l = l.found ≡ l.fn.found ++ flat_map (feed_findings (tree_of l.rated) l.rated.threads.now l.rated.rates.now) (take l.feed-index l.feeds)
+invariant-loop-feed l =
+    l.found ≡ l.fn.found ++ flat_map (feed_findings (tree_of l.rated) l.rated.threads.now l.rated.rates.now)
+    (take l.feed-index l.feeds)

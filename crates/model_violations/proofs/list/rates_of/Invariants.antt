@@ -4,4 +4,5 @@ use Rattle.component_checks.specs.Threads.{thread_rate}
 use Rattle.model_violations.proofs.list.rates_of.Given as goal
 
 abbrev pub invariant-loop-thread : goal.invariant-loop-thread
-invariant-loop-thread l = l.rates ≡ map (thread_rate (placed l.properties.uses.now.names.tree.now) l.root) (take l.thread-index l.threads)
+invariant-loop-thread l =
+    l.rates ≡ map (thread_rate (placed l.properties.uses.now.names.tree.now) l.root) (take l.thread-index l.threads)

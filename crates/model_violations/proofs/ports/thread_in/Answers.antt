@@ -7,7 +7,8 @@ use Rattle.model_violations.proofs.ports.thread_in.Goals as goal
 pub returns-in-Some : goal.returns-in-Some
 returns-in-Some c =
     let tree = placed c.args.uses.now.names.tree.now in
-    c.in_port.ensures ∙ ap (λ l. slice_get (filter is_in l) c.args.number) (c.ports.ensures ∙ ap (ports_at tree) c.in-Some.ensures)
+    c.in_port.ensures ∙ ap (λ l. slice_get (filter is_in l) c.args.number)
+    (c.ports.ensures ∙ ap (ports_at tree) c.in-Some.ensures)
 
 pub returns-in-None : goal.returns-in-None
 returns-in-None c =

@@ -5,4 +5,8 @@ use Rattle.model_violations.proofs.spellings.first_spellings.Given as goal
 
 -- what is left is still to be added, and the table has the names that were added
 abbrev pub invariant-loop-name : goal.invariant-loop-name
-invariant-loop-name l = record { left : all_behind [] l.names ≡ all_behind l.first (drop l.name-index l.names); known : KnowsAll l.numbers l.first }
+invariant-loop-name l =
+    record {
+      left : all_behind [] l.names ≡ all_behind l.first (drop l.name-index l.names);
+      known : KnowsAll l.numbers l.first;
+    }

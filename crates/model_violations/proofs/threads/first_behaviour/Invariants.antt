@@ -6,4 +6,6 @@ use Rattle.aadl_names.specs.Behaviours.{behaviours}
 use Rattle.model_violations.proofs.threads.first_behaviour.Given as goal
 
 abbrev pub invariant-loop-annex : goal.invariant-loop-annex
-invariant-loop-annex l = slice_get (behaviours (map (annex_view kept_place) (drop l.annex-index l.annexes))) 0 ≡ slice_get (behaviours (map (annex_view kept_place) l.annexes)) 0
+invariant-loop-annex l =
+    slice_get (behaviours (map (annex_view kept_place) (drop l.annex-index l.annexes))) 0
+    ≡ slice_get (behaviours (map (annex_view kept_place) l.annexes)) 0

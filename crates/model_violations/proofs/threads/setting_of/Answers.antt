@@ -11,13 +11,15 @@ use Rattle.model_violations.proofs.threads.setting_of.Goals as goal
 pub setting_by-requires-clause-ins : goal.setting_by-requires-clause-ins
 setting_by-requires-clause-ins c =
     let both = ports_both (map (feature_view kept_place) c.ports-ports.result.now) in
-    let ports = ap length (c.ports-ports.ensures ∙ ap (ports_at (placed c.args.uses.now.names.tree.now)) c.requires.number) in
+    let ports =
+    ap length (c.ports-ports.ensures ∙ ap (ports_at (placed c.args.uses.now.names.tree.now)) c.requires.number) in
     omega (arith, both, ap length c.in_ok-ins.ensures, ports)
 
 pub setting_by-requires-clause-outs : goal.setting_by-requires-clause-outs
 setting_by-requires-clause-outs c =
     let both = ports_both (map (feature_view kept_place) c.ports-ports.result.now) in
-    let ports = ap length (c.ports-ports.ensures ∙ ap (ports_at (placed c.args.uses.now.names.tree.now)) c.requires.number) in
+    let ports =
+    ap length (c.ports-ports.ensures ∙ ap (ports_at (placed c.args.uses.now.names.tree.now)) c.requires.number) in
     omega (arith, both, ap length c.in_ok-outs.ensures, ports)
 
 pub setting_by-requires-clause-variables : goal.setting_by-requires-clause-variables
@@ -29,9 +31,12 @@ returns-clause-values c =
     let ports = map (feature_view kept_place) c.ports-ports.result.now in
     let ins : c.as_slice.result.now ≡ ins_in ports = c.as_slice.ensures.value ∙ c.in_ok-ins.ensures in
     let outs : c.as_slice-2.result.now ≡ outs_in ports = c.as_slice-2.ensures.value ∙ c.in_ok-outs.ensures in
-    let variables : c.as_slice-3.result.now ≡ variables_of (annex_tree_view kept_place c.args.annex.now) = c.as_slice-3.ensures.value ∙ c.in_ok-variables.ensures in
+    let variables : c.as_slice-3.result.now ≡ variables_of (annex_tree_view kept_place c.args.annex.now) =
+    c.as_slice-3.ensures.value ∙ c.in_ok-variables.ensures in
     c.in_ok-setting.ensures.values
-    ∙ of_lists values_by tree (implementation_view kept_place c.args.x.now) (annex_tree_view kept_place c.args.annex.now) ports _ _ _ (c.ports-ports.ensures ∙ ap (ports_at tree) c.requires.number)
+    ∙ of_lists values_by tree (implementation_view kept_place c.args.x.now)
+    (annex_tree_view kept_place c.args.annex.now) ports _ _ _
+    (c.ports-ports.ensures ∙ ap (ports_at tree) c.requires.number)
     ins outs variables
 
 pub returns-clause-scope : goal.returns-clause-scope
@@ -40,7 +45,9 @@ returns-clause-scope c =
     let ports = map (feature_view kept_place) c.ports-ports.result.now in
     let ins : c.as_slice.result.now ≡ ins_in ports = c.as_slice.ensures.value ∙ c.in_ok-ins.ensures in
     let outs : c.as_slice-2.result.now ≡ outs_in ports = c.as_slice-2.ensures.value ∙ c.in_ok-outs.ensures in
-    let variables : c.as_slice-3.result.now ≡ variables_of (annex_tree_view kept_place c.args.annex.now) = c.as_slice-3.ensures.value ∙ c.in_ok-variables.ensures in
+    let variables : c.as_slice-3.result.now ≡ variables_of (annex_tree_view kept_place c.args.annex.now) =
+    c.as_slice-3.ensures.value ∙ c.in_ok-variables.ensures in
     c.in_ok-setting.ensures.scope
-    ∙ of_lists scope_by tree (implementation_view kept_place c.args.x.now) (annex_tree_view kept_place c.args.annex.now) ports _ _ _ (c.ports-ports.ensures ∙ ap (ports_at tree) c.requires.number)
+    ∙ of_lists scope_by tree (implementation_view kept_place c.args.x.now) (annex_tree_view kept_place c.args.annex.now)
+    ports _ _ _ (c.ports-ports.ensures ∙ ap (ports_at tree) c.requires.number)
     ins outs variables

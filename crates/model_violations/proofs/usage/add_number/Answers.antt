@@ -8,7 +8,10 @@ use Rattle.model_violations.proofs.usage.add_number.Goals as goal
 
 pub returns-in_ok-insert-in-Some : goal.returns-in_ok-insert-in-Some
 returns-in_ok-insert-in-Some c = λ n.
-    has_inserted c.args.numbers.now.keys _ c.in-Some.number n c.in_ok-insert-in-Some.ensures.keys ∙ ap (λ o. has c.args.numbers.now.keys n || is_number n o) (sym c.in-Some.is)
+    has_inserted c.args.numbers.now.keys _ c.in-Some.number n c.in_ok-insert-in-Some.ensures.keys
+    ∙ ap (λ o. has c.args.numbers.now.keys n || is_number n o) (sym c.in-Some.is)
 
 pub returns-in-None : goal.returns-in-None
-returns-in-None c = λ n. sym (or-false (has c.args.numbers.now.keys n)) ∙ ap (λ o. has c.args.numbers.now.keys n || is_number n o) (sym c.in-None.is)
+returns-in-None c =
+    λ n. sym (or-false (has c.args.numbers.now.keys n))
+    ∙ ap (λ o. has c.args.numbers.now.keys n || is_number n o) (sym c.in-None.is)

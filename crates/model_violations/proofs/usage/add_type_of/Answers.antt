@@ -10,10 +10,12 @@ use Rattle.model_violations.proofs.usage.add_type_of.Goals as goal
 pub returns-in_ok-add_number : goal.returns-in_ok-add_number
 returns-in_ok-add_number c = λ n.
     let number = type_number_at (placed c.args.uses.now.names.tree.now) c.args.number in
-    or_tested (has c.args.types.now.keys n) (has c.args.used.now.keys c.args.number) (is_number n number) _ (sym c.contains.ensures ∙ c.if-contains.true)
+    or_tested (has c.args.types.now.keys n) (has c.args.used.now.keys c.args.number) (is_number n number) _
+    (sym c.contains.ensures ∙ c.if-contains.true)
     (c.in_ok-add_number.ensures n ∙ ap (λ o. has c.args.types.now.keys n || is_number n o) c.type_number.ensures)
 
 pub returns-else-contains : goal.returns-else-contains
 returns-else-contains c = λ n.
     let number = type_number_at (placed c.args.uses.now.names.tree.now) c.args.number in
-    or_untested (has c.args.types.now.keys n) (has c.args.used.now.keys c.args.number) (is_number n number) (sym c.contains.ensures ∙ c.if-contains.false)
+    or_untested (has c.args.types.now.keys n) (has c.args.used.now.keys c.args.number) (is_number n number)
+    (sym c.contains.ensures ∙ c.if-contains.false)

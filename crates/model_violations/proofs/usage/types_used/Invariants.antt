@@ -7,4 +7,5 @@ use Rattle.model_violations.proofs.usage.types_used.Given as goal
 abbrev pub invariant-loop-number : goal.invariant-loop-number
 invariant-loop-number l =
     (n : ℕ) → has l.types.keys n
-    ≡ list_any (uses_type (placed l.uses.names.tree.now) (has l.used.keys) n) (enumerate_from 0 (take l.number (placed l.uses.names.tree.now).declarations))
+    ≡ list_any (uses_type (placed l.uses.names.tree.now) (has l.used.keys) n)
+    (enumerate_from 0 (take l.number (placed l.uses.names.tree.now).declarations))

@@ -5,4 +5,6 @@ use Rattle.model_violations.specs.Values.{variable_of}
 use Rattle.model_violations.proofs.variables.add_variables.Given as goal
 
 abbrev pub invariant-loop-name : goal.invariant-loop-name
-invariant-loop-name l = l.variables ≡ l.fn.variables ++ variable_of l.kind l.first (identifier_view kept_place l.declaration.names.first) ∷ map (variable_of l.kind l.first) (map (identifier_view kept_place) (take l.name-index l.name-items))
+invariant-loop-name l =
+    l.variables ≡ l.fn.variables ++ variable_of l.kind l.first (identifier_view kept_place l.declaration.names.first)
+    ∷ map (variable_of l.kind l.first) (map (identifier_view kept_place) (take l.name-index l.name-items))

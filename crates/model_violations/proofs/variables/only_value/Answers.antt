@@ -7,4 +7,5 @@ use Rattle.model_violations.specs.Values.{value_in}
 use Rattle.model_violations.proofs.variables.only_value.Goals as goal
 
 pub returns-in_default-2 : goal.returns-in_default-2
-returns-in_default-2 c = ap value_in (no_only_text (map (value_view kept_place) c.args.values.now) (rw length-map (omega arith)))
+returns-in_default-2 c =
+    ap value_in (no_only_text (map (value_view kept_place) c.args.values.now) (rw length-map (omega arith)))

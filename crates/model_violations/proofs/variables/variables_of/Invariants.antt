@@ -6,4 +6,5 @@ use Rattle.model_violations.specs.Values.{variables_in}
 use Rattle.model_violations.proofs.variables.variables_of.Given as goal
 
 abbrev pub invariant-loop-declaration : goal.invariant-loop-declaration
-invariant-loop-declaration l = l.variables ≡ flat_map variables_in (map (variable_view kept_place) (take l.declaration-index l.declaration-items))
+invariant-loop-declaration l =
+    l.variables ≡ flat_map variables_in (map (variable_view kept_place) (take l.declaration-index l.declaration-items))

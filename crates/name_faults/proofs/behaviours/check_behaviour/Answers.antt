@@ -18,7 +18,8 @@ returns c =
     (ap (found c.args.finder.now) (same_uses _ _ _ _ _ _
     (for_all _ _ c.in_ok-states.ensures)
     (c.scope_of-scope.ensures
-    ∙ same_order _ _ _ _ _ _ (c.comes_first.ensures ∙ ap (λ n. comes_first (type_numbered tree n) x) c.requires.of_type) (for_all _ _ c.requires.roles)
+    ∙ same_order _ _ _ _ _ _ (c.comes_first.ensures ∙ ap (λ n. comes_first (type_numbered tree n) x) c.requires.of_type)
+    (for_all _ _ c.requires.roles)
     (for_all _ _ c.in_ok-variables.ensures))
     c.transitions_in.ensures))
     c.check_transitions.ensures

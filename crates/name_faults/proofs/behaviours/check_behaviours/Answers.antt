@@ -10,14 +10,19 @@ use Rattle.name_faults.proofs.behaviours.check_behaviours.Goals as goal
 
 pub loop-annex-preserved : goal.loop-annex-preserved
 loop-annex-preserved c =
-    next_annex (annex_view kept_place) (placed c.args.tree.now) (implementation_view kept_place c.args.x.now) _ _ c.annex-item.result
+    next_annex (annex_view kept_place) (placed c.args.tree.now) (implementation_view kept_place c.args.x.now) _ _
+    c.annex-item.result
     c.loop-annex.expected _ _ _ _
-    c.loop-annex-test.true c.annex-item.is c.loop-annex.invariant c.in_ok-check_annex.ensures c.still_expected-expected.ensures
+    c.loop-annex-test.true c.annex-item.is c.loop-annex.invariant c.in_ok-check_annex.ensures
+    c.still_expected-expected.ensures
 
 pub returns : goal.returns
 returns c =
     let tree = placed c.args.tree.now in
     let x = implementation_view kept_place c.args.x.now in
-    last_annex (annex_view kept_place) tree x _ _ c.loop-annex.expected _ _ c.loop-annex-test.false c.loop-annex.invariant
-    ∙ ap (found c.args.finder.now) (as_annexes tree x (behaviours (map (annex_view kept_place) c.deref-annex-items.result.now))
-    ∙ ap (λ annexes. annex_faults tree x (behaviours (map (annex_view kept_place) annexes))) c.deref-annex-items.ensures.value)
+    last_annex (annex_view kept_place) tree x _ _ c.loop-annex.expected _ _ c.loop-annex-test.false
+    c.loop-annex.invariant
+    ∙ ap (found c.args.finder.now)
+    (as_annexes tree x (behaviours (map (annex_view kept_place) c.deref-annex-items.result.now))
+    ∙ ap (λ annexes. annex_faults tree x (behaviours (map (annex_view kept_place) annexes)))
+    c.deref-annex-items.ensures.value)

@@ -10,6 +10,7 @@ use Rattle.name_faults.proofs.components.check_subcomponents.Given as goal
 -- what is left is still to be looked at
 abbrev pub invariant-loop-place : goal.invariant-loop-place
 invariant-loop-place l =
-    found l.initial.finder (flat_map (subcomponent_faults (placed l.uses.names.tree.now) l.x.category) (map (subcomponent_view kept_place) l.sub-items))
+    found l.initial.finder (flat_map (subcomponent_faults (placed l.uses.names.tree.now) l.x.category)
+    (map (subcomponent_view kept_place) l.sub-items))
     ≡ found l.finder (flat_map (subcomponent_faults (placed l.uses.names.tree.now) l.x.category)
     (map (subcomponent_view kept_place) (drop l.place l.sub-items)))

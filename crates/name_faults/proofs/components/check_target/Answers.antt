@@ -15,6 +15,8 @@ returns-in-Some c =
     let tree = placed c.args.tree.now in
     let sub = subcomponent_view kept_place c.args.sub.now in
     closed c.check_declared.result c.check_declared.new.finder _ _
-    (ap (λ t. found c.args.finder.now (target_faults sub t)) (c.implementation_of.ensures ∙ ap (option_and_then (implementation_at tree)) c.requires)
-    ∙ sym (ap (λ i. found c.args.finder.now (names_faults tree sub i)) (ap (option_map (identifier_view kept_place)) c.in-Some.is)))
+    (ap (λ t. found c.args.finder.now (target_faults sub t))
+    (c.implementation_of.ensures ∙ ap (option_and_then (implementation_at tree)) c.requires)
+    ∙ sym (ap (λ i. found c.args.finder.now (names_faults tree sub i))
+    (ap (option_map (identifier_view kept_place)) c.in-Some.is)))
     c.check_declared.ensures

@@ -5,4 +5,6 @@ use Rattle.aadl_names.specs.Resolving.{implementation_at}
 use Rattle.name_faults.proofs.components.implementation_of.Goals as goal
 
 pub returns : goal.returns
-returns c = c.implementation_at.ensures ∙ sym (ap (option_and_then (implementation_at (placed c.args.tree.now))) c.in_ok-number.was)
+returns c =
+    c.implementation_at.ensures
+    ∙ sym (ap (option_and_then (implementation_at (placed c.args.tree.now))) c.in_ok-number.was)

@@ -25,14 +25,18 @@ loop-connection-preserved c =
     ∙ c.iter.ensures.rest ∙ c.deref.ensures.value in
     let second = ap (λ z. iter_rest (zip_second z)) gives ∙ c.zip-connection-items.ensures.second.0
     ∙ c.wires.ensures ∙ wires_are tree c.args.number x c.requires in
-    let turn = zip_turn _ _ c.loop-connection.yielded c.into_iter-connection-iterator.result c.loop-connection.connection-iterator
+    let turn =
+    zip_turn _ _ c.loop-connection.yielded c.into_iter-connection-iterator.result
+    c.loop-connection.connection-iterator
     c.next.new.self c.next.result first second c.loop-connection.yielded_by _ c.in-Some.is c.next.ensures.steps in
     let is = turn.2 c.in-Some.connection.now in
     let wire_is = made_of view (wire_of tree x) c.args.x.now.connections.items (length c.loop-connection.yielded)
     c.in-Some.connection.now c.in-Some.wire.now turn.0 is turn.3 in
     rw (length_push c.loop-connection.yielded _)
-    (next_found (λ xs. flat_map faults (map view xs)) (λ a. faults (view a)) (λ a xs. refl) _ _ _ _ _ _ turn.0 is c.loop-connection.invariant
-    (joined tree x (view c.in-Some.connection.now) c.in-Some.wire.now wire_is _ _ _ _ (c.with_direction-source.ensures x c.requires)
+    (next_found (λ xs. flat_map faults (map view xs)) (λ a. faults (view a)) (λ a xs. refl) _ _ _ _ _ _ turn.0 is
+    c.loop-connection.invariant
+    (joined tree x (view c.in-Some.connection.now) c.in-Some.wire.now wire_is _ _ _ _
+    (c.with_direction-source.ensures x c.requires)
     (c.with_direction-target.ensures x c.requires) c.in_ok-check_connection.ensures))
 
 pub returns : goal.returns
@@ -45,8 +49,11 @@ returns c =
     ∙ c.iter.ensures.rest ∙ c.deref.ensures.value in
     let second = ap (λ z. iter_rest (zip_second z)) gives ∙ c.zip-connection-items.ensures.second.0
     ∙ c.wires.ensures ∙ wires_are tree c.args.number x c.requires in
-    let all = zip_end _ _ c.loop-connection.yielded c.into_iter-connection-iterator.result c.loop-connection.connection-iterator
+    let all =
+    zip_end _ _ c.loop-connection.yielded c.into_iter-connection-iterator.result
+    c.loop-connection.connection-iterator
     c.next.new.self c.next.result first second c.loop-connection.yielded_by c.in-None.is c.next.ensures.steps in
     let many = length-map x.connections (wire_of tree x) ∙ length-map c.args.x.now.connections.items view in
-    last_found (λ xs. flat_map (connection_faults tree x) (map view xs)) c.args.x.now.connections.items (length c.loop-connection.yielded) _ _
+    last_found (λ xs. flat_map (connection_faults tree x) (map view xs)) c.args.x.now.connections.items
+    (length c.loop-connection.yielded) _ _
     (omega (arith, all, many)) refl c.loop-connection.invariant

@@ -10,7 +10,9 @@ use Rattle.name_faults.proofs.connections.check_connections.Given as goal
 -- what is left is still to be looked at
 abbrev pub invariant-loop-connection : goal.invariant-loop-connection
 invariant-loop-connection l =
-    found l.initial.finder (flat_map (connection_faults (placed l.wires.uses.names.tree.now) (implementation_view kept_place l.x))
+    found l.initial.finder (flat_map
+    (connection_faults (placed l.wires.uses.names.tree.now) (implementation_view kept_place l.x))
     (map (connection_view kept_place) l.x.connections.items))
-    ≡ found l.finder (flat_map (connection_faults (placed l.wires.uses.names.tree.now) (implementation_view kept_place l.x))
+    ≡ found l.finder (flat_map
+    (connection_faults (placed l.wires.uses.names.tree.now) (implementation_view kept_place l.x))
     (map (connection_view kept_place) (drop (length l.yielded) l.x.connections.items)))

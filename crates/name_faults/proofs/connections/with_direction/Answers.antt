@@ -8,4 +8,5 @@ use Rattle.name_faults.proofs.connections.with_direction.Goals as goal
 pub returns : goal.returns
 returns c = λ x stands.
     let pair : Option Direction → Option (PortPlace × Option Direction) = λ d. Some (c.in_ok-site.site, d) in
-    ap pair (c.direction_of.ensures x stands) ∙ sym (ap (option_map (with_direction (placed c.args.uses.now.names.tree.now) x)) c.in_ok-site.was)
+    ap pair (c.direction_of.ensures x stands)
+    ∙ sym (ap (option_map (with_direction (placed c.args.uses.now.names.tree.now) x)) c.in_ok-site.was)

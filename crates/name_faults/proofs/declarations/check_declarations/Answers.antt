@@ -17,23 +17,30 @@ pub check_declaration-requires : goal.check_declaration-requires
 check_declaration-requires c =
     record {
       all = c.requires;
-      number = ap (λ items. slice_get (map (declaration_view kept_place) items) c.loop-number.number) (sym c.deref-declaration-items.ensures.value)
-          ∙ numbered (declaration_view kept_place) c.deref-declaration-items.result.now c.loop-number.number c.declaration-item.result
+      number =
+          ap (λ items. slice_get (map (declaration_view kept_place) items) c.loop-number.number)
+          (sym c.deref-declaration-items.ensures.value)
+          ∙ numbered (declaration_view kept_place) c.deref-declaration-items.result.now c.loop-number.number
+          c.declaration-item.result
           c.loop-number-test.true c.declaration-item.is;
     }
 
 pub loop-number-preserved : goal.loop-number-preserved
 loop-number-preserved c =
-    next_numbered (declaration_view kept_place) (declaration_faults (placed c.args.wires.now.uses.names.tree.now) c.args.root) _ _ _ _ _ _
+    next_numbered (declaration_view kept_place)
+    (declaration_faults (placed c.args.wires.now.uses.names.tree.now) c.args.root) _ _ _ _ _ _
     c.loop-number-test.true c.declaration-item.is c.loop-number.invariant c.in_ok-check_declaration.ensures
 
 pub returns : goal.returns
 unfolding wrong_names
 returns c =
     let tree = placed c.args.wires.now.uses.names.tree.now in
-    last_numbered (declaration_view kept_place) (declaration_faults tree c.args.root) _ _ _ _ c.loop-number-test.false c.loop-number.invariant
+    last_numbered (declaration_view kept_place) (declaration_faults tree c.args.root) _ _ _ _ c.loop-number-test.false
+    c.loop-number.invariant
     ∙ (ap (λ ds. found c.check_end_name.new.finder (flat_map (declaration_faults tree c.args.root)
     (enumerate_from 0 (map (declaration_view kept_place) ds)))) c.deref-declaration-items.ensures.value
-    ∙ (ap (λ o. found o (flat_map (declaration_faults tree c.args.root) (enumerate_from 0 tree.declarations))) c.in_ok-check_end_name.ensures
-    ∙ sym (found_append c.args.finder.now (wrong_if (not (same_name (spelled_name tree.end_name) (spelled_name tree.name))) tree.end_name.first.at)
+    ∙ (ap (λ o. found o (flat_map (declaration_faults tree c.args.root) (enumerate_from 0 tree.declarations)))
+    c.in_ok-check_end_name.ensures
+    ∙ sym (found_append c.args.finder.now
+    (wrong_if (not (same_name (spelled_name tree.end_name) (spelled_name tree.name))) tree.end_name.first.at)
     (flat_map (declaration_faults tree c.args.root) (enumerate_from 0 tree.declarations)))))

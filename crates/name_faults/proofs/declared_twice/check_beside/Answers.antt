@@ -15,7 +15,8 @@ loop-entry-preserved c =
     let ports = port_entries (map (feature_view kept_place) c.args.ports.now) in
     let others = c.args.others.now in
     let x = c.entry-item.result in
-    next_found (λ ys. flat_map (beside_each ports others) ys) (beside_each ports others) (λ y ys. refl) _ _ _ _ _ _ c.loop-entry-test.true c.entry-item.is
+    next_found (λ ys. flat_map (beside_each ports others) ys) (beside_each ports others) (λ y ys. refl) _ _ _ _ _ _
+    c.loop-entry-test.true c.entry-item.is
     c.loop-entry.invariant
     (c.in_ok-check_one.ensures
     ∙ (ap (λ o. found c.loop-entry.finder (beside_one ports o c.in_ok-other.other x))
@@ -28,6 +29,9 @@ unfolding beside
 returns c =
     let ports = port_entries (map (feature_view kept_place) c.args.ports.now) in
     let others = c.args.others.now in
-    last_found (λ ys. flat_map (beside_each ports others) ys) _ _ _ _ c.loop-entry-test.false refl c.loop-entry.invariant
-    ∙ (ap (λ o. found o (flat_map (beside_each ports others) others)) (c.in_ok-add.ensures ∙ ap (λ o. found c.args.finder.now (as_list o)) c.requires.again)
-    ∙ sym (found_append c.args.finder.now (as_list (found None (twice ports))) (flat_map (beside_each ports others) others)))
+    last_found (λ ys. flat_map (beside_each ports others) ys) _ _ _ _ c.loop-entry-test.false refl
+    c.loop-entry.invariant
+    ∙ (ap (λ o. found o (flat_map (beside_each ports others) others))
+    (c.in_ok-add.ensures ∙ ap (λ o. found c.args.finder.now (as_list o)) c.requires.again)
+    ∙ sym (found_append c.args.finder.now (as_list (found None (twice ports)))
+    (flat_map (beside_each ports others) others)))

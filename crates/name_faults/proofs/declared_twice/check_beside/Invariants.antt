@@ -10,5 +10,7 @@ use Rattle.name_faults.proofs.declared_twice.check_beside.Given as goal
 -- what is left is still to be looked at
 abbrev pub invariant-loop-entry : goal.invariant-loop-entry
 invariant-loop-entry l =
-    found l.initial.finder (flat_map (beside_each (port_entries (map (feature_view kept_place) l.ports)) l.others) l.others)
-    ≡ found l.finder (flat_map (beside_each (port_entries (map (feature_view kept_place) l.ports)) l.others) (drop l.entry-index l.others))
+    found l.initial.finder (flat_map
+    (beside_each (port_entries (map (feature_view kept_place) l.ports)) l.others) l.others)
+    ≡ found l.finder (flat_map (beside_each (port_entries (map (feature_view kept_place) l.ports)) l.others)
+    (drop l.entry-index l.others))

@@ -5,5 +5,6 @@ use Rattle.name_faults.proofs.digits.is_small.Goals as goal
 
 pub returns-then-value-digit : goal.returns-then-value-digit
 returns-then-value-digit c =
-    small_by _ _ (decimal_over c.args.text.now c.loop-byte.byte-index c.loop-byte.value c.from-digit.result (omega arith) c.loop-byte.invariant.same (cc)
+    small_by _ _ (decimal_over c.args.text.now c.loop-byte.byte-index c.loop-byte.value c.from-digit.result
+    (omega arith) c.loop-byte.invariant.same (cc)
     c.from-digit.ensures (omega arith))

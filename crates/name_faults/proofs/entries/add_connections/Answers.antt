@@ -7,6 +7,7 @@ use Rattle.name_faults.proofs.entries.add_connections.Goals as goal
 
 pub loop-connection-preserved : goal.loop-connection-preserved
 loop-connection-preserved c =
-    next_added (λ xs. map (λ d. entry_of d.name) (map (connection_view kept_place) xs)) (λ x. entry_of (connection_view kept_place x).name ∷ [])
+    next_added (λ xs. map (λ d. entry_of d.name) (map (connection_view kept_place) xs))
+    (λ x. entry_of (connection_view kept_place x).name ∷ [])
     (λ x xs. refl) _ _ _ _ _ _
     c.loop-connection-test.true c.connection-item.is c.loop-connection.invariant c.in_ok-add_word.ensures

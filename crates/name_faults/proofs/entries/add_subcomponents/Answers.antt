@@ -7,6 +7,7 @@ use Rattle.name_faults.proofs.entries.add_subcomponents.Goals as goal
 
 pub loop-sub-preserved : goal.loop-sub-preserved
 loop-sub-preserved c =
-    next_added (λ xs. map (λ d. entry_of d.name) (map (subcomponent_view kept_place) xs)) (λ x. entry_of (subcomponent_view kept_place x).name ∷ [])
+    next_added (λ xs. map (λ d. entry_of d.name) (map (subcomponent_view kept_place) xs))
+    (λ x. entry_of (subcomponent_view kept_place x).name ∷ [])
     (λ x xs. refl) _ _ _ _ _ _
     c.loop-sub-test.true c.sub-item.is c.loop-sub.invariant c.in_ok-add_word.ensures

@@ -9,4 +9,5 @@ use Rattle.name_faults.proofs.entries.implementation_entries.Given as goal
 abbrev pub invariant-loop-declaration : goal.invariant-loop-declaration
 invariant-loop-declaration l =
     filter_map implementation_entry (map (declaration_view kept_place) l.declaration-items) ≡ l.entries
-    ++ filter_map implementation_entry (map (declaration_view kept_place) (drop l.declaration-index l.declaration-items))
+    ++ filter_map implementation_entry
+    (map (declaration_view kept_place) (drop l.declaration-index l.declaration-items))

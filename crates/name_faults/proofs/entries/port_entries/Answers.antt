@@ -8,8 +8,11 @@ use Rattle.name_faults.proofs.entries.port_entries.Goals as goal
 
 pub loop-port-preserved : goal.loop-port-preserved
 loop-port-preserved c =
-    next_added (λ xs. port_entries (map (feature_view kept_place) xs)) (λ x. entry_of (feature_view kept_place x).name ∷ []) (λ x xs. refl) _ _ _ _ _ _
+    next_added (λ xs. port_entries (map (feature_view kept_place) xs))
+    (λ x. entry_of (feature_view kept_place x).name ∷ []) (λ x xs. refl) _ _ _ _ _ _
     c.loop-port-test.true c.port-item.is c.loop-port.invariant c.in_ok-add_word.ensures
 
 pub returns : goal.returns
-returns c = last_added (λ xs. port_entries (map (feature_view kept_place) xs)) _ _ _ _ c.loop-port-test.false refl c.loop-port.invariant
+returns c =
+    last_added (λ xs. port_entries (map (feature_view kept_place) xs)) _ _ _ _ c.loop-port-test.false refl
+    c.loop-port.invariant

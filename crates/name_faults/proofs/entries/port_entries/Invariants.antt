@@ -7,4 +7,5 @@ use Rattle.name_faults.proofs.entries.port_entries.Given as goal
 -- what is left is still to be added
 abbrev pub invariant-loop-port : goal.invariant-loop-port
 invariant-loop-port l =
-    port_entries (map (feature_view kept_place) l.ports) ≡ l.entries ++ port_entries (map (feature_view kept_place) (drop l.port-index l.ports))
+    port_entries (map (feature_view kept_place) l.ports)
+    ≡ l.entries ++ port_entries (map (feature_view kept_place) (drop l.port-index l.ports))

@@ -12,11 +12,14 @@ pub loop-declaration-preserved : goal.loop-declaration-preserved
 loop-declaration-preserved c =
     next_added (λ xs. map entry_of (flat_map (λ d. identifiers d.names) (map (state_view kept_place) xs)))
     (λ x. map entry_of (identifiers (state_view kept_place x).names))
-    (λ x xs. map-append entry_of (identifiers (state_view kept_place x).names) (flat_map (λ d. identifiers d.names) (map (state_view kept_place) xs))) _
+    (λ x xs. map-append entry_of (identifiers (state_view kept_place x).names)
+    (flat_map (λ d. identifiers d.names) (map (state_view kept_place) xs))) _
     _ _ _ _ _
     c.loop-declaration-test.true c.declaration-item.is c.loop-declaration.invariant c.in_ok-add_words.ensures
 
 pub returns : goal.returns
-returns c = last_added (λ xs. map entry_of (flat_map (λ d. identifiers d.names) (map (state_view kept_place) xs))) _ _ _ _ c.loop-declaration-test.false
+returns c =
+    last_added (λ xs. map entry_of (flat_map (λ d. identifiers d.names) (map (state_view kept_place) xs))) _ _ _ _
+    c.loop-declaration-test.false
     refl c.loop-declaration.invariant
     ∙ ap (λ ds. map entry_of (flat_map (λ d. identifiers d.names) ds)) c.states_in-declaration-items.ensures

@@ -17,6 +17,8 @@ loop-declaration-preserved c =
     c.loop-declaration-test.true c.declaration-item.is c.loop-declaration.invariant c.in_ok-add_words.ensures
 
 pub returns : goal.returns
-returns c = last_added (λ xs. map entry_of (flat_map (λ d. identifiers d.names) (map (variable_view kept_place) xs))) _ _ _ _ c.loop-declaration-test.false
+returns c =
+    last_added (λ xs. map entry_of (flat_map (λ d. identifiers d.names) (map (variable_view kept_place) xs))) _ _ _ _
+    c.loop-declaration-test.false
     refl c.loop-declaration.invariant
     ∙ ap (λ ds. map entry_of (flat_map (λ d. identifiers d.names) ds)) c.variables_in-declaration-items.ensures

@@ -10,4 +10,5 @@ use Rattle.name_faults.proofs.entries.variable_entries.Given as goal
 abbrev pub invariant-loop-declaration : goal.invariant-loop-declaration
 invariant-loop-declaration l =
     map entry_of (flat_map (λ d. identifiers d.names) (map (variable_view kept_place) l.declaration-items)) ≡ l.entries
-    ++ map entry_of (flat_map (λ d. identifiers d.names) (map (variable_view kept_place) (drop l.declaration-index l.declaration-items)))
+    ++ map entry_of (flat_map (λ d. identifiers d.names)
+    (map (variable_view kept_place) (drop l.declaration-index l.declaration-items)))

@@ -33,4 +33,5 @@ returns c =
     c.wrong_if.ensures ∙ ap (λ b. found old (wrong_if (not b) at)) same in
     c.wrong_if-2.ensures ∙ ap (λ b. found c.wrong_if.new.self (wrong_if (not b) x.at)) has
     ∙ ap (λ f. found f (wrong_if (not (has_type x.category (type_of tree x))) x.at)) first
-    ∙ sym (found_append old (wrong_if (not (same_name end name)) at) (wrong_if (not (has_type x.category (type_of tree x))) x.at))
+    ∙ sym (found_append old (wrong_if (not (same_name end name)) at)
+    (wrong_if (not (has_type x.category (type_of tree x))) x.at))

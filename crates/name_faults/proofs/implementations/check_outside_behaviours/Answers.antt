@@ -7,4 +7,5 @@ use Rattle.name_faults.proofs.implementations.check_outside_behaviours.Goals as 
 
 pub check_heading-requires : goal.check_heading-requires
 check_heading-requires c =
-    c.type_number.ensures ∙ type_is (placed c.args.wires.now.uses.names.tree.now) c.args.number (implementation_view kept_place c.args.x.now) c.requires
+    c.type_number.ensures ∙ type_is (placed c.args.wires.now.uses.names.tree.now) c.args.number
+    (implementation_view kept_place c.args.x.now) c.requires

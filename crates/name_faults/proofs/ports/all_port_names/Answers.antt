@@ -13,14 +13,16 @@ loop-declaration-init c = subst (AreNamed []) (sym c.new-of_declarations.ensures
 
 pub loop-declaration-preserved : goal.loop-declaration-preserved
 loop-declaration-preserved c =
-    next_named (declaration_view kept_place) c.deref-declaration-items.result.now c.loop-declaration.declaration-index c.declaration-item.result _ _
+    next_named (declaration_view kept_place) c.deref-declaration-items.result.now c.loop-declaration.declaration-index
+    c.declaration-item.result _ _
     c.in_ok-port_names.field-0
     c.loop-declaration-test.true c.declaration-item.is c.in_ok-push.ensures.ok c.loop-declaration.invariant
     (subst (λ ports. AreNamesOf ports c.in_ok-port_names.field-0) c.ports_in.ensures c.in_ok-port_names.ensures)
 
 pub returns : goal.returns
 returns c =
-    subst (λ (ns : List PortNames). AreAllNamesOf (placed c.args.tree.now) (record { of_declarations = ns; none = c.in_ok-port_names-2.field-0 }))
+    subst (λ (ns : List PortNames).
+    AreAllNamesOf (placed c.args.tree.now) (record { of_declarations = ns; none = c.in_ok-port_names-2.field-0 }))
     (sym c.of_declarations-2.view_is)
     (each_named (placed c.args.tree.now) _
     (subst (λ ds. AreNamed (map (declaration_view kept_place) ds) c.loop-declaration.of_declarations)

@@ -6,4 +6,5 @@ use Rattle.name_faults.proofs.ports.all_port_names.Given as goal
 
 -- the ports of the declarations so far have these names
 abbrev pub invariant-loop-declaration : goal.invariant-loop-declaration
-invariant-loop-declaration l = AreNamed (map (declaration_view kept_place) (take l.declaration-index l.declaration-items)) l.of_declarations
+invariant-loop-declaration l =
+    AreNamed (map (declaration_view kept_place) (take l.declaration-index l.declaration-items)) l.of_declarations

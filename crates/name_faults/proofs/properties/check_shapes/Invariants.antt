@@ -10,4 +10,5 @@ use Rattle.name_faults.proofs.properties.check_shapes.Given as goal
 abbrev pub invariant-loop-association : goal.invariant-loop-association
 invariant-loop-association l =
     found l.initial.finder (flat_map (shape_fault l.holder) (listed (associations_view kept_place l.list)))
-    ≡ found l.finder (flat_map (shape_fault l.holder) (listed (associations_view kept_place (drop l.association-index l.list))))
+    ≡ found l.finder (flat_map (shape_fault l.holder)
+    (listed (associations_view kept_place (drop l.association-index l.list))))

@@ -7,4 +7,5 @@ use Rattle.name_faults.proofs.properties.property_entries.Given as goal
 -- what is left is still to be added
 abbrev pub invariant-loop-association : goal.invariant-loop-association
 invariant-loop-association l =
-    property_entries (associations_view kept_place l.list) ≡ l.entries ++ property_entries (associations_view kept_place (drop l.association-index l.list))
+    property_entries (associations_view kept_place l.list)
+    ≡ l.entries ++ property_entries (associations_view kept_place (drop l.association-index l.list))

@@ -11,5 +11,7 @@ use Rattle.name_faults.proofs.roles.add_words.Given as goal
 abbrev pub invariant-loop-word : goal.invariant-loop-word
 invariant-loop-word g l =
     (name : List ℕ)
-    → option_or (value_of l.initial.table name) (value_if l.value (is_among (map (identifier_view kept_place) l.word-items) name))
-    ≡ option_or (value_of l.table name) (value_if l.value (is_among (map (identifier_view kept_place) (drop l.word-index l.word-items)) name))
+    → option_or (value_of l.initial.table name)
+    (value_if l.value (is_among (map (identifier_view kept_place) l.word-items) name))
+    ≡ option_or (value_of l.table name)
+    (value_if l.value (is_among (map (identifier_view kept_place) (drop l.word-index l.word-items)) name))

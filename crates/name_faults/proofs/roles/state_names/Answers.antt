@@ -21,21 +21,28 @@ abbrev among_here : List ℕ → StateDeclaration → Bool
 among_here name x = is_among (identifiers (state_view kept_place x).names) name
 
 splits : (name : List ℕ) (x : StateDeclaration) (xs : List StateDeclaration)
-    → value_if mark (among name (x ∷ xs)) ≡ option_or (value_if mark (among_here name x)) (value_if mark (among name xs))
+    → value_if mark (among name (x ∷ xs))
+    ≡ option_or (value_if mark (among_here name x)) (value_if mark (among name xs))
 splits name x xs =
     ap (value_if mark) (list_any-append (λ y. same_name name y.spelling) (identifiers (state_view kept_place x).names)
     (flat_map (λ d. identifiers d.names) (map (state_view kept_place) xs)))
     ∙ value_or mark (among_here name x) (among name xs)
 
 pub loop-declaration-init : goal.loop-declaration-init
-loop-declaration-init c = λ name. ap (λ o. option_or o (value_if mark (among name c.states_in-declaration-items.result.now))) (sym (c.new-table.ensures name))
+loop-declaration-init c =
+    λ name. ap (λ o. option_or o (value_if mark (among name c.states_in-declaration-items.result.now)))
+    (sym (c.new-table.ensures name))
 
 pub loop-declaration-preserved : goal.loop-declaration-preserved
 loop-declaration-preserved c = λ name.
     next_role (λ xs. value_if mark (among name xs)) (λ x. value_if mark (among_here name x)) (splits name) _ _ _ _ _ _
-    c.loop-declaration-test.true c.declaration-item.is (c.loop-declaration.invariant name) (c.in_ok-add_words.ensures name)
+    c.loop-declaration-test.true c.declaration-item.is (c.loop-declaration.invariant name)
+    (c.in_ok-add_words.ensures name)
 
 pub returns : goal.returns
 returns c = λ name.
-    let whole = last_role (λ xs. value_if mark (among name xs)) _ _ _ _ c.loop-declaration-test.false refl (c.loop-declaration.invariant name) in
-    ap is_marked whole ∙ (marked_if mark _ ∙ ap (λ ds. is_among (flat_map (λ d. identifiers d.names) ds) name) c.states_in-declaration-items.ensures)
+    let whole =
+    last_role (λ xs. value_if mark (among name xs)) _ _ _ _ c.loop-declaration-test.false refl
+    (c.loop-declaration.invariant name) in
+    ap is_marked whole ∙ (marked_if mark _
+    ∙ ap (λ ds. is_among (flat_map (λ d. identifiers d.names) ds) name) c.states_in-declaration-items.ensures)

@@ -13,6 +13,8 @@ use Rattle.name_faults.proofs.roles.state_names.Given as goal
 abbrev pub invariant-loop-declaration : goal.invariant-loop-declaration
 invariant-loop-declaration l =
     (name : List ℕ)
-    → value_if tt (is_among (flat_map (λ d. identifiers d.names) (map (state_view kept_place) l.declaration-items)) name)
+    → value_if tt (is_among (flat_map (λ d. identifiers d.names)
+    (map (state_view kept_place) l.declaration-items)) name)
     ≡ option_or (value_of l.table name) (value_if tt (is_among
-    (flat_map (λ d. identifiers d.names) (map (state_view kept_place) (drop l.declaration-index l.declaration-items))) name))
+    (flat_map (λ d. identifiers d.names)
+    (map (state_view kept_place) (drop l.declaration-index l.declaration-items))) name))

@@ -14,6 +14,8 @@ use Rattle.name_faults.proofs.roles.variable_roles.Given as goal
 abbrev pub invariant-loop-declaration : goal.invariant-loop-declaration
 invariant-loop-declaration l =
     (name : List ℕ)
-    → value_if Varies (is_among (flat_map (λ d. identifiers d.names) (map (variable_view kept_place) l.declaration-items)) name)
+    → value_if Varies (is_among
+    (flat_map (λ d. identifiers d.names) (map (variable_view kept_place) l.declaration-items)) name)
     ≡ option_or (value_of l.table name) (value_if Varies
-    (is_among (flat_map (λ d. identifiers d.names) (map (variable_view kept_place) (drop l.declaration-index l.declaration-items))) name))
+    (is_among (flat_map (λ d. identifiers d.names)
+    (map (variable_view kept_place) (drop l.declaration-index l.declaration-items))) name))

@@ -10,6 +10,7 @@ check_in_implementation-requires c =
     record {
       all = c.requires.all;
       of_type = c.type_number.ensures
-          ∙ type_is (placed c.args.uses.now.names.tree.now) c.args.number (implementation_view kept_place c.in-Implementation.x)
+          ∙ type_is (placed c.args.uses.now.names.tree.now) c.args.number
+          (implementation_view kept_place c.in-Implementation.x)
           (c.requires.number ∙ ap (λ d. Some (declaration_view kept_place d)) c.in-Implementation.is);
     }

@@ -14,23 +14,29 @@ use Rattle.name_faults.proofs.Numbered.{numbered}
 use Rattle.name_faults.proofs.spaces.check_spaces.Goals as goal
 
 -- three lists of findings one behind the other
-three_found : (first one two last : (Option PackageFault)) (a b c : List PackageFault) → one ≡ found first a → two ≡ found one b → last ≡ found two c
+three_found : (first one two last : (Option PackageFault)) (a b c : List PackageFault) → one ≡ found first a
+    → two ≡ found one b → last ≡ found two c
     → last ≡ found first (a ++ b ++ c)
 three_found first one two last a b c x y z =
-    z ∙ (ap (λ o. found o c) (y ∙ ap (λ o. found o b) x) ∙ sym (found_append first (a ++ b) c ∙ ap (λ o. found o c) (found_append first a b)))
+    z ∙ (ap (λ o. found o c) (y ∙ ap (λ o. found o b) x)
+    ∙ sym (found_append first (a ++ b) c ∙ ap (λ o. found o c) (found_append first a b)))
 
 pub check_in-requires : goal.check_in-requires
 check_in-requires c =
     record {
       all = c.requires;
-      number = ap (λ items. slice_get (map (declaration_view kept_place) items) c.loop-number.number) (sym c.deref-declaration-items.ensures.value)
-          ∙ numbered (declaration_view kept_place) c.deref-declaration-items.result.now c.loop-number.number c.declaration-item.result
+      number =
+          ap (λ items. slice_get (map (declaration_view kept_place) items) c.loop-number.number)
+          (sym c.deref-declaration-items.ensures.value)
+          ∙ numbered (declaration_view kept_place) c.deref-declaration-items.result.now c.loop-number.number
+          c.declaration-item.result
           c.loop-number-test.true c.declaration-item.is;
     }
 
 pub loop-number-preserved : goal.loop-number-preserved
 loop-number-preserved c =
-    next_found (λ xs. flat_map (beside_in (placed c.args.uses.now.names.tree.now)) (map (declaration_view kept_place) xs))
+    next_found (λ xs. flat_map (beside_in (placed c.args.uses.now.names.tree.now))
+    (map (declaration_view kept_place) xs))
     (λ x. beside_in (placed c.args.uses.now.names.tree.now) (declaration_view kept_place x)) (λ x xs. refl) _ _ _ _ _ _
     c.loop-number-test.true c.declaration-item.is c.loop-number.invariant c.in_ok-check_in.ensures
 
@@ -38,9 +44,15 @@ pub returns : goal.returns
 unfolding beside_names
 returns c =
     let tree = placed c.args.uses.now.names.tree.now in
-    three_found c.args.finder.now _ _ _ (twice (filter_map type_entry tree.declarations)) (twice (filter_map implementation_entry tree.declarations))
+    three_found c.args.finder.now _ _ _ (twice (filter_map type_entry tree.declarations))
+    (twice (filter_map implementation_entry tree.declarations))
     (flat_map (beside_in tree) tree.declarations)
-    (c.in_ok-check_twice.ensures ∙ ap (λ es. found c.args.finder.now (twice es)) (c.as_slice.ensures.value ∙ c.in_ok-types.ensures))
-    (c.in_ok-check_twice-2.ensures ∙ ap (λ es. found c.check_twice.new.finder (twice es)) (c.as_slice-2.ensures.value ∙ c.in_ok-implementations.ensures))
-    (last_found (λ xs. flat_map (beside_in tree) (map (declaration_view kept_place) xs)) _ _ _ _ c.loop-number-test.false refl c.loop-number.invariant
-    ∙ ap (λ ds. found c.check_twice-2.new.finder (flat_map (beside_in tree) (map (declaration_view kept_place) ds))) c.deref-declaration-items.ensures.value)
+    (c.in_ok-check_twice.ensures
+    ∙ ap (λ es. found c.args.finder.now (twice es)) (c.as_slice.ensures.value ∙ c.in_ok-types.ensures))
+    (c.in_ok-check_twice-2.ensures
+    ∙ ap (λ es. found c.check_twice.new.finder (twice es))
+    (c.as_slice-2.ensures.value ∙ c.in_ok-implementations.ensures))
+    (last_found (λ xs. flat_map (beside_in tree) (map (declaration_view kept_place) xs)) _ _ _ _
+    c.loop-number-test.false refl c.loop-number.invariant
+    ∙ ap (λ ds. found c.check_twice-2.new.finder (flat_map (beside_in tree) (map (declaration_view kept_place) ds)))
+    c.deref-declaration-items.ensures.value)

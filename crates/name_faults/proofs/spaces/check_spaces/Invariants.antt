@@ -10,5 +10,7 @@ use Rattle.name_faults.proofs.spaces.check_spaces.Given as goal
 -- what is left is still to be looked at
 abbrev pub invariant-loop-number : goal.invariant-loop-number
 invariant-loop-number l =
-    found l.initial.finder (flat_map (beside_in (placed l.uses.names.tree.now)) (map (declaration_view kept_place) l.declaration-items))
-    ≡ found l.finder (flat_map (beside_in (placed l.uses.names.tree.now)) (map (declaration_view kept_place) (drop l.number l.declaration-items)))
+    found l.initial.finder (flat_map (beside_in (placed l.uses.names.tree.now))
+    (map (declaration_view kept_place) l.declaration-items))
+    ≡ found l.finder (flat_map (beside_in (placed l.uses.names.tree.now))
+    (map (declaration_view kept_place) (drop l.number l.declaration-items)))

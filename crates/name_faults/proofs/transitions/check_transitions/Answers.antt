@@ -9,6 +9,8 @@ use Rattle.name_faults.proofs.transitions.check_transitions.Goals as goal
 
 pub loop-transition-preserved : goal.loop-transition-preserved
 loop-transition-preserved c =
-    next_found (λ xs. flat_map (transition_uses (is_state_by c.args.states.now) (known_by c.args.scope.now)) (map (transition_view kept_place) xs))
-    (λ x. transition_uses (is_state_by c.args.states.now) (known_by c.args.scope.now) (transition_view kept_place x)) (λ x xs. refl) _ _ _ _ _ _
+    next_found (λ xs. flat_map (transition_uses (is_state_by c.args.states.now) (known_by c.args.scope.now))
+    (map (transition_view kept_place) xs))
+    (λ x. transition_uses (is_state_by c.args.states.now) (known_by c.args.scope.now) (transition_view kept_place x))
+    (λ x xs. refl) _ _ _ _ _ _
     c.loop-transition-test.true c.transition-item.is c.loop-transition.invariant c.in_ok-check_transition.ensures

@@ -10,6 +10,7 @@ use Rattle.name_faults.proofs.transitions.check_transitions.Given as goal
 -- what is left is still to be looked at
 abbrev pub invariant-loop-transition : goal.invariant-loop-transition
 invariant-loop-transition l =
-    found l.initial.finder (flat_map (transition_uses (is_state_by l.states) (known_by l.scope)) (map (transition_view kept_place) l.transitions))
+    found l.initial.finder (flat_map (transition_uses (is_state_by l.states) (known_by l.scope))
+    (map (transition_view kept_place) l.transitions))
     ≡ found l.finder (flat_map (transition_uses (is_state_by l.states) (known_by l.scope))
     (map (transition_view kept_place) (drop l.transition-index l.transitions)))

@@ -8,5 +8,6 @@ use Rattle.name_faults.proofs.types.check_no_behaviour.Goals as goal
 
 pub loop-annex-preserved : goal.loop-annex-preserved
 loop-annex-preserved c =
-    next_found (λ xs. flat_map spec.stray_faults (map (annex_view kept_place) xs)) (λ x. spec.stray_faults (annex_view kept_place x)) (λ x xs. refl) _ _ _ _ _ _
+    next_found (λ xs. flat_map spec.stray_faults (map (annex_view kept_place) xs))
+    (λ x. spec.stray_faults (annex_view kept_place x)) (λ x xs. refl) _ _ _ _ _ _
     c.loop-annex-test.true c.annex-item.is c.loop-annex.invariant c.check_stray.ensures

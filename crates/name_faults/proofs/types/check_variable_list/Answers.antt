@@ -8,6 +8,7 @@ use Rattle.name_faults.proofs.types.check_variable_list.Goals as goal
 
 pub loop-variable-preserved : goal.loop-variable-preserved
 loop-variable-preserved c =
-    next_found (λ xs. flat_map spec.variable_faults (map (variable_view kept_place) xs)) (λ x. spec.variable_faults (variable_view kept_place x))
+    next_found (λ xs. flat_map spec.variable_faults (map (variable_view kept_place) xs))
+    (λ x. spec.variable_faults (variable_view kept_place x))
     (λ x xs. refl) _ _ _ _ _ _
     c.loop-variable-test.true c.variable-item.is c.loop-variable.invariant c.in_ok-check_variable.ensures

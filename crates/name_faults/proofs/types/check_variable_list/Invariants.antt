@@ -10,4 +10,5 @@ use Rattle.name_faults.proofs.types.check_variable_list.Given as goal
 abbrev pub invariant-loop-variable : goal.invariant-loop-variable
 invariant-loop-variable l =
     found l.initial.finder (flat_map spec.variable_faults (map (variable_view kept_place) l.variables))
-    ≡ found l.finder (flat_map spec.variable_faults (map (variable_view kept_place) (drop l.variable-index l.variables)))
+    ≡ found l.finder (flat_map spec.variable_faults
+    (map (variable_view kept_place) (drop l.variable-index l.variables)))

@@ -19,7 +19,9 @@ check_actions-loop-action-preserved t c =
 
 pub check_actions-returns : goal.check_actions-returns
 check_actions-returns t c =
-    let rest = last_found (λ xs. mores_uses (known_by c.args.scope.now) (mores_view kept_place xs)) _ _ _ _ c.loop-action-test.false refl
+    let rest =
+    last_found (λ xs. mores_uses (known_by c.args.scope.now) (mores_view kept_place xs)) _ _ _ _
+    c.loop-action-test.false refl
     c.loop-action.invariant in
     let view = view-out-actions kept_place c.args.actions.now in
     rw (view, found_append) (cc (c.in_ok-check_action.ensures, c.deref-action-items.ensures.value))
@@ -35,18 +37,27 @@ check_choice-loop-elsif-preserved t c =
 
 pub check_choice-returns-in-Some : goal.check_choice-returns-in-Some
 check_choice-returns-in-Some t c =
-    let rest = last_found (λ xs. elsifs_uses (known_by c.args.scope.now) (elsifs_view kept_place xs)) _ _ _ _ c.loop-elsif-test.false refl
+    let rest =
+    last_found (λ xs. elsifs_uses (known_by c.args.scope.now) (elsifs_view kept_place xs)) _ _ _ _
+    c.loop-elsif-test.false refl
     c.loop-elsif.invariant in
     let view = view-out-choice kept_place c.args.choice.now in
     let some = c.in-Some.is in
     closed c.check_actions-in-Some.result c.check_actions-in-Some.new.finder _ _
     (rw (view, some, found_append, found_append, found_append)
-    (cc (c.in_ok-check_expression.ensures, c.in_ok-check_actions.ensures, c.deref-elsif-items.ensures.value, c.deref.ensures)))
+    (cc (
+      c.in_ok-check_expression.ensures,
+      c.in_ok-check_actions.ensures,
+      c.deref-elsif-items.ensures.value,
+      c.deref.ensures,
+    )))
     c.check_actions-in-Some.ensures
 
 pub check_choice-returns-in-None : goal.check_choice-returns-in-None
 check_choice-returns-in-None t c =
-    let rest = last_found (λ xs. elsifs_uses (known_by c.args.scope.now) (elsifs_view kept_place xs)) _ _ _ _ c.loop-elsif-test.false refl
+    let rest =
+    last_found (λ xs. elsifs_uses (known_by c.args.scope.now) (elsifs_view kept_place xs)) _ _ _ _
+    c.loop-elsif-test.false refl
     c.loop-elsif.invariant in
     let view = view-out-choice kept_place c.args.choice.now in
     let none = c.in-None.is in

@@ -37,21 +37,27 @@ check_term-loop-operand-preserved t c =
 
 pub check_expression-returns : goal.check_expression-returns
 check_expression-returns t c =
-    let rest = last_found (λ xs. relations_uses (known_by c.args.scope.now) (relations_view kept_place xs)) _ _ _ _ c.loop-operand-test.false refl
+    let rest =
+    last_found (λ xs. relations_uses (known_by c.args.scope.now) (relations_view kept_place xs)) _ _ _ _
+    c.loop-operand-test.false refl
     c.loop-operand.invariant in
     let view = view-out-expression kept_place c.args.expression.now in
     rw (view, found_append) (cc (c.in_ok-check_relation.ensures, c.deref-operand-items.ensures.value))
 
 pub check_sum-returns : goal.check_sum-returns
 check_sum-returns t c =
-    let rest = last_found (λ xs. terms_uses (known_by c.args.scope.now) (terms_view kept_place xs)) _ _ _ _ c.loop-operand-test.false refl
+    let rest =
+    last_found (λ xs. terms_uses (known_by c.args.scope.now) (terms_view kept_place xs)) _ _ _ _
+    c.loop-operand-test.false refl
     c.loop-operand.invariant in
     let view = view-out-sum kept_place c.args.sum.now in
     rw (view, found_append) (cc (c.in_ok-check_term.ensures, c.deref-operand-items.ensures.value))
 
 pub check_term-returns : goal.check_term-returns
 check_term-returns t c =
-    let rest = last_found (λ xs. factors_uses (known_by c.args.scope.now) (factors_view kept_place xs)) _ _ _ _ c.loop-operand-test.false refl
+    let rest =
+    last_found (λ xs. factors_uses (known_by c.args.scope.now) (factors_view kept_place xs)) _ _ _ _
+    c.loop-operand-test.false refl
     c.loop-operand.invariant in
     let view = view-out-term kept_place c.args.term.now in
     rw (view, found_append) (cc (c.in_ok-check_factor.ensures, c.deref-operand-items.ensures.value))
@@ -59,13 +65,15 @@ check_term-returns t c =
 pub check_primary-returns-in-Group : goal.check_primary-returns-in-Group
 check_primary-returns-in-Group t c =
     let view = ap (primary_view kept_place) c.in-Group.is ∙ view-Group kept_place c.in-Group.at c.in-Group.inner in
-    closed c.check_expression.result c.check_expression.new.finder _ _ (rw view (cc (c.deref.ensures))) c.check_expression.ensures
+    closed c.check_expression.result c.check_expression.new.finder _ _ (rw view (cc (c.deref.ensures)))
+    c.check_expression.ensures
 
 pub check_relation-returns-in-Some : goal.check_relation-returns-in-Some
 check_relation-returns-in-Some t c =
     let view = view-out-relation kept_place c.args.relation.now in
     let right = c.in-Some.is in
-    closed c.check_sum-in-Some.result c.check_sum-in-Some.new.finder _ _ (rw (view, right, found_append) (cc (c.in_ok-check_sum.ensures, c.deref.ensures)))
+    closed c.check_sum-in-Some.result c.check_sum-in-Some.new.finder _ _
+    (rw (view, right, found_append) (cc (c.in_ok-check_sum.ensures, c.deref.ensures)))
     c.check_sum-in-Some.ensures
 
 pub check_relation-returns-in-None : goal.check_relation-returns-in-None

@@ -10,7 +10,8 @@ use Rattle.name_faults.proofs.uses.+uses.Given as goal
 abbrev pub invariant-check_expression-loop-operand : goal.invariant-check_expression-loop-operand
 invariant-check_expression-loop-operand l =
     found l.initial.finder (relations_uses (known_by l.scope) (relations_view kept_place l.operand-items))
-    ≡ found l.finder (relations_uses (known_by l.scope) (relations_view kept_place (drop l.operand-index l.operand-items)))
+    ≡ found l.finder (relations_uses (known_by l.scope)
+    (relations_view kept_place (drop l.operand-index l.operand-items)))
 
 abbrev pub invariant-check_sum-loop-operand : goal.invariant-check_sum-loop-operand
 invariant-check_sum-loop-operand l =

@@ -3,4 +3,6 @@ use Rattle.pals_base.proofs.names.are_distinct.Given as goal
 
 -- each of those before differs from all behind it
 abbrev pub invariant-loop-at : goal.invariant-loop-at
-invariant-loop-at g l = (k j : ℕ) (d : g.row.T.Denot) → k < l.at → k < j → j < length l.items → g.T.HasName.name_of (slice_index_or l.items k d) ≢ g.T.HasName.name_of (slice_index_or l.items j d)
+invariant-loop-at g l =
+    (k j : ℕ) (d : g.row.T.Denot) → k < l.at → k < j → j < length l.items
+    → g.T.HasName.name_of (slice_index_or l.items k d) ≢ g.T.HasName.name_of (slice_index_or l.items j d)

@@ -9,19 +9,33 @@ loop-all-init g c = record {
 }
 
 pub returns-then-n-eq0-clause-all : goal.returns-then-n-eq0-clause-all
-returns-then-n-eq0-clause-all g c = first_all _ _ _ _ _ _ c.loop-all.invariant.given c.in_ok-n.ensures.given c.if-n-eq0.true
+returns-then-n-eq0-clause-all g c =
+    first_all _ _ _ _ _ _ c.loop-all.invariant.given c.in_ok-n.ensures.given c.if-n-eq0.true
 
 pub returns-then-n-room-clause-too_long : goal.returns-then-n-room-clause-too_long
-returns-then-n-room-clause-too_long g c _ = first_too_many _ _ _ _ _ _ _ c.loop-all.invariant.given c.in_ok-n.ensures.given (omega (arith, c.in_ok-n.ensures.bound, c.read.auto.buf, length-take {A = ℕ}))
+returns-then-n-room-clause-too_long g c _ =
+    first_too_many _ _ _ _ _ _ _ c.loop-all.invariant.given c.in_ok-n.ensures.given
+    (omega (arith, c.in_ok-n.ensures.bound, c.read.auto.buf, length-take {A = ℕ}))
 
 pub returns-in_err-n-clause-fault : goal.returns-in_err-n-clause-fault
-returns-in_err-n-clause-fault g c _ = first_failed _ _ _ _ _ c.loop-all.invariant.given c.in_err-n.ensures.failed (omega arith)
+returns-in_err-n-clause-fault g c _ =
+    first_failed _ _ _ _ _ c.loop-all.invariant.given c.in_err-n.ensures.failed (omega arith)
 
 pub loop-all-preserved : goal.loop-all-preserved
 loop-all-preserved g c = record {
-  within = omega (arith, c.in_ok-extend_from_slice.ensures.len, c.in_ok-n.ensures.bound, c.read.auto.buf, length-take {A = ℕ});
-  given = first_kept _ _ _ _ _ _ _ _ c.loop-all.invariant.given c.in_ok-n.ensures.given c.in_ok-n.ensures.bound c.in_ok-extend_from_slice.ensures.items;
+  within =
+      omega (
+        arith,
+        c.in_ok-extend_from_slice.ensures.len,
+        c.in_ok-n.ensures.bound,
+        c.read.auto.buf,
+        length-take {A = ℕ},
+      );
+  given =
+      first_kept _ _ _ _ _ _ _ _ c.loop-all.invariant.given c.in_ok-n.ensures.given c.in_ok-n.ensures.bound
+      c.in_ok-extend_from_slice.ensures.items;
 }
 
 pub returns-in_err-extend_from_slice-clause-memory : goal.returns-in_err-extend_from_slice-clause-memory
-returns-in_err-extend_from_slice-clause-memory g c _ = first_within _ _ _ _ _ _ _ c.loop-all.invariant.given c.in_ok-n.ensures.given (omega arith)
+returns-in_err-extend_from_slice-clause-memory g c _ =
+    first_within _ _ _ _ _ _ _ c.loop-all.invariant.given c.in_ok-n.ensures.given (omega arith)

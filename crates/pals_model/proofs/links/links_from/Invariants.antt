@@ -7,5 +7,6 @@ use Rattle.pals_model.proofs.links.links_from.Given as goal
 -- the numbers so far, and those among the links that are left
 abbrev pub invariant-loop-number : goal.invariant-loop-number
 invariant-loop-number l =
-    map (λ (number : LinkNo). number.0) l.numbers ++ numbers_of (λ (link : Link). nat_eq link.source.0 l.node.0) l.number (drop l.number l.link-items)
+    map (λ (number : LinkNo). number.0) l.numbers
+    ++ numbers_of (λ (link : Link). nat_eq link.source.0 l.node.0) l.number (drop l.number l.link-items)
     ≡ numbers_of (λ (link : Link). nat_eq link.source.0 l.node.0) 0 l.link-items

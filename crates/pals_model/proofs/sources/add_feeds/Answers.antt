@@ -8,7 +8,8 @@ loop-at-init c = c.requires.table ∙ feeds_begin c.args.design.now _ (ap length
 
 pub loop-at-preserved : goal.loop-at-preserved
 loop-at-preserved c =
-    feeds_turn c.args.design.now c.feeds-feeds.result.now c.loop-at.table c.set_source.new.table c.loop-at.at c.place_of-root.result c.index-feeds-at.result c.feeds-feeds.ensures.value c.loop-at-test.true c.loop-at.auto.at
+    feeds_turn c.args.design.now c.feeds-feeds.result.now c.loop-at.table c.set_source.new.table c.loop-at.at
+    c.place_of-root.result c.index-feeds-at.result c.feeds-feeds.ensures.value c.loop-at-test.true c.loop-at.auto.at
     c.index-feeds-at.is (rw c.requires.names at c.place_of-root.ensures) c.loop-at.invariant c.set_source.ensures
 
 pub returns : goal.returns

@@ -12,4 +12,6 @@ loop-component-preserved c =
     let split : drop at components ≡ item ∷ drop (at + 1) components = grind (arith, common_steps) in
     let before = rw split at c.loop-component.invariant in
     let found : c.from_vec.result ≡ replicate (length c.ins-ports.result.now) Nothing = grind (arith, common_steps) in
-    rw (c.in_ok-push.ensures.ok) (empty_step c.loop-component.table at item (drop (at + 1) components) c.from_vec.result (length c.ins-ports.result.now) _ found c.ins-ports.ensures.len before)
+    rw (c.in_ok-push.ensures.ok)
+    (empty_step c.loop-component.table at item (drop (at + 1) components) c.from_vec.result
+    (length c.ins-ports.result.now) _ found c.ins-ports.ensures.len before)

@@ -7,4 +7,5 @@ use Rattle.pals_model.proofs.sources.empty_table.Given as goal
 -- the rows so far, and those of the components that are left
 abbrev pub invariant-loop-component : goal.invariant-loop-component
 invariant-loop-component l =
-    l.table ++ map (row nothing) (enumerate_from l.component-index (drop l.component-index l.components)) ≡ table_of l.components nothing
+    l.table ++ map (row nothing) (enumerate_from l.component-index (drop l.component-index l.components))
+    ≡ table_of l.components nothing

@@ -11,4 +11,5 @@ loop-feed-preserved c =
     let item = c.feed-item.result in
     let split : drop at feeds ≡ item ∷ drop (at + 1) feeds = grind (arith, common_steps) in
     let before = rw split at c.loop-feed.invariant in
-    rw (c.in_ok-insert.ensures.keys, c.in_ok-try_clone.ensures) (naming_step c.loop-feed.names.keys item.name (map (λ (feed : Feed). feed.name) (drop (at + 1) feeds)) _ before)
+    rw (c.in_ok-insert.ensures.keys, c.in_ok-try_clone.ensures)
+    (naming_step c.loop-feed.names.keys item.name (map (λ (feed : Feed). feed.name) (drop (at + 1) feeds)) _ before)

@@ -23,7 +23,8 @@ pub record StepFits (b : BehaviourParts) (frame : Frame) (inputs : List PortValu
 
 abbrev pub FiringFits : Type 0
 FiringFits =
-    (b : BehaviourParts) (frame : Frame) (inputs : List PortValue) → IsBehaviour b → HasShape b frame → FrameFits b frame → PortsFit b.ins inputs
+    (b : BehaviourParts) (frame : Frame) (inputs : List PortValue) → IsBehaviour b → HasShape b frame
+    → FrameFits b frame → PortsFit b.ins inputs
     → StepFits b frame inputs
 
 -- ---- the composition

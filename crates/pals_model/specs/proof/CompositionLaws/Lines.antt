@@ -13,7 +13,9 @@ IsLine line = All (λ byte. byte ≢ 10) line
 
 -- each line of a row is one, whatever the parts
 abbrev pub RowHasLines : Type 0
-RowHasLines = (design : DesignParts) (part_of : ℕ → Option Part) (round : ℕ) → IsDesign design → All IsLine (row_lines design part_of round)
+RowHasLines =
+    (design : DesignParts) (part_of : ℕ → Option Part) (round : ℕ) → IsDesign design
+    → All IsLine (row_lines design part_of round)
 
 abbrev pub ReportHasLines : Type 0
 ReportHasLines = (design : DesignParts) (env : Env) (n : ℕ) → IsDesign design → All IsLine (report_lines design env n)
@@ -26,7 +28,11 @@ abbrev pub TextSplits : Type 0
 TextSplits = (lines : List (List ℕ)) → All IsLine lines → IsSplitInto (text_of lines) lines
 
 abbrev pub RowSplits : Type 0
-RowSplits = (design : DesignParts) (env : Env) (round : ℕ) → IsDesign design → IsSplitInto (row design env round) (composed_lines design env round)
+RowSplits =
+    (design : DesignParts) (env : Env) (round : ℕ) → IsDesign design
+    → IsSplitInto (row design env round) (composed_lines design env round)
 
 abbrev pub ReportSplits : Type 0
-ReportSplits = (design : DesignParts) (env : Env) (n : ℕ) → IsDesign design → IsSplitInto (report design env n) (report_lines design env n)
+ReportSplits =
+    (design : DesignParts) (env : Env) (n : ℕ) → IsDesign design
+    → IsSplitInto (report design env n) (report_lines design env n)

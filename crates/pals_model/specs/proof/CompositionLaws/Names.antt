@@ -27,8 +27,10 @@ TargetNamesDiffer = (design : DesignParts) (node port other_node other_port : �
 -- a link is found by its name, and what a name finds has that name
 abbrev pub LinkIsFound : Type 0
 LinkIsFound = (design : DesignParts) (number : ℕ) (link : Link) →
-    IsDesign design → slice_get design.links number ≡ Some link → link_named design (link_name design link) ≡ Some number
+    IsDesign design → slice_get design.links number ≡ Some link
+    → link_named design (link_name design link) ≡ Some number
 
 abbrev pub FoundLinkHasName : Type 0
 FoundLinkHasName = (design : DesignParts) (number : ℕ) (name : List ℕ) →
-    link_named design name ≡ Some number → IsSomeAnd (slice_get design.links number) (λ link. link_name design link ≡ name)
+    link_named design name ≡ Some number
+    → IsSomeAnd (slice_get design.links number) (λ link. link_name design link ≡ name)

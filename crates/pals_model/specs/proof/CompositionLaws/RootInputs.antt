@@ -14,11 +14,14 @@ RootInputsDiffer = (design : DesignParts) → AreDistinct (root_inputs design)
 
 -- they are the names of the feeds, no more and no fewer
 abbrev pub RootInputsAreFeeds : Type 0
-RootInputsAreFeeds = (design : DesignParts) (name : List ℕ) → Contains (root_inputs design) name ↔ Contains (feed_names design) name
+RootInputsAreFeeds =
+    (design : DesignParts) (name : List ℕ) → Contains (root_inputs design) name ↔ Contains (feed_names design) name
 
 -- they stand in the order of their first feeds
 abbrev pub RootInputsInOrder : Type 0
-RootInputsInOrder = (design : DesignParts) → AllPairs (λ a b. place_of a (feed_names design) < place_of b (feed_names design)) (root_inputs design)
+RootInputsInOrder =
+    (design : DesignParts) → AllPairs (λ a b. place_of a (feed_names design) < place_of b (feed_names design))
+    (root_inputs design)
 
 -- the root in port that a feed reads has the feed's name
 abbrev pub FeedHasRoot : Type 0
@@ -27,5 +30,6 @@ FeedHasRoot = (design : DesignParts) (number : ℕ) (feed : Feed) → slice_get 
 
 -- each feed of a name goes to an in port of the root in port's type
 abbrev pub FeedsHaveRootKind : Type 0
-FeedsHaveRootKind = (design : DesignParts) (number : ℕ) (feed : Feed) → IsDesign design → slice_get design.feeds number ≡ Some feed →
+FeedsHaveRootKind =
+    (design : DesignParts) (number : ℕ) (feed : Feed) → IsDesign design → slice_get design.feeds number ≡ Some feed →
     feed_kind design feed ≡ root_kind design feed.name

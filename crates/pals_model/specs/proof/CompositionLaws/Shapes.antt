@@ -24,7 +24,8 @@ pub record AreTuples (count rate : ℕ) (tuples : List (List PortValue)) : Type 
 
 -- a component's feed has a vector for each step
 abbrev pub FeedHasVectors : Type 0
-FeedHasVectors = (design : DesignParts) (env : Env) (messages : List (List PortValue)) (node round : ℕ) (c : Component) →
+FeedHasVectors =
+    (design : DesignParts) (env : Env) (messages : List (List PortValue)) (node round : ℕ) (c : Component) →
     slice_get design.components node ≡ Some c → AreVectors c (feed design env messages node round)
 
 -- a component's frame has its behaviour's shape
@@ -35,12 +36,14 @@ StateHasShape = (design : DesignParts) (env : Env) (node round : ℕ) (c : Compo
 -- a component's own steps give a tuple for each of its out ports
 abbrev pub StepsGiveTuples : Type 0
 StepsGiveTuples = (design : DesignParts) (env : Env) (node round : ℕ) (c : Component) →
-    slice_get design.components node ≡ Some c → AreTuples (length c.behaviour.outs) c.rate (own_steps design env node round c).tuples
+    slice_get design.components node ≡ Some c
+    → AreTuples (length c.behaviour.outs) c.rate (own_steps design env node round c).tuples
 
 -- a message has a place for each step of its source, before the first round too
 abbrev pub MessageHasRate : Type 0
 MessageHasRate = (design : DesignParts) (env : Env) (number round : ℕ) (link : Link) →
-    IsDesign design → slice_get design.links number ≡ Some link → length (msg design env number round) ≡ rate_of design link.source.0
+    IsDesign design → slice_get design.links number ≡ Some link
+    → length (msg design env number round) ≡ rate_of design link.source.0
 
 abbrev pub WaitingMessageHasRate : Type 0
 WaitingMessageHasRate = (design : DesignParts) (env : Env) (number rounds : ℕ) (link : Link) →
@@ -54,4 +57,5 @@ pub record IsPart (design : DesignParts) (env : Env) (node round rate : ℕ) (pa
 
 abbrev pub PartHasShape : Type 0
 PartHasShape = (design : DesignParts) (env : Env) (node round : ℕ) (c : Component) →
-    IsDesign design → slice_get design.components node ≡ Some c → IsPart design env node round c.rate (part design env node round)
+    IsDesign design → slice_get design.components node ≡ Some c
+    → IsPart design env node round c.rate (part design env node round)

@@ -13,32 +13,41 @@ use Rattle.pals_model.specs.declared.sources.PortSource.TheVariants as source
 -- ---- where it reads from
 -- the in port of a link reads from that link
 abbrev pub LinkIsSource : Type 0
-LinkIsSource = (design : DesignParts) (number : ℕ) (link : Link) → IsDesign design → slice_get design.links number ≡ Some link →
+LinkIsSource =
+    (design : DesignParts) (number : ℕ) (link : Link) → IsDesign design → slice_get design.links number ≡ Some link →
     source_of design link.target.0 link.in_port ≡ source.Link number
 
 -- the in port of a feed reads from that feed
 abbrev pub FeedIsSource : Type 0
-FeedIsSource = (design : DesignParts) (number : ℕ) (feed : Feed) → IsDesign design → slice_get design.feeds number ≡ Some feed →
+FeedIsSource =
+    (design : DesignParts) (number : ℕ) (feed : Feed) → IsDesign design → slice_get design.feeds number ≡ Some feed →
     source_of design feed.target.0 feed.in_port ≡ source.Feed number (root_of design number)
 
 -- an in port that no link and no feed goes to reads from nothing
 abbrev pub NothingIsSource : Type 0
 NothingIsSource = (design : DesignParts) (node port : ℕ) →
-    All (λ link. IsFalse (link_goes_to node port link)) design.links → All (λ feed. IsFalse (feed_goes_to node port feed)) design.feeds →
+    All (λ link. IsFalse (link_goes_to node port link)) design.links
+    → All (λ feed. IsFalse (feed_goes_to node port feed)) design.feeds →
     source_of design node port ≡ source.Nothing
 
 -- ---- what it brings
 -- a link brings its message, adapted from its source's rate
 abbrev pub LinkBringsMessage : Type 0
-LinkBringsMessage = (design : DesignParts) (values : List PortValue) (messages : List (List PortValue)) (rate number : ℕ) (link : Link) →
+LinkBringsMessage =
+    (design : DesignParts) (values : List PortValue) (messages : List (List PortValue)) (rate number : ℕ)
+    (link : Link) →
     slice_get design.links number ≡ Some link →
-    reading design values messages rate (source.Link number) ≡ adapt link.adaptor (rate_of design link.source.0) rate (slice_index_or messages number [])
+    reading design values messages rate (source.Link number)
+    ≡ adapt link.adaptor (rate_of design link.source.0) rate (slice_index_or messages number [])
 
 -- a feed brings the value of its root in port, adapted from the rate 1
 abbrev pub FeedBringsValue : Type 0
-FeedBringsValue = (design : DesignParts) (values : List PortValue) (messages : List (List PortValue)) (rate number root : ℕ) (feed : Feed) →
+FeedBringsValue =
+    (design : DesignParts) (values : List PortValue) (messages : List (List PortValue)) (rate number root : ℕ)
+    (feed : Feed) →
     slice_get design.feeds number ≡ Some feed →
-    reading design values messages rate (source.Feed number root) ≡ adapt feed.adaptor 1 rate (slice_index_or values root Absent ∷ [])
+    reading design values messages rate (source.Feed number root)
+    ≡ adapt feed.adaptor 1 rate (slice_index_or values root Absent ∷ [])
 
 -- nothing brings absent places
 abbrev pub NothingBringsAbsent : Type 0

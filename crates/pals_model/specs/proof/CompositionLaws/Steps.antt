@@ -17,24 +17,35 @@ use Rattle.pals_model.specs.Rules.{IsDesign}
 
 -- one more step, at these inputs, which fills its own place of each tuple
 abbrev pub stepped_on : BehaviourParts → ℕ → List PortValue → Stepped → Stepped
-stepped_on b at inputs before = record { frame = (fire b before.frame inputs).frame; tuples = with_places at (fire b before.frame inputs).outs before.tuples }
+stepped_on b at inputs before =
+    record {
+      frame = (fire b before.frame inputs).frame;
+      tuples = with_places at (fire b before.frame inputs).outs before.tuples;
+    }
 
 -- a round begins with the state, and with every place absent
 abbrev pub RoundBegins : Type 0
 RoundBegins = (design : DesignParts) (env : Env) (node round : ℕ) (c : Component) →
-    own_steps_so_far design env node round c 0 ≡ record { frame = state design env node round; tuples = replicate (length c.behaviour.outs) (replicate c.rate Absent) }
+    own_steps_so_far design env node round c 0
+    ≡ record {
+      frame = state design env node round;
+      tuples = replicate (length c.behaviour.outs) (replicate c.rate Absent);
+    }
 
 -- each step goes on at its own inputs
 abbrev pub RoundGoesOn : Type 0
-RoundGoesOn = (design : DesignParts) (env : Env) (node round : ℕ) (c : Component) (count : ℕ) (inputs : List PortValue) →
+RoundGoesOn =
+    (design : DesignParts) (env : Env) (node round : ℕ) (c : Component) (count : ℕ) (inputs : List PortValue) →
     IsDesign design → slice_get design.components node ≡ Some c →
     slice_get (feed design env (comp design env round).messages node round) count ≡ Some inputs →
-    own_steps_so_far design env node round c (suc count) ≡ stepped_on c.behaviour count inputs (own_steps_so_far design env node round c count)
+    own_steps_so_far design env node round c (suc count)
+    ≡ stepped_on c.behaviour count inputs (own_steps_so_far design env node round c count)
 
 -- after its last step it has made its own steps
 abbrev pub RoundEnds : Type 0
 RoundEnds = (design : DesignParts) (env : Env) (node round : ℕ) (c : Component) →
-    slice_get design.components node ≡ Some c → own_steps_so_far design env node round c c.rate ≡ own_steps design env node round c
+    slice_get design.components node ≡ Some c
+    → own_steps_so_far design env node round c c.rate ≡ own_steps design env node round c
 
 -- the places before a step stay, also where it traps
 abbrev pub PlacesStay : Type 0

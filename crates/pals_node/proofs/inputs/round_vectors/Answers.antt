@@ -13,5 +13,6 @@ loop-step-preserved c =
     map (λ (p : Input × Option (List PortValue)). brought c.args.plan.now.rate c.args.env.now p.0 p.1)
     (zip c.args.plan.now.inputs c.args.slots.now) in
     c.in_ok-push.ensures.ok
-    ∙ ap₂ (λ (vs : List (List PortValue)) (v : List PortValue). vs ++ v ∷ []) c.loop-step.invariant c.in_ok-vector_at.ensures
+    ∙ ap₂ (λ (vs : List (List PortValue)) (v : List PortValue). vs ++ v ∷ []) c.loop-step.invariant
+    c.in_ok-vector_at.ensures
     ∙ sym (map_upwards_more (λ (at : ℕ). column at tuples) c.loop-step.step)

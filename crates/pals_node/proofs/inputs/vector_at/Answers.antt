@@ -24,7 +24,8 @@ pub returns : goal.returns
 returns c =
     let inputs = c.args.plan.now.inputs in
     let slots = c.args.slots.now in
-    let f : Input × Option (List PortValue) → List PortValue = λ p. brought c.args.plan.now.rate c.args.env.now p.0 p.1 in
+    let f : Input × Option (List PortValue) → List PortValue =
+    λ p. brought c.args.plan.now.rate c.args.env.now p.0 p.1 in
     let g : Input × Option (List PortValue) → PortValue = λ p. slice_index_or (f p) c.args.step Absent in
     let same = c.requires.slots in
     let out = c.loop-at-test.false in

@@ -5,4 +5,5 @@ use Rattle.pals_report.proofs.lines.add_components.Given as goal
 
 -- the lines so far
 abbrev pub invariant-loop-component : goal.invariant-loop-component
-invariant-loop-component l = l.out.items ≡ l.fn.out.items ++ text_of (map component_line (take l.component-index l.components))
+invariant-loop-component l =
+    l.out.items ≡ l.fn.out.items ++ text_of (map component_line (take l.component-index l.components))

@@ -6,7 +6,10 @@ use Rattle.pals_report.proofs.WordLines.{lines_all}
 use Rattle.pals_report.proofs.lines.add_links.Goals as goal
 
 pub returns-in_err-add_link-clause-err : goal.returns-in_err-add_link-clause-err
-returns-in_err-add_link-clause-err c = begins_on_err c.from_residual.result _ _ _ _ c.loop-link.invariant c.in_err-add_link.ensures.err
+returns-in_err-add_link-clause-err c =
+    begins_on_err c.from_residual.result _ _ _ _ c.loop-link.invariant c.in_err-add_link.ensures.err
 
 pub returns-clause-ok : goal.returns-clause-ok
-returns-clause-ok c = lines_all line_end (link_line c.args.design.now) c.args.links.now c.loop-link.link-index _ _ (omega arith) c.loop-link.invariant
+returns-clause-ok c =
+    lines_all line_end (link_line c.args.design.now) c.args.links.now c.loop-link.link-index _ _ (omega arith)
+    c.loop-link.invariant

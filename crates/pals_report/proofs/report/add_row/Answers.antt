@@ -6,4 +6,5 @@ use Rattle.pals_report.proofs.report.add_row.Goals as goal
 pub returns-clause-composed : goal.returns-clause-composed
 returns-clause-composed g c env are =
     joined_on_ok _ _ _ _ _ _ _ c.whole_or_none.ensures.same c.whole_or_none.ensures.ok c.add_lines-written.ensures.ok
-    (row_same c.args.design.now env c.args.round (g.P.RoundParts.part_of c.args.parts.now) c.add_lines-written.ensures.rules.taps.each are)
+    (row_same c.args.design.now env c.args.round (g.P.RoundParts.part_of c.args.parts.now)
+    c.add_lines-written.ensures.rules.taps.each are)

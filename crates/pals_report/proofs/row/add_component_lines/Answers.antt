@@ -11,10 +11,14 @@ loop-node-preserved g c =
     let at = c.loop-node.node in
     let component = c.index-components-node.result in
     let part_of = g.P.RoundParts.part_of c.args.parts.now in
-    let split : drop at c.args.components.now ≡ component ∷ drop (at + 1) c.args.components.now = grind (arith, common_steps) in
+    let split : drop at c.args.components.now ≡ component ∷ drop (at + 1) c.args.components.now =
+    grind (arith, common_steps) in
     let added = c.in_ok-add_part_line.ensures.ok in
     let before = rw split at c.loop-node.invariant.rest in
     record {
       begun = begins_more _ _ _ _ c.loop-node.invariant.begun added;
-      rest = lines_turn c.loop-node.out.items _ _ _ (part_lines component (part_of at)) (components_from part_of (at + 1) (drop (at + 1) c.args.components.now)) added (ap (part_lines component) c.part.ensures) before;
+      rest =
+          lines_turn c.loop-node.out.items _ _ _ (part_lines component (part_of at))
+          (components_from part_of (at + 1) (drop (at + 1) c.args.components.now)) added
+          (ap (part_lines component) c.part.ensures) before;
     }

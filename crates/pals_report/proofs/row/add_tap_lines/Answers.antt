@@ -18,11 +18,15 @@ loop-number-preserved g c =
     let part_of = g.P.RoundParts.part_of c.args.parts.now in
     let split : drop at design.taps ≡ tap ∷ drop (at + 1) design.taps = grind (arith, common_steps) in
     let place : c.place.result ≡ taps_before design.taps at tap.source.0 =
-    place_at design.taps at c.place.result tap (omega arith) (c.tap-item.is ∙ ap (λ ts. get_or ts at tap) c.as_slice-tap-items.ensures.value) (c.place.ensures ∙ ap (λ ps. get_or ps at c.place.result) c.requires) in
+    place_at design.taps at c.place.result tap (omega arith)
+    (c.tap-item.is ∙ ap (λ ts. get_or ts at tap) c.as_slice-tap-items.ensures.value)
+    (c.place.ensures ∙ ap (λ ps. get_or ps at c.place.result) c.requires) in
     let added = c.in_ok-add_line_at_place.ensures.ok in
     let before = rw split at c.loop-number.invariant.rest in
     record {
       begun = begins_more _ _ _ _ c.loop-number.invariant.begun added;
-      rest = lines_turn c.loop-number.out.items _ _ _ (tap_lines design at tap (part_of tap.source.0)) (taps_from design part_of (at + 1) (drop (at + 1) design.taps)) added
+      rest =
+          lines_turn c.loop-number.out.items _ _ _ (tap_lines design at tap (part_of tap.source.0))
+          (taps_from design part_of (at + 1) (drop (at + 1) design.taps)) added
           (at_place design at c.place.result tap _ place ∙ ap (tap_lines design at tap) c.part-part.ensures) before;
     }

@@ -8,5 +8,7 @@ use Rattle.pals_report.proofs.row.add_tap_lines.Given as goal
 abbrev pub invariant-loop-number : goal.invariant-loop-number
 invariant-loop-number g l = record {
   begun : BeginsWith l.out.items l.fn.out.items;
-  rest : l.out.items ++ text_of (taps_from l.design (g.P.RoundParts.part_of l.parts) l.number (drop l.number l.design.taps)) ≡ l.fn.out.items ++ text_of (taps_from l.design (g.P.RoundParts.part_of l.parts) 0 l.design.taps);
+  rest : l.out.items ++ text_of
+      (taps_from l.design (g.P.RoundParts.part_of l.parts) l.number (drop l.number l.design.taps))
+      ≡ l.fn.out.items ++ text_of (taps_from l.design (g.P.RoundParts.part_of l.parts) 0 l.design.taps);
 }

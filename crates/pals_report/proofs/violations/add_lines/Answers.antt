@@ -6,16 +6,25 @@ use Rattle.pals_report.specs.Violations.{violation_line}
 use Rattle.pals_report.proofs.violations.add_lines.Goals as goal
 
 pub returns-in_err-add_line-clause-err : goal.returns-in_err-add_line-clause-err
-returns-in_err-add_line-clause-err c = begins_on_err c.from_residual.result _ _ _ _ c.loop-violation.invariant.lines c.in_err-add_line.ensures.err
+returns-in_err-add_line-clause-err c =
+    begins_on_err c.from_residual.result _ _ _ _ c.loop-violation.invariant.lines c.in_err-add_line.ensures.err
 
 pub loop-violation-preserved : goal.loop-violation-preserved
 loop-violation-preserved c =
     let text = c.args.text.now in
-    let added = c.in_ok-add_line.ensures.ok ∙ ap (λ t. c.loop-violation.out.items ++ violation_line t c.violation-item.result ++ line_end) c.loop-violation.invariant.text in
+    let added =
+    c.in_ok-add_line.ensures.ok
+    ∙ ap (λ t. c.loop-violation.out.items ++ violation_line t c.violation-item.result ++ line_end)
+    c.loop-violation.invariant.text in
     record {
       text = c.in_ok-add_line.ensures.text ∙ c.loop-violation.invariant.text;
-      lines = lines_turn line_end (violation_line text) c.args.found.now c.loop-violation.violation-index c.violation-item.result _ _ _ c.loop-violation-test.true c.violation-item.is c.loop-violation.invariant.lines added;
+      lines =
+          lines_turn line_end (violation_line text) c.args.found.now c.loop-violation.violation-index
+          c.violation-item.result _ _ _ c.loop-violation-test.true c.violation-item.is
+          c.loop-violation.invariant.lines added;
     }
 
 pub returns-clause-ok : goal.returns-clause-ok
-returns-clause-ok c = lines_all line_end (violation_line c.args.text.now) c.args.found.now c.loop-violation.violation-index _ _ (omega arith) c.loop-violation.invariant.lines
+returns-clause-ok c =
+    lines_all line_end (violation_line c.args.text.now) c.args.found.now c.loop-violation.violation-index _ _
+    (omega arith) c.loop-violation.invariant.lines

@@ -24,14 +24,19 @@ abbrev no_link : Link
 no_link = record { source = record { 0 = 0 }; out_port = 0; target = record { 0 = 0 }; in_port = 0; adaptor = None }
 
 -- the link of a turn is one of the design
-link_is : (design : DesignParts) (items : List Link) (number : ℕ) → items ≡ design.links → number < length items → slice_get design.links number ≡ Some (slice_index_or items number no_link)
-link_is design items number same within = ap (λ (l : List Link). slice_get l number) (sym same) ∙ slice_get-get_or items number no_link within
+link_is : (design : DesignParts) (items : List Link) (number : ℕ) → items ≡ design.links → number < length items
+    → slice_get design.links number ≡ Some (slice_index_or items number no_link)
+link_is design items number same within =
+    ap (λ (l : List Link). slice_get l number) (sym same) ∙ slice_get-get_or items number no_link within
 
 pub index-requires : goal.index-requires
 index-requires c =
     let design = c.args.design.now in
     let rules = c.links-link-items.ensures.rules in
-    let kept = at_element (IsLink design) design.links c.loop-number.number _ rules.links.each (link_is design c.links-link-items.result.now c.loop-number.number c.links-link-items.ensures.value c.loop-number-test.true) in
+    let kept =
+    at_element (IsLink design) design.links c.loop-number.number _ rules.links.each
+    (link_is design c.links-link-items.result.now c.loop-number.number c.links-link-items.ensures.value
+    c.loop-number-test.true) in
     let inside = kept.source.node_is in
     omega (arith, inside, count_of_partners design c.args.tables.now.pairs c.args.tables.now c.requires.tables)
 
@@ -40,9 +45,12 @@ write_column-requires c =
     let design = c.args.design.now in
     let number = c.loop-number.number in
     let link = slice_index_or c.links-link-items.result.now number no_link in
-    let is = link_is design c.links-link-items.result.now number c.links-link-items.ensures.value c.loop-number-test.true in
+    let is =
+    link_is design c.links-link-items.result.now number c.links-link-items.ensures.value c.loop-number-test.true in
     let kept = at_element (IsLink design) design.links number link c.links-link-items.ensures.rules.links.each is in
-    sized_message design c.args.stages.now c.loop-number.messages number link.source.0 link c.index_mut-message.result.now c.index-stages-source.result c.requires.stages c.loop-number.invariant.sizes is refl kept.source.node_is c.index_mut-message.ensures.value c.index-stages-source.is
+    sized_message design c.args.stages.now c.loop-number.messages number link.source.0 link
+    c.index_mut-message.result.now c.index-stages-source.result c.requires.stages c.loop-number.invariant.sizes is
+    refl kept.source.node_is c.index_mut-message.ensures.value c.index-stages-source.is
     ∙ ap length (sym c.as_slice.ensures.value)
 
 pub loop-number-preserved : goal.loop-number-preserved
@@ -59,26 +67,40 @@ loop-number-preserved c =
     let is = link_is design items number c.links-link-items.ensures.value c.loop-number-test.true in
     let kept = at_element (IsLink design) design.links number link c.links-link-items.ensures.rules.links.each is in
     let node = kept.source.node_is in
-    let sized = sized_message design stages messages number link.source.0 link message c.index-stages-source.result c.requires.stages c.loop-number.invariant.sizes is refl node c.index_mut-message.ensures.value c.index-stages-source.is in
+    let sized =
+    sized_message design stages messages number link.source.0 link message c.index-stages-source.result
+    c.requires.stages c.loop-number.invariant.sizes is refl node c.index_mut-message.ensures.value
+    c.index-stages-source.is in
     let size : length written ≡ length message =
     (ap length c.write_column.ensures
     ∙ length-cut c.sent_count-count.result _
     ∙ length-column c.as_slice.result.now link.out_port
     ∙ ap length c.as_slice.ensures.value
     ∙ sym sized) in
-    let many : length (message_sizes design) ≡ length design.links = length-map design.links (λ (l : Link). rate_of design l.source.0) in
-    let count = count_of_sized (λ (tuple : List PortValue). length tuple) messages (message_sizes design) c.loop-number.invariant.sizes in
+    let many : length (message_sizes design) ≡ length design.links =
+    length-map design.links (λ (l : Link). rate_of design l.source.0) in
+    let count =
+    count_of_sized (λ (tuple : List PortValue). length tuple) messages (message_sizes design)
+    c.loop-number.invariant.sizes in
     let linked : length items ≡ length design.links = ap length c.links-link-items.ensures.value in
     let rooms = count_of_stages design stages c.requires.stages in
     let wanted = map (sent_on pairs stages) items in
     let wants : length wanted ≡ length items = length-map items (sent_on pairs stages) in
     let within : number < length messages = omega (arith, c.loop-number-test.true, linked, many, count) in
-    let partner = partner_entry design pairs c.args.tables.now link.source.0 c.index.result.now c.requires.tables node c.index.ensures in
+    let partner =
+    partner_entry design pairs c.args.tables.now link.source.0 c.index.result.now c.requires.tables node
+    c.index.ensures in
     let item =
-    sent_item pairs stages items number no_link c.as_slice.result.now c.index-stages-source.result written c.is_inside-inside.result c.sent_count-count.result
+    sent_item pairs stages items number no_link c.as_slice.result.now c.index-stages-source.result written
+    c.is_inside-inside.result c.sent_count-count.result
     c.loop-number-test.true (omega (arith, node, rooms)) c.index-stages-source.is c.as_slice.ensures.value
-    (c.is_inside-inside.ensures ∙ ap (λ o. is_inside o link) partner) c.sent_count-count.ensures c.write_column.ensures in
+    (c.is_inside-inside.ensures ∙ ap (λ o. is_inside o link) partner) c.sent_count-count.ensures
+    c.write_column.ensures in
     record {
-      sizes = same_sizes (λ (tuple : List PortValue). length tuple) messages number message written within c.index_mut-message.ensures.value size ∙ c.loop-number.invariant.sizes;
-      done = filled_more messages wanted number written (omega (arith, wants, linked, many, count)) (omega (arith, wants, c.loop-number-test.true)) item c.loop-number.invariant.done;
+      sizes =
+          same_sizes (λ (tuple : List PortValue). length tuple) messages number message written within
+          c.index_mut-message.ensures.value size ∙ c.loop-number.invariant.sizes;
+      done =
+          filled_more messages wanted number written (omega (arith, wants, linked, many, count))
+          (omega (arith, wants, c.loop-number-test.true)) item c.loop-number.invariant.done;
     }

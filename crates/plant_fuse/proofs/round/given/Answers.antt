@@ -10,13 +10,23 @@ use Rattle.plant_fuse.proofs.Counts.{count_of_sources, count_of_taps, count_of_p
 use Rattle.plant_fuse.proofs.round.given.Goals as goal
 
 pub index-requires : goal.index-requires
-index-requires c = omega (arith, c.requires.node, count_of_sources c.args.design.now c.args.tables.now.pairs c.args.tables.now c.requires.tables)
+index-requires c =
+    omega (
+      arith,
+      c.requires.node,
+      count_of_sources c.args.design.now c.args.tables.now.pairs c.args.tables.now c.requires.tables,
+    )
 
 pub bounds-parts-node : goal.bounds-parts-node
 bounds-parts-node c = omega (arith, c.requires.node, count_of_parts c.args.design.now c.args.parts.now c.requires.parts)
 
 pub index-requires-2 : goal.index-requires-2
-index-requires-2 c = omega (arith, c.requires.node, count_of_taps c.args.design.now c.args.tables.now.pairs c.args.tables.now c.requires.tables)
+index-requires-2 c =
+    omega (
+      arith,
+      c.requires.node,
+      count_of_taps c.args.design.now c.args.tables.now.pairs c.args.tables.now c.requires.tables,
+    )
 
 pub returns : goal.returns
 returns c =
@@ -33,11 +43,15 @@ returns c =
       component_is = is;
       sources_are =
           c.as_slice.ensures.value
-          ∙ entry_at c.args.tables.now.sources _ node c.index.result.now (sources_of design node item) c.requires.tables.sources_are
-          (numbered-at (λ (numbered : ℕ × Component). sources_of design numbered.0 numbered.1) design.components node item is) c.index.ensures;
+          ∙ entry_at c.args.tables.now.sources _ node c.index.result.now (sources_of design node item)
+          c.requires.tables.sources_are
+          (numbered-at (λ (numbered : ℕ × Component). sources_of design numbered.0 numbered.1) design.components node
+          item is) c.index.ensures;
       from_is = sym (get_or-map (λ (p : Part). p.frame) parts node c.index-parts-node.result no_frame inside);
       taps_are =
           c.as_slice-2.ensures.value
-          ∙ entry_at c.args.tables.now.taps _ node c.index-2.result.now (tap_ports design.taps node) c.requires.tables.taps_are
-          (numbered-at (λ (numbered : ℕ × Component). tap_ports design.taps numbered.0) design.components node item is) c.index-2.ensures;
+          ∙ entry_at c.args.tables.now.taps _ node c.index-2.result.now (tap_ports design.taps node)
+          c.requires.tables.taps_are
+          (numbered-at (λ (numbered : ℕ × Component). tap_ports design.taps numbered.0) design.components node item is)
+          c.index-2.ensures;
     }

@@ -9,7 +9,8 @@ use Rattle.plant_fuse.proofs.round.run_all.Given as goal
 abbrev pub invariant-loop-pair : goal.invariant-loop-pair
 invariant-loop-pair l = record {
   alone : AreAlone l.round l.tables.pairs (frames_of l.parts) l.next l.stages.items;
-  together : (k : ℕ) (pair : Pair) → k < l.pair-index → slice_get l.tables.pairs k ≡ Some pair → IsRun l.round (frames_of l.parts) l.next l.stages.items pair;
+  together : (k : ℕ) (pair : Pair) → k < l.pair-index → slice_get l.tables.pairs k ≡ Some pair
+      → IsRun l.round (frames_of l.parts) l.next l.stages.items pair;
   parts : map part_size l.next ≡ map part_size l.fn.next;
   stages : map stage_size l.stages.items ≡ map stage_size l.fn.stages.items;
 }

@@ -10,15 +10,22 @@ use Rattle.plant_fuse.proofs.round.run_alone.Goals as goal
 pub index-requires : goal.index-requires
 index-requires c =
     let within = c.loop-node-test.true in
-    omega (arith, within, ap length c.components-node-end.ensures.value, count_of_partners c.args.round.design.now c.args.tables.now.pairs c.args.tables.now c.requires.tables)
+    omega (
+      arith,
+      within,
+      ap length c.components-node-end.ensures.value,
+      count_of_partners c.args.round.design.now c.args.tables.now.pairs c.args.tables.now c.requires.tables,
+    )
 
 pub loop-node-preserved-then-is_some : goal.loop-node-preserved-then-is_some
 loop-node-preserved-then-is_some c =
     let design = c.args.round.design.now in
     let pairs = c.args.tables.now.pairs in
     let node = c.loop-node.node in
-    let inside : node < length design.components = (let within = c.loop-node-test.true in omega (arith, within, ap length c.components-node-end.ensures.value)) in
-    let partner = partner_entry design pairs c.args.tables.now node c.index.result.now c.requires.tables inside c.index.ensures in
+    let inside : node < length design.components =
+    (let within = c.loop-node-test.true in omega (arith, within, ap length c.components-node-end.ensures.value)) in
+    let partner =
+    partner_entry design pairs c.args.tables.now node c.index.result.now c.requires.tables inside c.index.ensures in
     record {
       run = λ k d below none is.
           elim (cases_lt k node) [
@@ -50,10 +57,13 @@ loop-node-preserved c =
           elim (cases_lt k node) [
             | inl before ↦ (
                 let other : k ≢ node = λ same. omega (arith, same, before) in
-                stepped_stays round frames next next' stages stages' node node k d done.run.others other other (c.loop-node.invariant.run k d before none is))
+                stepped_stays round frames next next' stages stages' node node k d done.run.others other other
+                (c.loop-node.invariant.run k d before none is))
             | inr not_before ↦ (
                 let here : node ≡ k = omega (arith, below, not_before) in
-                let one : done.run.component ≡ d = same_Some done.run.component d (sym done.run.component_is ∙ ap (slice_get design.components) here ∙ is) in
+                let one : done.run.component ≡ d =
+                same_Some done.run.component d
+                (sym done.run.component_is ∙ ap (slice_get design.components) here ∙ is) in
                 subst (λ n. IsStepped round frames next' stages' n d) here
                 (subst (IsStepped round frames next' stages' node) one done.run.stepped))
           ];

@@ -8,7 +8,9 @@ use Rattle.plant_fuse.proofs.round.run_alone.Given as goal
 -- the first components that stand in no pair have made their steps, and the sizes stay
 abbrev pub invariant-loop-node : goal.invariant-loop-node
 invariant-loop-node l = record {
-  run : (k : ℕ) (c : Component) → k < l.node → partner_of l.tables.pairs k ≡ None → slice_get l.round.design.now.components k ≡ Some c → IsStepped l.round (frames_of l.parts) l.next l.stages.items k c;
+  run : (k : ℕ) (c : Component) → k < l.node → partner_of l.tables.pairs k ≡ None
+      → slice_get l.round.design.now.components k ≡ Some c
+      → IsStepped l.round (frames_of l.parts) l.next l.stages.items k c;
   parts : map part_size l.next ≡ map part_size l.fn.next;
   stages : map stage_size l.stages.items ≡ map stage_size l.fn.stages.items;
 }

@@ -18,20 +18,31 @@ use Rattle.plant_fuse.proofs.TakenOut.{kept_get, kept_length, back_first, back_s
 use Rattle.plant_fuse.proofs.round.run_pair.Goals as goal
 
 pub take_part-part-requires : goal.take_part-part-requires
-take_part-part-requires c = let within = c.requires.pair.plant in omega (arith, within, count_of_parts c.args.round.design.now c.args.next.now c.requires.next)
+take_part-part-requires c = let within = c.requires.pair.plant in
+    omega (arith, within, count_of_parts c.args.round.design.now c.args.next.now c.requires.next)
 
 pub index_mut-requires-2 : goal.index_mut-requires-2
 index_mut-requires-2 c =
     let within = c.requires.pair.controller in
-    omega (arith, within, count_of_parts c.args.round.design.now c.args.next.now c.requires.next, kept_length c.args.next.now c.take_part-part.new.parts c.args.pair.now.plant.0 c.take_part-part.result c.take_part-part.ensures)
+    omega (
+      arith,
+      within,
+      count_of_parts c.args.round.design.now c.args.next.now c.requires.next,
+      kept_length c.args.next.now c.take_part-part.new.parts c.args.pair.now.plant.0 c.take_part-part.result
+          c.take_part-part.ensures,
+    )
 
 pub run_sides-run-requires-clause-plant : goal.run_sides-run-requires-clause-plant
 run_sides-run-requires-clause-plant c =
-    given_fits c.args.round.design.now c.args.parts.now c.args.next.now c.args.stages.now.items c.args.pair.now.plant.0 c.given.result c.take_stage-stage.result c.take_part-part.result
-    c.given.ensures c.requires.parts c.requires.next c.requires.stages c.take_stage-stage.ensures.was c.take_part-part.ensures.was
+    given_fits c.args.round.design.now c.args.parts.now c.args.next.now c.args.stages.now.items c.args.pair.now.plant.0
+    c.given.result c.take_stage-stage.result c.take_part-part.result
+    c.given.ensures c.requires.parts c.requires.next c.requires.stages c.take_stage-stage.ensures.was
+    c.take_part-part.ensures.was
 
 -- the controller's stage and part are those that stand in the lists
-module _ {X : Type 0} (old new : List X) (pair : Pair) (x y : X) (taken : TakenFrom old new pair.plant.0 x) (two : pair.plant.0 ≢ pair.controller.0) (within : pair.controller.0 < length old) (is : y ≡ slice_index_or new pair.controller.0 y) where
+module _ {X : Type 0} (old new : List X) (pair : Pair) (x y : X) (taken : TakenFrom old new pair.plant.0 x)
+    (two : pair.plant.0 ≢ pair.controller.0) (within : pair.controller.0 < length old)
+    (is : y ≡ slice_index_or new pair.controller.0 y) where
   stands : slice_get old pair.controller.0 ≡ Some y
   stands = kept_get old new pair.plant.0 pair.controller.0 x y taken (λ same. two (sym same)) within is
 
@@ -44,11 +55,15 @@ run_sides-run-requires-clause-controller c =
     let is_pair = c.requires.pair in
     let inside = is_pair.controller in
     let in_next : pair.controller.0 < length next = omega (arith, inside, count_of_parts design next c.requires.next) in
-    let in_stages : pair.controller.0 < length stages = omega (arith, inside, count_of_stages design stages c.requires.stages) in
-    given_fits design c.args.parts.now next stages pair.controller.0 c.given-2.result c.index_mut.result.now c.index_mut-2.result.now
+    let in_stages : pair.controller.0 < length stages =
+    omega (arith, inside, count_of_stages design stages c.requires.stages) in
+    given_fits design c.args.parts.now next stages pair.controller.0 c.given-2.result c.index_mut.result.now
+    c.index_mut-2.result.now
     c.given-2.ensures c.requires.parts c.requires.next c.requires.stages
-    (stands stages c.take_stage-stage.new.stages.items pair c.take_stage-stage.result c.index_mut.result.now c.take_stage-stage.ensures is_pair.two in_stages c.index_mut.ensures.value)
-    (stands next c.take_part-part.new.parts pair c.take_part-part.result c.index_mut-2.result.now c.take_part-part.ensures is_pair.two in_next c.index_mut-2.ensures.value)
+    (stands stages c.take_stage-stage.new.stages.items pair c.take_stage-stage.result c.index_mut.result.now
+    c.take_stage-stage.ensures is_pair.two in_stages c.index_mut.ensures.value)
+    (stands next c.take_part-part.new.parts pair c.take_part-part.result c.index_mut-2.result.now
+    c.take_part-part.ensures is_pair.two in_next c.index_mut-2.ensures.value)
 
 pub set-requires : goal.set-requires
 set-requires c =
@@ -57,7 +72,8 @@ set-requires c =
       arith,
       within,
       count_of_parts c.args.round.design.now c.args.next.now c.requires.next,
-      kept_length c.args.next.now c.take_part-part.new.parts c.args.pair.now.plant.0 c.take_part-part.result c.take_part-part.ensures,
+      kept_length c.args.next.now c.take_part-part.new.parts c.args.pair.now.plant.0 c.take_part-part.result
+          c.take_part-part.ensures,
       length-set c.take_part-part.new.parts c.args.pair.now.controller.0 c.run_sides-run.new.controller_part,
     )
 
@@ -81,7 +97,9 @@ returns c =
     let controller_in : controller < length next = (let inside = is_pair.controller in omega (arith, inside, count)) in
     let taken = c.take_part-part.ensures in
     let put = c.set.ensures in
-    let second = stands next mid pair c.take_part-part.result c.index_mut-2.result.now taken is_pair.two controller_in c.index_mut-2.ensures.value in
+    let second =
+    stands next mid pair c.take_part-part.result c.index_mut-2.result.now taken is_pair.two controller_in
+    c.index_mut-2.ensures.value in
     -- the stages
     let stages = c.args.stages.now.items in
     let mid_s = c.take_stage-stage.new.stages.items in
@@ -90,34 +108,51 @@ returns c =
     let controller_stage = c.run_sides-run.new.controller_stage in
     let count_s = count_of_stages design stages c.requires.stages in
     let plant_in_s : plant < length stages = (let inside = is_pair.plant in omega (arith, inside, count_s)) in
-    let controller_in_s : controller < length stages = (let inside = is_pair.controller in omega (arith, inside, count_s)) in
+    let controller_in_s : controller < length stages =
+    (let inside = is_pair.controller in omega (arith, inside, count_s)) in
     let taken_s = c.take_stage-stage.ensures in
     let put_s = c.put_stage.ensures in
-    let second_s = stands stages mid_s pair c.take_stage-stage.result c.index_mut.result.now taken_s is_pair.two controller_in_s c.index_mut.ensures.value in
+    let second_s =
+    stands stages mid_s pair c.take_stage-stage.result c.index_mut.result.now taken_s is_pair.two controller_in_s
+    c.index_mut.ensures.value in
     let first_side : PairedComponent = record { partner = controller; given = c.given.result } in
     let second_side : PairedComponent = record { partner = plant; given = c.given-2.result } in
     record {
       run =
-          OnOk-weaker c.run_sides-run.result (AreSidesRun round first_side second_side plant_stage controller_stage plant_part controller_part) (IsRun round (frames_of parts) next' stages' pair)
-          (pair_is_run round parts next' stages' pair first_side second_side plant_stage controller_stage plant_part controller_part c.given.ensures c.given-2.ensures refl refl
-          (back_first next mid next' plant controller c.take_part-part.result plant_part controller_part taken put is_pair.two plant_in controller_in)
-          (back_second next mid next' plant controller c.take_part-part.result plant_part controller_part taken put is_pair.two plant_in controller_in)
-          (back_first stages mid_s stages' plant controller c.take_stage-stage.result plant_stage controller_stage taken_s put_s is_pair.two plant_in_s controller_in_s)
-          (back_second stages mid_s stages' plant controller c.take_stage-stage.result plant_stage controller_stage taken_s put_s is_pair.two plant_in_s controller_in_s))
+          OnOk-weaker c.run_sides-run.result
+          (AreSidesRun round first_side second_side plant_stage controller_stage plant_part controller_part)
+          (IsRun round (frames_of parts) next' stages' pair)
+          (pair_is_run round parts next' stages' pair first_side second_side plant_stage controller_stage plant_part
+          controller_part c.given.ensures c.given-2.ensures refl refl
+          (back_first next mid next' plant controller c.take_part-part.result plant_part controller_part taken put
+          is_pair.two plant_in controller_in)
+          (back_second next mid next' plant controller c.take_part-part.result plant_part controller_part taken put
+          is_pair.two plant_in controller_in)
+          (back_first stages mid_s stages' plant controller c.take_stage-stage.result plant_stage controller_stage
+          taken_s put_s is_pair.two plant_in_s controller_in_s)
+          (back_second stages mid_s stages' plant controller c.take_stage-stage.result plant_stage controller_stage
+          taken_s put_s is_pair.two plant_in_s controller_in_s))
           c.run_sides-run.ensures.run;
       others =
           OnOk-always c.run_sides-run.result (StayBeside plant controller next next' stages stages')
           (record {
-            parts_stay = back_other next mid next' plant controller c.take_part-part.result plant_part controller_part taken put is_pair.two plant_in controller_in;
+            parts_stay =
+                back_other next mid next' plant controller c.take_part-part.result plant_part controller_part taken put
+                is_pair.two plant_in controller_in;
             rows_stay = λ k not_plant not_controller.
                 slice_get-map (λ (s : Stage). s.rows) stages' k
-                ∙ ap (option_map (λ (s : Stage). s.rows)) (back_other stages mid_s stages' plant controller c.take_stage-stage.result plant_stage controller_stage taken_s put_s is_pair.two plant_in_s controller_in_s k not_plant not_controller)
+                ∙ ap (option_map (λ (s : Stage). s.rows))
+                (back_other stages mid_s stages' plant controller c.take_stage-stage.result plant_stage
+                controller_stage taken_s put_s is_pair.two plant_in_s controller_in_s k not_plant
+                not_controller)
                 ∙ sym (slice_get-map (λ (s : Stage). s.rows) stages k);
           });
       parts =
-          seen_back next mid next' plant controller c.take_part-part.result plant_part controller_part taken put is_pair.two plant_in controller_in part_size c.index_mut-2.result.now second
+          seen_back next mid next' plant controller c.take_part-part.result plant_part controller_part taken put
+          is_pair.two plant_in controller_in part_size c.index_mut-2.result.now second
           c.run_sides-run.ensures.plant_part c.run_sides-run.ensures.controller_part;
       stages =
-          seen_back stages mid_s stages' plant controller c.take_stage-stage.result plant_stage controller_stage taken_s put_s is_pair.two plant_in_s controller_in_s stage_size c.index_mut.result.now second_s
+          seen_back stages mid_s stages' plant controller c.take_stage-stage.result plant_stage controller_stage taken_s
+          put_s is_pair.two plant_in_s controller_in_s stage_size c.index_mut.result.now second_s
           c.run_sides-run.ensures.plant_stage c.run_sides-run.ensures.controller_stage;
     }

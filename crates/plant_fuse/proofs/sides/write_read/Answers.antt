@@ -16,7 +16,10 @@ loop-at-preserved c =
     let item = c.place_read.ensures ∙ sym (get_or-map f sources at _ c.place_read.result c.loop-at-test.true) in
     record {
       len = grind (arith, common_steps);
-      done = ap (take (at + 1)) c.set.ensures ∙ filled_more c.loop-at.inputs wanted at c.place_read.result (omega (arith, c.requires.count)) (omega arith) item c.loop-at.invariant.done;
+      done =
+          ap (take (at + 1)) c.set.ensures
+          ∙ filled_more c.loop-at.inputs wanted at c.place_read.result (omega (arith, c.requires.count)) (omega arith)
+          item c.loop-at.invariant.done;
     }
 
 pub returns-clause-inputs : goal.returns-clause-inputs
@@ -25,4 +28,5 @@ returns-clause-inputs c =
     let sources = c.args.side.given.sources.now in
     let wanted = map f sources in
     let size : length wanted ≡ length sources = length-map sources f in
-    filled_all c.loop-at.inputs wanted c.loop-at.at (omega (arith, c.requires.count)) (omega arith) c.loop-at.invariant.done
+    filled_all c.loop-at.inputs wanted c.loop-at.at (omega (arith, c.requires.count)) (omega arith)
+    c.loop-at.invariant.done

@@ -6,5 +6,7 @@ pub returns : goal.returns
 returns c = record {
   means = sound_are_traces;
   judged = traces_are_sound;
-  both = λ run lines rounds stop rules. (sound_are_traces run lines rounds stop rules, traces_are_sound run lines rounds stop rules);
+  both =
+      λ run lines rounds stop rules.
+      (sound_are_traces run lines rounds stop rules, traces_are_sound run lines rounds stop rules);
 }

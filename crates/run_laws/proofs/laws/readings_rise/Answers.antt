@@ -6,5 +6,7 @@ use Rattle.run_laws.proofs.laws.readings_rise.Goals as goal
 pub returns : goal.returns
 returns c = record {
   lines = readings_rise;
-  hour = λ run journal s rules runs node within other least is. hour_in run Meet journal s rules runs other node least within is;
+  hour =
+      λ run journal s rules runs node within other least is.
+      hour_in run Meet journal s rules runs other node least within is;
 }

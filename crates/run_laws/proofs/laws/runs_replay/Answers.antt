@@ -2,4 +2,6 @@ use Rattle.run_laws.proofs.Picking.{runs_replay, runs_agree}
 use Rattle.run_laws.proofs.laws.runs_replay.Goals as goal
 
 pub returns : goal.returns
-returns c = λ run clocks journal s rules runs. (runs_replay run clocks journal s runs, runs_agree run clocks journal s rules runs)
+returns c =
+    λ run clocks journal s rules runs.
+    (runs_replay run clocks journal s runs, runs_agree run clocks journal s rules runs)

@@ -15,10 +15,13 @@ loop-at-preserved c =
     let f : FlatForm → Bool → Bool = λ e. row_bit e (row_of c.args.parts.now) in
     let within : at < length before = omega (arith, c.loop-at.invariant.len, c.loop-at-test.true) in
     let value : bit ≡ f form (bit_at before at) =
-    c.row_bit-bit.ensures ∙ ap (f form) (c.bit_at.ensures ∙ ap (λ (bs : List Bool). bit_at bs at) c.as_slice.ensures.value) in
+    c.row_bit-bit.ensures ∙ ap (f form)
+    (c.bit_at.ensures ∙ ap (λ (bs : List Bool). bit_at bs at) c.as_slice.ensures.value) in
     record {
       len = grind (arith, common_steps);
-      seen = seen_more f c.args.forms.now before c.args.bits.now c.set.new.self at form bit c.form_at-form.ensures within value c.set.ensures
+      seen =
+          seen_more f c.args.forms.now before c.args.bits.now c.set.new.self at form bit c.form_at-form.ensures within
+          value c.set.ensures
           c.loop-at.invariant.stay c.loop-at.invariant.seen;
       stay = stay_more before c.args.bits.now c.set.new.self at bit c.set.ensures c.loop-at.invariant.stay;
     }

@@ -2,4 +2,5 @@ use Rattle.run_monitor.proofs.Histories.{previous_reads, once_reads, historicall
 use Rattle.run_monitor.proofs.laws.words_read_as_written.Goals as goal
 
 pub returns : goal.returns
-returns c = record { previous = previous_reads; once = once_reads; historically = historically_reads; since = since_reads }
+returns c =
+    record { previous = previous_reads; once = once_reads; historically = historically_reads; since = since_reads }

@@ -4,4 +4,5 @@ use Rattle.scenario_json.proofs.cells.of_components.Given as goal
 
 -- the sum so far, no part of which is large
 abbrev pub invariant-loop-component : goal.invariant-loop-component
-invariant-loop-component l = (l.sum ≡ sum_by (component_cells) (take l.component-index l.components)) × (l.sum ≤ 2 ^ 66 * l.component-index)
+invariant-loop-component l =
+    (l.sum ≡ sum_by (component_cells) (take l.component-index l.components)) × (l.sum ≤ 2 ^ 66 * l.component-index)

@@ -5,4 +5,6 @@ use Rattle.scenario_json.proofs.cells.of_links.Given as goal
 
 -- the sum so far, no part of which is large
 abbrev pub invariant-loop-link : goal.invariant-loop-link
-invariant-loop-link l = (l.sum ≡ sum_by (λ (link : Link). rate_of l.design link.source.0) (take l.link-index l.links)) × (l.sum ≤ 2 ^ 32 * l.link-index)
+invariant-loop-link l =
+    (l.sum ≡ sum_by (λ (link : Link). rate_of l.design link.source.0) (take l.link-index l.links))
+    × (l.sum ≤ 2 ^ 32 * l.link-index)

@@ -5,4 +5,6 @@ use Rattle.scenario_json.proofs.cells.of_taps.Given as goal
 
 -- the sum so far, no part of which is large
 abbrev pub invariant-loop-tap : goal.invariant-loop-tap
-invariant-loop-tap l = (l.sum ≡ sum_by (λ (tap : Tap). rate_of l.design tap.source.0) (take l.tap-index l.taps)) × (l.sum ≤ 2 ^ 32 * l.tap-index)
+invariant-loop-tap l =
+    (l.sum ≡ sum_by (λ (tap : Tap). rate_of l.design tap.source.0) (take l.tap-index l.taps))
+    × (l.sum ≤ 2 ^ 32 * l.tap-index)

@@ -9,4 +9,6 @@ use Rattle.scenario_json.proofs.clocks.clock_lists.Given as goal
 abbrev pub invariant-loop-name : goal.invariant-loop-name
 invariant-loop-name l =
     let step = with_clock l.names in
-    (length l.clocks ≡ length l.names.components) × (through step l.clocks (map entry_of l.name-iterator) ≡ through step (replicate (length l.names.components) (unpicked [])) (map entry_of l.initial.name-iterator))
+    (length l.clocks ≡ length l.names.components)
+    × (through step l.clocks (map entry_of l.name-iterator)
+    ≡ through step (replicate (length l.names.components) (unpicked [])) (map entry_of l.initial.name-iterator))

@@ -8,7 +8,8 @@ pub loop-at-preserved : goal.loop-at-preserved
 loop-at-preserved c =
     let readings = c.loop-at.readings in
     let reading = c.in_ok-reading.reading in
-    let above : last_of readings ≤ reading = grind (arith, common_steps, c.in_ok-reading.ensures.range, c.loop-at.invariant.1) in
+    let above : last_of readings ≤ reading =
+    grind (arith, common_steps, c.in_ok-reading.ensures.range, c.loop-at.invariant.1) in
     rw c.in_ok-push.ensures.ok (
       grind (arith, common_steps),
       sym (last_push readings reading),

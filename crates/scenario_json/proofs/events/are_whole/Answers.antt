@@ -6,11 +6,14 @@ use Rattle.scenario_json.proofs.events.are_whole.Goals as goal
 
 pub loop-value-preserved : goal.loop-value-preserved
 loop-value-preserved c =
-    all_turn is_whole c.args.values.now c.loop-value.value-index c.value-item.result _ c.loop-value-test.true c.value-item.is (grind (arith, common_steps)) c.loop-value.invariant
+    all_turn is_whole c.args.values.now c.loop-value.value-index c.value-item.result _ c.loop-value-test.true
+    c.value-item.is (grind (arith, common_steps)) c.loop-value.invariant
 
 pub returns-then-not-is_whole : goal.returns-then-not-is_whole
 returns-then-not-is_whole c =
-    all_fails is_whole c.args.values.now c.loop-value.value-index c.value-item.result _ c.loop-value-test.true c.value-item.is (grind (arith, common_steps)) c.loop-value.invariant
+    all_fails is_whole c.args.values.now c.loop-value.value-index c.value-item.result _ c.loop-value-test.true
+    c.value-item.is (grind (arith, common_steps)) c.loop-value.invariant
 
 pub returns : goal.returns
-returns c = all_done is_whole c.args.values.now c.loop-value.value-index _ c.loop-value-test.false c.loop-value.invariant
+returns c =
+    all_done is_whole c.args.values.now c.loop-value.value-index _ c.loop-value-test.false c.loop-value.invariant

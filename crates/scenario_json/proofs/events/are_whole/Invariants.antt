@@ -5,4 +5,5 @@ use Rattle.scenario_values.specs.Values.{is_whole}
 use Rattle.scenario_json.proofs.events.are_whole.Given as goal
 
 abbrev pub invariant-loop-value : goal.invariant-loop-value
-invariant-loop-value l = list_all is_whole (map view (drop l.value-index l.values)) ≡ list_all is_whole (map view l.values)
+invariant-loop-value l =
+    list_all is_whole (map view (drop l.value-index l.values)) ≡ list_all is_whole (map view l.values)

@@ -8,4 +8,5 @@ use Rattle.scenario_json.proofs.events.read_events.Given as goal
 abbrev pub invariant-loop-at : goal.invariant-loop-at
 invariant-loop-at l =
     let step = with_event l.names l.command in
-    (length l.events ≡ l.at) × (through step l.events (map view (drop l.at l.items)) ≡ through step [] (map view l.items))
+    (length l.events ≡ l.at)
+    × (through step l.events (map view (drop l.at l.items)) ≡ through step [] (map view l.items))

@@ -9,4 +9,5 @@ use Rattle.scenario_json.proofs.inputs.delay_list.Given as goal
 abbrev pub invariant-loop-at : goal.invariant-loop-at
 invariant-loop-at l =
     let step = with_delay (inside (codes "delays") l.name) in
-    (length l.delays ≡ l.at) × (through step l.delays (map view (drop l.at l.items)) ≡ through step [] (map view l.items))
+    (length l.delays ≡ l.at)
+    × (through step l.delays (map view (drop l.at l.items)) ≡ through step [] (map view l.items))

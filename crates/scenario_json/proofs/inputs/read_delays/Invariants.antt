@@ -9,4 +9,6 @@ abbrev pub invariant-loop-name : goal.invariant-loop-name
 invariant-loop-name l =
     let step = with_link_delays l.names in
     (length l.lists ≡ length l.names.links)
-    × (through step l.lists (map entry_of l.name-iterator) ≡ through step (replicate (length l.names.links) (l.names.gamma.mu_min ∷ [])) (map entry_of l.initial.name-iterator))
+    × (through step l.lists (map entry_of l.name-iterator)
+    ≡ through step (replicate (length l.names.links) (l.names.gamma.mu_min ∷ []))
+    (map entry_of l.initial.name-iterator))

@@ -10,4 +10,5 @@ abbrev pub invariant-loop-name : goal.invariant-loop-name
 invariant-loop-name l =
     let step = with_input l.names in
     (length l.lists ≡ length (root_inputs l.names))
-    × (through step l.lists (map entry_of l.name-iterator) ≡ through step (replicate (length (root_inputs l.names)) []) (map entry_of l.initial.name-iterator))
+    × (through step l.lists (map entry_of l.name-iterator)
+    ≡ through step (replicate (length (root_inputs l.names)) []) (map entry_of l.initial.name-iterator))

@@ -9,4 +9,5 @@ use Rattle.scenario_json.proofs.inputs.value_list.Given as goal
 abbrev pub invariant-loop-at : goal.invariant-loop-at
 invariant-loop-at l =
     let step = with_value l.kind (inside (codes "inputs") l.name) in
-    (length l.values ≡ l.at) × (through step l.values (map view (drop l.at l.items)) ≡ through step [] (map view l.items))
+    (length l.values ≡ l.at)
+    × (through step l.values (map view (drop l.at l.items)) ≡ through step [] (map view l.items))

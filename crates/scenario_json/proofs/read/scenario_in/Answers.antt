@@ -4,4 +4,5 @@ use Rattle.scenario_json.proofs.read.scenario_in.Goals as goal
 
 pub returns-clause-kept : goal.returns-clause-kept
 returns-clause-kept c =
-    answer_keeps (view c.args.value.now) c.in_ok-names.names c.args.design.now c.args.command.now c.fields_in.result c.in_ok-names.ensures.value c.new.ensures.rules c.fields_in.ensures
+    answer_keeps (view c.args.value.now) c.in_ok-names.names c.args.design.now c.args.command.now c.fields_in.result
+    c.in_ok-names.ensures.value c.new.ensures.rules c.fields_in.ensures

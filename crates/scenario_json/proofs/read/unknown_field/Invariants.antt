@@ -5,4 +5,6 @@ use Rattle.scenario_json.specs.Scenarios.{is_field}
 use Rattle.scenario_json.proofs.read.unknown_field.Given as goal
 
 abbrev pub invariant-loop-name : goal.invariant-loop-name
-invariant-loop-name l = find (λ e. not (is_field e.0)) (map entry_of l.name-iterator) ≡ find (λ e. not (is_field e.0)) (map entry_of l.initial.name-iterator)
+invariant-loop-name l =
+    find (λ e. not (is_field e.0)) (map entry_of l.name-iterator)
+    ≡ find (λ e. not (is_field e.0)) (map entry_of l.initial.name-iterator)

@@ -6,4 +6,6 @@ use Rattle.scenario_json.proofs.traces.read_trace.Given as goal
 
 -- the lines so far, and what is meant
 abbrev pub invariant-loop-at : goal.invariant-loop-at
-invariant-loop-at l = (length l.lines ≡ l.at) × (through with_line l.lines (map view (drop l.at l.items)) ≡ through with_line [] (map view l.items))
+invariant-loop-at l =
+    (length l.lines ≡ l.at) × (through with_line l.lines (map view (drop l.at l.items))
+    ≡ through with_line [] (map view l.items))

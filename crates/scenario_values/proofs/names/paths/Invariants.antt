@@ -3,4 +3,5 @@ use Rattle.pals_model.specs.declared.design.Component.{Component}
 use Rattle.scenario_values.proofs.names.paths.Given as goal
 
 abbrev pub invariant-loop-component : goal.invariant-loop-component
-invariant-loop-component l = map string_bytes l.names.items ≡ map (λ (c : Component). c.path) (take l.component-index l.components)
+invariant-loop-component l =
+    map string_bytes l.names.items ≡ map (λ (c : Component). c.path) (take l.component-index l.components)

@@ -25,7 +25,9 @@ write_column-requires c =
     let same = c.links-link-items.ensures.value in
     let is = ap (λ l. slice_get l number) (sym same) ∙ slice_get-get_or items number _ c.loop-number-test.true in
     let kept = at_element (IsLink design) design.links number _ c.links-link-items.ensures.rules.links.each is in
-    sized_message design c.args.stages.now c.loop-number.messages number _ _ c.index_mut-message.result.now c.index-stages-link.result c.requires.stages c.loop-number.invariant.sizes is refl kept.source.node_is c.index_mut-message.ensures.value c.index-stages-link.is
+    sized_message design c.args.stages.now c.loop-number.messages number _ _ c.index_mut-message.result.now
+    c.index-stages-link.result c.requires.stages c.loop-number.invariant.sizes is refl kept.source.node_is
+    c.index_mut-message.ensures.value c.index-stages-link.is
     ∙ ap length (sym c.as_slice.ensures.value)
 
 pub loop-number-preserved : goal.loop-number-preserved
@@ -40,19 +42,32 @@ loop-number-preserved c =
     let same = c.links-link-items.ensures.value in
     let is = ap (λ l. slice_get l number) (sym same) ∙ slice_get-get_or items number _ c.loop-number-test.true in
     let kept = at_element (IsLink design) design.links number _ c.links-link-items.ensures.rules.links.each is in
-    let sized = sized_message design stages messages number _ _ message c.index-stages-link.result c.requires.stages c.loop-number.invariant.sizes is refl kept.source.node_is c.index_mut-message.ensures.value c.index-stages-link.is in
+    let sized =
+    sized_message design stages messages number _ _ message c.index-stages-link.result c.requires.stages
+    c.loop-number.invariant.sizes is refl kept.source.node_is c.index_mut-message.ensures.value
+    c.index-stages-link.is in
     let size : length written ≡ length message =
-    (ap length c.write_column.ensures ∙ length-cut _ _ ∙ length-column c.as_slice.result.now _ ∙ ap length c.as_slice.ensures.value ∙ sym sized) in
-    let many : length (message_sizes design) ≡ length design.links = length-map design.links (λ (l : Link). rate_of design l.source.0) in
-    let count = count_of_sized (λ (tuple : List PortValue). length tuple) messages (message_sizes design) c.loop-number.invariant.sizes in
+    (ap length c.write_column.ensures ∙ length-cut _ _ ∙ length-column c.as_slice.result.now _
+    ∙ ap length c.as_slice.ensures.value ∙ sym sized) in
+    let many : length (message_sizes design) ≡ length design.links =
+    length-map design.links (λ (l : Link). rate_of design l.source.0) in
+    let count =
+    count_of_sized (λ (tuple : List PortValue). length tuple) messages (message_sizes design)
+    c.loop-number.invariant.sizes in
     let linked : length items ≡ length design.links = ap length same in
     let rooms = count_of_sized stage_size stages (stage_sizes design) c.requires.stages in
-    let staged = length-map design.components (λ (d : Component). stage_size_of (sent_steps design.gamma design.period d.rate) d) in
+    let staged =
+    length-map design.components
+    (λ (d : Component). stage_size_of (sent_steps design.gamma design.period d.rate) d) in
     let inside = within_same kept.source.node_is rooms staged in
     let wanted = map (sent_by stages) items in
     let wants : length wanted ≡ length items = length-map items (sent_by stages) in
-    let item = sent_item stages items number _ c.as_slice.result.now c.index-stages-link.result written c.loop-number-test.true inside c.index-stages-link.is c.as_slice.ensures.value c.write_column.ensures in
+    let item =
+    sent_item stages items number _ c.as_slice.result.now c.index-stages-link.result written c.loop-number-test.true
+    inside c.index-stages-link.is c.as_slice.ensures.value c.write_column.ensures in
     record {
-      sizes = same_sizes (λ (tuple : List PortValue). length tuple) messages number message written (omega arith) c.index_mut-message.ensures.value size ∙ c.loop-number.invariant.sizes;
+      sizes =
+          same_sizes (λ (tuple : List PortValue). length tuple) messages number message written (omega arith)
+          c.index_mut-message.ensures.value size ∙ c.loop-number.invariant.sizes;
       done = filled_more messages wanted number written (omega arith) (omega arith) item c.loop-number.invariant.done;
     }

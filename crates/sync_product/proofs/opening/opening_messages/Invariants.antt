@@ -5,4 +5,6 @@ use Rattle.pals_model.specs.Inputs.{rate_of}
 use Rattle.sync_product.proofs.opening.opening_messages.Given as goal
 
 abbrev pub invariant-loop-link : goal.invariant-loop-link
-invariant-loop-link l = l.messages ≡ map (λ (link : Link). replicate (rate_of l.design link.source.0) Absent) (take l.link-index l.link-items)
+invariant-loop-link l =
+    l.messages ≡ map (λ (link : Link). replicate (rate_of l.design link.source.0) Absent)
+    (take l.link-index l.link-items)

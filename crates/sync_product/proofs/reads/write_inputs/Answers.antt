@@ -13,10 +13,15 @@ loop-at-preserved c =
     let sources = c.args.sources.now in
     let wanted = column c.args.step (map f sources) in
     let size : length wanted ≡ length sources = length-column_of_map f sources c.args.step in
-    let item = c.place_brought.ensures ∙ sym (column_of_map-at f sources c.args.step at c.place_brought.result _ c.loop-at-test.true) in
+    let item =
+    c.place_brought.ensures ∙ sym
+    (column_of_map-at f sources c.args.step at c.place_brought.result _ c.loop-at-test.true) in
     record {
       len = grind (arith, common_steps);
-      done = ap (take (at + 1)) c.set.ensures ∙ filled_more c.loop-at.inputs wanted at c.place_brought.result (omega (arith, c.requires.count)) (omega arith) item c.loop-at.invariant.done;
+      done =
+          ap (take (at + 1)) c.set.ensures
+          ∙ filled_more c.loop-at.inputs wanted at c.place_brought.result (omega (arith, c.requires.count))
+          (omega arith) item c.loop-at.invariant.done;
     }
 
 pub returns-clause-inputs : goal.returns-clause-inputs
@@ -25,4 +30,5 @@ returns-clause-inputs c =
     let sources = c.args.sources.now in
     let wanted = column c.args.step (map f sources) in
     let size : length wanted ≡ length sources = length-column_of_map f sources c.args.step in
-    filled_all c.loop-at.inputs wanted c.loop-at.at (omega (arith, c.requires.count)) (omega arith) c.loop-at.invariant.done
+    filled_all c.loop-at.inputs wanted c.loop-at.at (omega (arith, c.requires.count)) (omega arith)
+    c.loop-at.invariant.done

@@ -3,4 +3,5 @@ use Rattle.sync_product.proofs.Exchanging.{fed_counters_are_renumbered, exchange
 use Rattle.sync_product.proofs.renumbering.fed_counters_are_renumbered.Goals as goal
 
 pub returns : goal.returns
-returns c = record { designs = fed_counters_are_designs; renumbered = fed_counters_are_renumbered; inputs = exchanged_inputs }
+returns c =
+    record { designs = fed_counters_are_designs; renumbered = fed_counters_are_renumbered; inputs = exchanged_inputs }

@@ -7,7 +7,8 @@ use Rattle.sync_product.proofs.round.run_all.Given as goal
 -- the first components have made their steps, and the sizes stay
 abbrev pub invariant-loop-node : goal.invariant-loop-node
 invariant-loop-node l = record {
-  stepped : (k : ℕ) (c : Component) → k < l.node → slice_get l.round.design.now.components k ≡ Some c → IsStepped l.round (frames_of l.parts) l.next l.stages.items k c;
+  stepped : (k : ℕ) (c : Component) → k < l.node → slice_get l.round.design.now.components k ≡ Some c
+      → IsStepped l.round (frames_of l.parts) l.next l.stages.items k c;
   parts : map part_size l.next ≡ map part_size l.fn.next;
   stages : map stage_size l.stages.items ≡ map stage_size l.fn.stages.items;
 }

@@ -17,15 +17,20 @@ loop-at-preserved c =
     let item =
     c.place_before.ensures
     ∙ ap (λ r. place_before (nat_lt at count) port r) c.as_slice.ensures.value
-    ∙ cut_column-at rows port count at c.index-rows-at.result c.place_before.result c.loop-at-test.true c.index-rows-at.is in
+    ∙ cut_column-at rows port count at c.index-rows-at.result c.place_before.result c.loop-at-test.true
+    c.index-rows-at.is in
     record {
       len = grind (arith, common_steps);
-      done = ap (take (at + 1)) c.set.ensures ∙ filled_more c.loop-at.to wanted at c.place_before.result (omega arith) (omega arith) item c.loop-at.invariant.done;
+      done =
+          ap (take (at + 1)) c.set.ensures
+          ∙ filled_more c.loop-at.to wanted at c.place_before.result (omega arith) (omega arith) item
+          c.loop-at.invariant.done;
     }
 
 pub returns : goal.returns
 returns c =
     let rows = c.args.rows.now in
     let wanted = cut c.args.count (column c.args.port rows) in
-    let size : length wanted ≡ length rows = length-cut c.args.count (column c.args.port rows) ∙ length-column rows c.args.port in
+    let size : length wanted ≡ length rows = length-cut c.args.count (column c.args.port rows)
+    ∙ length-column rows c.args.port in
     filled_all c.loop-at.to wanted c.loop-at.at (omega arith) (omega arith) c.loop-at.invariant.done

@@ -7,7 +7,8 @@ use Rattle.triple_vote.proofs.first_faults.first_faults.Goals as goal
 pub returns-then-is_empty : goal.returns-then-is_empty
 returns-then-is_empty c =
     first_of_none c.args.faults.now c.args.links c.new.result
-    (nil_from_length c.args.faults.now (eqb-true (length c.args.faults.now) 0 (sym c.is_empty.ensures ∙ c.if-is_empty.true))) c.new.ensures
+    (nil_from_length c.args.faults.now
+    (eqb-true (length c.args.faults.now) 0 (sym c.is_empty.ensures ∙ c.if-is_empty.true))) c.new.ensures
 
 pub put_fault-requires : goal.put_fault-requires
 put_fault-requires c = c.loop-at.invariant.size
@@ -17,7 +18,8 @@ loop-at-init c = filled_none c.args.faults.now c.args.links _ c.in_ok-places.pla
 
 pub loop-at-preserved : goal.loop-at-preserved
 loop-at-preserved c =
-    filled_put c.args.faults.now c.args.links c.loop-at.places c.put_fault.new.places c.loop-at.at c.index-faults-at.result c.loop-at-test.true c.loop-at.auto.at
+    filled_put c.args.faults.now c.args.links c.loop-at.places c.put_fault.new.places c.loop-at.at
+    c.index-faults-at.result c.loop-at-test.true c.loop-at.auto.at
     c.index-faults-at.is c.loop-at.invariant c.put_fault.ensures
 
 pub returns : goal.returns

@@ -15,6 +15,7 @@ returns c =
     let all_is : c.from_vec.result ≡ replicate (length design.components) true
     = c.from_vec.ensures ∙ all ∙ ap (λ (cs : List Component). replicate (length cs) true) c.components.ensures.value in
     subst (AreOpened design replicated) (sym c.in_ok-vec.ensures.items)
-    (are_opened design replicated c.from_vec.result c.in_ok-first.first second third c.requires all_is c.in_ok-first.ensures
+    (are_opened design replicated c.from_vec.result c.in_ok-first.first second third c.requires all_is
+    c.in_ok-first.ensures
     (subst (λ (r : List Bool). IsOpened design r second) c.in_ok-marked.ensures c.in_ok-second.ensures)
     (subst (λ (r : List Bool). IsOpened design r third) c.in_ok-marked-2.ensures c.in_ok-third.ensures))

@@ -3,7 +3,8 @@ use Rattle.triple_vote.proofs.Layering.{received_more, heard_room, heard_stay}
 use Rattle.triple_vote.proofs.layers.receive_each.Goals as goal
 
 pub receive_all-requires-clause-at : goal.receive_all-requires-clause-at
-receive_all-requires-clause-at c = omega (arith, c.loop-at.heard.ok.0, c.loop-at.invariant.heard.three, c.loop-at-test.true)
+receive_all-requires-clause-at c =
+    omega (arith, c.loop-at.heard.ok.0, c.loop-at.invariant.heard.three, c.loop-at-test.true)
 
 pub receive_all-requires-clause-heard : goal.receive_all-requires-clause-heard
 receive_all-requires-clause-heard c =
@@ -17,11 +18,14 @@ loop-at-preserved c =
     let new = c.receive_all.new.heard in
     let within : at < length heard = omega (arith, c.loop-at.heard.ok.0, c.loop-at-test.true) in
     record {
-      received = received_more c.args.design.now c.args.replicated.now c.args.faults.now c.args.layers.now heard at new within c.receive_all.ensures.received
+      received =
+          received_more c.args.design.now c.args.replicated.now c.args.faults.now c.args.layers.now heard at new within
+          c.receive_all.ensures.received
           c.loop-at.invariant.received;
       heard = heard_stay c.args.design.now heard at new c.loop-at.invariant.heard c.receive_all.ensures.sizes;
     }
 
 pub returns-clause-received : goal.returns-clause-received
 returns-clause-received c = λ target below.
-    c.loop-at.invariant.received target (omega (arith, below, c.loop-at.heard.ok.0, c.loop-at.invariant.heard.three, c.loop-at-test.false))
+    c.loop-at.invariant.received target
+    (omega (arith, below, c.loop-at.heard.ok.0, c.loop-at.invariant.heard.three, c.loop-at-test.false))

@@ -13,12 +13,14 @@ run-requires-clause-room c =
 
 pub returns-in_err-run-clause-stay : goal.returns-in_err-run-clause-stay
 returns-in_err-run-clause-stay c =
-    stay_more c.args.layers.now.items c.loop-at.layers.items c.loop-at.at c.index_mut.result.now c.run.new.self c.index_mut.ensures.value c.in_err-run.ensures.stays
+    stay_more c.args.layers.now.items c.loop-at.layers.items c.loop-at.at c.index_mut.result.now c.run.new.self
+    c.index_mut.ensures.value c.in_err-run.ensures.stays
     c.loop-at.invariant.stay
 
 pub returns-in_err-run-clause-layers : goal.returns-in_err-run-clause-layers
 returns-in_err-run-clause-layers c =
-    three_more c.args.design.now c.loop-at.layers.items c.loop-at.at c.run.new.self c.loop-at.invariant.rooms c.in_err-run.ensures.room
+    three_more c.args.design.now c.loop-at.layers.items c.loop-at.at c.run.new.self c.loop-at.invariant.rooms
+    c.in_err-run.ensures.room
 
 pub loop-at-preserved : goal.loop-at-preserved
 loop-at-preserved c =
@@ -30,15 +32,25 @@ loop-at-preserved c =
     let heard = c.args.heard.now in
     let within : at < length layers = omega (arith, c.loop-at.layers.ok.0, c.loop-at-test.true) in
     let inside : at < length heard = omega (arith, within, c.loop-at.invariant.rooms.three, c.requires.heard) in
-    let messages = c.as_slice.ensures.value ∙ c.index-heard-at.is ∙ get_or_default heard at c.index-heard-at.result [] inside in
+    let messages =
+    c.as_slice.ensures.value ∙ c.index-heard-at.is ∙ get_or_default heard at c.index-heard-at.result [] inside in
     record {
       made = made_more design values heard layers at new within
-          (subst (λ (ms : List (List PortValue)). IsMade design values ms new) messages c.in_ok-run.ensures.made) c.loop-at.invariant.made;
-      stay = stay_more c.args.layers.now.items layers at c.index_mut.result.now new c.index_mut.ensures.value c.in_ok-run.ensures.stays c.loop-at.invariant.stay;
+          (subst (λ (ms : List (List PortValue)). IsMade design values ms new) messages c.in_ok-run.ensures.made)
+          c.loop-at.invariant.made;
+      stay =
+          stay_more c.args.layers.now.items layers at c.index_mut.result.now new c.index_mut.ensures.value
+          c.in_ok-run.ensures.stays c.loop-at.invariant.stay;
       rooms = three_more design layers at new c.loop-at.invariant.rooms c.in_ok-run.ensures.room;
       stages = c.in_ok-run.ensures.stages ∙ c.loop-at.invariant.stages;
     }
 
 pub returns-clause-made : goal.returns-clause-made
 returns-clause-made c = λ replica layer is.
-    c.loop-at.invariant.made replica layer (omega (arith, slice_get_within c.loop-at.layers.items replica layer is, c.loop-at.layers.ok.0, c.loop-at-test.false)) is
+    c.loop-at.invariant.made replica layer
+    (omega (
+      arith,
+      slice_get_within c.loop-at.layers.items replica layer is,
+      c.loop-at.layers.ok.0,
+      c.loop-at-test.false,
+    )) is

@@ -7,7 +7,8 @@ loop-at-init c = record { size = refl; done = λ k d below inside. absurd (omega
 
 pub loop-at-preserved : goal.loop-at-preserved
 loop-at-preserved c =
-    turned_more c.args.layers.now.items c.loop-at.layers.items c.loop-at.at c.index_mut.result.now c.turn.new.self c.loop-at.invariant
+    turned_more c.args.layers.now.items c.loop-at.layers.items c.loop-at.at c.index_mut.result.now c.turn.new.self
+    c.loop-at.invariant
     (omega (arith, c.loop-at.layers.ok.0, c.loop-at-test.true)) c.index_mut.ensures.value c.turn.ensures
 
 pub returns : goal.returns

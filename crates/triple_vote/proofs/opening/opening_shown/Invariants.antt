@@ -5,4 +5,5 @@ use Rattle.pals_model.specs.Inputs.{rate_of}
 use Rattle.triple_vote.proofs.opening.opening_shown.Given as goal
 
 abbrev pub invariant-loop-tap : goal.invariant-loop-tap
-invariant-loop-tap l = l.shown ≡ map (λ (tap : Tap). replicate (rate_of l.design tap.source.0) Absent) (take l.tap-index l.tap-items)
+invariant-loop-tap l =
+    l.shown ≡ map (λ (tap : Tap). replicate (rate_of l.design tap.source.0) Absent) (take l.tap-index l.tap-items)

@@ -7,7 +7,8 @@ use Rattle.triple_vote.proofs.rounds.run_all.Given as goal
 -- the first components that are there have made their steps, and the sizes stay
 abbrev pub invariant-loop-node : goal.invariant-loop-node
 invariant-loop-node l = record {
-  run : RunTo l.round.design.now l.round.values.now l.round.messages.now l.there (frames_of l.parts) l.next l.stages.items l.node;
+  run : RunTo l.round.design.now l.round.values.now l.round.messages.now l.there (frames_of l.parts) l.next
+      l.stages.items l.node;
   next : map part_size l.next ≡ map part_size l.fn.next;
   stages : map stage_size l.stages.items ≡ map stage_size l.fn.stages.items;
 }

@@ -10,5 +10,6 @@ use Rattle.triple_vote.proofs.rounds.send_all.Given as goal
 abbrev pub invariant-loop-number : goal.invariant-loop-number
 invariant-loop-number l = record {
   sizes : lengths l.sent ≡ message_sizes l.design;
-  done : Filled l.design.links (λ (link : Link). is_there l.there link.source.0) (λ number (link : Link). sent_by l.stages link) l.sent l.number;
+  done : Filled l.design.links (λ (link : Link). is_there l.there link.source.0)
+      (λ number (link : Link). sent_by l.stages link) l.sent l.number;
 }

@@ -11,5 +11,6 @@ abbrev pub invariant-loop-number : goal.invariant-loop-number
 invariant-loop-number l = record {
   sizes : lengths l.shown ≡ tap_sizes l.design;
   done : Filled l.design.taps (λ (tap : Tap). true)
-      (λ number (tap : Tap). shown_of (is_replicated l.replicated tap.source.0) (shown_in l.layers) number) l.shown l.number;
+      (λ number (tap : Tap). shown_of (is_replicated l.replicated tap.source.0) (shown_in l.layers) number)
+      l.shown l.number;
 }

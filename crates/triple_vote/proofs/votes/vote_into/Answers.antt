@@ -19,10 +19,13 @@ loop-at-preserved c =
     ∙ ap (vote (get_or x c.loop-at.at Absent) (get_or y c.loop-at.at Absent)) c.place-in-loop-at-2.ensures in
     record {
       len = grind (arith, common_steps);
-      done = voted_more c.loop-at.to c.set.new.self x y z c.loop-at.at value c.loop-at.invariant.len c.requires.y c.requires.z c.loop-at-test.true is c.set.ensures
+      done =
+          voted_more c.loop-at.to c.set.new.self x y z c.loop-at.at value c.loop-at.invariant.len c.requires.y
+          c.requires.z c.loop-at-test.true is c.set.ensures
           c.loop-at.invariant.done;
     }
 
 pub returns : goal.returns
 returns c =
-    voted_all c.loop-at.to c.args.x.now c.args.y.now c.args.z.now c.loop-at.at c.loop-at.invariant.len c.requires.y c.requires.z c.loop-at-test.false c.loop-at.invariant.done
+    voted_all c.loop-at.to c.args.x.now c.args.y.now c.args.z.now c.loop-at.at c.loop-at.invariant.len c.requires.y
+    c.requires.z c.loop-at-test.false c.loop-at.invariant.done

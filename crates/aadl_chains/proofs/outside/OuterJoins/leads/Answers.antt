@@ -10,7 +10,9 @@ returns c =
     let d = c.args.self.now.side.direction in
     let inside = c.args.inside.now.ports in
     let outside = c.args.self.now.ports in (
-      λ t. leads_to tree root d inside c.requires.inside outside c.args.declaration c.args.site c.requires.outside.sound (sym c.leads_from.ensures ∙ t),
+      λ t. leads_to tree root d inside c.requires.inside outside c.args.declaration c.args.site c.requires.outside.sound
+          (sym c.leads_from.ensures ∙ t),
       λ l. c.leads_from.ensures
-          ∙ leads_found tree root d inside c.requires.inside outside c.args.declaration c.args.site (c.requires.outside.complete c.args.declaration) l,
+          ∙ leads_found tree root d inside c.requires.inside outside c.args.declaration c.args.site
+          (c.requires.outside.complete c.args.declaration) l,
     )

@@ -25,9 +25,11 @@ loop-at-preserved c =
     let is : slice_get (wires_at tree n) i ≡ Some wire =
     ap (λ (l : List Wire). slice_get l i) (sym c.wires-wire-items.ensures)
     ∙ slice_get-get_or items i (record { source = None; target = None }) (omega arith) in
-    front_more tree c.args.limit n i wire c.args.self.now c.loop-at.self c.add.new.self is c.in_ok-add.ensures c.loop-at.invariant
+    front_more tree c.args.limit n i wire c.args.self.now c.loop-at.self c.add.new.self is c.in_ok-add.ensures
+    c.loop-at.invariant
 
 pub returns : goal.returns
 returns c =
     let same = ap (λ (l : List Wire). length l) c.wires-wire-items.ensures in
-    front_added (placed c.args.wires.now.uses.names.tree.now) c.args.limit c.args.number c.loop-at.at c.args.self.now c.loop-at.self (omega arith) c.loop-at.invariant
+    front_added (placed c.args.wires.now.uses.names.tree.now) c.args.limit c.args.number c.loop-at.at c.args.self.now
+    c.loop-at.self (omega arith) c.loop-at.invariant

@@ -10,23 +10,29 @@ use Rattle.aadl_chains.proofs.port_counts.PortCounts.through.Goals as goal
 
 pub returns-then-is_second : goal.returns-then-is_second
 returns-then-is_second c = λ known.
-    through-second (placed c.args.wires.now.uses.names.tree.now) c.args.limit c.args.number c.args.at (c.is_second.ensures.0 c.if-is_second.true)
+    through-second (placed c.args.wires.now.uses.names.tree.now) c.args.limit c.args.number c.args.at
+    (c.is_second.ensures.0 c.if-is_second.true)
 
 pub returns-else-is_second : goal.returns-else-is_second
 returns-else-is_second c = λ known.
     let tree = placed c.args.wires.now.uses.names.tree.now in
-    let target : c.args.wire.target ≡ Some (Inner c.in-Inner.sub c.in-Inner.port) = c.in-Some.is ∙ ap Some c.in-Inner.is in
+    let target : c.args.wire.target ≡ Some (Inner c.in-Inner.sub c.in-Inner.port) = c.in-Some.is
+    ∙ ap Some c.in-Inner.is in
     subst (IsNumber c.args.limit (Through tree c.args.number c.args.at))
-    (sym (c.below-else-is_second.ensures ∙ ap (λ o. taken_by c.args.limit c.args.self.now tree o c.in-Inner.port) c.below.ensures))
-    (through-number tree c.args.limit c.args.number c.args.at c.args.wire c.in-Inner.sub c.in-Inner.port c.args.self.now c.requires.declared
+    (sym (c.below-else-is_second.ensures
+    ∙ ap (λ o. taken_by c.args.limit c.args.self.now tree o c.in-Inner.port) c.below.ensures))
+    (through-number tree c.args.limit c.args.number c.args.at c.args.wire c.in-Inner.sub c.in-Inner.port c.args.self.now
+    c.requires.declared
     c.requires.wire target (λ s. opposed c.is_second.result (c.is_second.ensures.1 s) c.if-is_second.false) known)
 
 pub returns-in-Own : goal.returns-in-Own
 returns-in-Own c = λ known.
-    through-none (placed c.args.wires.now.uses.names.tree.now) c.args.limit c.args.number c.args.at c.args.wire c.requires.wire
+    through-none (placed c.args.wires.now.uses.names.tree.now) c.args.limit c.args.number c.args.at c.args.wire
+    c.requires.wire
     (λ s p e. own_no_inner c.args.wire.target _ _ s p c.in-Some.is c.in-Own.is e)
 
 pub returns-in-None : goal.returns-in-None
 returns-in-None c = λ known.
-    through-none (placed c.args.wires.now.uses.names.tree.now) c.args.limit c.args.number c.args.at c.args.wire c.requires.wire
+    through-none (placed c.args.wires.now.uses.names.tree.now) c.args.limit c.args.number c.args.at c.args.wire
+    c.requires.wire
     (λ s p e. none_no_inner c.args.wire.target s p c.in-None.is e)

@@ -15,8 +15,11 @@ returns-in-Some c =
     let goes = c.leads-goes.result in
     subst (λ b. IsTrue b ↔ IsOnWay tree root n c.args.wire) (sym c.both.ensures)
     (ways_tell tree root n c.args.wire c.args.source c.in-Some.target comes goes c.requires.source c.in-Some.is
-    (subst (λ (x : PortSearch). IsTrue comes ↔ LeadsFrom tree x.root x.direction n c.args.source) c.requires.ways.fed_side c.leads-comes.ensures)
-    (subst (λ (x : PortSearch). IsTrue goes ↔ LeadsFrom tree x.root x.direction n c.in-Some.target) c.requires.ways.led_side c.leads-goes.ensures))
+    (subst (λ (x : PortSearch). IsTrue comes ↔ LeadsFrom tree x.root x.direction n c.args.source)
+    c.requires.ways.fed_side c.leads-comes.ensures)
+    (subst (λ (x : PortSearch). IsTrue goes ↔ LeadsFrom tree x.root x.direction n c.in-Some.target)
+    c.requires.ways.led_side c.leads-goes.ensures))
 
 pub returns-in-None : goal.returns-in-None
-returns-in-None c = no_target (placed c.args.wires.now.uses.names.tree.now) c.args.self.now.root c.args.number c.args.wire c.in-None.is
+returns-in-None c =
+    no_target (placed c.args.wires.now.uses.names.tree.now) c.args.self.now.root c.args.number c.args.wire c.in-None.is

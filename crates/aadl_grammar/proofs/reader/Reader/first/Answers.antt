@@ -4,7 +4,11 @@ use Rattle.aadl_grammar.proofs.reader.Reader.first.Goals as goal
 
 pub returns : goal.returns
 unfolding here
-returns c = record { whole = spots_cons c.args.self.now.text.now c.args.self.now.terminals.now c.args.at _ c.if-at-self.false; word = c.args.self.now.words c.args.at _ c.if-at-self.false }
+returns c =
+    record {
+      whole = spots_cons c.args.self.now.text.now c.args.self.now.terminals.now c.args.at _ c.if-at-self.false;
+      word = c.args.self.now.words c.args.at _ c.if-at-self.false;
+    }
 
 pub returns-then-at-self : goal.returns-then-at-self
 unfolding here

@@ -15,8 +15,10 @@ loop-number-preserved c =
     let pushed = c.in_ok-push.ensures in
     let here = subst (λ l. AreAmong l row.items) c.ports_at.ensures c.in_ok-row.ensures in (
       ap length pushed ∙ (length_push c.loop-number.numbers row.items ∙ ap (λ k. k + 1) size),
-      subst (λ l. (k : ℕ) → k < n + 1 → AreAmong (features_of (type_numbered tree (Some k))) (get_or l k [])) (sym pushed)
-          (more_at (λ k l. AreAmong (features_of (type_numbered tree (Some k))) l) c.loop-number.numbers row.items [] n size c.loop-number.invariant.1 here),
+      subst (λ l. (k : ℕ) → k < n + 1 → AreAmong (features_of (type_numbered tree (Some k))) (get_or l k []))
+          (sym pushed)
+          (more_at (λ k l. AreAmong (features_of (type_numbered tree (Some k))) l) c.loop-number.numbers row.items [] n
+          size c.loop-number.invariant.1 here),
     )
 
 pub returns : goal.returns

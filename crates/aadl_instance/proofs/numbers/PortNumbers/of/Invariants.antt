@@ -8,4 +8,5 @@ use Rattle.aadl_instance.proofs.numbers.PortNumbers.of.Given as goal
 abbrev pub invariant-loop-number : goal.invariant-loop-number
 invariant-loop-number l =
     (length l.numbers ≡ l.number)
-    × ((n : ℕ) → n < l.number → AreAmong (features_of (type_numbered (placed l.wires.uses.names.tree.now) (Some n))) (get_or l.numbers n []))
+    × ((n : ℕ) → n < l.number
+    → AreAmong (features_of (type_numbered (placed l.wires.uses.names.tree.now) (Some n))) (get_or l.numbers n []))

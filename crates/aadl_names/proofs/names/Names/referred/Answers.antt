@@ -11,7 +11,8 @@ pub returns : goal.returns
 unfolding referred
 returns c =
     let some = c.in-Some.is in
-    let own : spec.is_of (placed c.args.self.now.tree.now) (reference_view kept_place c.args.x.now) ≡ true = cc (c.is_of.ensures, c.if-not-is_of.false) in
+    let own : spec.is_of (placed c.args.self.now.tree.now) (reference_view kept_place c.args.x.now) ≡ true =
+    cc (c.is_of.ensures, c.if-not-is_of.false) in
     let tree = placed c.args.self.now.tree.now in
     let key = ap (λ (l : List ℕ). l ++ codes "." ++ c.as_str-2.result.now) c.as_str.ensures.value
     ∙ ap (λ (l : List ℕ). string_bytes c.args.x.now.type_name.spelling ++ codes "." ++ l) c.as_str-2.ensures.value in

@@ -9,7 +9,9 @@ use Rattle.aadl_names.proofs.table.NameTable.dotted_value.Goals as goal
 pub returns : goal.returns
 returns g c =
     let name = c.args.first.now ++ codes "." ++ c.args.second.now in
-    let key = c.in_ok-key.ensures ∙ (ap (λ (l : List ℕ). folded (l ++ codes "." ++ c.as_bytes-2.result.now)) c.as_bytes.ensures.value
+    let key =
+    c.in_ok-key.ensures ∙ (ap (λ (l : List ℕ). folded (l ++ codes "." ++ c.as_bytes-2.result.now))
+    c.as_bytes.ensures.value
     ∙ ap (λ (l : List ℕ). folded (c.args.first.now ++ codes "." ++ l)) c.as_bytes-2.ensures.value) in
     c.copied.ensures ∙ (c.get.ensures.value
     ∙ (ap (λ (bs : List ℕ). lookup (λ k. bytes_eq bs k.items) c.self.inside.values.entries) key

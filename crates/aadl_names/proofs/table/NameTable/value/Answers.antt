@@ -11,14 +11,18 @@ use Rattle.aadl_names.proofs.table.NameTable.value.Goals as goal
 pub returns-then-has_capital : goal.returns-then-has_capital
 returns-then-has_capital g c =
     c.copied.ensures ∙ (c.get.ensures.value
-    ∙ (ap (λ (bs : List ℕ). lookup (λ k. bytes_eq bs k.items) c.self.inside.values.entries) (c.in_ok-key.ensures.ok ∙ ap folded c.as_bytes-bytes.ensures.value)
+    ∙ (ap (λ (bs : List ℕ). lookup (λ k. bytes_eq bs k.items) c.self.inside.values.entries)
+    (c.in_ok-key.ensures.ok ∙ ap folded c.as_bytes-bytes.ensures.value)
     ∙ (sym (lookup_keys (λ k. k.items) (bytes_eq (folded c.args.name.now)) c.self.inside.values.entries)
     ∙ ap (λ t. value_of t c.args.name.now) c.self.view_is)))
 
 pub returns : goal.returns
 returns g c =
-    let none = ap (list_any is_ascii_uppercase) (sym c.as_bytes-bytes.ensures.value) ∙ (sym c.has_capital.ensures ∙ c.if-has_capital.false) in
+    let none =
+    ap (list_any is_ascii_uppercase) (sym c.as_bytes-bytes.ensures.value)
+    ∙ (sym c.has_capital.ensures ∙ c.if-has_capital.false) in
     c.copied-2.ensures ∙ (c.get-2.ensures.value
-    ∙ (ap (λ (bs : List ℕ). lookup (λ k. bytes_eq bs k.items) c.self.inside.values.entries) (c.as_bytes-bytes.ensures.value ∙ sym (own_key c.args.name.now none))
+    ∙ (ap (λ (bs : List ℕ). lookup (λ k. bytes_eq bs k.items) c.self.inside.values.entries)
+    (c.as_bytes-bytes.ensures.value ∙ sym (own_key c.args.name.now none))
     ∙ (sym (lookup_keys (λ k. k.items) (bytes_eq (folded c.args.name.now)) c.self.inside.values.entries)
     ∙ ap (λ t. value_of t c.args.name.now) c.self.view_is)))

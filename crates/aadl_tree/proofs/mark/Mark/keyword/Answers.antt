@@ -9,9 +9,12 @@ use Rattle.aadl_tree.proofs.mark.Mark.keyword.Goals.{then-inside, else-inside}
 
 pub returns : goal.returns
 returns c =
-    let from : c.if-inside.marks.now ≡ keywords_from c.args.inside c.to_ascii_lowercase-letter.result = elim c.if-inside.branch [
-      | then-inside w ↦ (let e = w.marks-is in let f = w.keywords_inside-marks.ensures in let g = w.if-inside.true in cc)
-      | else-inside w ↦ (let e = w.marks-is in let f = w.keywords_outside-marks.ensures in let g = w.if-inside.false in cc)
+    let from : c.if-inside.marks.now ≡ keywords_from c.args.inside c.to_ascii_lowercase-letter.result =
+    elim c.if-inside.branch [
+      | then-inside w ↦ (let e = w.marks-is in let f = w.keywords_inside-marks.ensures in
+          let g = w.if-inside.true in cc)
+      | else-inside w ↦ (let e = w.marks-is in let f = w.keywords_outside-marks.ensures in
+          let g = w.if-inside.false in cc)
     ] in
     let letter = ap (keywords_from c.args.inside) c.to_ascii_lowercase-letter.ensures.value in
     c.spelled_as.ensures ∙ ap (find (λ m. str_eq_ignore_ascii_case c.args.word.now (mark_text m))) (from ∙ letter)

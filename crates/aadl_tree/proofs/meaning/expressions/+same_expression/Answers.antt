@@ -12,13 +12,16 @@ use Rattle.aadl_tree.proofs.meaning.expressions.+same_expression.Goals as goal
 use Rattle.aadl_tree.proofs.meaning.expressions.+same_expression.Goals.{same_sum-then-same_option, same_sum-else-same_option}
 
 pub same_factors-returns-then-left-right : goal.same_factors-returns-then-left-right
-same_factors-returns-then-left-right t c = (λ yes. absurd cc, λ same. let e = factors-length _ _ same in absurd (omega arith))
+same_factors-returns-then-left-right t c =
+    (λ yes. absurd cc, λ same. let e = factors-length _ _ same in absurd (omega arith))
 
 pub same_terms-returns-then-left-right : goal.same_terms-returns-then-left-right
-same_terms-returns-then-left-right t c = (λ yes. absurd cc, λ same. let e = terms-length _ _ same in absurd (omega arith))
+same_terms-returns-then-left-right t c =
+    (λ yes. absurd cc, λ same. let e = terms-length _ _ same in absurd (omega arith))
 
 pub same_relations-returns-then-left-right : goal.same_relations-returns-then-left-right
-same_relations-returns-then-left-right t c = (λ yes. absurd cc, λ same. let e = relations-length _ _ same in absurd (omega arith))
+same_relations-returns-then-left-right t c =
+    (λ yes. absurd cc, λ same. let e = relations-length _ _ same in absurd (omega arith))
 
 pub same_expression-returns-then-same_relation : goal.same_expression-returns-then-same_relation
 same_expression-returns-then-same_relation t c =
@@ -54,20 +57,29 @@ same_sum-returns-then-same_term t c =
 pub same_primary-returns-in_default : goal.same_primary-returns-in_default
 same_primary-returns-in_default t c =
     let here = c.in_default in
-    let left = ap (primary_view no_place) here.is-0 ∙ view-Whole no_place here.field-0-0 here.field-1-0 in
-    (λ yes. absurd cc, λ same. let found = only_whole c.args.right.now here.field-1-0 (sym same ∙ left) in absurd (here.not-Whole-1 found.0 found.1 found.2))
+    let left = ap (primary_view no_place) here.is-0 ∙ view-Whole no_place here.field-0-0 here.field-1-0 in (
+      λ yes. absurd cc,
+      λ same. let found = only_whole c.args.right.now here.field-1-0 (sym same ∙ left) in
+          absurd (here.not-Whole-1 found.0 found.1 found.2),
+    )
 
 pub same_primary-returns-in_default-2 : goal.same_primary-returns-in_default-2
 same_primary-returns-in_default-2 t c =
     let here = c.in_default in
-    let left = ap (primary_view no_place) here.is-0 ∙ view-Truth no_place here.field-0-0 here.field-1-0 in
-    (λ yes. absurd cc, λ same. let found = only_truth c.args.right.now here.field-1-0 (sym same ∙ left) in absurd (here.not-Truth-1 found.0 found.1 found.2))
+    let left = ap (primary_view no_place) here.is-0 ∙ view-Truth no_place here.field-0-0 here.field-1-0 in (
+      λ yes. absurd cc,
+      λ same. let found = only_truth c.args.right.now here.field-1-0 (sym same ∙ left) in
+          absurd (here.not-Truth-1 found.0 found.1 found.2),
+    )
 
 pub same_primary-returns-in_default-3 : goal.same_primary-returns-in_default-3
 same_primary-returns-in_default-3 t c =
     let here = c.in_default in
-    let left = ap (primary_view no_place) here.is-0 ∙ view-Named no_place here.field-0-0 here.field-1-0 in
-    (λ yes. absurd cc, λ same. let found = only_named c.args.right.now _ here.field-1-0 (sym same ∙ left) in absurd (here.not-Named-1 found.0 found.1 found.2))
+    let left = ap (primary_view no_place) here.is-0 ∙ view-Named no_place here.field-0-0 here.field-1-0 in (
+      λ yes. absurd cc,
+      λ same. let found = only_named c.args.right.now _ here.field-1-0 (sym same ∙ left) in
+          absurd (here.not-Named-1 found.0 found.1 found.2),
+    )
 
 alike : (a b : Bool) → beq a b ≡ true → a ≡ b
 alike true true e = refl
@@ -83,38 +95,61 @@ same_flags false true e = absurd cc
 
 pub same_primary-returns-then-same : goal.same_primary-returns-then-same
 same_primary-returns-then-same t c =
-    let left = ap (primary_view no_place) c.in-Named-Named.is-0 ∙ view-Named no_place c.in-Named-Named.name c.in-Named-Named.fresh in
-    let right = ap (primary_view no_place) c.in-Named-Named.is-1 ∙ view-Named no_place c.in-Named-Named.other_name c.in-Named-Named.other_fresh in
-    let names = c.same.ensures.0 c.if-same.true in
-    (λ yes. let e = alike c.in-Named-Named.fresh c.in-Named-Named.other_fresh yes in cc, λ both. same_flags c.in-Named-Named.fresh c.in-Named-Named.other_fresh (cc))
+    let left =
+    ap (primary_view no_place) c.in-Named-Named.is-0
+    ∙ view-Named no_place c.in-Named-Named.name c.in-Named-Named.fresh in
+    let right =
+    ap (primary_view no_place) c.in-Named-Named.is-1
+    ∙ view-Named no_place c.in-Named-Named.other_name c.in-Named-Named.other_fresh in
+    let names = c.same.ensures.0 c.if-same.true in (
+      λ yes. let e = alike c.in-Named-Named.fresh c.in-Named-Named.other_fresh yes in
+          cc,
+      λ both. same_flags c.in-Named-Named.fresh c.in-Named-Named.other_fresh (cc),
+    )
 
 pub same_primary-returns-else-same : goal.same_primary-returns-else-same
 same_primary-returns-else-same t c =
-    let left = ap (primary_view no_place) c.in-Named-Named.is-0 ∙ view-Named no_place c.in-Named-Named.name c.in-Named-Named.fresh in
-    let right = ap (primary_view no_place) c.in-Named-Named.is-1 ∙ view-Named no_place c.in-Named-Named.other_name c.in-Named-Named.other_fresh in
+    let left =
+    ap (primary_view no_place) c.in-Named-Named.is-0
+    ∙ view-Named no_place c.in-Named-Named.name c.in-Named-Named.fresh in
+    let right =
+    ap (primary_view no_place) c.in-Named-Named.is-1
+    ∙ view-Named no_place c.in-Named-Named.other_name c.in-Named-Named.other_fresh in
     let no = c.if-same.false in
     (λ yes. absurd cc, λ both. c.same.ensures.1 (cc))
 
 pub same_factor-returns-in_default : goal.same_factor-returns-in_default
 same_factor-returns-in_default t c =
     let here = c.in_default in
-    let left = ap (factor_view no_place) here.is-0 ∙ view-Abs no_place here.field-0-0 here.field-1-0 in
-    (λ yes. absurd cc, λ same. let found = only_absolute c.args.right.now _ (sym same ∙ left) in absurd (here.not-Abs-1 found.0 found.1 found.2))
+    let left = ap (factor_view no_place) here.is-0 ∙ view-Abs no_place here.field-0-0 here.field-1-0 in (
+      λ yes. absurd cc,
+      λ same. let found = only_absolute c.args.right.now _ (sym same ∙ left) in
+          absurd (here.not-Abs-1 found.0 found.1 found.2),
+    )
 
 pub same_factor-returns-in_default-2 : goal.same_factor-returns-in_default-2
 same_factor-returns-in_default-2 t c =
     let here = c.in_default in
-    let left = ap (factor_view no_place) here.is-0 ∙ view-Not no_place here.field-0-0 here.field-1-0 in
-    (λ yes. absurd cc, λ same. let found = only_negated c.args.right.now _ (sym same ∙ left) in absurd (here.not-Not-1 found.0 found.1 found.2))
+    let left = ap (factor_view no_place) here.is-0 ∙ view-Not no_place here.field-0-0 here.field-1-0 in (
+      λ yes. absurd cc,
+      λ same. let found = only_negated c.args.right.now _ (sym same ∙ left) in
+          absurd (here.not-Not-1 found.0 found.1 found.2),
+    )
 
 pub same_factor-returns-in_default-3 : goal.same_factor-returns-in_default-3
 same_factor-returns-in_default-3 t c =
     let here = c.in_default in
-    let left = ap (factor_view no_place) here.is-0 ∙ view-Plain no_place here.field-0-0 in
-    (λ yes. absurd cc, λ same. let found = only_bare c.args.right.now _ (sym same ∙ left) in absurd (here.not-Plain-1 found.0 found.1))
+    let left = ap (factor_view no_place) here.is-0 ∙ view-Plain no_place here.field-0-0 in (
+      λ yes. absurd cc,
+      λ same. let found = only_bare c.args.right.now _ (sym same ∙ left) in
+          absurd (here.not-Plain-1 found.0 found.1),
+    )
 
 pub same_primary-returns-in_default-4 : goal.same_primary-returns-in_default-4
 same_primary-returns-in_default-4 t c =
     let here = c.in_default in
-    let left = ap (primary_view no_place) here.is-0 ∙ view-Group no_place here.field-0-0 here.field-1-0 in
-    (λ yes. absurd cc, λ same. let found = only_group c.args.right.now _ (sym same ∙ left) in absurd (here.not-Group-1 found.0 found.1 found.2))
+    let left = ap (primary_view no_place) here.is-0 ∙ view-Group no_place here.field-0-0 here.field-1-0 in (
+      λ yes. absurd cc,
+      λ same. let found = only_group c.args.right.now _ (sym same ∙ left) in
+          absurd (here.not-Group-1 found.0 found.1 found.2),
+    )

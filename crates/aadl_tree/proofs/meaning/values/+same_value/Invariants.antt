@@ -8,10 +8,12 @@ use Rattle.aadl_tree.proofs.meaning.values.+same_value.Given as goal
 abbrev pub invariant-same_values-loop-at : goal.invariant-same_values-loop-at
 invariant-same_values-loop-at l =
     (length l.left ≡ length l.right)
-    × ((values_view no_place l.left ≡ values_view no_place l.right) ↔ (values_view no_place (drop l.at l.left) ≡ values_view no_place (drop l.at l.right)))
+    × ((values_view no_place l.left ≡ values_view no_place l.right)
+    ↔ (values_view no_place (drop l.at l.left) ≡ values_view no_place (drop l.at l.right)))
 
 -- all mean the same exactly where those that are left do
 abbrev pub invariant-same_associations-loop-at : goal.invariant-same_associations-loop-at
 invariant-same_associations-loop-at l =
     (length l.left ≡ length l.right)
-    × ((associations_view no_place l.left ≡ associations_view no_place l.right) ↔ (associations_view no_place (drop l.at l.left) ≡ associations_view no_place (drop l.at l.right)))
+    × ((associations_view no_place l.left ≡ associations_view no_place l.right)
+    ↔ (associations_view no_place (drop l.at l.left) ≡ associations_view no_place (drop l.at l.right)))

@@ -11,5 +11,6 @@ returns c =
     let root = c.args.root in
     tells COMPONENTS c.count_at-count.result
     (more_threads tree root COMPONENTS c.count_at-count.result
-    (subst (AreCounted tree (COMPONENTS + 1) root) (sym (c.count_at-count.ensures ∙ ap (λ l. get_or l root 0) c.as_slice.ensures.value))
+    (subst (AreCounted tree (COMPONENTS + 1) root)
+    (sym (c.count_at-count.ensures ∙ ap (λ l. get_or l root 0) c.as_slice.ensures.value))
     (c.in_ok-counts.ensures root c.requires.root)))

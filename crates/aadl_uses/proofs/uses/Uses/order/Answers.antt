@@ -11,8 +11,12 @@ order-requires c =
     let tree = placed c.args.self.now.names.tree.now in
     record {
       within = subst (λ (g : Graph). IsWithin g) (sym c.args.self.now.of_subs) (within tree);
-      acyclic = λ n s back. no_way_back tree c.requires n s (subst (λ (g : Graph). LeadsBack g n s) c.args.self.now.of_subs back);
+      acyclic =
+          λ n s back. no_way_back tree c.requires n s
+          (subst (λ (g : Graph). LeadsBack g n s) c.args.self.now.of_subs back);
     }
 
 pub returns : goal.returns
-returns c = ok_order (λ s. s.keys) c.order.result (placed c.args.self.now.names.tree.now) c.args.self.now.graph c.args.self.now.of_subs c.order.ensures
+returns c =
+    ok_order (λ s. s.keys) c.order.result (placed c.args.self.now.names.tree.now) c.args.self.now.graph
+    c.args.self.now.of_subs c.order.ensures

@@ -7,4 +7,5 @@ use Rattle.aadl_uses.proofs.uses.Uses.targets.Goals as goal
 pub returns : goal.returns
 returns c =
     let tree = placed c.args.self.now.names.tree.now in
-    c.targets.ensures ∙ (ap (λ (g : Graph). targets_in g c.args.number) c.args.self.now.of_subs ∙ row tree tree.declarations c.args.number)
+    c.targets.ensures ∙ (ap (λ (g : Graph). targets_in g c.args.number) c.args.self.now.of_subs
+    ∙ row tree tree.declarations c.args.number)

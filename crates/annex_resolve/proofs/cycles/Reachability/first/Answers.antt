@@ -20,17 +20,21 @@ loop-transition-preserved c =
     let source = ap (λ (e : Edge). e.source) c.transition.view_is in
     let target = ap (λ (e : Edge). e.target) c.transition.view_is in
     let more : take (index + 1) edges ≡ take index edges ++ edge ∷ []
-    = take_more edges index edge c.loop-transition-test.true ∙ ap (λ e. take index edges ++ e ∷ []) (sym c.transition-item.is) in
+    =
+    take_more edges index edge c.loop-transition-test.true
+    ∙ ap (λ e. take index edges ++ e ∷ []) (sym c.transition-item.is) in
     elim c.if-not-is_complete.branch [
       | then-not-is_complete w ↦
           w.rows-is ∙ w.mark.ensures
           ∙ ap (λ s. marked c.loop-transition.rows s c.transition.inside.target) source
           ∙ ap (λ t. marked c.loop-transition.rows edge.source t) target
           ∙ ap (λ rows. marked rows edge.source edge.target) c.loop-transition.invariant
-          ∙ table-marked parts (take index edges) edge (ap (is_complete parts) (sym source) ∙ sym c.is_complete.ensures ∙ w.if-not-is_complete.true)
+          ∙ table-marked parts (take index edges) edge
+          (ap (is_complete parts) (sym source) ∙ sym c.is_complete.ensures ∙ w.if-not-is_complete.true)
           ∙ sym (ap (table_by parts) more)
       | else-not-is_complete w ↦
           w.rows-is ∙ c.loop-transition.invariant
-          ∙ sym (table-stays parts (take index edges) edge (ap (is_complete parts) (sym source) ∙ sym c.is_complete.ensures ∙ w.if-not-is_complete.false))
+          ∙ sym (table-stays parts (take index edges) edge
+          (ap (is_complete parts) (sym source) ∙ sym c.is_complete.ensures ∙ w.if-not-is_complete.false))
           ∙ sym (ap (table_by parts) more)
     ]

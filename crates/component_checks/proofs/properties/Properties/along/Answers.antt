@@ -12,5 +12,6 @@ loop-sub-preserved c =
     let tree = placed c.args.self.now.uses.now.names.tree.now in
     let none : SubAt = record { declaration = 0; sub = 0 } in
     c.or-nearest.ensures ∙ ap (λ t. nearer t c.loop-sub.nearest) c.of_sub.ensures
-    ∙ ap (nearer (timed_by (lists_at tree (slice_index_or c.args.subs.now c.loop-sub.sub-index none)))) c.loop-sub.invariant
+    ∙ ap (nearer (timed_by (lists_at tree (slice_index_or c.args.subs.now c.loop-sub.sub-index none))))
+    c.loop-sub.invariant
     ∙ along_turn tree c.args.root c.args.subs.now c.loop-sub.sub-index none c.loop-sub-test.true

@@ -6,4 +6,5 @@ use Rattle.component_checks.proofs.properties.Properties.along.Given as goal
 
 -- the nearest so far
 abbrev pub invariant-loop-sub : goal.invariant-loop-sub
-invariant-loop-sub l = l.nearest ≡ timed_by (lists_along (placed l.self.uses.now.names.tree.now) l.root (take l.sub-index l.subs))
+invariant-loop-sub l =
+    l.nearest ≡ timed_by (lists_along (placed l.self.uses.now.names.tree.now) l.root (take l.sub-index l.subs))

@@ -8,11 +8,18 @@ pub invariant_of-self : goal.invariant_of-self
 invariant_of-self c =
     let xs = c.self.inside.ring.items in
     let room = c.self.inside.ring.capacity in
-    let s : RingEntry = record { copy = record { round = c.args.round; due = c.args.due; tuple = c.args.tuple }; top = c.top_with-top.result } in
+    let s : RingEntry = record {
+      copy = record { round = c.args.round; due = c.args.due; tuple = c.args.tuple };
+      top = c.top_with-top.result;
+    } in
     let more : 1 ≤ room - length xs = rw (← c.self.view_is) at c.requires in
     let long = length-append xs (s ∷ []) in
     let none : length (xs ++ s ∷ []) - room ≡ 0 = omega arith in
-    let items : c.push_back.new.self.items ≡ xs ++ s ∷ [] = ap (λ b. b.items) c.push_back.ensures.items ∙ ap (λ n. drop n (xs ++ s ∷ [])) none in
+    let items : c.push_back.new.self.items ≡ xs ++ s ∷ [] = ap (λ b. b.items) c.push_back.ensures.items
+    ∙ ap (λ n. drop n (xs ++ s ∷ [])) none in
     let same : c.push_back.new.self.capacity ≡ room = ap (λ b. b.capacity) c.push_back.ensures.items in
-    let within : length (xs ++ s ∷ []) ≤ room = omega arith in
-    (rw (items, same) within, subst AreTopped (sym items) (topped_push xs s c.self.invariant.1 c.top_with-top.ensures.own c.top_with-top.ensures.ahead))
+    let within : length (xs ++ s ∷ []) ≤ room = omega arith in (
+      rw (items, same) within,
+      subst AreTopped (sym items)
+          (topped_push xs s c.self.invariant.1 c.top_with-top.ensures.own c.top_with-top.ensures.ahead),
+    )

@@ -4,4 +4,5 @@ use Rattle.link_buffers.proofs.Rings.{due_standings}
 use Rattle.link_buffers.proofs.flight.Flight.flight_due.Goals as goal
 
 pub returns : goal.returns
-returns c = rw (← c.self.view_is) (c.least_due.ensures ∙ ap least (sym (due_standings c.args.reading c.self.inside.ring.items)))
+returns c =
+    rw (← c.self.view_is) (c.least_due.ensures ∙ ap least (sym (due_standings c.args.reading c.self.inside.ring.items)))

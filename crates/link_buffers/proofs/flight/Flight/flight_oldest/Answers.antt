@@ -25,4 +25,6 @@ returns c =
     let xs = c.self.inside.ring.items in
     let at : position (is_of c.args.round) (copies_of xs) ≡ Some c.in_ok-place.place = grind (arith, common_steps) in
     let within : c.in_ok-place.place < length xs = oldest_within xs c.args.round c.in_ok-place.place at in
-    rw (← c.self.view_is) (sym (find_some (is_of c.args.round) (copies_of xs) c.in_ok-place.place at ∙ copy_at xs c.in_ok-place.place c.standing_at.result.now within c.standing_at.ensures))
+    rw (← c.self.view_is) (sym
+    (find_some (is_of c.args.round) (copies_of xs) c.in_ok-place.place at
+    ∙ copy_at xs c.in_ok-place.place c.standing_at.result.now within c.standing_at.ensures))

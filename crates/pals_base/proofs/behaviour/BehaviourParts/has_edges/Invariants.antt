@@ -5,4 +5,6 @@ use Rattle.pals_base.proofs.behaviour.BehaviourParts.has_edges.Given as goal
 
 -- all are sound exactly where those that are left are
 abbrev pub invariant-loop-transition : goal.invariant-loop-transition
-invariant-loop-transition l = list_all (is_edge l.self) (drop l.transition-index l.self.transitions) ≡ list_all (is_edge l.self) l.self.transitions
+invariant-loop-transition l =
+    list_all (is_edge l.self) (drop l.transition-index l.self.transitions)
+    ≡ list_all (is_edge l.self) l.self.transitions

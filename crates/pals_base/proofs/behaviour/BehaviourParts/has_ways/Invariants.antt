@@ -7,4 +7,5 @@ use Rattle.pals_base.proofs.behaviour.BehaviourParts.has_ways.Given as goal
 -- all have their ways exactly where those that are left do
 abbrev pub invariant-loop-state : goal.invariant-loop-state
 invariant-loop-state l =
-    list_all (has_ways l.self) (upwards l.state (length l.self.states - l.state)) ≡ list_all (has_ways l.self) (upwards 0 (length l.self.states))
+    list_all (has_ways l.self) (upwards l.state (length l.self.states - l.state))
+    ≡ list_all (has_ways l.self) (upwards 0 (length l.self.states))

@@ -9,5 +9,6 @@ returns c =
     ∙ ap (λ before. before ++ map (λ (v : VarDecl). v.name) c.as_slice-3.result.now)
     (c.in_ok-add_names-2.ensures
     ∙ ap (λ before. before ++ map (λ (port : PortDecl). port.name) c.as_slice-2.result.now)
-    (c.in_ok-add_names.ensures ∙ ap (λ before. before ++ map (λ (port : PortDecl). port.name) c.as_slice.result.now) c.new-names.ensures))
+    (c.in_ok-add_names.ensures
+    ∙ ap (λ before. before ++ map (λ (port : PortDecl). port.name) c.as_slice.result.now) c.new-names.ensures))
     ∙ rw (c.as_slice.ensures.value, c.as_slice-2.ensures.value, c.as_slice-3.ensures.value)

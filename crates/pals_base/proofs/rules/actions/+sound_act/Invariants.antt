@@ -6,7 +6,8 @@ use Rattle.pals_base.proofs.rules.actions.+sound_act.Given as goal
 -- all are sound exactly where those that are left are
 abbrev pub invariant-are_sound-loop-act : goal.invariant-are_sound-loop-act
 invariant-are_sound-loop-act l =
-    are_sound (actions_along (drop l.act-index l.acts)) l.parts l.loops l.around ≡ are_sound (actions_along l.acts) l.parts l.loops l.around
+    are_sound (actions_along (drop l.act-index l.acts)) l.parts l.loops l.around
+    ≡ are_sound (actions_along l.acts) l.parts l.loops l.around
 
 abbrev pub invariant-branches_are_sound-loop-branch : goal.invariant-branches_are_sound-loop-branch
 invariant-branches_are_sound-loop-branch l =

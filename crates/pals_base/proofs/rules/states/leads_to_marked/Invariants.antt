@@ -7,5 +7,6 @@ use Rattle.pals_base.proofs.rules.states.leads_to_marked.Given as goal
 -- all lead to marked states exactly where those that are left do
 abbrev pub invariant-loop-transition : goal.invariant-loop-transition
 invariant-loop-transition l =
-    list_all (λ e. marked l.marks e.target) (filter (λ e. nat_eq e.source l.state) (drop l.transition-index l.transitions))
+    list_all (λ e. marked l.marks e.target)
+    (filter (λ e. nat_eq e.source l.state) (drop l.transition-index l.transitions))
     ≡ list_all (λ e. marked l.marks e.target) (filter (λ e. nat_eq e.source l.state) l.transitions)

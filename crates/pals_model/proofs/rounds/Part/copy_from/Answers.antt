@@ -5,7 +5,8 @@ use Rattle.pals_model.proofs.rounds.Part.copy_from.Goals as goal
 pub copy_from_slice-requires : goal.copy_from_slice-requires
 copy_from_slice-requires c =
     let within : c.loop-at.at < length c.args.other.now.outs = omega arith in
-    same_size c.loop-at.self.outs c.args.other.now.outs c.loop-at.at c.index_mut.result.now c.index.result.now within c.index_mut.ensures.value c.index.ensures c.loop-at.invariant.sizes
+    same_size c.loop-at.self.outs c.args.other.now.outs c.loop-at.at c.index_mut.result.now c.index.result.now within
+    c.index_mut.ensures.value c.index.ensures c.loop-at.invariant.sizes
     ∙ ap length (sym c.as_slice.ensures.value)
 
 pub loop-at-preserved : goal.loop-at-preserved
@@ -17,6 +18,9 @@ loop-at-preserved c =
     = subst (λ t. t ≡ slice_index_or c.args.other.now.outs c.loop-at.at t) (sym is) c.index.ensures in
     record {
       frame = c.loop-at.invariant.frame;
-      sizes = sizes_stay c.loop-at.self.outs c.args.other.now.outs c.loop-at.at tuple within read c.loop-at.invariant.sizes;
-      copied = more_copied c.loop-at.self.outs c.args.other.now.outs c.loop-at.at tuple within read c.loop-at.invariant.sizes c.loop-at.invariant.copied;
+      sizes =
+          sizes_stay c.loop-at.self.outs c.args.other.now.outs c.loop-at.at tuple within read c.loop-at.invariant.sizes;
+      copied =
+          more_copied c.loop-at.self.outs c.args.other.now.outs c.loop-at.at tuple within read c.loop-at.invariant.sizes
+          c.loop-at.invariant.copied;
     }

@@ -6,6 +6,7 @@ use Rattle.pals_model.proofs.rounds.Part.copy_from.Given as goal
 abbrev pub invariant-loop-at : goal.invariant-loop-at
 invariant-loop-at l = record {
   frame : l.self.frame ≡ l.other.frame;
-  sizes : map (λ (tuple : List PortValue). length tuple) l.self.outs ≡ map (λ (tuple : List PortValue). length tuple) l.other.outs;
+  sizes : map (λ (tuple : List PortValue). length tuple) l.self.outs
+      ≡ map (λ (tuple : List PortValue). length tuple) l.other.outs;
   copied : take l.at l.self.outs ≡ take l.at l.other.outs;
 }

@@ -22,22 +22,28 @@ returns-clause-ok c =
     let pairs = inside.tables.pairs in
     let here = c.deref.result.now in
     let values = c.args.values.now in
-    let round : RoundInputs = record { design = c.deref.result; values = c.args.values; messages = c.as_slice.result } in
+    let round : RoundInputs =
+    record { design = c.deref.result; values = c.args.values; messages = c.as_slice.result } in
     let before = c.as_slice-2.result.now in
     let next = c.run_all.new.next in
     let stages = c.run_all.new.stages.items in
     let messages = c.send_all.new.messages in
     let same = c.deref-2.ensures ∙ sym c.deref.ensures in
     let rules : IsDesign here = subst IsDesign same c.send_all.ensures.rules in
-    let are : ArePairs here pairs = subst (λ (d : DesignParts). ArePairs d pairs) (sym c.deref.ensures) c.self.invariant.0.pairs_fit in
-    let fit : map stage_size stages ≡ stage_sizes here = c.in_ok-run_all.ensures.stages ∙ c.self.invariant.0.stages_fit ∙ ap stage_sizes (sym c.deref.ensures) in
-    let next_fit : map part_size next ≡ part_sizes here = c.in_ok-run_all.ensures.parts ∙ c.self.invariant.2.parts_fit ∙ ap part_sizes (sym c.deref.ensures) in
+    let are : ArePairs here pairs =
+    subst (λ (d : DesignParts). ArePairs d pairs) (sym c.deref.ensures) c.self.invariant.0.pairs_fit in
+    let fit : map stage_size stages ≡ stage_sizes here = c.in_ok-run_all.ensures.stages ∙ c.self.invariant.0.stages_fit
+    ∙ ap stage_sizes (sym c.deref.ensures) in
+    let next_fit : map part_size next ≡ part_sizes here = c.in_ok-run_all.ensures.parts ∙ c.self.invariant.2.parts_fit
+    ∙ ap part_sizes (sym c.deref.ensures) in
     let count = count_of_parts here next next_fit in
     let sent : messages ≡ map (sent_on pairs stages) here.links =
     (c.send_all.ensures.sent
     ∙ ap (λ (ss : List Stage). map (sent_on pairs ss) c.deref-2.result.now.links) c.as_slice-3.ensures.value
     ∙ ap (λ (d : DesignParts). map (sent_on pairs stages) d.links) same) in
-    let advanced = advanced_by round pairs are (frames_of before) next stages c.in_ok-run_all.ensures.run rules fit count messages before sent in
+    let advanced =
+    advanced_by round pairs are (frames_of before) next stages c.in_ok-run_all.ensures.run rules fit count messages
+    before sent in
     let old_is =
     ap (λ (d : DesignParts). standing d pairs (frames_of before) c.as_slice.result.now before) c.deref.ensures
     ∙ ap (λ (ms : List (List PortValue)). standing design pairs (frames_of before) ms before) c.as_slice.ensures.value

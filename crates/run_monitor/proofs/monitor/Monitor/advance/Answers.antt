@@ -17,5 +17,8 @@ returns c =
     ∙ ap (λ (was : List Bool). next_bit e k inside.begun was bits (bit_at inside.seen k)) c.as_slice-2.ensures.value in
     let is = c.said.ensures ∙ ap (λ (bs : List Bool). said (state inside.forms true bs rest)) c.swap.ensures.x_after in
     subst (λ (s : MonitorState). Advances s (state inside.forms true c.swap.new.x rest) answer) c.self.view_is
-    (subst (λ (bs : List Bool). Advances (state inside.forms inside.begun inside.kept inside.seen) (state inside.forms true bs rest) answer) (sym c.swap.ensures.x_after)
-    (advances inside.forms inside.begun inside.kept inside.seen bits rest answer c.self.invariant c.advance_all.ensures.len each is))
+    (subst (λ (bs : List Bool).
+    Advances (state inside.forms inside.begun inside.kept inside.seen) (state inside.forms true bs rest) answer)
+    (sym c.swap.ensures.x_after)
+    (advances inside.forms inside.begun inside.kept inside.seen bits rest answer c.self.invariant
+    c.advance_all.ensures.len each is))

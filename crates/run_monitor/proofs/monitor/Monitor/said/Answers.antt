@@ -8,5 +8,6 @@ pub returns : goal.returns
 returns c =
     let inside = c.self.inside in
     c.bit_at.ensures
-    ∙ ap₂ (λ (bits : List Bool) n. bit_at bits (n - 1)) c.as_slice.ensures.value (c.len.ensures ∙ sym (length-forms inside.forms))
+    ∙ ap₂ (λ (bits : List Bool) n. bit_at bits (n - 1)) c.as_slice.ensures.value
+    (c.len.ensures ∙ sym (length-forms inside.forms))
     ∙ ap (λ (m : MonitorState). said m) c.self.view_is

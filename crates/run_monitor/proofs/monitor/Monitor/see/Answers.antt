@@ -8,6 +8,8 @@ pub returns : goal.returns
 returns c =
     let inside = c.self.inside in
     let new = c.see_frame.new.bits in
-    subst (λ (s : MonitorState). Sees s (state inside.forms inside.begun inside.kept new) c.args.node.0 c.args.frame.now) c.self.view_is
+    subst (λ (s : MonitorState).
+    Sees s (state inside.forms inside.begun inside.kept new) c.args.node.0 c.args.frame.now) c.self.view_is
     (sees inside.forms inside.begun inside.kept inside.seen new c.args.node.0 c.args.frame.now c.self.invariant.order
-    (λ k e is. c.see_frame.ensures.each k e (ap (λ (es : List FlatForm). slice_get es k) c.as_slice.ensures.value ∙ is)))
+    (λ k e is. c.see_frame.ensures.each k e
+    (ap (λ (es : List FlatForm). slice_get es k) c.as_slice.ensures.value ∙ is)))

@@ -12,7 +12,8 @@ returns-in-Some c =
     let found : position (bytes_eq c.args.name.now) (map (λ (f : Feed). f.name) feeds) ≡ Some c.in-Some.number.now =
     grind (arith, common_steps, c.self.invariant.feeds_are c.args.name.now) in
     let at : position test feeds ≡ Some c.in-Some.number.now =
-    sym (position_map (λ (f : Feed). f.name) (bytes_eq c.args.name.now) feeds) ∙ position_zero (bytes_eq c.args.name.now) (map (λ (f : Feed). f.name) feeds) ∙ found in
+    sym (position_map (λ (f : Feed). f.name) (bytes_eq c.args.name.now) feeds)
+    ∙ position_zero (bytes_eq c.args.name.now) (map (λ (f : Feed). f.name) feeds) ∙ found in
     let is = find_at test feeds c.in-Some.number.now at in
     cc (is, c.get-in-Some.ensures, c.parts.ensures.value, c.self.view_is)
 
@@ -23,5 +24,6 @@ returns-in-None c =
     let found : position (bytes_eq c.args.name.now) (map (λ (f : Feed). f.name) feeds) ≡ None =
     grind (arith, common_steps, c.self.invariant.feeds_are c.args.name.now) in
     let at : position test feeds ≡ None =
-    sym (position_map (λ (f : Feed). f.name) (bytes_eq c.args.name.now) feeds) ∙ position_zero (bytes_eq c.args.name.now) (map (λ (f : Feed). f.name) feeds) ∙ found in
+    sym (position_map (λ (f : Feed). f.name) (bytes_eq c.args.name.now) feeds)
+    ∙ position_zero (bytes_eq c.args.name.now) (map (λ (f : Feed). f.name) feeds) ∙ found in
     sym (find_none test feeds at)

@@ -22,20 +22,30 @@ invariant_of-result c =
         stages_fit = c.in_ok-stages.ensures ∙ ap stage_sizes c.deref-3.ensures;
       },
       record {
-        parts_fit = ap (map part_size) (c.in_ok-parts.ensures ∙ ap opening_parts c.deref-4.ensures) ∙ opening_fits design 0 design.components;
-        messages_fit = ap sizes (c.in_ok-messages.ensures ∙ ap (λ (d : DesignParts). (opening d).messages) c.deref-5.ensures) ∙ opening_messages_fit design design.links;
+        parts_fit =
+            ap (map part_size) (c.in_ok-parts.ensures ∙ ap opening_parts c.deref-4.ensures)
+            ∙ opening_fits design 0 design.components;
+        messages_fit =
+            ap sizes (c.in_ok-messages.ensures ∙ ap (λ (d : DesignParts). (opening d).messages) c.deref-5.ensures)
+            ∙ opening_messages_fit design design.links;
       },
       record {
-        parts_fit = ap (map part_size) (c.in_ok-next_parts.ensures ∙ ap opening_parts c.deref-6.ensures) ∙ opening_fits design 0 design.components;
-        messages_fit = ap sizes (c.in_ok-next_messages.ensures ∙ ap (λ (d : DesignParts). (opening d).messages) c.deref-7.ensures) ∙ opening_messages_fit design design.links;
+        parts_fit =
+            ap (map part_size) (c.in_ok-next_parts.ensures ∙ ap opening_parts c.deref-6.ensures)
+            ∙ opening_fits design 0 design.components;
+        messages_fit =
+            ap sizes (c.in_ok-next_messages.ensures ∙ ap (λ (d : DesignParts). (opening d).messages) c.deref-7.ensures)
+            ∙ opening_messages_fit design design.links;
       },
     )
 
 pub returns : goal.returns
 returns c =
     let design = arc_value c.args.design in
-    let stands : List Part → List Frame → List (List PortValue) → ProductState = λ ps fs ms. record { design = design; configuration = record { frames = fs; messages = ms }; parts = ps } in
+    let stands : List Part → List Frame → List (List PortValue) → ProductState =
+    λ ps fs ms. record { design = design; configuration = record { frames = fs; messages = ms }; parts = ps } in
     let parts = c.in_ok-parts.ensures ∙ ap opening_parts c.deref-4.ensures in
     ap (λ ps. stands ps (frames_of ps) c.in_ok-messages.messages) parts
     ∙ ap (λ fs. stands (opening_parts design) fs c.in_ok-messages.messages) (opening_frames design 0 design.components)
-    ∙ ap (stands (opening_parts design) (opening design).frames) (c.in_ok-messages.ensures ∙ ap (λ (d : DesignParts). (opening d).messages) c.deref-5.ensures)
+    ∙ ap (stands (opening_parts design) (opening design).frames)
+    (c.in_ok-messages.ensures ∙ ap (λ (d : DesignParts). (opening d).messages) c.deref-5.ensures)

@@ -14,7 +14,9 @@ bounds-as_slice-node c =
     omega (
       arith,
       count_of_sized part_size c.self.inside.parts (part_sizes design) c.self.invariant.1.parts_fit,
-      length-map_enumerate_from (λ (numbered : ℕ × Component). part_size_of numbered.1 (tap_ports design.taps numbered.0)) 0 design.components,
+      length-map_enumerate_from
+          (λ (numbered : ℕ × Component). part_size_of numbered.1 (tap_ports design.taps numbered.0)) 0
+          design.components,
       ap (λ (s : ProductState). length s.design.components) c.self.view_is,
       c.as_slice.ensures.len,
       c.requires,
@@ -28,7 +30,9 @@ returns c =
     let within : node < length parts = omega (
       arith,
       count_of_sized part_size c.self.inside.parts (part_sizes design) c.self.invariant.1.parts_fit,
-      length-map_enumerate_from (λ (numbered : ℕ × Component). part_size_of numbered.1 (tap_ports design.taps numbered.0)) 0 design.components,
+      length-map_enumerate_from
+          (λ (numbered : ℕ × Component). part_size_of numbered.1 (tap_ports design.taps numbered.0)) 0
+          design.components,
       ap (λ (s : ProductState). length s.design.components) c.self.view_is,
       c.as_slice.ensures.len,
       c.requires,

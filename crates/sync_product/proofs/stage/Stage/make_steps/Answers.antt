@@ -14,7 +14,8 @@ pub make_step-requires-clause-row : goal.make_step-requires-clause-row
 make_step-requires-clause-row c =
     let component = c.args.component.now in
     let sizes = ap (λ (s : StageSize). s.rows) (c.loop-step.invariant.stage_size ∙ c.requires.stage) in
-    length_of_row c.loop-step.self.rows component.rate (length component.behaviour.outs) c.loop-step.step [] sizes (omega arith)
+    length_of_row c.loop-step.self.rows component.rate (length component.behaviour.outs) c.loop-step.step [] sizes
+    (omega arith)
 
 pub loop-step-preserved : goal.loop-step-preserved
 loop-step-preserved c =
@@ -39,11 +40,13 @@ loop-step-preserved c =
           ∙ take_more_set c.loop-step.self.rows step _ (omega arith)
           ∙ ap (λ l. l ++ (fire b here c.write_inputs.new.inputs).outs ∷ []) c.loop-step.invariant.rows
           ∙ ap (λ i. outputs b from (columns step read) ++ (fire b here i).outs ∷ []) c.write_inputs.ensures.inputs
-          ∙ ap (λ (f : Frame). outputs b from (columns step read) ++ (fire b f inputs).outs ∷ []) c.loop-step.invariant.frame
+          ∙ ap (λ (f : Frame). outputs b from (columns step read) ++ (fire b f inputs).outs ∷ [])
+          c.loop-step.invariant.frame
           ∙ sym (ap (outputs b from) more ∙ outputs-append b from (columns step read) (inputs ∷ []));
       to_size = c.in_ok-make_step.ensures.frame_size ∙ c.loop-step.invariant.to_size;
       stage_size =
           c.in_ok-make_step.ensures.stage_size
-          ∙ ap (λ n. let s : StageSize = record (stage_size c.loop-step.self) { inputs = n } in s) c.write_inputs.ensures.len
+          ∙ ap (λ n. let s : StageSize = record (stage_size c.loop-step.self) { inputs = n } in s)
+          c.write_inputs.ensures.len
           ∙ c.loop-step.invariant.stage_size;
     }

@@ -21,9 +21,12 @@ returns-clause-made c =
     let layer : Layer = record { there = there; parts = parts; next = next; sent = sent; shown = shown } in
     is_made design values heard layer stages
     (subst (λ (ps : List Part). AreRun design values heard there (frames_of ps) next stages) c.as_slice-2.ensures.value
-    (subst (λ (t : List Bool). AreRun design values heard t (frames_of c.as_slice-2.result.now) next stages) c.as_slice.ensures.value c.in_ok-run_all.ensures.run))
+    (subst (λ (t : List Bool). AreRun design values heard t (frames_of c.as_slice-2.result.now) next stages)
+    c.as_slice.ensures.value c.in_ok-run_all.ensures.run))
     (c.in_ok-run_all.ensures.stages ∙ c.requires.stages)
     (subst (λ (ss : List Stage). AreSent design there ss sent) c.as_slice-3.ensures.value
-    (subst (λ (t : List Bool). AreSent design t c.as_slice-3.result.now sent) c.as_slice-there.ensures.value c.send_all.ensures.sent))
+    (subst (λ (t : List Bool). AreSent design t c.as_slice-3.result.now sent) c.as_slice-there.ensures.value
+    c.send_all.ensures.sent))
     (subst (λ (ss : List Stage). AreWhole design there ss shown) c.as_slice-4.ensures.value
-    (subst (λ (t : List Bool). AreWhole design t c.as_slice-4.result.now shown) c.as_slice-there.ensures.value c.show_all.ensures.shown))
+    (subst (λ (t : List Bool). AreWhole design t c.as_slice-4.result.now shown) c.as_slice-there.ensures.value
+    c.show_all.ensures.shown))

@@ -13,10 +13,14 @@ invariant_of-self-2 c =
     let design = arc_value inside.design in
     let layers = c.run_each.new.layers.items in
     let heard = c.receive_each.new.heard.items in (
-      tables_stay design inside.replicated inside.sources inside.stages.items c.run_each.new.stages.items c.self.invariant.0 c.in_ok-run_each.ensures.stages,
-      replicas_turn design inside.replicated inside.layers.items layers c.turn_each.new.layers.items inside.heard.items heard inside.shown c.show_each.new.shown
-          c.self.invariant.1 c.in_ok-run_each.ensures.stay (subst (λ (d : DesignParts). AreThree d layers) c.deref-2.ensures c.in_ok-run_each.ensures.layers)
-          c.turn_each.ensures (subst (λ (d : DesignParts). AreHeard d heard) c.deref-3.ensures c.receive_each.ensures.heard)
+      tables_stay design inside.replicated inside.sources inside.stages.items c.run_each.new.stages.items
+          c.self.invariant.0 c.in_ok-run_each.ensures.stages,
+      replicas_turn design inside.replicated inside.layers.items layers c.turn_each.new.layers.items inside.heard.items
+          heard inside.shown c.show_each.new.shown
+          c.self.invariant.1 c.in_ok-run_each.ensures.stay
+          (subst (λ (d : DesignParts). AreThree d layers) c.deref-2.ensures c.in_ok-run_each.ensures.layers)
+          c.turn_each.ensures (subst (λ (d : DesignParts). AreHeard d heard) c.deref-3.ensures
+          c.receive_each.ensures.heard)
           (c.show_each.ensures.sizes ∙ ap tap_sizes c.deref-4.ensures),
     )
 
@@ -26,9 +30,14 @@ returns-clause-ok c =
     let design = arc_value inside.design in
     let values = c.args.values.now in
     let faults = c.args.faults.now in
-    state_advanced_by design c.deref-2.result.now c.deref-3.result.now c.deref-4.result.now inside.replicated c.as_slice-replicated.result.now values faults
-    inside.heard.items c.as_slice.result.now c.receive_each.new.heard.items inside.layers.items c.run_each.new.layers.items c.as_slice-layers.result.now
-    c.turn_each.new.layers.items inside.shown c.show_each.new.shown c.deref-2.ensures c.deref-3.ensures c.deref-4.ensures c.as_slice-replicated.ensures.value
-    c.as_slice.ensures.value c.as_slice-layers.ensures.value c.show_each.ensures.rules c.in_ok-run_each.ensures.layers c.self.invariant.1.layers_are
-    c.in_ok-run_each.ensures.stay c.in_ok-run_each.ensures.made c.receive_each.ensures.received c.show_each.ensures.shown c.show_each.ensures.sizes c.turn_each.ensures
+    state_advanced_by design c.deref-2.result.now c.deref-3.result.now c.deref-4.result.now inside.replicated
+    c.as_slice-replicated.result.now values faults
+    inside.heard.items c.as_slice.result.now c.receive_each.new.heard.items inside.layers.items
+    c.run_each.new.layers.items c.as_slice-layers.result.now
+    c.turn_each.new.layers.items inside.shown c.show_each.new.shown c.deref-2.ensures c.deref-3.ensures
+    c.deref-4.ensures c.as_slice-replicated.ensures.value
+    c.as_slice.ensures.value c.as_slice-layers.ensures.value c.show_each.ensures.rules c.in_ok-run_each.ensures.layers
+    c.self.invariant.1.layers_are
+    c.in_ok-run_each.ensures.stay c.in_ok-run_each.ensures.made c.receive_each.ensures.received
+    c.show_each.ensures.shown c.show_each.ensures.sizes c.turn_each.ensures
     ∙ ap (λ (s : VotedState). vadvanced s values faults) c.self.view_is

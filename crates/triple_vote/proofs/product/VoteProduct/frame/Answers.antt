@@ -15,13 +15,17 @@ returns c =
     let part = c.index-as_slice-node.result in
     let node = c.args.node.0 in
     let replica = c.args.replica - 1 in
-    let within : node < length design.components = omega (arith, ap (λ (s : VotedState). length s.design.components) c.self.view_is, c.requires.node) in
-    let copies : copies_of inside.replicated node ≡ copies_of c.args.self.now.replicated node = ap (λ (s : VotedState). copies_of s.replicated node) c.self.view_is in
+    let within : node < length design.components =
+    omega (arith, ap (λ (s : VotedState). length s.design.components) c.self.view_is, c.requires.node) in
+    let copies : copies_of inside.replicated node ≡ copies_of c.args.self.now.replicated node =
+    ap (λ (s : VotedState). copies_of s.replicated node) c.self.view_is in
     let below : replica < copies_of inside.replicated node = omega (arith, copies, c.requires.low, c.requires.high) in
-    let three : replica < 3 = before_three c.args.self.now.replicated node c.args.replica c.requires.low c.requires.high in
+    let three : replica < 3 =
+    before_three c.args.self.now.replicated node c.args.replica c.requires.low c.requires.high in
     let there : replica < length layers = omega (arith, three, c.self.invariant.1.layers_fit.three) in
     ap (λ (p : Part). p.frame) (sym c.index-as_slice-node.is)
-    ∙ frame_read design inside.replicated layers inside.heard.items node replica layer part within below there c.index-layer.ensures
+    ∙ frame_read design inside.replicated layers inside.heard.items node replica layer part within below there
+    c.index-layer.ensures
     (parts_there design layers replica node layer c.self.invariant.1.layers_fit there c.index-layer.ensures within)
     (c.index-as_slice-node.is ∙ ap (λ (ps : List Part). slice_index_or ps node part) c.as_slice.ensures.value)
     ∙ ap (λ (s : VotedState). frame_at s.voted node replica) c.self.view_is

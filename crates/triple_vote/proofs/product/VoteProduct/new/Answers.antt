@@ -27,7 +27,8 @@ invariant_of-result c =
     let layers = c.in_ok-layers.layers.items in
     let opened : AreOpened design marked layers
     = subst (λ (r : List Bool). AreOpened design r layers) (c.as_slice.ensures.value ∙ sym c.from_vec.ensures)
-    (subst (λ (d : DesignParts). AreOpened d c.as_slice.result.now layers) c.deref-3.ensures c.in_ok-layers.ensures) in (
+    (subst (λ (d : DesignParts). AreOpened d c.as_slice.result.now layers) c.deref-3.ensures
+    c.in_ok-layers.ensures) in (
       record {
         replicated_fit = ap length c.from_vec.ensures ∙ c.requires;
         sources_are = c.in_ok-sources.ensures ∙ ap all_sources c.deref.ensures;
@@ -37,7 +38,8 @@ invariant_of-result c =
         layers_fit = opened.layers_fit;
         layers_are = opened.layers_are;
         heard_fit = are_heard design c.in_ok-heard.heard.items (c.in_ok-heard.ensures ∙ ap silent c.deref-4.ensures);
-        shown_fit = ap lengths (c.in_ok-shown.ensures ∙ ap absent_taps c.deref-5.ensures) ∙ shown_fits design design.taps;
+        shown_fit =
+            ap lengths (c.in_ok-shown.ensures ∙ ap absent_taps c.deref-5.ensures) ∙ shown_fits design design.taps;
       },
     )
 
@@ -49,6 +51,7 @@ returns c =
     let opened : AreOpened design marked layers
     = subst (λ (r : List Bool). AreOpened design r layers) (c.as_slice.ensures.value ∙ sym c.from_vec.ensures)
     (subst (λ (d : DesignParts). AreOpened d c.as_slice.result.now layers) c.deref-3.ensures c.in_ok-layers.ensures) in
-    state_begun design marked layers c.in_ok-heard.heard.items c.in_ok-shown.shown opened (c.in_ok-heard.ensures ∙ ap silent c.deref-4.ensures)
+    state_begun design marked layers c.in_ok-heard.heard.items c.in_ok-shown.shown opened
+    (c.in_ok-heard.ensures ∙ ap silent c.deref-4.ensures)
     (c.in_ok-shown.ensures ∙ ap absent_taps c.deref-5.ensures)
     ∙ ap (vbegun design) c.from_vec.ensures

@@ -14,8 +14,11 @@ returns c =
     let design = arc_value inside.design in
     let tuple = c.index-as_slice-tap.result in
     let tap = c.args.tap in
-    let within : tap < length design.taps = omega (arith, ap (λ (s : VotedState). length s.design.taps) c.self.view_is, c.requires) in
-    let there = tuple_within (λ (x : Tap). rate_of design x.source.0) design.taps inside.shown c.self.invariant.1.shown_fit tap within in
+    let within : tap < length design.taps =
+    omega (arith, ap (λ (s : VotedState). length s.design.taps) c.self.view_is, c.requires) in
+    let there =
+    tuple_within (λ (x : Tap). rate_of design x.source.0) design.taps inside.shown c.self.invariant.1.shown_fit
+    tap within in
     c.index-as_slice-tap.is
     ∙ ap (λ (ts : List (List PortValue)). slice_index_or ts tap tuple) c.as_slice.ensures.value
     ∙ get_or_default inside.shown tap tuple [] there

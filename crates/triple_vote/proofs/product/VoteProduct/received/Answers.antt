@@ -34,10 +34,12 @@ bounds-as_slice-link c =
     let target = c.args.replica - 1 in
     let tuples = c.index-tuples.result.now in
     let link : Link = slice_index_or now.design.links l no_link in
-    let high : c.args.replica ≤ copies_of now.replicated link.target.0 = c.requires.high link (slice_get-get_or now.design.links l no_link c.requires.link) in
+    let high : c.args.replica ≤ copies_of now.replicated link.target.0 =
+    c.requires.high link (slice_get-get_or now.design.links l no_link c.requires.link) in
     let three : target < 3 = before_three now.replicated link.target.0 c.args.replica c.requires.low high in
     let there : target < length heard = omega (arith, three, c.self.invariant.1.heard_fit.three) in
-    let within : l < length design.links = omega (arith, ap (λ (s : VotedState). length s.design.links) c.self.view_is, c.requires.link) in
+    let within : l < length design.links =
+    omega (arith, ap (λ (s : VotedState). length s.design.links) c.self.view_is, c.requires.link) in
     omega (
       arith,
       tuple_within (λ (x : Link). rate_of design x.source.0) design.links tuples
@@ -57,15 +59,18 @@ returns c =
     let tuple = c.index-as_slice-link.result in
     let link : Link = slice_index_or now.design.links l no_link in
     let listed = slice_get-get_or now.design.links l no_link c.requires.link in
-    let is : slice_get design.links l ≡ Some link = ap (λ (s : VotedState). slice_get s.design.links l) c.self.view_is ∙ listed in
+    let is : slice_get design.links l ≡ Some link =
+    ap (λ (s : VotedState). slice_get s.design.links l) c.self.view_is ∙ listed in
     let high : c.args.replica ≤ copies_of now.replicated link.target.0 = c.requires.high link listed in
     let copies : copies_of inside.replicated link.target.0 ≡ copies_of now.replicated link.target.0
     = ap (λ (s : VotedState). copies_of s.replicated link.target.0) c.self.view_is in
     let below : target < copies_of inside.replicated link.target.0 = omega (arith, copies, c.requires.low, high) in
     let three : target < 3 = before_three now.replicated link.target.0 c.args.replica c.requires.low high in
     let there : target < length heard = omega (arith, three, c.self.invariant.1.heard_fit.three) in
-    let within : l < length design.links = omega (arith, ap (λ (s : VotedState). length s.design.links) c.self.view_is, c.requires.link) in
-    received_read design inside.replicated (parts_in inside.layers.items) heard l target link tuples tuple is below there c.index-tuples.ensures
+    let within : l < length design.links =
+    omega (arith, ap (λ (s : VotedState). length s.design.links) c.self.view_is, c.requires.link) in
+    received_read design inside.replicated (parts_in inside.layers.items) heard l target link tuples tuple is below
+    there c.index-tuples.ensures
     (tuple_within (λ (x : Link). rate_of design x.source.0) design.links tuples
     (heard_room design heard target tuples c.self.invariant.1.heard_fit there c.index-tuples.ensures) l within)
     (c.index-as_slice-link.is ∙ ap (λ (ts : List (List PortValue)). slice_index_or ts l tuple) c.as_slice.ensures.value)

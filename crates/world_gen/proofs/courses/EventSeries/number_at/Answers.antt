@@ -8,7 +8,8 @@ returns-in_err-number-clause-value c =
 
 pub returns-then-time-moment-clause-value : goal.returns-then-time-moment-clause-value
 returns-then-time-moment-clause-value c =
-    sym (at_moment c.args.self.now c.args.moment c.in_ok-number.number (sym c.in_ok-number.ensures.value) (sym c.time.ensures ∙ c.if-time-moment.true))
+    sym (at_moment c.args.self.now c.args.moment c.in_ok-number.number (sym c.in_ok-number.ensures.value)
+    (sym c.time.ensures ∙ c.if-time-moment.true))
 
 pub returns-else-time-moment-clause-value : goal.returns-else-time-moment-clause-value
 returns-else-time-moment-clause-value c =
