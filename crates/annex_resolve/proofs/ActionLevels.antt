@@ -28,7 +28,7 @@ use Rattle.annex_resolve.specs.Types.{whole_types, kind_named}
 use Rattle.annex_resolve.specs.Resolved.{signed, expression_of, action_of, actions_of, mores_of, elsifs_of, otherwise_of, block_of}
 use Rattle.annex_resolve.specs.Actions.{turns, together, is_too_long, is_integer, action_findings, actions_findings, mores_findings, branch_findings, elsifs_findings, otherwise_findings, block_findings}
 use Rattle.annex_resolve.specs.proof.Reads.{ReadsAction, ReadsActions, ReadsBranch, ReadsBranches}
-use Rattle.annex_resolve.proofs.Reading.{take_next}
+use Rattle.annex_resolve.proofs.ReadingSums.{take_next}
 
 -- ---- a name that is set or sent
 given_by : (scope : Scope) (x : Identifier ℕ) (value : Expression ℕ) (test : Option DeclaredName → Bool)

@@ -1,5 +1,6 @@
 pub mod Views
 pub mod Chains
+pub mod ReadingSums
 pub mod Reading
 pub mod Names
 pub mod ActionLevels

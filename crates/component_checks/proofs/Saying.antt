@@ -11,7 +11,7 @@ use Rattle.aadl_names.specs.Resolving.{type_in, implementation_in, implementatio
 use Rattle.aadl_uses.specs.declared.thread_places.SubAt.{SubAt}
 use Rattle.aadl_uses.specs.Uses.{sub_at, below}
 use Rattle.aadl_uses.specs.proof.Types.{type_number_at}
-use Rattle.annex_resolve.proofs.Reading.{take_next}
+use Rattle.annex_resolve.proofs.ReadingSums.{take_next}
 use Rattle.component_checks.specs.declared.timed.Timed.{Timed}
 use Rattle.component_checks.specs.PropertyLookup.{type_lists, own_lists, sub_lists, lists_at, lists_along, root_lists, first_in}
 use Rattle.component_checks.specs.proof.Carried as carried

@@ -10,7 +10,13 @@ const SEVEN: PortValue = Present(7);
 const FOUR: &[PortValue] = &[Present(1), Present(2), Absent, Present(4)];
 
 // An adaptor, the two rates, the places of a tuple, and the places that they go over to.
-type AdaptorCase = (Option<Adaptor>, u32, u32, &'static [PortValue], &'static [PortValue]);
+type AdaptorCase = (
+    Option<Adaptor>,
+    u32,
+    u32,
+    &'static [PortValue],
+    &'static [PortValue],
+);
 
 const CASES: [AdaptorCase; 16] = [
     (

@@ -36,7 +36,8 @@ use Rattle.run_laws.proofs.Follows.{action_is}
 use Rattle.run_laws.proofs.Picking.{runs_agree, many_clocks, nodes_pick, next_target, acting_by, plan_rules, held_of, node_agrees}
 use Rattle.run_laws.proofs.Counting.{rounds_are_shown, sender_before}
 use Rattle.run_laws.proofs.Missing.{missed_link}
-use Rattle.run_laws.proofs.Linking.{unsent_round, keeps_at, with_message_count}
+use Rattle.run_laws.proofs.LinkViews.{keeps_at}
+use Rattle.run_laws.proofs.Linking.{unsent_round, with_message_count}
 use Rattle.run_laws.proofs.Times.{got_more, send_round}
 use Rattle.run_laws.proofs.Clauses.{link_is}
 

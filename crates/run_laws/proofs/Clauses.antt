@@ -32,7 +32,8 @@ use Rattle.run_laws.proofs.Picking.{runs_agree, node_agrees}
 use Rattle.run_laws.proofs.Linking.{links_timed}
 use Rattle.run_laws.proofs.RisingTargets.{next_alarm}
 use Rattle.run_laws.proofs.Times.{all_times_fit}
-use Rattle.run_laws.proofs.Stopping.{stops_fit, alarm_le}
+use Rattle.run_laws.proofs.MeetingSources.{alarm_le}
+use Rattle.run_laws.proofs.Stopping.{stops_fit}
 
 -- ---- the reading of a due reading's send
 pub sent_of : (delay : ℕ → ℕ) (xs : List ℕ) (round due : ℕ) → due_of delay xs round ≡ Some due

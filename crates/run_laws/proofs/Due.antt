@@ -33,7 +33,8 @@ use Rattle.run_laws.proofs.Ended.{stays_ended}
 use Rattle.run_laws.proofs.Counting.{is_waiting_phase}
 use Rattle.run_laws.proofs.ActionsInOrder.{follows_in}
 use Rattle.run_laws.proofs.MeetingReadings.{event_aims}
-use Rattle.run_laws.proofs.Linking.{links_timed, keeps_at}
+use Rattle.run_laws.proofs.LinkViews.{keeps_at}
+use Rattle.run_laws.proofs.Linking.{links_timed}
 use Rattle.run_laws.proofs.Oldest.{due_is_oldest}
 use Rattle.run_laws.proofs.Picking.{runs_agree}
 

@@ -33,7 +33,8 @@ use Rattle.run_laws.specs.Timely.{IsOver, AllOver}
 use Rattle.run_laws.specs.Timely.{AllAtEnd}
 use Rattle.run_laws.specs.proof.Ending.{HasCome, IsEnding, EachRunEnds, EachGoesOn, JournalsEnd, EndsAreNamed}
 use Rattle.run_laws.proofs.Picking.{runs_agree, node_agrees, many_clocks}
-use Rattle.run_laws.proofs.Stopping.{ended_still, sent_true}
+use Rattle.run_laws.proofs.MeetingSources.{sent_true}
+use Rattle.run_laws.proofs.Stopping.{ended_still}
 use Rattle.run_laws.proofs.Searching.{first_or_none, least_or_none}
 use Rattle.run_laws.proofs.Work.{work_left, event_lessens, stop_lines, some_lines, most_left}
 use Rattle.run_laws.proofs.NodesGoOn.{CanGo, acts, finishes}

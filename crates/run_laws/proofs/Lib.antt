@@ -6,11 +6,13 @@ pub mod Counting
 pub mod Timed
 pub mod Missing
 pub mod Reading
+pub mod LinkViews
 pub mod Linking
 pub mod ActionsInOrder
 pub mod RisingTargets
 pub mod MeetingReadings
 pub mod Times
+pub mod MeetingSources
 pub mod Stopping
 pub mod Clauses
 pub mod Places

@@ -1,10 +1,10 @@
 -- The facts of each link, event by event.
-use Rattle.std.proofs.Common.{◌≡◌, ◌≢◌, inl, inr, ℕ, zero, suc, ◌+◌, ◌<◌, ◌≤◌, nat_eq, Bool, true, false, cond, List, [], ◌∷◌, ◌++◌, length, map, slice_get, Option, Some, None, refl, sym, ap, ap₂, ◌∙◌, subst, arith}
+use Rattle.std.proofs.Common.{◌≡◌, ◌≢◌, inl, inr, ℕ, zero, suc, ◌+◌, ◌<◌, ◌≤◌, nat_eq, true, false, cond, List, [], ◌∷◌, ◌++◌, length, map, slice_get, Option, Some, None, refl, sym, ap, ap₂, ◌∙◌, subst, arith}
 use Rattle.std.specs.Prelude.{slice_index_or, if◌then◌else◌}
 use Rattle.std.specs.Option.{option_map}
-use Rattle.std.proofs.lemmas.Bool.{cases_eq, cases_lt, cases_order, eqb-true, false≢true, eq-eqb, ne_eqb}
-use Rattle.std.proofs.lemmas.Grind.{get_or-set_at, flat_map-append}
-use Rattle.std.proofs.lemmas.List.{length-set, get_or-set_other, get_or_past, append-nil}
+use Rattle.std.proofs.lemmas.Bool.{cases_eq, cases_order, false≢true, eq-eqb, ne_eqb}
+use Rattle.std.proofs.lemmas.Grind.{get_or-set_at}
+use Rattle.std.proofs.lemmas.List.{get_or-set_other, append-nil}
 use Rattle.std.proofs.lemmas.Option.{slice_get-get_or}
 use Rattle.list_lemmas.proofs.Pairs.{AllPairs-slice_get}
 use Rattle.pals_base.specs.declared.values.NodeNo.{NodeNo}
@@ -40,108 +40,18 @@ use Rattle.bus_machine.specs.proof.MachineLaws.{IsRunOf}
 use Rattle.bus_machine.proofs.Lists.{numbered_at}
 use Rattle.bus_machine.proofs.Nodes.{finish_keeps}
 use Rattle.bus_machine.proofs.States.{node_stays}
-use Rattle.run_laws.specs.Shown.{listed, if_at, start_in, send_in, starts, sends, latest}
+use Rattle.run_laws.specs.Shown.{if_at, start_in, send_in, starts, sends, latest}
 use Rattle.pals_clock.specs.declared.clock.Clocks.{Clocks}
 use Rattle.pals_clock.specs.declared.clock.Clocks.TheVariants.{Lists}
 use Rattle.run_laws.specs.Runs.{Takes, KeepsTo, Runs, opens, picks_for, goes_on}
-use Rattle.run_laws.specs.proof.Timing.{LinkView, early_on, view, IsTimed, LinksAreTimed}
+use Rattle.run_laws.specs.proof.Timing.{early_on, view, LinksAreTimed}
 use Rattle.run_laws.proofs.Picking.{runs_agree, node_opens}
 use Rattle.run_laws.proofs.Counting.{rounds_are_shown, sender_before}
-use Rattle.run_laws.proofs.Timed.{goes_later, goes_start, goes_send, goes_arrive, slot_after, taken_after, arrived_at}
+use Rattle.run_laws.proofs.Timed.{goes_start, goes_send, goes_arrive, slot_after, taken_after, arrived_at}
 use Rattle.run_laws.proofs.Missing.{full_slot}
 use Rattle.run_laws.proofs.MeetingReadings.{no_fall}
-use Rattle.run_laws.proofs.Reading.{Told, none_told, is_told, does_read, start_tells, arrive_tells, event_tells, later, latest_after, NoFall}
-
--- ---- equal views
-same_view : (delay : ℕ → ℕ) (v w : LinkView) → v.sends ≡ w.sends → v.starts ≡ w.starts → v.latest ≡ w.latest
-    → v.count ≡ w.count → v.slot ≡ w.slot → v.flight ≡ w.flight → v.taken ≡ w.taken → IsTimed delay w → IsTimed delay v
-same_view delay v w a b c d e f g timed =
-    subst (IsTimed delay) (sym
-    (λ i. record {
-      sends = a i;
-      starts = b i;
-      latest = c i;
-      count = d i;
-      slot = e i;
-      flight = f i;
-      taken = g i;
-    })) timed
-
--- ---- what entries add to what is shown
-send_at : (j k : ℕ) (node : NodeNo) (at : ℕ) (reading : Option ℕ) → node.0 ≡ j → j ≡ k → reading ≡ Some at
-    → if_at k node reading ++ [] ≡ at ∷ []
-send_at j k node at reading is same shows = ap₂ (λ b o. cond b (listed o) [] ++ []) (eq-eqb node.0 k (is ∙ same)) shows
-
-none_at : (k : ℕ) (node : NodeNo) (reading : Option ℕ) → node.0 ≢ k → if_at k node reading ++ [] ≡ []
-none_at k node reading other = ap (λ b. cond b (listed reading) [] ++ []) (ne_eqb node.0 k other)
-
-sends_more : (k : ℕ) (journal told : List JournalEntry) (more : List ℕ) → sends k told ≡ more
-    → sends k (journal ++ told) ≡ sends k journal ++ more
-sends_more k journal told more is = flat_map-append (send_in k) journal told ∙ ap (λ xs. sends k journal ++ xs) is
-
-starts_more : (k : ℕ) (journal told : List JournalEntry) (more : List ℕ) → starts k told ≡ more
-    → starts k (journal ++ told) ≡ starts k journal ++ more
-starts_more k journal told more is = flat_map-append (start_in k) journal told ∙ ap (λ xs. starts k journal ++ xs) is
-
--- ---- the last reading does not fall
-grows_by : (run : Run) (clocks : Clocks) (s : BusState) (e : BusEvent) (journal : List JournalEntry) (k : ℕ)
-    → NoFall run clocks journal s → Told run clocks s e
-    → latest run.design k journal ≤ latest run.design k (journal ++ entries run s e)
-grows_by run clocks s e journal k falls (none_told tells) =
-    let new : latest run.design k (journal ++ entries run s e) ≡ latest run.design k journal =
-    latest_after run.design k journal (entries run s e) ∙ tells k (latest run.design k journal) in
-    omega arith
-grows_by run clocks s e journal k falls (is_told j at reads tells) =
-    let new : latest run.design k (journal ++ entries run s e) ≡ cond (nat_eq j k) at (latest run.design k journal) =
-    latest_after run.design k journal (entries run s e) ∙ tells k (latest run.design k journal) in
-    by (nat_eq j k) refl new
-  where
-    by : (b : Bool) → nat_eq j k ≡ b
-        → latest run.design k (journal ++ entries run s e) ≡ cond b at (latest run.design k journal)
-        → latest run.design k journal ≤ latest run.design k (journal ++ entries run s e)
-    by true is new =
-        let same : j ≡ k = eqb-true j k is in
-        let most : latest run.design k journal ≤ at =
-        subst (λ i. latest run.design i journal ≤ at) same (falls j at reads) in
-        omega arith
-    by false is new = omega arith
-
--- ---- a quantity of a node that an event keeps
-pub keeps_at : {X : Type 0} (f : NodeState → X) (s : BusState) (j k : ℕ) (m : NodeState) → f m ≡ f (node_at s j)
-    → f (node_at (with_node s j m) k) ≡ f (node_at s k)
-keeps_at f s j k m same = elim (cases_eq k j) [
-  | inl here ↦
-      subst (λ i. f (node_at (with_node s j m) i) ≡ f (node_at s i)) (sym here)
-      (elim (cases_lt j (length s.nodes)) [
-        | inl within ↦ ap f (get_or-set_at s.nodes j j m no_node refl within) ∙ same
-        | inr past ↦
-            let size = length-set s.nodes j m in
-            ap f (get_or_past (with_node s j m).nodes j no_node (omega arith)
-            ∙ sym (get_or_past s.nodes j no_node past))
-      ])
-  | inr other ↦ ap f (node_stays s j k m other)
-]
-
-abbrev pub TimedIn : Run → BusState → List JournalEntry → ℕ → Link → Type 0
-TimedIn run s journal number link = IsTimed (delay_of run.delays number) (view run s journal number link)
-
--- an event that does nothing on this link but that its target's clock may go on
-stays_timed : (run : Run) (s t : BusState) (journal told : List JournalEntry) (number : ℕ) (link : Link)
-    → TimedIn run s journal number link → s.stop ≡ None
-    → latest run.design link.target.0 journal ≤ latest run.design link.target.0 (journal ++ told)
-    → sends link.source.0 told ≡ [] → starts link.target.0 told ≡ []
-    → (node_at t link.target.0).count ≡ (node_at s link.target.0).count
-    → slot_at (node_at t link.target.0) link.in_port ≡ slot_at (node_at s link.target.0) link.in_port
-    → flight_at t number ≡ flight_at s number → early_on number t.stop ≡ None
-    → TimedIn run t (journal ++ told) number link
-stays_timed run s t journal told number link timed going most no_send no_start count slot flight taken =
-    let v = view run s journal number link in
-    same_view (delay_of run.delays number) (view run t (journal ++ told) number link)
-    (record v { latest = latest run.design link.target.0 (journal ++ told) })
-    (sends_more link.source.0 journal told [] no_send ∙ append-nil (sends link.source.0 journal))
-    (starts_more link.target.0 journal told [] no_start ∙ append-nil (starts link.target.0 journal))
-    refl count slot flight (taken ∙ sym (ap (early_on number) going))
-    (goes_later (delay_of run.delays number) v (latest run.design link.target.0 (journal ++ told)) timed most)
+use Rattle.run_laws.proofs.Reading.{does_read, start_tells, arrive_tells, event_tells, later, latest_after, NoFall}
+use Rattle.run_laws.proofs.LinkViews.{same_view, send_at, none_at, sends_more, starts_more, grows_by, keeps_at, TimedIn, stays_timed}
 
 -- ---- Start
 abbrev no_slot : Option (List PortValue)

@@ -1,5 +1,7 @@
 -- What each stop of a run tells.
-use Rattle.std.proofs.Common.{◌≡◌, inl, inr, ℕ, zero, suc, ◌+◌, ◌-◌, ◌*◌, ◌<◌, ◌≤◌, nat_eq, nat_le, nat_lt, Bool, true, false, cond, ◌&&◌, List, [], ◌∷◌, ◌++◌, length, slice_get, All, Option, Some, None, refl, sym, ap, ap₂, ◌∙◌, subst, arith}
+-- ---- a meeting's source has sent
+-- the steps of a round start before the next alarm
+use Rattle.std.proofs.Common.{◌≡◌, inl, inr, ℕ, ◌+◌, ◌-◌, ◌<◌, ◌≤◌, nat_eq, nat_le, nat_lt, Bool, true, false, cond, ◌&&◌, List, [], ◌∷◌, ◌++◌, length, slice_get, All, Option, Some, None, refl, sym, ap, ap₂, ◌∙◌, subst, arith}
 use Rattle.std.specs.Prelude.{is_some, is_none, if◌then◌else◌}
 use Rattle.std.specs.Option.{option_map, option_map_or, unwrap_or}
 use Rattle.std.proofs.lemmas.Bool.{cases_eq, cases_lt, ltb-true, ltb-false, leb-true, eqb-true, false≢true}
@@ -18,8 +20,6 @@ use Rattle.pals_model.specs.Delays.{delay_of}
 use Rattle.pals_model.specs.Flights.{is_of, oldest}
 use Rattle.pals_model.specs.Rules.{IsLink}
 use Rattle.pals_model.proofs.Lookups.{at_element}
-use Rattle.pals_runs.specs.declared.journal.Phase.{Phase}
-use Rattle.pals_runs.specs.declared.journal.Phase.TheVariants.{Waiting, Running, Between, Holding, Done}
 use Rattle.pals_runs.specs.declared.journal.Arrived.{Arrived}
 use Rattle.pals_runs.specs.declared.journal.Arrived.TheVariants.{Kept, Ignored, Early}
 use Rattle.pals_runs.specs.declared.journal.Cause.{Cause}
@@ -28,7 +28,6 @@ use Rattle.pals_runs.specs.declared.journal.Stop.{Stop}
 use Rattle.pals_runs.specs.declared.journal.Stop.TheVariants as stop
 use Rattle.pals_runs.specs.declared.journal.JournalEntry.{JournalEntry}
 use Rattle.pals_runs.specs.declared.journal.JournalEntry.TheVariants as entry
-use Rattle.bus_machine.specs.declared.plan.Plan.{Plan}
 use Rattle.bus_machine.specs.Plans.{plan_of, component_at}
 use Rattle.bus_machine.specs.Nodes.{NodeState, round_of}
 use Rattle.bus_machine.specs.NodeEvents.{is_waiting, next_step, running_step, stepped, finished, slot_at, arrived, received}
@@ -40,115 +39,25 @@ use Rattle.bus_machine.specs.Replay.{entries, start_entry, stop_entry}
 use Rattle.bus_machine.specs.Agreement.{PhaseAgrees, Agrees}
 use Rattle.bus_machine.specs.proof.MachineLaws.{IsRunOf}
 use Rattle.bus_machine.specs.declared.action.NodeAction.TheVariants as action
-use Rattle.bus_machine.specs.Targets.{Progress, target, send_is_next, next_action}
+use Rattle.bus_machine.specs.Targets.{target}
 use Rattle.run_laws.specs.TraceRules.{is_due}
 use Rattle.bus_machine.proofs.Lists.{oldest_is_one}
 use Rattle.run_laws.specs.Shown.{send_in, sends}
 use Rattle.run_laws.specs.NodeActions.{upcoming}
 use Rattle.pals_clock.specs.declared.clock.Clocks.{Clocks}
 use Rattle.pals_clock.specs.declared.clock.Clocks.TheVariants.{Meet, Lists}
-use Rattle.run_laws.specs.Runs.{no_clock, clock_at, IsLeast, Shows, HasEnded, IsAwaited, Begins, Takes, KeepsTo, Picks, Runs, opens, picks_for, goes_on}
+use Rattle.run_laws.specs.Runs.{no_clock, clock_at, Shows, HasEnded, IsAwaited, Begins, Takes, KeepsTo, Picks, Runs, opens, picks_for, goes_on}
 use Rattle.run_laws.specs.proof.Timing.{view, early_on, due_of, one_if, copies, Whereabouts, in_flight, in_slot, was_taken, came_early, IsDueCopy}
 use Rattle.run_laws.specs.proof.Stopping.{IsFor, StopsAt, NeverSent, CauseFits, StopFits, StopsFit}
 use Rattle.run_laws.proofs.Picking.{runs_agree, node_agrees, many_clocks}
 use Rattle.run_laws.proofs.Counting.{rounds_are_shown, is_waiting_phase}
 use Rattle.run_laws.proofs.Timed.{arriving_tells, due_if_sent}
 use Rattle.run_laws.proofs.Missing.{missed_link}
-use Rattle.run_laws.proofs.Linking.{TimedIn, links_timed, keeps_at, with_message_count}
+use Rattle.run_laws.proofs.LinkViews.{TimedIn, keeps_at}
+use Rattle.run_laws.proofs.Linking.{links_timed, with_message_count}
 use Rattle.run_laws.proofs.Clocks.{reached_again}
-use Rattle.run_laws.proofs.RisingTargets.{IsTimedPlan, next_alarm, aim_in, running_aim}
-use Rattle.run_laws.proofs.MeetingReadings.{times_of}
 use Rattle.run_laws.proofs.Times.{shown_for}
-
--- ---- a meeting's source has sent
--- the steps of a round start before the next alarm
-abbrev Below : Plan → ℕ → Option ℕ → Type 0
-Below plan round o = (t : ℕ) × (o ≡ Some t) × (t < alarm plan.period (round + 1))
-
-pub alarm_le : (period a b : ℕ) → a ≤ b → alarm period a ≤ alarm period b
-alarm_le period a b le = let more : a + 1 ≤ b + 1 = omega arith in grind (arith, common_steps)
-
-within_round : (plan : Plan) (own round offset : ℕ) → own ≤ round → offset < plan.period
-    → alarm plan.period own + offset < alarm plan.period (round + 1)
-within_round plan own round offset le below =
-    let most = alarm_le plan.period own round le in
-    let next = next_alarm plan.period round in
-    omega arith
-
-below_by : (plan : Plan) (n : NodeState) (steps round : ℕ) (send more : Bool) → IsTimedPlan plan → n.count - 1 ≤ round
-    → steps * plan.step_period < plan.period → nat_lt steps plan.rate ≡ more → steps < plan.rate
-    → target plan (cond send (action.Send (round_of n))
-    (cond more (action.Step (round_of n) steps) (action.Start (round_of n + 1)))) < alarm plan.period (round + 1)
-below_by plan n steps round true more times le short lt below =
-    within_round plan (round_of n) round plan.release_offset le times.release
-below_by plan n steps round false true times le short lt below =
-    within_round plan (round_of n) round (steps * plan.step_period) le short
-below_by plan n steps round false false times le short lt below =
-    absurd (let over = ltb-false steps plan.rate lt in omega arith)
-
-pub sent_true : (n : NodeState) → n.sent ≡ true → sent_rounds n ≡ n.count
-sent_true n is = ap (λ b. if b then n.count else round_of n) is
-
-at_least : (sent : Bool) (count round : ℕ) → (if sent then count else (count - 1)) ≤ round → count - 1 ≤ round
-at_least true count round le = omega arith
-at_least false count round le = le
-
-short_step : (plan : Plan) (steps : ℕ) → 1 ≤ plan.period → IsTimedPlan plan → steps < plan.rate
-    → steps * plan.step_period < plan.period
-short_step plan steps long times below = by plan.step_period refl
-  where
-    by : (each : ℕ) → plan.step_period ≡ each → steps * plan.step_period < plan.period
-    by zero is = let none : steps * plan.step_period ≡ 0 = ap (λ e. steps * e) is ∙ omega arith in omega arith
-    by (suc each) is =
-        let more : (steps + 1) * plan.step_period ≤ plan.rate * plan.step_period =
-        (let le : steps + 1 ≤ plan.rate = omega arith in grind (arith, common_steps)) in
-        let whole : (steps + 1) * plan.step_period ≡ steps * plan.step_period + plan.step_period = omega arith in
-        let all = times.steps in
-        omega arith
-
-source_aim : (run : Run) (j round : ℕ) (n : NodeState) (p : Phase) → IsTimedPlan (plan_of run.design j)
-    → 1 ≤ run.design.period → PhaseAgrees run j (component_at run.design j) n p → sent_rounds n ≤ round
-    → round < run.rounds
-    → Below (plan_of run.design j) round (aim_in (plan_of run.design j) n p)
-source_aim run j round n Waiting times long agree few more =
-    let plan = plan_of run.design j in
-    let all = sent_true n agree.0.sent in
-    (alarm plan.period n.count, refl, (let less = within_round plan n.count round 0 (omega arith) long in omega arith))
-source_aim run j round n (Running i) times long agree few more =
-    let plan = plan_of run.design j in (
-      alarm plan.period (round_of n) + i * plan.step_period,
-      running_aim plan n i,
-      within_round plan (round_of n) round (i * plan.step_period) (at_least n.sent n.count round few)
-          (short_step plan i long times agree.within),
-    )
-source_aim run j round n (Between i) times long agree few more =
-    let plan = plan_of run.design j in
-    let p : Progress = record { round = round_of n; steps = i; sent = n.sent } in (
-      target plan (next_action plan p),
-      refl,
-      below_by plan n i round (send_is_next plan p) (nat_lt i plan.rate) times (at_least n.sent n.count round few)
-          (short_step plan i long times agree.0.within) refl agree.0.within,
-    )
-source_aim run j round n Holding times long agree few more =
-    let plan = plan_of run.design j in (
-      alarm plan.period (round_of n) + plan.release_offset,
-      refl,
-      within_round plan (round_of n) round plan.release_offset (at_least n.sent n.count round few) times.release,
-    )
-source_aim run j round n Done times long agree few more =
-    absurd (let all = sent_true n agree.0.sent in let rounds = agree.1 in omega arith)
-
-meeting_sent : (run : Run) (s : BusState) (j round at : ℕ) → IsRunOf run → Agrees run s
-    → j < length run.design.components → IsLeast run s at → at ≡ alarm run.design.period (round + 1)
-    → round < run.rounds → sent_rounds (node_at s j) ≤ round → ⊥
-meeting_sent run s j round at rules agree within least is more few =
-    let n = node_at s j in
-    let below =
-    source_aim run j round n n.phase (times_of run j rules within) rules.design.period.0
-    (node_agrees run s j agree within).phase few more in
-    let most = least j below.0 within below.1 in
-    let less = below.2 in
-    omega arith
+use Rattle.run_laws.proofs.MeetingSources.{meeting_sent}
 
 -- ---- the cause of a missed start
 none_flying_by : (round : ℕ) (c : FlightCopy) (cs : List FlightCopy) (b : Bool) → is_of round c ≡ b

@@ -22,7 +22,8 @@ use Rattle.step_compiler.proofs.PlacedCode.{HasAt, has_front, has_back, code-len
 use Rattle.step_compiler.proofs.Sight.{Sizes, SeesTrigger, IsGood, AreGood}
 use Rattle.step_compiler.specs.Blocks.{trigger_code, last_instr, edge_code, block_code}
 use Rattle.step_compiler.proofs.ExpressionRuns.{At, at, runs, Leads, Traps', Gives, leads_on, leads_trap, goes, jumps, passes}
-use Rattle.step_compiler.proofs.ActionRuns.{Fits, Comes, value_runs, acts_run}
+use Rattle.step_compiler.proofs.LoopTurns.{Fits, Comes}
+use Rattle.step_compiler.proofs.ActionRuns.{value_runs, acts_run}
 
 -- the variables, out of the slots
 take_shows : (n : ℕ) (slots vars : List ℤ) → length vars ≡ n

@@ -1,6 +1,7 @@
 pub mod PlacedCode
 pub mod Sight
 pub mod ExpressionRuns
+pub mod LoopTurns
 pub mod ActionRuns
 pub mod BlockRuns
 pub mod Accepted
@@ -18,6 +19,7 @@ pub mod Meaning
 pub mod Levels
 pub mod Fine
 pub mod FineActions
+pub mod CalmPlaces
 pub mod Verifying
 pub mod Placing
 pub mod BlockOrders

@@ -47,7 +47,7 @@ use Rattle.step_compiler.proofs.Covered.{all_member, order_sum}
 use Rattle.step_compiler.proofs.Listing.{got, length-upwards}
 use Rattle.step_compiler.proofs.Laid.{whole_block, dispatch_at}
 use Rattle.step_compiler.proofs.ExpressionRuns.{At, at, runs}
-use Rattle.step_compiler.proofs.ActionRuns.{Fits}
+use Rattle.step_compiler.proofs.LoopTurns.{Fits}
 use Rattle.step_compiler.proofs.BlockRuns.{Finishes, taken, blocks_run}
 
 -- ---- what transitions that leave a state have

@@ -11,7 +11,8 @@ use Rattle.aadl_tree.specs.proof.ExpressionViews.{primary_view, factor_view, ter
 use Rattle.aadl_tree.proofs.ExpressionViews.{view-Whole, view-Truth, view-Group, view-Abs, view-Not, view-Plain, view-out-expression, view-out-sum, view-out-relation}
 use Rattle.annex_resolve.proofs.Views.{view-out-term}
 use Rattle.annex_resolve.proofs.Chains.{empty_by, some_by, none_by}
-use Rattle.annex_resolve.proofs.Reading.{term_alone, term_several, sum_alone, sum_several, relation_alone, relation_compared, expression_alone, expression_several, factors_none, factors_next, of_factors, terms_none, terms_next, of_terms, relations_none, relations_next, of_relations, factor_absolute, factor_negated, factor_plain, primary_number, primary_truth, primary_group}
+use Rattle.annex_resolve.proofs.ReadingSums.{term_alone, term_several, sum_alone, sum_several, relation_alone}
+use Rattle.annex_resolve.proofs.Reading.{relation_compared, expression_alone, expression_several, factors_none, factors_next, of_factors, terms_none, terms_next, of_terms, relations_none, relations_next, of_relations, factor_absolute, factor_negated, factor_plain, primary_number, primary_truth, primary_group}
 use Rattle.annex_resolve.proofs.expressions.+expression.Goals as goal
 use Rattle.annex_resolve.proofs.expressions.+expression.Goals.{resolve_sum-else-is_none-via-then-is_none+else-is_empty, resolve_sum-else-is_none-via-else-is_none}
 
