@@ -1,26 +1,33 @@
 -- What a bus answers to an event without a fault, if it refuses it.
 use Rattle.std.proofs.Common.{◌≡◌, ◌≢◌, inl, inr, ℕ, ◌≤◌, Some, None, refl, ap, ◌∙◌, sym, subst}
+use Rattle.std.specs.Prelude.{unwrap_or}
 use Rattle.std.proofs.lemmas.Bool.{false≢true, le-ltb}
 use Rattle.std.proofs.lemmas.Option.{none-some}
 use Rattle.pals_base.specs.declared.limits.TheConstants.{READING}
 use Rattle.pals_base.specs.declared.values.NodeNo.{NodeNo}
+use Rattle.pals_base.specs.declared.values.LinkNo.{LinkNo}
 use Rattle.pals_runs.specs.declared.events.Event.TheVariants as event
 use Rattle.pals_runs.specs.declared.journal.Phase.{Phase}
 use Rattle.pals_runs.specs.declared.journal.Phase.TheVariants.{Done}
 use Rattle.bus_machine.specs.Plans.{plan_of}
 use Rattle.bus_machine.specs.Nodes.{finished_steps}
-use Rattle.bus_machine.specs.NodeEvents.{is_waiting}
+use Rattle.bus_machine.specs.NodeEvents.{is_waiting, next_step}
+use Rattle.bus_machine.specs.Alarms.{step_alarm}
 use Rattle.bus_machine.specs.States.{BusState, node_at}
 use Rattle.bus_machine.specs.Machine.{Start, after}
 use Rattle.pals_node.specs.declared.answers.StartEnd.{StartEnd}
 use Rattle.pals_node.specs.declared.answers.StartEnd.TheVariants as start
+use Rattle.pals_node.specs.declared.answers.StepEnd.{StepEnd}
+use Rattle.pals_node.specs.declared.answers.StepEnd.TheVariants as step
 use Rattle.pals_bus.specs.declared.refusals.BusError.{BusError}
 use Rattle.pals_bus.specs.declared.refusals.BusError.TheVariants as fault
+use Rattle.pals_bus.specs.declared.refusals.MessageError.{MessageError}
+use Rattle.pals_bus.specs.declared.refusals.MessageError.TheVariants as message
 use Rattle.pals_bus.specs.Values.{BusValue}
-use Rattle.pals_bus.specs.proof.Answers.{BusStartEnds}
-use Rattle.pals_bus.proofs.LooseSteps.{busy_waits_not}
+use Rattle.pals_bus.specs.proof.Answers.{BusStartEnds, BusStepEnds, LinkEnds}
+use Rattle.pals_bus.proofs.LooseSteps.{busy_waits_not, no_next_step}
 use Rattle.run_laws.specs.Worlds.{reading_at}
-use Rattle.run_laws.proofs.Faults.{starts_in_time, sends_in_time}
+use Rattle.run_laws.proofs.Faults.{starts_in_time, steps_in_time, sends_in_time, arrives_in_time}
 use Rattle.run_laws.proofs.Nodes.{may_is}
 use Rattle.run_laws.proofs.WorldNumbers.{times_are_readings}
 use Rattle.run_laws.proofs.Worlds.{event_keeps_time}
@@ -63,6 +70,40 @@ pub start_only : (old : WorldValue) (node : NodeNo) (reading : ℕ) (new : BusVa
     → (end ≡ fault.Refused start.Memory) × (new ≡ old.bus)
 start_only old node reading new end keeps fine reads cause =
     start_ends old node new end keeps fine (subst (λ at. BusStartEnds old.bus node (Some at) new end) reads cause)
+
+-- a step is refused for memory alone
+step_ends : (old : WorldValue) (node : NodeNo) (end : BusError StepEnd) → KeepsWorld old
+    → IsFine old (event.Step node)
+    → BusStepEnds old.bus node (Some (reading_at (world_of old) node.0)) end → end ≡ fault.Refused step.Memory
+step_ends old node (fault.Stopped why) keeps fine cause = absurd (none-some why (sym keeps.keeps.going ∙ cause))
+step_ends old node (fault.Refused step.NotBetween) keeps fine cause =
+    absurd (false≢true (sym (no_next_step (node_at old.bus.state node.0).phase cause.1)
+    ∙ (steps_in_time old.bus.run (world_of old) node fine).waits))
+step_ends old node (fault.Refused (step.NotYet alarm)) keeps fine cause =
+    let n = node_at old.bus.state node.0 in
+    let alarm_of = step_alarm (plan_of old.bus.run.design node.0) n in
+    let clock = reading_at (world_of old) node.0 in
+    let early = cause.1 in
+    let next : next_step n.phase ≡ Some early.0 = ap next_step early.1 in
+    let due : alarm_of early.0 ≤ clock =
+    subst (λ o. alarm_of (unwrap_or o 0) ≤ clock) next (steps_in_time old.bus.run (world_of old) node fine).due in
+    absurd (false≢true (sym (le-ltb clock alarm (subst (λ a. a ≤ clock) (sym early.2) due)) ∙ early.3))
+step_ends old node (fault.Refused step.Memory) keeps fine cause = refl
+
+pub step_only : (old : WorldValue) (node : NodeNo) (reading : ℕ) (end : BusError StepEnd)
+    → KeepsWorld old → IsFine old (event.Step node)
+    → Reads old node reading → BusStepEnds old.bus node (Some reading) end → end ≡ fault.Refused step.Memory
+step_only old node reading end keeps fine reads cause =
+    step_ends old node end keeps fine (subst (λ at. BusStepEnds old.bus node (Some at) end) reads cause)
+
+-- an arrival is refused for memory alone
+pub arrival_only : (old : WorldValue) (link : LinkNo) (round : ℕ) (end : BusError MessageError) → KeepsWorld old
+    → IsFine old (event.Arrive link round) → LinkEnds old.bus link round end → end ≡ fault.Refused message.Memory
+arrival_only old link round (fault.Stopped why) keeps fine cause =
+    absurd (none-some why (sym keeps.keeps.going ∙ cause))
+arrival_only old link round (fault.Refused message.NoSuchMessage) keeps fine cause =
+    absurd (false≢true (sym cause.1 ∙ (arrives_in_time old.bus.run (world_of old) link round fine).flies))
+arrival_only old link round (fault.Refused message.Memory) keeps fine cause = refl
 
 -- ---- the reading of a send
 not_done : (p : Phase) (steps rate : ℕ) → finished_steps rate p ≡ Some steps → p ≢ Done

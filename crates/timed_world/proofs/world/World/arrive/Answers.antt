@@ -2,7 +2,23 @@ use Rattle.std.proofs.Common.{sym, subst}
 use Rattle.pals_runs.specs.declared.events.Event.TheVariants as event
 use Rattle.timed_world.specs.proof.Values.{WorldValue}
 use Rattle.timed_world.proofs.Moving.{IsFine, arrived, moves_keep}
+use Rattle.timed_world.proofs.Refusals.{arrival_only}
 use Rattle.timed_world.proofs.world.World.arrive.Goals as goal
+
+pub refused_arrival-requires : goal.refused_arrival-requires
+refused_arrival-requires c =
+    let f = c.self.inside in
+    let v : WorldValue = record {
+      bus = f.bus;
+      time = f.time;
+      readings = f.readings;
+      since = f.since;
+      ready = f.ready;
+      sent_at = f.sent_at;
+    } in
+    let e = event.Arrive c.args.link c.args.round in
+    let fine = subst (λ (x : WorldValue). IsFine x e) (sym c.self.view_is) c.requires.fine in
+    arrival_only v c.args.link c.args.round c.in-Err.end c.self.invariant fine c.in-Err.ensures.cause
 
 pub invariant_of-self-2 : goal.invariant_of-self-2
 invariant_of-self-2 c =
