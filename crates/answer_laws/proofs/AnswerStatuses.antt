@@ -7,7 +7,7 @@ use Rattle.pals_top.specs.Refusals.{IsBundleRefused}
 use Rattle.pals_top.specs.Scenarios.{HasScenarioFault}
 use Rattle.pals_top.specs.Print.{IsPrintAnswer}
 use Rattle.pals_top.specs.Check.{IsCheckAnswer}
-use Rattle.pals_top.specs.declared.analysis.Analysis.{Analysis}
+use Rattle.pals_top.specs.AnalysisKinds.{Analysis}
 use Rattle.pals_top.specs.Analyses.{command_of, IsAnalysisAnswer}
 use Rattle.answer_laws.specs.proof.Meanings.{HasTree, MeansDesign, MeansScenario}
 use Rattle.answer_laws.proofs.LowerLaws.{OneDesign}

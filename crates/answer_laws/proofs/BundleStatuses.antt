@@ -7,10 +7,10 @@ use Rattle.pals_runs.specs.declared.commands.Command.TheVariants.{Print, Check, 
 use Rattle.pals_top.specs.Refusals.{IsBundleRefused}
 use Rattle.pals_top.specs.Print.{IsPrintAnswer}
 use Rattle.pals_top.specs.Check.{IsCheckAnswer}
-use Rattle.pals_top.specs.declared.analysis.Analysis.{Analysis}
-use Rattle.pals_top.specs.declared.analysis.Analysis.TheVariants as analysis
-use Rattle.pals_top.specs.declared.execution.Execution.{Execution}
-use Rattle.pals_top.specs.declared.execution.Execution.TheVariants as execution
+use Rattle.pals_top.specs.AnalysisKinds.{Analysis}
+use Rattle.pals_top.specs.AnalysisKinds as analysis
+use Rattle.pals_top.specs.ExecutionKinds.{Execution}
+use Rattle.pals_top.specs.ExecutionKinds as execution
 use Rattle.pals_top.specs.Analyses.{IsAnalysisAnswer}
 use Rattle.pals_top.specs.Executions.{IsExecutionAnswer}
 use Rattle.pals_top.specs.Outside.{Reading}

@@ -13,10 +13,10 @@ use Rattle.pals_top.specs.Scenarios.{HasScenarioFault}
 use Rattle.bundle_designs.specs.Printed.{IsPrinted}
 use Rattle.pals_top.specs.Print.{IsPrintAnswer}
 use Rattle.pals_top.specs.Check.{IsChecked, IsCheckAnswer}
-use Rattle.pals_top.specs.declared.analysis.Analysis.{Analysis}
-use Rattle.pals_top.specs.declared.analysis.Analysis.TheVariants as analysis
-use Rattle.pals_top.specs.declared.execution.Execution.{Execution}
-use Rattle.pals_top.specs.declared.execution.Execution.TheVariants as execution
+use Rattle.pals_top.specs.AnalysisKinds.{Analysis}
+use Rattle.pals_top.specs.AnalysisKinds as analysis
+use Rattle.pals_top.specs.ExecutionKinds.{Execution}
+use Rattle.pals_top.specs.ExecutionKinds as execution
 use Rattle.pals_top.specs.Analyses.{command_of, Makes, IsAnalysed, IsAnalysisAnswer}
 use Rattle.pals_top.specs.Executions.{command_of as execution_command, IsExecutionAnswer}
 use Rattle.pals_top.specs.Answers.{IsCommandAnswer}

@@ -2,8 +2,7 @@
 use Rattle.std.proofs.Common.{◌≡◌, ◌∙◌, ◌⊎◌, ◌↔◌, inl, inr, ℕ, nat_eq, Bool, true, false, List, refl, sym, subst}
 use Rattle.std.specs.Prelude.{MatchBool}
 use Rattle.std.proofs.lemmas.Bool.{eqb-true}
-use Rattle.pals_top.specs.declared.execution.Execution.{Execution}
-use Rattle.pals_top.specs.declared.execution.Execution.TheVariants.{TimedWorld, LooseWorld, Run, Audit, Budget}
+use Rattle.pals_top.specs.ExecutionKinds.{Execution, TimedWorld, LooseWorld, Run, Audit, Budget}
 use Rattle.pals_top.specs.Executions.{command_of, IsScenarioRefusedIn, IsExecuted, IsExecutionAnswer}
 use Rattle.answer_laws.specs.proof.Meanings.{HasTree, MeansDesign, MeansScenario, HasLongCode, LacksScenario, GivesStatus}
 use Rattle.pals_top.specs.proof.Code.{is_run}

@@ -8,7 +8,7 @@ use Rattle.step_code.specs.Capped.{capped}
 use Rattle.design_codes.specs.Causes.{length_of, AreShort, IsFirstTooLong}
 use Rattle.scenario_json.specs.declared.scenario.Scenario.{Scenario}
 use Rattle.bundle_designs.specs.Accepted.{IsAccepted}
-use Rattle.pals_top.specs.declared.execution.Execution.{Execution}
+use Rattle.pals_top.specs.ExecutionKinds.{Execution}
 use Rattle.pals_top.specs.Executions.{command_of, Makes, IsExecuted, IsScenarioRefusedIn, IsCodeTooLong, code_fault_line}
 use Rattle.answer_laws.specs.proof.Meanings.{HasLongCode}
 use Rattle.pals_top.specs.proof.Code.{is_run}

@@ -10,10 +10,10 @@ use Rattle.pals_report.specs.ScenarioFaults.{scenario_fault_line}
 use Rattle.design_codes.specs.Causes.{AreShort, IsFirstTooLong}
 use Rattle.world_texts.specs.RingTexts.{ring_text}
 use Rattle.pals_top.specs.declared.status.TheConstants.{DONE, TEXT_REFUSED, SCENARIO_REFUSED, CODE_TOO_LONG}
-use Rattle.pals_top.specs.declared.analysis.Analysis.{Analysis}
-use Rattle.pals_top.specs.declared.analysis.Analysis.TheVariants as analysis
-use Rattle.pals_top.specs.declared.execution.Execution.{Execution}
-use Rattle.pals_top.specs.declared.execution.Execution.TheVariants as execution
+use Rattle.pals_top.specs.AnalysisKinds.{Analysis}
+use Rattle.pals_top.specs.AnalysisKinds as analysis
+use Rattle.pals_top.specs.ExecutionKinds.{Execution}
+use Rattle.pals_top.specs.ExecutionKinds as execution
 use Rattle.pals_top.specs.Words.{HasForm}
 use Rattle.pals_top.specs.Scenarios.{HasScenarioFault}
 use Rattle.pals_top.specs.Analyses.{command_of as analysis_command, IsAnalysisAnswer}

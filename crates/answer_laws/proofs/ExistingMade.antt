@@ -11,10 +11,8 @@ use Rattle.plant_fuse.specs.FusedText.{IsFusedReport}
 use Rattle.plant_fuse.specs.proof.FusedLaws.{ReportExists}
 use Rattle.plant_fuse.proofs.AloneReports.{report_without_pairs}
 use Rattle.analysis_texts.proofs.Outvoted.{rows_outvoted, rows_alone}
-use Rattle.pals_top.specs.declared.analysis.Analysis.{Analysis}
-use Rattle.pals_top.specs.declared.analysis.Analysis.TheVariants.{Sync, Watch, Vote, Fuse}
-use Rattle.pals_top.specs.declared.execution.Execution.{Execution}
-use Rattle.pals_top.specs.declared.execution.Execution.TheVariants.{TimedWorld, LooseWorld, Run, Audit, Budget}
+use Rattle.pals_top.specs.AnalysisKinds.{Analysis, Sync, Watch, Vote, Fuse}
+use Rattle.pals_top.specs.ExecutionKinds.{Execution, TimedWorld, LooseWorld, Run, Audit, Budget}
 use Rattle.pals_top.specs.Analyses.{Makes as analyses}
 use Rattle.pals_top.specs.Executions.{Makes as executes}
 use Rattle.pals_top.specs.proof.Executions.{HasEvents}

@@ -7,10 +7,8 @@ use Rattle.pals_model.specs.Rules.{IsDesign}
 use Rattle.plant_fuse.specs.Fused.{ArePairs}
 use Rattle.plant_fuse.specs.proof.FusedLaws.{ReportIsOne}
 use Rattle.scenario_json.specs.declared.scenario.Scenario.{Scenario}
-use Rattle.pals_top.specs.declared.analysis.Analysis.{Analysis}
-use Rattle.pals_top.specs.declared.analysis.Analysis.TheVariants.{Sync, Watch, Vote, Fuse}
-use Rattle.pals_top.specs.declared.execution.Execution.{Execution}
-use Rattle.pals_top.specs.declared.execution.Execution.TheVariants.{TimedWorld, LooseWorld, Run, Audit, Budget}
+use Rattle.pals_top.specs.AnalysisKinds.{Analysis, Sync, Watch, Vote, Fuse}
+use Rattle.pals_top.specs.ExecutionKinds.{Execution, TimedWorld, LooseWorld, Run, Audit, Budget}
 use Rattle.pals_top.specs.Analyses.{Makes as analyses}
 use Rattle.pals_top.specs.Executions.{command_of, Makes as executes}
 use Rattle.design_codes.specs.Behaviours.{behaviours}

@@ -18,7 +18,7 @@ use Rattle.run_laws.specs.Traces.{verdict}
 use Rattle.run_laws.proofs.Stops.{told as stop_is_last}
 use Rattle.run_laws.specs.proof.InTime.{InTime, NoneStops, BoundsAreInTime, EndsAreOne, AllPicked, PickedAreDone}
 use Rattle.run_texts.specs.RunTexts.{journal_text}
-use Rattle.pals_top.specs.declared.execution.Execution.TheVariants as execution
+use Rattle.pals_top.specs.ExecutionKinds as execution
 use Rattle.pals_top.specs.Executions.{IsCodeTooLong, IsExecutionAnswer}
 use Rattle.pals_top.specs.Loose.{run_of}
 use Rattle.pals_top.specs.Run.{IsRunAnswer}

@@ -1,7 +1,7 @@
 //! What `run` answers. Each law is the contract of a function that does nothing.
 ghost use Rattle.std.specs.Prelude.{◌↔◌, ℕ, Bool, List};
 ghost use Rattle.pals_runs.specs.declared.commands.Command.TheVariants as command;
-ghost use Rattle.pals_top.specs.declared.execution.Execution.TheVariants as execution;
+ghost use Rattle.pals_top.specs.ExecutionKinds as execution;
 ghost use Rattle.pals_top.specs.Executions.{IsExecutionAnswer};
 ghost use Rattle.answer_laws.specs.proof.Meanings.{MeansScenario, HasLongCode};
 ghost use Rattle.answer_laws.specs.proof.Runs.{AnswersAsSync, DoneInTime, DoneTracesAreSound, DoneWithinBounds, IsRunStatus, NoneIsStopped, OneAnswerInTime, StoppedTracesAreSound};

@@ -3,8 +3,8 @@
 ghost use Rattle.std.specs.Prelude.{◌≡◌, ◌↔◌, ◌⊎◌, ◌<◌, ℕ, false, List};
 ghost use Rattle.pals_top.specs.Print.{IsPrintAnswer};
 ghost use Rattle.pals_top.specs.Check.{IsCheckAnswer};
-ghost use Rattle.pals_top.specs.declared.analysis.Analysis.{Analysis};
-ghost use Rattle.pals_top.specs.declared.execution.Execution.{Execution};
+ghost use Rattle.pals_top.specs.AnalysisKinds.{Analysis};
+ghost use Rattle.pals_top.specs.ExecutionKinds.{Execution};
 ghost use Rattle.pals_top.specs.Analyses.{command_of, IsAnalysisAnswer};
 ghost use Rattle.pals_top.specs.Executions.{command_of as execution_command, IsExecutionAnswer};
 ghost use Rattle.answer_laws.specs.proof.Meanings.{HasTree, MeansDesign, MeansScenario};

@@ -4,7 +4,7 @@ use Rattle.pals_model.specs.declared.design.DesignParts.{DesignParts}
 use Rattle.scenario_json.specs.declared.scenario.Scenario.{Scenario}
 use Rattle.scenario_json.specs.Scenarios.{Means}
 use Rattle.bundle_designs.specs.Accepted.{IsAccepted}
-use Rattle.pals_top.specs.declared.analysis.Analysis.{Analysis}
+use Rattle.pals_top.specs.AnalysisKinds.{Analysis}
 use Rattle.pals_top.specs.declared.answer.Answer.{Answer}
 use Rattle.pals_top.specs.Analyses.{command_of, Makes, IsAnalysisAnswer}
 use Rattle.pals_top.specs.proof.Statuses.{status_of, text_of}

@@ -12,8 +12,7 @@ use Rattle.scenario_laws.specs.proof.Events.{EventsAreLoose, EventsAreFew, Trace
 use Rattle.bundle_designs.specs.Accepted.{IsAccepted}
 use Rattle.pals_top.specs.declared.answer.Answer.{Answer}
 use Rattle.pals_top.specs.declared.coded.Coded.{Coded}
-use Rattle.pals_top.specs.declared.execution.Execution.{Execution}
-use Rattle.pals_top.specs.declared.execution.Execution.TheVariants.{TimedWorld, LooseWorld, Run, Audit, Budget}
+use Rattle.pals_top.specs.ExecutionKinds.{Execution, TimedWorld, LooseWorld, Run, Audit, Budget}
 use Rattle.pals_top.specs.declared.status.TheConstants.{CODE_TOO_LONG}
 use Rattle.pals_top.specs.Executions.{command_of, code_fault_line, Makes, IsCodeTooLong, IsExecutionAnswer}
 use Rattle.pals_top.specs.proof.Executions.{HasEvents, IsCoded, IsRefused}

@@ -10,8 +10,8 @@ use Rattle.pals_top.specs.Check.{IsCheckAnswer}
 use Rattle.pals_top.specs.Ring.{IsRingAnswer}
 use Rattle.pals_top.specs.Analyses.{IsAnalysisAnswer}
 use Rattle.pals_top.specs.Executions.{IsExecutionAnswer}
-use Rattle.pals_top.specs.declared.analysis.Analysis.TheVariants as analysis
-use Rattle.pals_top.specs.declared.execution.Execution.TheVariants as execution
+use Rattle.pals_top.specs.AnalysisKinds as analysis
+use Rattle.pals_top.specs.ExecutionKinds as execution
 
 -- The answer of a command to a bundle. No other command reads one.
 abbrev pub IsCommandAnswer : Command → List ℕ → ℕ → List ℕ → Type 0

@@ -1,8 +1,10 @@
 pub mod Analyses
+pub mod AnalysisKinds
 pub mod Answers
 pub mod Budget
 pub mod Check
 pub mod Executions
+pub mod ExecutionKinds
 pub mod Loose
 pub mod Outside
 pub mod Print

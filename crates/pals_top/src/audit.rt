@@ -3,23 +3,48 @@ ghost use Rattle.std.specs.Prelude.{◌≡◌, ◌≤◌, length, IfOk};
 ghost use Rattle.pals_base.specs.declared.limits.TheConstants.{LIST_ITEMS};
 ghost use Rattle.pals_bus.specs.proof.Values.{AreCodes};
 ghost use Rattle.scenario_json.specs.proof.Facts.{IsScenarioOf};
+ghost use Rattle.pals_top.specs.ExecutionKinds.{Audit};
 ghost use Rattle.pals_top.specs.Audit.{IsAudited, SaysVerdict, is_sound};
 ghost use Rattle.pals_top.specs.proof.Statuses.{status_of, text_of};
 
 use crate::answer::Answer;
-use crate::loose::keeps_rules;
-use pals_base::{Items, NoMemory};
+use crate::coded::{Coded, CodedCommand};
+use crate::execution::{ExecutionCommand, keeps_rules};
+use pals_base::{Items, NoMemory, Text};
 use pals_model::Design;
 use pals_report::add_verdict;
-use pals_runs::Verdict;
+use pals_runs::{Command, Verdict};
 use scenario_json::Scenario;
 use std::alloc::Global;
 use std::sync::Arc;
 use step_code::Code;
 use trace_audit::audit;
 
-/// The verdict on the trace of a scenario.
-pub fn answer_audit(
+/// `audit`, of whose scenario the root's inputs, the number of rounds, the delays and the trace count.
+#[derive(Clone, Copy)]
+pub struct AuditCommand;
+
+impl CodedCommand for AuditCommand {
+    ghost execution = { λ _. Audit };
+
+    fn command(&self, root: Text) -> Command {
+        Command::Audit { root }
+    }
+}
+
+impl ExecutionCommand for AuditCommand {
+    fn answer(self, alloc: Global, coded: Coded) -> Result<Answer, NoMemory> {
+        let Coded {
+            design,
+            codes,
+            scenario,
+        } = coded;
+        answer_audit(alloc, design, codes, scenario)
+    }
+}
+
+// The verdict on the trace of a scenario.
+fn answer_audit(
     alloc: Global,
     design: Design,
     codes: Items<Code>,

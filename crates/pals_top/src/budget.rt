@@ -4,20 +4,42 @@ ghost use Rattle.pals_bus.specs.proof.Values.{AreCodes};
 ghost use Rattle.step_compiler.specs.LaidOut.{AreLaidOut};
 ghost use Rattle.scenario_json.specs.proof.Facts.{IsScenarioOf};
 ghost use Rattle.design_codes.specs.Behaviours.{behaviours};
+ghost use Rattle.pals_top.specs.ExecutionKinds.{Budget};
 ghost use Rattle.pals_top.specs.Budget.{IsBudgeted};
 ghost use Rattle.pals_top.specs.proof.Statuses.{status_of, text_of};
 
 use crate::answer::Answer;
-use crate::loose::keeps_rules;
+use crate::coded::{Coded, CodedCommand};
+use crate::execution::{ExecutionCommand, keeps_rules};
 use analysis_texts::budget;
-use pals_base::NoMemory;
+use pals_base::{NoMemory, Text};
 use pals_model::Design;
+use pals_runs::Command;
 use scenario_json::Scenario;
 use std::alloc::Global;
 use step_code::Code;
 
-/// The round budgets of a scenario's processors.
-pub fn answer_budget(
+/// `budget`, of whose scenario the processors count.
+#[derive(Clone, Copy)]
+pub struct BudgetCommand;
+
+impl CodedCommand for BudgetCommand {
+    ghost execution = { λ _. Budget };
+
+    fn command(&self, root: Text) -> Command {
+        Command::Budget { root }
+    }
+}
+
+impl ExecutionCommand for BudgetCommand {
+    fn answer(self, alloc: Global, coded: Coded) -> Result<Answer, NoMemory> {
+        let codes = coded.codes.as_slice();
+        answer_budget(alloc, &coded.design, codes, &coded.scenario)
+    }
+}
+
+// The round budgets of a scenario's processors.
+fn answer_budget(
     alloc: Global,
     design: &Design,
     codes: &[Code],

@@ -1,13 +1,14 @@
 //! The whole program as one call: words and bytes in, a status and bytes out.
 #![tactic(auto)]
 
-pub mod analysis;
+mod analysis;
 mod answer;
 mod audit;
 mod budget;
 mod check;
 mod coded;
-pub mod execution;
+mod execution;
+mod fuse;
 mod host;
 mod loose;
 mod opening;
@@ -16,6 +17,9 @@ mod program;
 mod refused_scenario;
 mod run;
 pub mod status;
+mod sync;
+mod vote;
+mod watch;
 pub mod words;
 mod world;
 

@@ -3,34 +3,58 @@ ghost use Rattle.std.specs.Prelude.{◌≡◌, ℕ, List, [], ◌++◌, false, m
 ghost use Rattle.loose_world.specs.declared.events.LooseEnd.{LooseEnd};
 ghost use Rattle.loose_world.specs.Worlds.{Tells};
 ghost use Rattle.loose_world.specs.Sent.{AreOutLinks};
-ghost use Rattle.pals_model.specs.Rules.{IsDesign};
-ghost use Rattle.pals_model.specs.RoundTexts.{line_end, text_of as lines_text};
+ghost use Rattle.pals_model.specs.RoundTexts.{text_of as lines_text};
 ghost use Rattle.pals_runs.specs.Journal.{entry_line};
 ghost use Rattle.pals_bus.specs.proof.Values.{AreCodes};
 ghost use Rattle.scenario_json.specs.proof.Facts.{IsScenarioOf};
-ghost use Rattle.pals_report.specs.EventFaults.{event_fault_line};
 ghost use Rattle.loose_world.specs.proof.Finished.{finished_lines, common_lines};
 ghost use Rattle.scenario_laws.specs.proof.Events.{AreLooseEvents};
-ghost use Rattle.pals_top.specs.declared.status.TheConstants.{DONE, SCENARIO_REFUSED, STOPPED};
+ghost use Rattle.pals_top.specs.declared.status.TheConstants.{DONE, STOPPED};
+ghost use Rattle.pals_top.specs.ExecutionKinds.{LooseWorld};
 ghost use Rattle.pals_top.specs.Loose.{IsWorldAnswer};
 ghost use Rattle.pals_top.specs.proof.Code.{status_at, text_at};
 ghost use Rattle.pals_top.specs.proof.Statuses.{status_of, text_of, Says};
 
 use crate::answer::Answer;
+use crate::coded::{Coded, CodedCommand};
+use crate::execution::{ExecutionCommand, keeps_rules};
 use crate::opening::opened;
+use crate::refused_scenario::refused_event;
 use loose_world::world_laws::{events_are_steps, texts_are_told};
 use loose_world::{LooseEnd, OutLinks, add_finished, add_finished_by_all, add_journal, run_loose};
-use pals_base::{Items, NoMemory};
+use pals_base::{Items, NoMemory, Text};
 use pals_bus::Bus;
 use pals_model::Design;
-use pals_report::add_event_fault;
-use pals_runs::{Event, EventFault};
+use pals_runs::{Command, Event};
 use scenario_json::Scenario;
 use std::alloc::Global;
 use step_code::Code;
 
-/// What the events of a scenario give, from the opening of its run on.
-pub fn answer_loose(
+/// `world --loose`, of whose scenario the root's inputs, the number of rounds, the delays and the events count.
+#[derive(Clone, Copy)]
+pub struct LooseWorldCommand;
+
+impl CodedCommand for LooseWorldCommand {
+    ghost execution = { λ _. LooseWorld };
+
+    fn command(&self, root: Text) -> Command {
+        Command::World { root, loose: true }
+    }
+}
+
+impl ExecutionCommand for LooseWorldCommand {
+    fn answer(self, alloc: Global, coded: Coded) -> Result<Answer, NoMemory> {
+        let Coded {
+            design,
+            codes,
+            scenario,
+        } = coded;
+        answer_loose(alloc, design, codes, scenario)
+    }
+}
+
+// What the events of a scenario give, from the opening of its run on.
+fn answer_loose(
     alloc: Global,
     design: Design,
     codes: Items<Code>,
@@ -86,13 +110,6 @@ fn answer_end(alloc: Global, bus: &Bus, end: &LooseEnd, sent: &[u8]) -> Result<A
     }
 }
 
-/// Every design keeps its rules.
-pub fn keeps_rules(design: &Design)
-    ensures { IsDesign design.now }
-{
-    let _parts = design.parts();
-}
-
 // The rounds that some node has finished, and the messages that were sent.
 fn finished(alloc: Global, bus: &Bus, sent: &[u8]) -> Result<Answer, NoMemory>
     ensures { IfOk result (Says DONE (lines_text (finished_lines bus.now) ++ sent.now)) }
@@ -111,18 +128,4 @@ fn stopped(alloc: Global, bus: &Bus) -> Result<Answer, NoMemory>
     add_finished_by_all(alloc, &mut text, bus)?;
     add_journal(&mut text, bus)?;
     Ok(Answer::Stopped(text))
-}
-
-/// The answer to an event that is not allowed.
-pub fn refused_event(
-    alloc: Global,
-    design: &Design,
-    index: u32,
-    fault: &EventFault,
-) -> Result<Answer, NoMemory>
-    ensures { IfOk result (Says SCENARIO_REFUSED (event_fault_line design.now index fault.now ++ line_end)) }
-{
-    let mut line = Vec::new(alloc);
-    add_event_fault(&mut line, design, index, fault)?;
-    Ok(Answer::ScenarioRefused(line))
 }

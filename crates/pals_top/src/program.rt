@@ -7,15 +7,23 @@ ghost use Rattle.pals_top.specs.Answers.{reads_source, IsAnswer, IsFormAnswer, I
 ghost use Rattle.pals_top.specs.proof.Code.{is_run};
 ghost use Rattle.pals_top.specs.proof.Statuses.{status_of, text_of, IsWritten};
 
-use crate::analysis::{Analysis, answer_analysis};
+use crate::analysis::answer_analysis;
 use crate::answer::Answer;
+use crate::audit::AuditCommand;
+use crate::budget::BudgetCommand;
 use crate::check::answer_check;
-use crate::execution::{Execution, answer_execution};
+use crate::execution::answer_execution;
+use crate::fuse::FuseCommand;
 use crate::host::Host;
+use crate::loose::LooseWorldCommand;
 use crate::print::answer_print;
 use crate::run::answer_run;
 use crate::status::{NO_MEMORY, WRITE_FAULT};
+use crate::sync::SyncCommand;
+use crate::vote::VoteCommand;
+use crate::watch::WatchCommand;
 use crate::words::{WordsEnd, read_words};
+use crate::world::WorldCommand;
 use node_threads::{Gate, Starter};
 use pals_base::limits::BUNDLE_BYTES;
 use pals_base::{NoMemory, Text};
@@ -136,18 +144,18 @@ fn answer_bundle(alloc: Global, command: Command, bundle: &[u8]) -> Result<Answe
     match command {
         Command::Print => answer_print(alloc, bundle),
         Command::Check { root } => answer_check(alloc, bundle, &root),
-        Command::Sync { root } => answer_analysis(alloc, bundle, root, Analysis::Sync),
-        Command::Watch { root } => answer_analysis(alloc, bundle, root, Analysis::Watch),
-        Command::Vote { root } => answer_analysis(alloc, bundle, root, Analysis::Vote),
-        Command::Fuse { root } => answer_analysis(alloc, bundle, root, Analysis::Fuse),
+        Command::Sync { root } => answer_analysis(alloc, bundle, root, SyncCommand),
+        Command::Watch { root } => answer_analysis(alloc, bundle, root, WatchCommand),
+        Command::Vote { root } => answer_analysis(alloc, bundle, root, VoteCommand),
+        Command::Fuse { root } => answer_analysis(alloc, bundle, root, FuseCommand),
         Command::World { root, loose: false } => {
-            answer_execution(alloc, bundle, root, Execution::TimedWorld)
+            answer_execution(alloc, bundle, root, WorldCommand)
         }
         Command::World { root, loose: true } => {
-            answer_execution(alloc, bundle, root, Execution::LooseWorld)
+            answer_execution(alloc, bundle, root, LooseWorldCommand)
         }
-        Command::Audit { root } => answer_execution(alloc, bundle, root, Execution::Audit),
-        Command::Budget { root } => answer_execution(alloc, bundle, root, Execution::Budget),
+        Command::Audit { root } => answer_execution(alloc, bundle, root, AuditCommand),
+        Command::Budget { root } => answer_execution(alloc, bundle, root, BudgetCommand),
         Command::Run { .. } | Command::Ring { .. } => unreachable!(),
     }
 }

@@ -4,7 +4,7 @@ ghost use Rattle.pals_bus.specs.proof.Values.{AreCodes};
 ghost use Rattle.pals_io.specs.Stream.{GivesWithin};
 ghost use Rattle.pals_runs.specs.declared.commands.Command.TheVariants as command;
 ghost use Rattle.scenario_json.specs.proof.Facts.{IsScenarioOf};
-ghost use Rattle.pals_top.specs.declared.execution.Execution.TheVariants as execution;
+ghost use Rattle.pals_top.specs.ExecutionKinds.{Run};
 ghost use Rattle.pals_top.specs.Answers.{IsSourceAnswer};
 ghost use Rattle.pals_top.specs.Executions.{IsExecutionAnswer};
 ghost use Rattle.pals_top.specs.Outside.{reading};
@@ -12,8 +12,7 @@ ghost use Rattle.pals_top.specs.Run.{IsRunAnswer};
 ghost use Rattle.pals_top.specs.proof.Statuses.{status_of, text_of};
 
 use crate::answer::Answer;
-use crate::coded::{BundleMeaning, Coded, meaning_of};
-use crate::execution::Execution;
+use crate::coded::{BundleMeaning, Coded, CodedCommand, meaning_of};
 use crate::host::Host;
 use crate::opening::opened;
 use node_threads::{Gate, Starter};
@@ -21,11 +20,30 @@ use pals_base::limits::BUNDLE_BYTES;
 use pals_base::{NoMemory, Text};
 use pals_clock::Clocks;
 use pals_io::{ReadEnd, Source, read_all};
+use pals_runs::Command;
 use run_texts::{RunReport, tell_run};
 use scenario_json::Scenario;
 use std::alloc::{AllocError, Global};
 use std::sync::Wait;
 use std::thread::Threads;
+
+// `run`, with its journal where a trace is wanted. Of its scenario the root's inputs, the number of rounds, the clocks
+// and the delays count.
+#[derive(Clone, Copy)]
+struct RunCommand {
+    trace: bool,
+}
+
+impl CodedCommand for RunCommand {
+    ghost execution = { λ command. Run command.trace };
+
+    fn command(&self, root: Text) -> Command {
+        Command::Run {
+            root,
+            trace: self.trace,
+        }
+    }
+}
 
 /// The answer of `run` to the bytes of a source, with the journal where a trace is wanted.
 pub fn answer_run<R: Threads + Wait + Sync, S: Source, W: Starter, G: Gate + Sync>(
@@ -54,9 +72,10 @@ fn run_bundle<R: Threads + Wait + Sync, W: Starter, G: Gate + Sync>(
     root: Text,
     trace: bool,
 ) -> Result<Answer, NoMemory>
-    ensures { IfOk result (λ answer. IsExecutionAnswer (execution.Run trace) root bundle.now (status_of answer) (text_of answer)) }
+    ensures { IfOk result (λ answer. IsExecutionAnswer (Run trace) root bundle.now (status_of answer) (text_of answer)) }
 {
-    match meaning_of(alloc, bundle, root, Execution::Run { trace })? {
+    let command = RunCommand { trace };
+    match meaning_of(alloc, bundle, root, &command)? {
         BundleMeaning::Coded(coded) => run_nodes(host, alloc, coded, trace),
         BundleMeaning::Refused(answer) => Ok(answer),
     }

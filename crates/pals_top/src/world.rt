@@ -3,21 +3,48 @@ ghost use Rattle.std.specs.Prelude.{◌≤◌, length, IfOk};
 ghost use Rattle.pals_base.specs.declared.limits.TheConstants.{LIST_ITEMS};
 ghost use Rattle.pals_bus.specs.proof.Values.{AreCodes};
 ghost use Rattle.scenario_json.specs.proof.Facts.{IsScenarioOf};
+ghost use Rattle.pals_top.specs.ExecutionKinds.{TimedWorld};
 ghost use Rattle.pals_top.specs.Worlds.{IsTimedAnswer};
 ghost use Rattle.pals_top.specs.proof.Statuses.{status_of, text_of};
 
 use crate::answer::Answer;
-use crate::loose::refused_event;
-use pals_base::{Items, NoMemory};
+use crate::coded::{Coded, CodedCommand};
+use crate::execution::ExecutionCommand;
+use crate::refused_scenario::refused_event;
+use pals_base::{Items, NoMemory, Text};
 use pals_model::Design;
+use pals_runs::Command;
 use scenario_json::Scenario;
 use std::alloc::Global;
 use std::sync::Arc;
 use step_code::Code;
 use world_texts::{WorldReport, tell_world};
 
-/// What the events of a scenario leave, or the first that is past the bounds.
-pub fn answer_world(
+/// `world`, of whose scenario the root's inputs, the number of rounds and the events count.
+#[derive(Clone, Copy)]
+pub struct WorldCommand;
+
+impl CodedCommand for WorldCommand {
+    ghost execution = { λ _. TimedWorld };
+
+    fn command(&self, root: Text) -> Command {
+        Command::World { root, loose: false }
+    }
+}
+
+impl ExecutionCommand for WorldCommand {
+    fn answer(self, alloc: Global, coded: Coded) -> Result<Answer, NoMemory> {
+        let Coded {
+            design,
+            codes,
+            scenario,
+        } = coded;
+        answer_world(alloc, design, codes, scenario)
+    }
+}
+
+// What the events of a scenario leave, or the first that is past the bounds.
+fn answer_world(
     alloc: Global,
     design: Design,
     codes: Items<Code>,

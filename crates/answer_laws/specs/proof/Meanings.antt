@@ -8,7 +8,7 @@ use Rattle.scenario_json.specs.declared.scenario.Scenario.{Scenario}
 use Rattle.design_codes.specs.Causes.{length_of, AreShort}
 use Rattle.bundle_designs.specs.Parsed.{IsParsed}
 use Rattle.bundle_designs.specs.Accepted.{IsAccepted}
-use Rattle.pals_top.specs.declared.execution.Execution.{Execution}
+use Rattle.pals_top.specs.ExecutionKinds.{Execution}
 use Rattle.pals_top.specs.Scenarios.{HasScenario}
 use Rattle.pals_top.specs.Executions.{command_of, Makes}
 

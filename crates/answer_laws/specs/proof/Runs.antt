@@ -21,8 +21,8 @@ use Rattle.pals_top.specs.Loose.{run_of}
 use Rattle.pals_top.specs.Scenarios.{HasScenario}
 use Rattle.pals_runs.specs.declared.commands.Command.TheVariants as command
 use Rattle.pals_runs.specs.declared.journal.JournalEntry.TheVariants as entry
-use Rattle.pals_top.specs.declared.analysis.Analysis.TheVariants as analysis
-use Rattle.pals_top.specs.declared.execution.Execution.TheVariants as execution
+use Rattle.pals_top.specs.AnalysisKinds as analysis
+use Rattle.pals_top.specs.ExecutionKinds as execution
 
 -- the statuses of a run: all nodes are done, a stop stands, or a list has ended
 abbrev pub IsRunStatus : ℕ → Type 0

@@ -1,5 +1,5 @@
 -- What a bundle means to a command that needs step codes, and where the events of a scenario come from.
-use Rattle.std.specs.Prelude.{ℕ, ◌≤◌, Bool, true, false, List, length, ◌⊎◌}
+use Rattle.std.specs.Prelude.{ℕ, ◌≤◌, List, length, ◌⊎◌}
 use Rattle.pals_base.specs.declared.limits.TheConstants.{LIST_ITEMS}
 use Rattle.pals_model.specs.declared.design.DesignParts.{DesignParts}
 use Rattle.pals_bus.specs.proof.Values.{AreCodes}
@@ -11,18 +11,12 @@ use Rattle.scenario_json.specs.proof.Facts.{IsScenarioOf}
 use Rattle.scenario_laws.specs.proof.Events.{AreLooseEvents}
 use Rattle.pals_top.specs.declared.coded.Coded.{Coded}
 use Rattle.pals_top.specs.declared.coded.BundleMeaning.{BundleMeaning}
-use Rattle.pals_top.specs.declared.execution.Execution.{Execution}
-use Rattle.pals_top.specs.declared.execution.Execution.TheVariants.{TimedWorld, LooseWorld, Run, Audit}
+use Rattle.pals_top.specs.ExecutionKinds.{Execution, TimedWorld, LooseWorld, Audit}
 use Rattle.pals_top.specs.Executions.{command_of, IsCodeTooLong, IsScenarioRefusedIn}
 use Rattle.pals_top.specs.Refusals.{IsBundleRefused}
 use Rattle.pals_top.specs.Scenarios.{HasScenario}
 use Rattle.pals_top.specs.proof.Statuses.{status_of, text_of}
 use Rattle.pals_top.specs.declared.coded.BundleMeaning.TheVariants as meaning
-
--- the one that runs threads
-abbrev pub needs_host : Execution → Bool
-needs_host (Run trace) = true
-needs_host what = false
 
 -- what the scenario of each keeps beside
 abbrev pub HasEvents : Execution → DesignParts → Scenario → Type 0

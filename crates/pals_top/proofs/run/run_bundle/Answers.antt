@@ -1,5 +1,5 @@
 use Rattle.std.proofs.Common.{subst}
-use Rattle.pals_top.specs.declared.execution.Execution.TheVariants.{Run}
+use Rattle.pals_top.specs.ExecutionKinds.{Run}
 use Rattle.pals_top.specs.proof.Executions.{IsMeaning}
 use Rattle.pals_top.specs.proof.Statuses.{status_of, text_of}
 use Rattle.pals_top.proofs.Executions.{refused}

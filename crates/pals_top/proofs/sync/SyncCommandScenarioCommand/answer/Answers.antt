@@ -1,5 +1,5 @@
 use Rattle.std.proofs.Common.{rules}
-use Rattle.pals_top.proofs.analysis.answer_sync.Goals as goal
+use Rattle.pals_top.proofs.sync.SyncCommandScenarioCommand.answer.Goals as goal
 
 pub returns : goal.returns
 returns c = search rules

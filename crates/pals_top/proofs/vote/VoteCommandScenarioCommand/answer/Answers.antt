@@ -2,7 +2,7 @@ use Rattle.std.proofs.Common.{◌≡◌, ◌∙◌, List, refl, ap}
 use Rattle.pals_base.specs.declared.values.NodeNo.{NodeNo}
 use Rattle.triple_vote.specs.VotedText.{vreport, thrice}
 use Rattle.analysis_texts.specs.Voted.{replicated_in, faults_of}
-use Rattle.pals_top.proofs.analysis.answer_vote.Goals as goal
+use Rattle.pals_top.proofs.vote.VoteCommandScenarioCommand.answer.Goals as goal
 
 pub returns : goal.returns
 returns c =
