@@ -64,37 +64,35 @@ fn take_step(
         return;
     }
     let entry = entry_of(parts, frame.state);
-    room.stack.clear();
-    let slots = room.slots.as_mut_slice();
-    react(parts, entry, &mut room.stack, slots, frame, inputs, outs);
+    react(parts, entry, room, frame, inputs, outs);
 }
 
-// The step of a frame that holds its inputs and is not halted.
+// The step of a frame that holds its inputs and is not halted, from the entry of its state.
 fn react(
     parts: &CodeParts,
     entry: usize,
-    stack: &mut Stack,
-    slots: &mut [i64],
+    room: &mut Room,
     frame: &mut Frame,
     inputs: &[PortValue],
     outs: &mut [PortValue],
 )
     requires verified { IsVerified parts.now }
     requires entry { Member parts.now.entries (Some entry) }
-    requires stack { stack.old ≡ stack_of [] (length parts.now.instrs) }
-    requires slots { length slots.old ≡ parts.now.vars + parts.now.loops }
+    requires room { IsRoomOf parts.now room.old }
     requires sizes { Sized parts.now frame.old inputs.now }
     requires outs { outs.old ≡ silent parts.now }
     ensures step { left parts.now frame.old (run_from parts.now frame.old inputs.now entry)
         ≡ Leaves (record { frame = frame.new; outs = outs.new }) }
-    ensures size { stack.new.size ≡ stack.old.size }
+    ensures room { room.new ≡ room.old }
 {
+    room.stack.clear();
+    let slots = room.slots.as_mut_slice();
     begin(slots, frame.vars.as_slice());
     let reads = CodeInputs {
         held: frame.held.as_slice(),
         present: inputs,
     };
-    let ended = run_from(parts, entry, stack, slots, outs, reads);
+    let ended = run_from(parts, entry, &mut room.stack, slots, outs, reads);
     leave(ended, frame, slots, outs);
 }
 
