@@ -10,76 +10,77 @@ use Rattle.pals_model.specs.declared.design.Component.{Component}
 use Rattle.pals_model.specs.declared.design.DesignParts.{DesignParts}
 use Rattle.pals_model.specs.declared.rounds.Part.{Part}
 use Rattle.pals_model.specs.declared.sources.PortSource.{PortSource}
+use Rattle.pals_model.specs.Composition.{no_frame}
 use Rattle.pals_runs.specs.declared.pairs.Pair.{Pair}
 use Rattle.sync_product.specs.declared.reads.RoundInputs.{RoundInputs}
 use Rattle.sync_product.specs.declared.stage.Stage.{Stage}
+use Rattle.sync_product.specs.declared.wiring.WiredComponent.{WiredComponent}
+use Rattle.sync_product.specs.proof.Wired.{IsWired}
 use Rattle.sync_product.specs.proof.Rounds.{IsStepped, vectors, own_rows, frames_of}
 use Rattle.sync_product.proofs.Tables.{slice_get-set_same, entry_at}
-use Rattle.plant_fuse.specs.declared.sides.StepContext.{StepContext}
 use Rattle.plant_fuse.specs.declared.sides.PairedComponent.{PairedComponent}
 use Rattle.plant_fuse.specs.declared.tables.Tables.{Tables}
 use Rattle.plant_fuse.specs.proof.Partners.{partner_of, all_partners}
 use Rattle.plant_fuse.specs.proof.Tables.{AreTables}
 use Rattle.plant_fuse.specs.proof.Sides.{Seat, Work, seat_of, side_work, AreMade, AreSidesRun}
-use Rattle.plant_fuse.specs.proof.Runs.{seat, IsGiven, HasWork, IsRun, StayBeside, IsRunAlone}
+use Rattle.plant_fuse.specs.proof.Runs.{seat, IsPaired, HasWork, IsRun, StayBeside, IsRunAlone}
 use Rattle.plant_fuse.proofs.Numbered.{counted_at}
 use Rattle.plant_fuse.proofs.TakenOut.{get_set_other}
 
 seat_is : (design : DesignParts) (parts : List Part) (node partner : ℕ) (side : PairedComponent)
-    → IsGiven design parts node side.given → side.partner ≡ partner
-    → seat_of side ≡ seat design node partner side.given.component.now
-seat_is design parts node partner side is partner_is =
-    ap₂ (λ n ss. let s : Seat = record { partner = n; component = side.given.component.now; sources = ss } in s)
-    partner_is is.sources_are
+    → IsPaired design parts node partner side
+    → seat_of side ≡ seat design node partner side.wired.component.now
+seat_is design parts node partner side is =
+    ap₂ (λ n ss. let s : Seat = record { partner = n; component = side.wired.component.now; sources = ss } in s)
+    is.partner_is is.wired_is.sources_are
 
-has_work : (design : DesignParts) (parts next : List Part) (stages : List Stage) (node : ℕ) (side : PairedComponent)
-    (stage : Stage) (part : Part) → IsGiven design parts node side.given
-    → part.outs ≡ map (λ port. column port stage.rows) side.given.taps.now → slice_get next node ≡ Some part
+has_work : (design : DesignParts) (parts next : List Part) (stages : List Stage) (node partner : ℕ)
+    (side : PairedComponent) (stage : Stage) (part : Part) → IsPaired design parts node partner side
+    → part.outs ≡ map (λ port. column port stage.rows) side.wired.taps.now → slice_get next node ≡ Some part
     → slice_get stages node ≡ Some stage
     → HasWork design (frames_of parts) next stages node (side_work side stage part)
-has_work design parts next stages node side stage part is shows at_part at_stage = record {
+has_work design parts next stages node partner side stage part is shows at_part at_stage = record {
   from_is = is.from_is;
   part_is =
       at_part
       ∙ ap (λ (outs : List (List PortValue)). let p : Part = record { frame = part.frame; outs = outs } in Some p)
-      (shows ∙ ap (map (λ port. column port stage.rows)) is.taps_are);
+      (shows ∙ ap (map (λ port. column port stage.rows)) is.wired_is.taps_are);
   rows_are = slice_get-map (λ (s : Stage). s.rows) stages node ∙ ap (option_map (λ (s : Stage). s.rows)) at_stage;
 }
 
 pub pair_is_run : (round : RoundInputs) (parts next : List Part) (stages : List Stage) (pair : Pair)
     (plant controller : PairedComponent) (plant_stage controller_stage : Stage) (plant_part controller_part : Part)
-    → IsGiven round.design.now parts pair.plant.0 plant.given
-    → IsGiven round.design.now parts pair.controller.0 controller.given
-    → plant.partner ≡ pair.controller.0 → controller.partner ≡ pair.plant.0
+    → IsPaired round.design.now parts pair.plant.0 pair.controller.0 plant
+    → IsPaired round.design.now parts pair.controller.0 pair.plant.0 controller
     → slice_get next pair.plant.0 ≡ Some plant_part → slice_get next pair.controller.0 ≡ Some controller_part
     → slice_get stages pair.plant.0 ≡ Some plant_stage → slice_get stages pair.controller.0 ≡ Some controller_stage
     → AreSidesRun round plant controller plant_stage controller_stage plant_part controller_part
     → IsRun round (frames_of parts) next stages pair
 pair_is_run round parts next stages pair plant controller plant_stage controller_stage plant_part controller_part
-    plant_is controller_is p_partner c_partner at_p at_c at_ps at_cs run =
+    plant_is controller_is at_p at_c at_ps at_cs run =
     let design = round.design.now in
     let p_work = side_work plant plant_stage plant_part in
     let c_work = side_work controller controller_stage controller_part in
     record {
-      p = plant.given.component.now;
-      c = controller.given.component.now;
-      p_is = plant_is.component_is;
-      c_is = controller_is.component_is;
+      p = plant.wired.component.now;
+      c = controller.wired.component.now;
+      p_is = plant_is.wired_is.component_is;
+      c_is = controller_is.wired_is.component_is;
       p_work = p_work;
       c_work = c_work;
       p_has =
-          has_work design parts next stages pair.plant.0 plant plant_stage plant_part plant_is
+          has_work design parts next stages pair.plant.0 pair.controller.0 plant plant_stage plant_part plant_is
           run.plant_shows at_p at_ps;
       c_has =
-          has_work design parts next stages pair.controller.0 controller controller_stage controller_part controller_is
-          run.controller_shows at_c at_cs;
+          has_work design parts next stages pair.controller.0 pair.plant.0 controller controller_stage controller_part
+          controller_is run.controller_shows at_c at_cs;
       made =
           subst (λ (s : Seat). AreMade round s
-          (seat design pair.controller.0 pair.plant.0 controller.given.component.now) plant.given.component.now.rate
+          (seat design pair.controller.0 pair.plant.0 controller.wired.component.now) plant.wired.component.now.rate
           p_work c_work)
-          (seat_is design parts pair.plant.0 pair.controller.0 plant plant_is p_partner)
-          (subst (λ (s : Seat). AreMade round (seat_of plant) s plant.given.component.now.rate p_work c_work)
-          (seat_is design parts pair.controller.0 pair.plant.0 controller controller_is c_partner) run.made);
+          (seat_is design parts pair.plant.0 pair.controller.0 plant plant_is)
+          (subst (λ (s : Seat). AreMade round (seat_of plant) s plant.wired.component.now.rate p_work c_work)
+          (seat_is design parts pair.controller.0 pair.plant.0 controller controller_is) run.made);
     }
 
 -- ---- what stays
@@ -120,19 +121,19 @@ stepped_stays round frames parts parts' stages stages' a b node c stay not_a not
 }
 
 -- ---- a component by itself
-pub alone_is_run : (round : RoundInputs) (parts next : List Part) (stages : List Stage) (node : ℕ) (given : StepContext)
-    (part : Part) (stage : Stage) → IsGiven round.design.now parts node given
-    → node < length next → node < length stages
-    → part.frame ≡ frame_after given.component.now.behaviour given.from.now
-    (vectors round given.component.now given.sources.now)
-    → stage.rows ≡ outputs given.component.now.behaviour given.from.now
-    (vectors round given.component.now given.sources.now)
-    → part.outs ≡ map (λ port. column port stage.rows) given.taps.now
+pub alone_is_run : (round : RoundInputs) (parts next : List Part) (stages : List Stage) (node : ℕ)
+    (wired : WiredComponent) (from : Frame) (part : Part) (stage : Stage) → IsWired round.design.now node wired
+    → from ≡ slice_index_or (frames_of parts) node no_frame → node < length next → node < length stages
+    → part.frame ≡ frame_after wired.component.now.behaviour from
+    (vectors round wired.component.now wired.sources.now)
+    → stage.rows ≡ outputs wired.component.now.behaviour from (vectors round wired.component.now wired.sources.now)
+    → part.outs ≡ map (λ port. column port stage.rows) wired.taps.now
     → IsRunAlone round (frames_of parts) node next (set next node part) stages (set stages node stage)
-alone_is_run round parts next stages node given part stage is in_next in_stages frame_is rows_are outs_are =
-    let c = given.component.now in
+alone_is_run round parts next stages node wired from part stage is from_is in_next in_stages frame_is rows_are
+    outs_are =
+    let c = wired.component.now in
     let rows_is : stage.rows ≡ own_rows round (frames_of parts) node c =
-    rows_are ∙ ap₂ (λ (f : Frame) (ss : List PortSource). outputs c.behaviour f (vectors round c ss)) is.from_is
+    rows_are ∙ ap₂ (λ (f : Frame) (ss : List PortSource). outputs c.behaviour f (vectors round c ss)) from_is
     is.sources_are in
     record {
       component = c;
@@ -142,7 +143,7 @@ alone_is_run round parts next stages node given part stage is in_next in_stages 
             slice_get-set_same next node part in_next
             ∙ ap₂ (λ (f : Frame) (os : List (List PortValue)). let p : Part = record { frame = f; outs = os } in Some p)
             (frame_is ∙ ap₂ (λ (f : Frame) (ss : List PortSource). frame_after c.behaviour f (vectors round c ss))
-            is.from_is is.sources_are)
+            from_is is.sources_are)
             (outs_are ∙ ap₂ (λ (rs : List (List PortValue)) (ts : List ℕ). map (λ port. column port rs) ts) rows_is
             is.taps_are);
         rows =

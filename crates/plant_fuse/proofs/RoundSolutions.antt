@@ -37,7 +37,7 @@ use Rattle.plant_fuse.specs.proof.Runs.{rows_of, AreRun}
 use Rattle.plant_fuse.specs.proof.State.{FuseState, part_after, parts_after, IsAdvanced}
 use Rattle.plant_fuse.proofs.Numbered.{map_map, length_map_upwards}
 use Rattle.plant_fuse.proofs.Alone.{by_place}
-use Rattle.plant_fuse.proofs.Counts.{count_of_stages}
+use Rattle.sync_product.proofs.Fitting.{count_of_stages}
 use Rattle.plant_fuse.proofs.Partnering.{inside_goes, outside_back, outside_forth}
 use Rattle.plant_fuse.proofs.Assembled.{before, all_read, inputs_at, reads_round, rows_at_node, left_at_node, part_at_node}
 

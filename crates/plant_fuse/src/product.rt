@@ -26,7 +26,6 @@ use sync_product::stage::Stage;
 /// component left in the last round. Contracts see these beside the design and the pairs. It has its
 /// memory twice: a round is made in the other half, and becomes what stands at its end.
 pub struct FuseProduct {
-    alloc: Global,
     design: Arc<Design>,
     tables: Tables,
     stages: Vec<Stage>,
@@ -40,7 +39,6 @@ pub struct FuseProduct {
 impl Drop for FuseProduct {
     fn drop(self) {
         let FuseProduct {
-            alloc: _,
             design: _,
             tables: _,
             stages: _,
@@ -109,12 +107,11 @@ impl FuseProduct {
     {
         let tables = Tables::new(alloc, &design, pairs)?;
         let stages = stages(alloc, &design)?;
-        let parts = opening_parts(alloc, &design, tables.taps.as_slice())?;
+        let parts = opening_parts(alloc, &design, tables.wiring.taps.as_slice())?;
         let messages = opening_messages(alloc, &design)?;
-        let next_parts = opening_parts(alloc, &design, tables.taps.as_slice())?;
+        let next_parts = opening_parts(alloc, &design, tables.wiring.taps.as_slice())?;
         let next_messages = opening_messages(alloc, &design)?;
         Ok(FuseProduct {
-            alloc,
             design,
             tables,
             stages,
@@ -139,7 +136,6 @@ impl FuseProduct {
             messages: self.messages.as_slice(),
         };
         run_all(
-            self.alloc,
             round,
             &self.tables,
             self.parts.as_slice(),

@@ -9,11 +9,12 @@ use std::mem::replace;
 use sync_product::stage::Stage;
 
 /// Takes a stage out, and leaves one without room in its place.
-pub fn take_stage(alloc: Global, stages: &mut Vec<Stage>, at: usize) -> Stage
+pub fn take_stage(stages: &mut Vec<Stage>, at: usize) -> Stage
     requires { at < length stages.old.items }
     ensures { TakenFrom stages.old.items stages.new.items at result }
 {
-    replace(&mut stages[at], no_stage(alloc))
+    let empty = no_stage(stages[at].alloc);
+    replace(&mut stages[at], empty)
 }
 
 /// Puts a stage in its place.
@@ -35,6 +36,7 @@ pub fn take_part(alloc: Global, parts: &mut Items<Part>, at: usize) -> Part
 // A stage without room.
 fn no_stage(alloc: Global) -> Stage {
     Stage {
+        alloc,
         inputs: Items::new(alloc),
         outs: Vec::new(alloc),
         before: no_frame(alloc),

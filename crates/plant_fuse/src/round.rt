@@ -4,15 +4,14 @@ ghost use Rattle.sync_product.specs.proof.Sizes.{part_size, part_sizes, stage_si
 ghost use Rattle.sync_product.specs.proof.Rounds.{frames_of};
 ghost use Rattle.plant_fuse.specs.Fused.{IsPair, ArePairs};
 ghost use Rattle.plant_fuse.specs.proof.Tables.{AreTables};
-ghost use Rattle.plant_fuse.specs.proof.Runs.{IsGiven, IsRunAlone, AreAlone, IsRun, AreRun, StayBeside};
+ghost use Rattle.plant_fuse.specs.proof.Runs.{IsPaired, IsRunAlone, AreAlone, IsRun, AreRun, StayBeside};
 
 use crate::rooms::{put_stage, take_part, take_stage};
-use crate::sides::{PairedComponent, StepContext, run_sides};
+use crate::sides::{FusedPair, PairedComponent, run_sides};
 use crate::tables::Tables;
-use pals_base::{Items, NoMemory};
+use pals_base::{Items, NoMemory, NodeNo};
 use pals_model::{Design, Part};
 use pals_runs::Pair;
-use std::alloc::Global;
 use sync_product::reads::RoundInputs;
 use sync_product::stage::Stage;
 
@@ -20,7 +19,6 @@ use sync_product::stage::Stage;
 /// stand in no pair by themselves, and a plant and its controller hand in hand. At Ok the new parts and
 /// the rows of the stages are those of the steps; the sizes stay in every case.
 pub fn run_all(
-    alloc: Global,
     round: RoundInputs,
     tables: &Tables,
     parts: &[Part],
@@ -36,16 +34,15 @@ pub fn run_all(
     ensures parts { map part_size next.new ≡ map part_size next.old }
     ensures stages { map stage_size stages.new.items ≡ map stage_size stages.old.items }
 {
-    run_alone(alloc, round, tables, parts, stages, next)?;
+    run_alone(round, tables, parts, stages, next)?;
     for pair in tables.pairs.as_slice() {
-        run_pair(alloc, round, tables, pair, parts, stages, next)?;
+        run_pair(round, tables, pair, parts, stages, next)?;
     }
     Ok(())
 }
 
 // Makes the steps of the components that stand in no pair.
 fn run_alone(
-    alloc: Global,
     round: RoundInputs,
     tables: &Tables,
     parts: &[Part],
@@ -64,14 +61,13 @@ fn run_alone(
         if tables.partners[node].is_some() {
             continue;
         }
-        run_one(alloc, round, tables, node, parts, stages, next)?;
+        run_one(round, tables, node, parts, stages, next)?;
     }
     Ok(())
 }
 
 // Makes the steps of a component by itself.
 fn run_one(
-    alloc: Global,
     round: RoundInputs,
     tables: &Tables,
     node: usize,
@@ -88,19 +84,13 @@ fn run_one(
     ensures parts { map part_size next.new ≡ map part_size next.old }
     ensures stages { map stage_size stages.new.items ≡ map stage_size stages.old.items }
 {
-    let given = given(round.design, tables, parts, node);
-    let part = &mut next[node];
-    let stage = &mut stages[node];
-    let (component, sources) = (given.component, given.sources);
-    stage.run(
-        alloc, component, sources, given.taps, round, given.from, part,
-    )?;
+    let wired = tables.wiring.component(round.design, node);
+    stages[node].run(wired, round, &parts[node].frame, &mut next[node])?;
     Ok(())
 }
 
 // Makes the steps of a plant and its controller.
 fn run_pair(
-    alloc: Global,
     round: RoundInputs,
     tables: &Tables,
     pair: &Pair,
@@ -119,22 +109,16 @@ fn run_pair(
     ensures stages { map stage_size stages.new.items ≡ map stage_size stages.old.items }
 {
     let (plant, controller) = (pair.plant.0 as usize, pair.controller.0 as usize);
-    let first = PairedComponent {
-        partner: pair.controller.0,
-        given: given(round.design, tables, parts, plant),
-    };
-    let second = PairedComponent {
-        partner: pair.plant.0,
-        given: given(round.design, tables, parts, controller),
+    let fused = FusedPair {
+        plant: paired(round.design, tables, parts, pair.plant, pair.controller),
+        controller: paired(round.design, tables, parts, pair.controller, pair.plant),
     };
     // What the plant has is taken out meanwhile, so that both sides can be changed.
-    let mut stage = take_stage(alloc, stages, plant);
-    let mut part = take_part(alloc, next, plant);
+    let mut stage = take_stage(stages, plant);
+    let mut part = take_part(stage.alloc, next, plant);
     let run = run_sides(
-        alloc,
         round,
-        first,
-        second,
+        fused,
         &mut stage,
         &mut stages[controller],
         &mut part,
@@ -145,22 +129,23 @@ fn run_pair(
     run
 }
 
-// What is given to the steps of a component.
-fn given<'a>(
+// A component of a pair, with its frame in the parts of the round before.
+fn paired<'a>(
     design: &'a Design,
     tables: &'a Tables,
     parts: &'a [Part],
-    node: usize,
-) -> StepContext<'a>
+    node: NodeNo,
+    partner: NodeNo,
+) -> PairedComponent<'a>
     requires tables { AreTables design.now tables.now.pairs tables.now }
     requires parts { map part_size parts.now ≡ part_sizes design.now }
-    requires node { node < length design.now.components }
-    ensures { IsGiven design.now parts.now node result }
+    requires node { node.0 < length design.now.components }
+    ensures { IsPaired design.now parts.now node.0 partner.0 result }
 {
-    StepContext {
-        component: &design.components()[node],
-        sources: tables.sources[node].as_slice(),
-        from: &parts[node].frame,
-        taps: tables.taps[node].as_slice(),
+    let at = node.0 as usize;
+    PairedComponent {
+        wired: tables.wiring.component(design, at),
+        partner: partner.0,
+        from: &parts[at].frame,
     }
 }

@@ -4,19 +4,17 @@ ghost use Rattle.std.specs.Prelude.{◌≡◌, IfOk};
 ghost use Rattle.plant_fuse.specs.proof.Partners.{partner_of, all_partners};
 
 use pals_base::{Items, NoMemory, NodeNo};
-use pals_model::sources::all_sources;
-use pals_model::{Design, PortSource};
+use pals_model::Design;
 use pals_runs::Pair;
 use std::alloc::Global;
-use sync_product::taps::all_taps;
+use sync_product::wiring::Wiring;
 
-/// The pairs; for each component the other one of its pair, if it stands in one; where its in ports
-/// read from; and which of its out ports root out ports show.
+/// The pairs; for each component the other one of its pair, if it stands in one; and where the ports of
+/// each component lead.
 pub struct Tables {
     pub pairs: Items<Pair>,
     pub partners: Items<Option<NodeNo>>,
-    pub sources: Items<Items<PortSource>>,
-    pub taps: Items<Items<u32>>,
+    pub wiring: Wiring,
 }
 
 impl Drop for Tables {
@@ -24,8 +22,7 @@ impl Drop for Tables {
         let Tables {
             pairs: _,
             partners: _,
-            sources: _,
-            taps: _,
+            wiring: _,
         } = self;
     }
 }
@@ -38,13 +35,11 @@ impl Tables {
         ensures { IfOk result (AreTables design.now pairs) }
     {
         let partners = all_partners(alloc, design, pairs.as_slice())?;
-        let sources = all_sources(alloc, design)?;
-        let taps = all_taps(alloc, design)?;
+        let wiring = Wiring::new(alloc, design)?;
         Ok(Tables {
             pairs,
             partners,
-            sources,
-            taps,
+            wiring,
         })
     }
 }

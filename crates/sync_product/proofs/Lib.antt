@@ -4,6 +4,7 @@ pub mod Sizing
 pub mod ProductsFollow
 pub mod Tables
 pub mod TapPorts
+pub mod Fitting
 pub mod Stepping
 pub mod Sending
 pub mod Openings

@@ -2,6 +2,7 @@
 pub mod Rounds
 pub mod Sizes
 pub mod State
+pub mod Wired
 pub mod Ready
 pub mod ProductLaws
 pub mod Renumbered

@@ -9,7 +9,8 @@ pub mod reads;
 pub mod renumbering;
 mod round;
 pub mod stage;
-pub mod taps;
+mod taps;
 pub mod tuple_columns;
+pub mod wiring;
 
 pub use product::Product;

@@ -8,10 +8,9 @@ use crate::opening::{opening_messages, opening_parts, stages};
 use crate::reads::RoundInputs;
 use crate::round::run_all;
 use crate::stage::Stage;
-use crate::taps::all_taps;
+use crate::wiring::Wiring;
 use pals_base::{Items, LinkNo, NoMemory, NodeNo, PortValue, Tuple};
-use pals_model::sources::all_sources;
-use pals_model::{Design, Part, PortSource};
+use pals_model::{Design, Part};
 use std::alloc::Global;
 use std::marker::Model;
 use std::mem::swap;
@@ -21,10 +20,8 @@ use std::sync::Arc;
 /// in the last round. Contracts see these beside the design. It has its memory twice: a round is
 /// made in the other half, and becomes what stands at its end.
 pub struct Product {
-    alloc: Global,
     design: Arc<Design>,
-    sources: Items<Items<PortSource>>,
-    taps: Items<Items<u32>>,
+    wiring: Wiring,
     stages: Vec<Stage>,
     parts: Items<Part>,
     messages: Items<Tuple>,
@@ -36,10 +33,8 @@ pub struct Product {
 impl Drop for Product {
     fn drop(self) {
         let Product {
-            alloc: _,
             design: _,
-            sources: _,
-            taps: _,
+            wiring: _,
             stages: _,
             parts: _,
             messages: _,
@@ -67,7 +62,7 @@ impl Model for Product {
     } };
 
     ghost invariant = { λ p.
-        IsReady (arc_value p.design) p.sources p.taps p.stages.items
+        IsReady (arc_value p.design) p.wiring p.stages.items
         × HasRoom (arc_value p.design) p.parts p.messages
         × HasRoom (arc_value p.design) p.next_parts p.next_messages };
 }
@@ -77,18 +72,15 @@ impl Product {
     pub fn new(alloc: Global, design: Arc<Design>) -> Result<Product, NoMemory>
         ensures { IfOk result (λ product. product ≡ begun (arc_value design)) }
     {
-        let sources = all_sources(alloc, &design)?;
-        let taps = all_taps(alloc, &design)?;
+        let wiring = Wiring::new(alloc, &design)?;
         let stages = stages(alloc, &design)?;
-        let parts = opening_parts(alloc, &design, taps.as_slice())?;
+        let parts = opening_parts(alloc, &design, wiring.taps.as_slice())?;
         let messages = opening_messages(alloc, &design)?;
-        let next_parts = opening_parts(alloc, &design, taps.as_slice())?;
+        let next_parts = opening_parts(alloc, &design, wiring.taps.as_slice())?;
         let next_messages = opening_messages(alloc, &design)?;
         Ok(Product {
-            alloc,
             design,
-            sources,
-            taps,
+            wiring,
             stages,
             parts,
             messages,
@@ -113,10 +105,8 @@ impl Product {
             messages: self.messages.as_slice(),
         };
         run_all(
-            self.alloc,
             round,
-            self.sources.as_slice(),
-            self.taps.as_slice(),
+            &self.wiring,
             self.parts.as_slice(),
             &mut self.stages,
             &mut self.next_parts,

@@ -4,6 +4,7 @@ ghost use Rattle.pals_base.specs.declared.values.PortValue.TheVariants.{Absent};
 ghost use Rattle.pals_base.specs.Steps.{column};
 ghost use Rattle.sync_product.specs.proof.Rounds.{brought};
 
+use crate::wiring::WiredComponent;
 use input_adaptors::adapted_place;
 use pals_base::tuples::place;
 use pals_base::{PortValue, Tuple};
@@ -18,21 +19,16 @@ pub struct RoundInputs<'a> {
     pub messages: &'a [Tuple],
 }
 
-/// Writes what the in ports with these sources have in a step, from 0, of a component of this rate.
-pub fn write_inputs(
-    inputs: &mut Tuple,
-    round: RoundInputs,
-    sources: &[PortSource],
-    rate: u32,
-    step: usize,
-)
-    requires count { length inputs.old ≡ length sources.now }
-    requires step { step < rate }
-    ensures inputs { inputs.new ≡ column step (map (brought round.entry rate) sources.now) }
+/// Writes what the in ports of a component have in a step, from 0.
+pub fn write_inputs(inputs: &mut Tuple, round: RoundInputs, wired: WiredComponent, step: usize)
+    requires count { length inputs.old ≡ length wired.sources.now }
+    requires step { step < wired.component.now.rate }
+    ensures inputs { inputs.new ≡ column step (map (brought round.entry wired.entry.component.now.rate) wired.entry.sources.now) }
     ensures len { length inputs.new ≡ length inputs.old }
 {
-    for at in 0..sources.len() {
-        inputs.set(at, place_brought(round, rate, sources[at], step));
+    let rate = wired.component.rate;
+    for at in 0..wired.sources.len() {
+        inputs.set(at, place_brought(round, rate, wired.sources[at], step));
     }
 }
 

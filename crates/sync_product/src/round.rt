@@ -1,28 +1,25 @@
 //! The steps of all components in a round.
 ghost use Rattle.std.specs.Prelude.{◌≡◌, OnOk, map};
-ghost use Rattle.pals_model.specs.Inputs.{all_sources};
-ghost use Rattle.sync_product.specs.proof.Sizes.{part_size, stage_size, part_sizes, stage_sizes, all_taps};
+ghost use Rattle.sync_product.specs.proof.Sizes.{part_size, stage_size, part_sizes, stage_sizes};
+ghost use Rattle.sync_product.specs.proof.Wired.{IsWiring};
 ghost use Rattle.sync_product.specs.proof.Rounds.{AreStepped, frames_of};
 
 use crate::reads::RoundInputs;
 use crate::stage::Stage;
+use crate::wiring::Wiring;
 use pals_base::{Items, NoMemory};
-use pals_model::{Part, PortSource};
-use std::alloc::Global;
+use pals_model::Part;
 
 /// Makes the steps of all components, from their frames in the parts of the round before. At Ok the
 /// new parts and the rows of the stages are those of the steps; the sizes stay in every case.
 pub fn run_all(
-    alloc: Global,
     round: RoundInputs,
-    sources: &[Items<PortSource>],
-    taps: &[Items<u32>],
+    wiring: &Wiring,
     parts: &[Part],
     stages: &mut Vec<Stage>,
     next: &mut Items<Part>,
 ) -> Result<(), NoMemory>
-    requires sources { sources.now ≡ all_sources round.design.now }
-    requires taps { taps.now ≡ all_taps round.design.now }
+    requires wiring { IsWiring round.design.now wiring.now }
     requires parts { map part_size parts.now ≡ part_sizes round.design.now }
     requires stages { map stage_size stages.old.items ≡ stage_sizes round.design.now }
     requires next { map part_size next.old ≡ part_sizes round.design.now }
@@ -30,16 +27,9 @@ pub fn run_all(
     ensures parts { map part_size next.new ≡ map part_size next.old }
     ensures stages { map stage_size stages.new.items ≡ map stage_size stages.old.items }
 {
-    for (node, component) in round.design.components().iter().enumerate() {
-        stages[node].run(
-            alloc,
-            component,
-            sources[node].as_slice(),
-            taps[node].as_slice(),
-            round,
-            &parts[node].frame,
-            &mut next[node],
-        )?;
+    for node in 0..round.design.components().len() {
+        let wired = wiring.component(round.design, node);
+        stages[node].run(wired, round, &parts[node].frame, &mut next[node])?;
     }
     Ok(())
 }

@@ -7,16 +7,19 @@ ghost use Rattle.sync_product.specs.proof.Sizes.{frame_size, part_size, stage_si
 
 use crate::reads::{RoundInputs, write_inputs};
 use crate::tuple_columns::write_column;
+use crate::wiring::WiredComponent;
 use behaviour_sem::fire_into;
 use pals_base::tuples::absent;
 use pals_base::{Behaviour, Frame, Items, NoMemory, PortValue, Tuple};
-use pals_model::{Component, Part, PortSource};
+use pals_model::{Component, Part};
 use std::alloc::Global;
 use std::mem::swap;
 
-/// The room in which one component makes its steps: the inputs and outputs of a step, the frame
-/// before it, the outputs of each step of the round, and how many of the steps are sent.
+/// The room in which one component makes its steps: where its loops take memory from, the inputs and
+/// outputs of a step, the frame before it, the outputs of each step of the round, and how many of the
+/// steps are sent.
 pub struct Stage {
+    pub alloc: Global,
     pub inputs: Tuple,
     pub outs: Vec<PortValue>,
     pub before: Frame,
@@ -27,6 +30,7 @@ pub struct Stage {
 impl Drop for Stage {
     fn drop(self) {
         let Stage {
+            alloc: _,
             inputs: _,
             outs: _,
             before: _,
@@ -47,6 +51,7 @@ impl Stage {
             rows.push(absent(alloc, outs)?)?;
         }
         Ok(Stage {
+            alloc,
             inputs: absent(alloc, component.behaviour.ins().len())?,
             outs: vec![in alloc; PortValue::Absent; outs]?,
             before: Frame::initial(alloc, &component.behaviour)?,
@@ -59,52 +64,51 @@ impl Stage {
     /// stay in every case.
     pub fn run(
         &mut self,
-        alloc: Global,
-        component: &Component,
-        sources: &[PortSource],
-        taps: &[u32],
+        wired: WiredComponent,
         round: RoundInputs,
         from: &Frame,
         part: &mut Part,
     ) -> Result<(), NoMemory>
-        requires stage { stage_size self.old ≡ stage_size_of self.old.sent component.now }
-        requires sources { length sources.now ≡ length component.now.behaviour.ins }
-        requires from { frame_size from.now ≡ frame_size_of component.now }
-        requires part { part_size part.old ≡ part_size_of component.now taps.now }
-        ensures frame { OnOk result (part.new.frame ≡ frame_after component.now.behaviour from.now (vectors round.entry component.now sources.now)) }
-        ensures rows { OnOk result (self.new.rows ≡ outputs component.now.behaviour from.now (vectors round.entry component.now sources.now)) }
-        ensures outs { OnOk result (part.new.outs ≡ map (λ port. column port self.new.rows) taps.now) }
+        requires stage { stage_size self.old ≡ stage_size_of self.old.sent wired.component.now }
+        requires sources { length wired.sources.now ≡ length wired.component.now.behaviour.ins }
+        requires from { frame_size from.now ≡ frame_size_of wired.component.now }
+        requires part { part_size part.old ≡ part_size_of wired.component.now wired.taps.now }
+        ensures frame { let c = wired.entry.component.now in OnOk result
+            (part.new.frame ≡ frame_after c.behaviour from.now (vectors round.entry c wired.entry.sources.now)) }
+        ensures rows { let c = wired.entry.component.now in OnOk result
+            (self.new.rows ≡ outputs c.behaviour from.now (vectors round.entry c wired.entry.sources.now)) }
+        ensures outs { OnOk result (part.new.outs ≡ map (λ port. column port self.new.rows) wired.entry.taps.now) }
         ensures part_size { part_size part.new ≡ part_size part.old }
         ensures stage_size { stage_size self.new ≡ stage_size self.old }
     {
-        self.make_steps(alloc, component, sources, round, from, &mut part.frame)?;
-        write_taps(&mut part.outs, self.rows.as_slice(), taps);
+        self.make_steps(wired, round, from, &mut part.frame)?;
+        write_taps(&mut part.outs, self.rows.as_slice(), wired.taps);
         Ok(())
     }
 
     // Makes the steps into another frame.
     fn make_steps(
         &mut self,
-        alloc: Global,
-        component: &Component,
-        sources: &[PortSource],
+        wired: WiredComponent,
         round: RoundInputs,
         from: &Frame,
         to: &mut Frame,
     ) -> Result<(), NoMemory>
-        requires stage { stage_size self.old ≡ stage_size_of self.old.sent component.now }
-        requires sources { length sources.now ≡ length component.now.behaviour.ins }
-        requires from { frame_size from.now ≡ frame_size_of component.now }
-        requires to { frame_size to.old ≡ frame_size_of component.now }
-        ensures frame { OnOk result (to.new ≡ frame_after component.now.behaviour from.now (vectors round.entry component.now sources.now)) }
-        ensures rows { OnOk result (self.new.rows ≡ outputs component.now.behaviour from.now (vectors round.entry component.now sources.now)) }
+        requires stage { stage_size self.old ≡ stage_size_of self.old.sent wired.component.now }
+        requires sources { length wired.sources.now ≡ length wired.component.now.behaviour.ins }
+        requires from { frame_size from.now ≡ frame_size_of wired.component.now }
+        requires to { frame_size to.old ≡ frame_size_of wired.component.now }
+        ensures frame { let c = wired.entry.component.now in OnOk result
+            (to.new ≡ frame_after c.behaviour from.now (vectors round.entry c wired.entry.sources.now)) }
+        ensures rows { let c = wired.entry.component.now in OnOk result
+            (self.new.rows ≡ outputs c.behaviour from.now (vectors round.entry c wired.entry.sources.now)) }
         ensures frame_size { frame_size to.new ≡ frame_size to.old }
         ensures stage_size { stage_size self.new ≡ stage_size self.old }
     {
         to.copy_from(from);
-        for step in 0..component.rate as usize {
-            write_inputs(&mut self.inputs, round, sources, component.rate, step);
-            self.make_step(alloc, &component.behaviour, step, to)?;
+        for step in 0..wired.component.rate as usize {
+            write_inputs(&mut self.inputs, round, wired, step);
+            self.make_step(&wired.component.behaviour, step, to)?;
         }
         Ok(())
     }
@@ -112,7 +116,6 @@ impl Stage {
     /// Makes one step from the inputs that stand ready, and keeps its outputs in the row of its number.
     pub fn make_step(
         &mut self,
-        alloc: Global,
         behaviour: &Behaviour,
         step: usize,
         frame: &mut Frame,
@@ -129,7 +132,7 @@ impl Stage {
         swap(&mut self.before, frame);
         let inputs = self.inputs.as_slice();
         fire_into(
-            alloc,
+            self.alloc,
             behaviour,
             &self.before,
             inputs,

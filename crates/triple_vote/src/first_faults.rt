@@ -6,6 +6,13 @@ use pals_base::{Items, NoMemory};
 use pals_runs::VoteFault;
 use std::alloc::Global;
 
+/// The faults of a round, and for each place the number of the first one there.
+#[derive(Clone, Copy)]
+pub struct FaultTable<'a> {
+    pub faults: &'a [VoteFault],
+    pub places: &'a [Option<usize>],
+}
+
 /// The place of a link, a replica of its source and one of its target, both numbered from 1.
 pub fn place(link: u32, replica: u32, target: u32) -> usize
     ensures { result ≡ place link replica target }

@@ -59,7 +59,6 @@ impl Layer {
     /// Makes a round from what these replicas received, beside where they stand.
     pub fn run(
         &mut self,
-        alloc: Global,
         round: RoundInputs,
         sources: &[Items<PortSource>],
         stages: &mut Vec<Stage>,
@@ -73,7 +72,6 @@ impl Layer {
         ensures stages { map stage_size stages.new.items ≡ map stage_size stages.old.items }
     {
         run_all(
-            alloc,
             round,
             sources,
             self.there.as_slice(),

@@ -7,11 +7,11 @@ ghost use Rattle.triple_vote.specs.proof.FaultPlaces.{AreFirst};
 ghost use Rattle.triple_vote.specs.proof.VoteLaws.{IsFault};
 ghost use Rattle.triple_vote.specs.proof.Triples.{AreThree, AreOpened, AreMade, StayPut, AreHeard, AllReceived, AreTurned};
 
+use crate::first_faults::FaultTable;
 use crate::layer::Layer;
 use crate::receiving::receive_all;
 use pals_base::{Items, NoMemory, PortValue, Tuple};
 use pals_model::{Design, PortSource};
-use pals_runs::VoteFault;
 use std::alloc::Global;
 use sync_product::opening::opening_messages;
 use sync_product::reads::RoundInputs;
@@ -49,7 +49,6 @@ pub fn opening_heard(alloc: Global, design: &Design) -> Result<Vec<Items<Tuple>>
 /// Makes a round in each layer. At Ok each has made it from what its replicas received; where they stand
 /// stays in every case.
 pub fn run_each(
-    alloc: Global,
     design: &Design,
     values: &[PortValue],
     heard: &[Items<Tuple>],
@@ -72,37 +71,28 @@ pub fn run_each(
             values,
             messages: heard[at].as_slice(),
         };
-        layers[at].run(alloc, round, sources, stages)?;
+        layers[at].run(round, sources, stages)?;
     }
     Ok(())
 }
 
-/// Writes what the replicas of each layer receive. The table has the first fault at each place.
+/// Writes what the replicas of each layer receive.
 pub fn receive_each(
     design: &Design,
     replicated: &[bool],
-    faults: &[VoteFault],
-    places: &[Option<usize>],
+    table: FaultTable,
     layers: &[Layer],
     heard: &mut Vec<Items<Tuple>>,
 )
     requires layers { AreThree design.now layers.now }
-    requires faults { All (IsFault design.now) faults.now }
-    requires places { AreFirst faults.now (length design.now.links) places.now }
+    requires faults { All (IsFault design.now) table.faults.now }
+    requires places { AreFirst table.faults.now (length design.now.links) table.places.now }
     requires heard { AreHeard design.now heard.old.items }
-    ensures received { AllReceived design.now replicated.now faults.now layers.now heard.new.items }
+    ensures received { AllReceived design.now replicated.now table.entry.faults.now layers.now heard.new.items }
     ensures heard { AreHeard design.now heard.new.items }
 {
     for at in 0..heard.len() {
-        receive_all(
-            design,
-            replicated,
-            faults,
-            places,
-            layers,
-            at,
-            &mut heard[at],
-        );
+        receive_all(design, replicated, table, layers, at, &mut heard[at]);
     }
 }
 

@@ -6,7 +6,7 @@ ghost use Rattle.triple_vote.specs.Replicas.{copies_of, frame_at, received_at};
 ghost use Rattle.triple_vote.specs.proof.VoteLaws.{IsFault};
 ghost use Rattle.triple_vote.specs.proof.States.{vbegun, vadvanced};
 
-use crate::first_faults::first_faults;
+use crate::first_faults::{FaultTable, first_faults};
 use crate::layer::Layer;
 use crate::layers::{opening_heard, opening_layers, receive_each, run_each, turn_each};
 use crate::opening::opening_shown;
@@ -114,7 +114,6 @@ impl VoteProduct {
         let links = self.design.links().len();
         let places = first_faults(self.alloc, faults, links)?;
         run_each(
-            self.alloc,
             &self.design,
             values,
             self.heard.as_slice(),
@@ -124,15 +123,11 @@ impl VoteProduct {
         )?;
         let replicated = self.replicated.as_slice();
         let layers = self.layers.as_slice();
-        let places = places.as_slice();
-        receive_each(
-            &self.design,
-            replicated,
+        let table = FaultTable {
             faults,
-            places,
-            layers,
-            &mut self.heard,
-        );
+            places: places.as_slice(),
+        };
+        receive_each(&self.design, replicated, table, layers, &mut self.heard);
         show_each(&self.design, replicated, layers, &mut self.shown);
         turn_each(&mut self.layers);
         Ok(())

@@ -7,28 +7,22 @@ ghost use Rattle.triple_vote.specs.proof.Layers.{lengths};
 ghost use Rattle.triple_vote.specs.proof.VoteLaws.{IsFault};
 ghost use Rattle.triple_vote.specs.proof.Triples.{AreThree, sent_in, tuple_of, received_of, AreReceived, AreOfSize, FaultsFit};
 
-use crate::first_faults::place;
+use crate::first_faults::{FaultTable, place};
 use crate::layer::Layer;
 use crate::rounds::{is_there, tuple_at};
 use crate::votes::vote_into;
 use pals_base::{Items, PortValue, Tuple};
 use pals_model::Design;
-use pals_runs::VoteFault;
 
 // What a replica sends to a reader: the tuple of the first fault at their place, where the table of first
 // faults has one, and else its own.
-fn sent_to<'a>(
-    faults: &'a [VoteFault],
-    places: &[Option<usize>],
-    place: usize,
-    own: &'a [PortValue],
-) -> &'a [PortValue]
-    ensures { result.now ≡ fault_or (fault_at faults.entry.now (slice_index_or places.now place Option.None)) own.entry.now }
+fn sent_to<'a>(table: FaultTable<'a>, place: usize, own: &'a [PortValue]) -> &'a [PortValue]
+    ensures { result.now ≡ fault_or (fault_at table.entry.faults.now (slice_index_or table.entry.places.now place Option.None)) own.entry.now }
 {
-    let Some(Some(number)) = places.get(place) else {
+    let Some(Some(number)) = table.places.get(place) else {
         return own;
     };
-    match faults.get(*number) {
+    match table.faults.get(*number) {
         Some(fault) => fault.values.as_slice(),
         None => own,
     }
@@ -47,8 +41,7 @@ fn sent_at(layers: &[Layer], replica: usize, number: usize) -> &[PortValue]
 // Writes what the replica at a place receives on a link: the vote of what three replicas send to it, or
 // the message of a source that is there once.
 fn receive(
-    faults: &[VoteFault],
-    places: &[Option<usize>],
+    table: FaultTable,
     layers: &[Layer],
     number: usize,
     three: bool,
@@ -58,9 +51,9 @@ fn receive(
     requires number { number < 2 ^ 32 }
     requires at { at < 3 }
     requires sent { AreOfSize (sent_in layers.now) number (length to.old) }
-    requires faults { FaultsFit faults.now number (length to.old) }
-    requires places { AreFirstOn faults.now number places.now }
-    ensures { to.new ≡ received_of three faults.now (sent_in layers.now) number at }
+    requires faults { FaultsFit table.faults.now number (length to.old) }
+    requires places { AreFirstOn table.faults.now number table.places.now }
+    ensures { to.new ≡ received_of three table.entry.faults.now (sent_in layers.now) number at }
 {
     let link = number as u32;
     let target = at as u32 + 1;
@@ -68,32 +61,30 @@ fn receive(
     if three {
         let second = sent_at(layers, 1, number);
         let third = sent_at(layers, 2, number);
-        let x = sent_to(faults, places, place(link, 1, target), first);
-        let y = sent_to(faults, places, place(link, 2, target), second);
-        let z = sent_to(faults, places, place(link, 3, target), third);
+        let x = sent_to(table, place(link, 1, target), first);
+        let y = sent_to(table, place(link, 2, target), second);
+        let z = sent_to(table, place(link, 3, target), third);
         vote_into(to, x, y, z);
     } else {
         to.copy_from_slice(first);
     }
 }
 
-/// Writes what the replicas at a place receive on each link, from what all replicas made. The table has
-/// the first fault at each place.
+/// Writes what the replicas at a place receive on each link, from what all replicas made.
 pub fn receive_all(
     design: &Design,
     replicated: &[bool],
-    faults: &[VoteFault],
-    places: &[Option<usize>],
+    table: FaultTable,
     layers: &[Layer],
     at: usize,
     heard: &mut Items<Tuple>,
 )
     requires at { at < 3 }
     requires layers { AreThree design.now layers.now }
-    requires faults { All (IsFault design.now) faults.now }
-    requires places { AreFirst faults.now (length design.now.links) places.now }
+    requires faults { All (IsFault design.now) table.faults.now }
+    requires places { AreFirst table.faults.now (length design.now.links) table.places.now }
     requires heard { lengths heard.old ≡ message_sizes design.now }
-    ensures received { AreReceived design.now replicated.now faults.now layers.now at heard.new }
+    ensures received { AreReceived design.now replicated.now table.entry.faults.now layers.now at heard.new }
     ensures sizes { lengths heard.new ≡ message_sizes design.now }
 {
     let there = layers[at].there.as_slice();
@@ -103,6 +94,6 @@ pub fn receive_all(
         }
         let three = is_there(replicated, link.source);
         let tuple = &mut heard[number];
-        receive(faults, places, layers, number, three, at, tuple);
+        receive(table, layers, number, three, at, tuple);
     }
 }

@@ -7,10 +7,10 @@ ghost use Rattle.triple_vote.specs.proof.Layers.{lengths, frame_sizes, tap_sizes
 
 use pals_base::{Items, NoMemory, NodeNo, PortValue, Tuple};
 use pals_model::{Design, Part, PortSource};
-use std::alloc::Global;
 use sync_product::reads::RoundInputs;
 use sync_product::stage::Stage;
 use sync_product::tuple_columns::write_column;
+use sync_product::wiring::WiredComponent;
 
 /// What a table says of a component, false past its end.
 pub fn is_there(there: &[bool], node: NodeNo) -> bool
@@ -33,7 +33,6 @@ pub fn tuple_at(tuples: &[Tuple], at: usize) -> &[PortValue]
 /// Makes the steps of all components that are there, from their frames after the round before. The
 /// sizes stay in every case.
 pub fn run_all(
-    alloc: Global,
     round: RoundInputs,
     sources: &[Items<PortSource>],
     there: &[bool],
@@ -55,15 +54,12 @@ pub fn run_all(
         if !there[node] {
             continue;
         }
-        stages[node].run(
-            alloc,
+        let wired = WiredComponent {
             component,
-            sources[node].as_slice(),
-            &[],
-            round,
-            &parts[node].frame,
-            &mut next[node],
-        )?;
+            sources: sources[node].as_slice(),
+            taps: &[],
+        };
+        stages[node].run(wired, round, &parts[node].frame, &mut next[node])?;
     }
     Ok(())
 }

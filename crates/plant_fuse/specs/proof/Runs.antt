@@ -12,8 +12,9 @@ use Rattle.pals_runs.specs.declared.pairs.Pair.{Pair}
 use Rattle.sync_product.specs.declared.reads.RoundInputs.{RoundInputs}
 use Rattle.sync_product.specs.declared.stage.Stage.{Stage}
 use Rattle.sync_product.specs.proof.Sizes.{tap_ports}
+use Rattle.sync_product.specs.proof.Wired.{IsWired}
 use Rattle.sync_product.specs.proof.Rounds.{IsStepped, frames_of}
-use Rattle.plant_fuse.specs.declared.sides.StepContext.{StepContext}
+use Rattle.plant_fuse.specs.declared.sides.PairedComponent.{PairedComponent}
 use Rattle.plant_fuse.specs.proof.Partners.{partner_of}
 use Rattle.plant_fuse.specs.proof.Sides.{Seat, Work, AreMade}
 
@@ -21,12 +22,11 @@ use Rattle.plant_fuse.specs.proof.Sides.{Seat, Work, AreMade}
 abbrev pub seat : DesignParts → ℕ → ℕ → Component → Seat
 seat design node partner c = record { partner = partner; component = c; sources = sources_of design node c }
 
--- what is given to its steps
-pub record IsGiven (design : DesignParts) (parts : List Part) (node : ℕ) (given : StepContext) : Type 0 where
-  pub component_is : slice_get design.components node ≡ Some given.component.now
-  pub sources_are : given.sources.now ≡ sources_of design node given.component.now
-  pub from_is : given.from.now ≡ slice_index_or (frames_of parts) node no_frame
-  pub taps_are : given.taps.now ≡ tap_ports design.taps node
+-- in a pair, with its frame in these parts
+pub record IsPaired (design : DesignParts) (parts : List Part) (node partner : ℕ) (side : PairedComponent) : Type 0 where
+  pub wired_is : IsWired design node side.wired
+  pub partner_is : side.partner ≡ partner
+  pub from_is : side.from.now ≡ slice_index_or (frames_of parts) node no_frame
 
 -- ---- what stands behind the round
 abbrev pub rows_of : List Stage → List (List (List PortValue))

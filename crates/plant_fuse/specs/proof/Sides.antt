@@ -13,7 +13,6 @@ use Rattle.sync_product.specs.declared.reads.RoundInputs.{RoundInputs}
 use Rattle.sync_product.specs.declared.stage.Stage.{Stage}
 use Rattle.sync_product.specs.proof.Sizes.{frame_size, frame_size_of, part_size, part_size_of, stage_size, stage_size_of}
 use Rattle.sync_product.specs.proof.Rounds.{brought}
-use Rattle.plant_fuse.specs.declared.sides.StepContext.{StepContext}
 use Rattle.plant_fuse.specs.declared.sides.PairedComponent.{PairedComponent}
 use Rattle.pals_model.specs.declared.sources.PortSource.TheVariants as source
 
@@ -24,7 +23,7 @@ pub record Seat : Type 0 where
   pub sources : List PortSource
 
 abbrev pub seat_of : PairedComponent → Seat
-seat_of side = record { partner = side.partner; component = side.given.component.now; sources = side.given.sources.now }
+seat_of side = record { partner = side.partner; component = side.wired.component.now; sources = side.wired.sources.now }
 
 -- ---- what is read
 abbrev pub brought_at : RoundInputs → Seat → ℕ → PortSource → PortValue
@@ -92,21 +91,21 @@ pub record AreMade (round : RoundInputs) (plant controller : Seat) (steps : ℕ)
       (map (controller_vector round controller p.rows) (upwards 0 steps)) c.rows c.to
 
 -- ---- room for the steps of a component
-pub record FitsGiven (given : StepContext) (stage : Stage) (part : Part) : Type 0 where
-  pub sources_fit : length given.sources.now ≡ length given.component.now.behaviour.ins
-  pub from_fits : frame_size given.from.now ≡ frame_size_of given.component.now
-  pub stage_fits : stage_size stage ≡ stage_size_of stage.sent given.component.now
-  pub part_fits : part_size part ≡ part_size_of given.component.now given.taps.now
+pub record FitsSteps (side : PairedComponent) (stage : Stage) (part : Part) : Type 0 where
+  pub sources_fit : length side.wired.sources.now ≡ length side.wired.component.now.behaviour.ins
+  pub from_fits : frame_size side.from.now ≡ frame_size_of side.wired.component.now
+  pub stage_fits : stage_size stage ≡ stage_size_of stage.sent side.wired.component.now
+  pub part_fits : part_size part ≡ part_size_of side.wired.component.now side.wired.taps.now
 
 -- ---- behind the steps of both: what is made, and what root out ports show of it
 abbrev pub side_work : PairedComponent → Stage → Part → Work
-side_work side stage part = work side.given.from.now stage.rows part.frame
+side_work side stage part = work side.from.now stage.rows part.frame
 
 pub record AreSidesRun (round : RoundInputs) (plant controller : PairedComponent) (plant_stage controller_stage : Stage)
     (plant_part controller_part : Part) : Type 0 where
   pub made :
-      AreMade round (seat_of plant) (seat_of controller) plant.given.component.now.rate
+      AreMade round (seat_of plant) (seat_of controller) plant.wired.component.now.rate
       (side_work plant plant_stage plant_part) (side_work controller controller_stage controller_part)
-  pub plant_shows : plant_part.outs ≡ map (λ port. column port plant_stage.rows) plant.given.taps.now
+  pub plant_shows : plant_part.outs ≡ map (λ port. column port plant_stage.rows) plant.wired.taps.now
   pub controller_shows : controller_part.outs
-      ≡ map (λ port. column port controller_stage.rows) controller.given.taps.now
+      ≡ map (λ port. column port controller_stage.rows) controller.wired.taps.now

@@ -1,14 +1,12 @@
 -- What is found once for a design and its pairs.
 use Rattle.std.specs.Prelude.{◌≡◌, List}
 use Rattle.pals_model.specs.declared.design.DesignParts.{DesignParts}
-use Rattle.pals_model.specs.Inputs.{all_sources}
 use Rattle.pals_runs.specs.declared.pairs.Pair.{Pair}
-use Rattle.sync_product.specs.proof.Sizes.{all_taps}
+use Rattle.sync_product.specs.proof.Wired.{IsWiring}
 use Rattle.plant_fuse.specs.declared.tables.Tables.{Tables}
 use Rattle.plant_fuse.specs.proof.Partners.{all_partners}
 
 pub record AreTables (design : DesignParts) (pairs : List Pair) (tables : Tables) : Type 0 where
   pub pairs_are : tables.pairs ≡ pairs
   pub partners_are : tables.partners ≡ all_partners design pairs
-  pub sources_are : tables.sources ≡ all_sources design
-  pub taps_are : tables.taps ≡ all_taps design
+  pub wiring_is : IsWiring design tables.wiring

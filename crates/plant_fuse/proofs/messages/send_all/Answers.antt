@@ -15,7 +15,8 @@ use Rattle.sync_product.proofs.Sending.{sized_message}
 use Rattle.sync_product.proofs.Columns.{length-cut, length-column}
 use Rattle.plant_fuse.specs.proof.Partners.{is_inside}
 use Rattle.plant_fuse.specs.proof.Messages.{sent_on}
-use Rattle.plant_fuse.proofs.Counts.{count_of_stages, count_of_partners}
+use Rattle.sync_product.proofs.Fitting.{count_of_stages}
+use Rattle.plant_fuse.proofs.Counts.{count_of_partners}
 use Rattle.plant_fuse.proofs.PairRuns.{partner_entry}
 use Rattle.plant_fuse.proofs.Sending.{sent_item}
 use Rattle.plant_fuse.proofs.messages.send_all.Goals as goal

@@ -1,4 +1,4 @@
-use Rattle.std.proofs.Common.{◌≡◌, ◌≢◌, ◌∙◌, ◌<◌, List, Some, slice_get, slice_index_or, length, refl, sym, ap, arith}
+use Rattle.std.proofs.Common.{◌≡◌, ◌≢◌, ◌∙◌, ◌<◌, List, Some, slice_get, slice_index_or, length, sym, ap, arith}
 use Rattle.std.specs.Option.{option_map}
 use Rattle.std.proofs.lemmas.List.{length-set}
 use Rattle.std.proofs.lemmas.Option.{slice_get-map}
@@ -9,11 +9,10 @@ use Rattle.sync_product.specs.proof.Rounds.{frames_of}
 use Rattle.sync_product.specs.proof.Sizes.{part_size, stage_size}
 use Rattle.plant_fuse.specs.proof.Runs.{IsRun, StayBeside}
 use Rattle.plant_fuse.specs.proof.Sides.{AreSidesRun}
-use Rattle.plant_fuse.specs.declared.sides.PairedComponent.{PairedComponent}
 use Rattle.plant_fuse.specs.proof.TakenFrom.{TakenFrom}
-use Rattle.plant_fuse.proofs.Counts.{count_of_parts, count_of_stages}
+use Rattle.sync_product.proofs.Fitting.{count_of_parts, count_of_stages}
 use Rattle.plant_fuse.proofs.PairRuns.{pair_is_run}
-use Rattle.plant_fuse.proofs.Sized.{given_fits}
+use Rattle.plant_fuse.proofs.Sized.{paired_fits}
 use Rattle.plant_fuse.proofs.TakenOut.{kept_get, kept_length, back_first, back_second, back_other, seen_back}
 use Rattle.plant_fuse.proofs.round.run_pair.Goals as goal
 
@@ -34,9 +33,9 @@ index_mut-requires-2 c =
 
 pub run_sides-run-requires-clause-plant : goal.run_sides-run-requires-clause-plant
 run_sides-run-requires-clause-plant c =
-    given_fits c.args.round.design.now c.args.parts.now c.args.next.now c.args.stages.now.items c.args.pair.now.plant.0
-    c.given.result c.take_stage-stage.result c.take_part-part.result
-    c.given.ensures c.requires.parts c.requires.next c.requires.stages c.take_stage-stage.ensures.was
+    paired_fits c.args.round.design.now c.args.parts.now c.args.next.now c.args.stages.now.items
+    c.args.pair.now.plant.0 c.args.pair.now.controller.0 c.paired.result c.take_stage-stage.result
+    c.take_part-part.result c.paired.ensures c.requires.parts c.requires.next c.requires.stages c.take_stage-stage.ensures.was
     c.take_part-part.ensures.was
 
 -- the controller's stage and part are those that stand in the lists
@@ -57,9 +56,8 @@ run_sides-run-requires-clause-controller c =
     let in_next : pair.controller.0 < length next = omega (arith, inside, count_of_parts design next c.requires.next) in
     let in_stages : pair.controller.0 < length stages =
     omega (arith, inside, count_of_stages design stages c.requires.stages) in
-    given_fits design c.args.parts.now next stages pair.controller.0 c.given-2.result c.index_mut.result.now
-    c.index_mut-2.result.now
-    c.given-2.ensures c.requires.parts c.requires.next c.requires.stages
+    paired_fits design c.args.parts.now next stages pair.controller.0 pair.plant.0 c.paired-2.result
+    c.index_mut.result.now c.index_mut-2.result.now c.paired-2.ensures c.requires.parts c.requires.next c.requires.stages
     (stands stages c.take_stage-stage.new.stages.items pair c.take_stage-stage.result c.index_mut.result.now
     c.take_stage-stage.ensures is_pair.two in_stages c.index_mut.ensures.value)
     (stands next c.take_part-part.new.parts pair c.take_part-part.result c.index_mut-2.result.now
@@ -115,15 +113,15 @@ returns c =
     let second_s =
     stands stages mid_s pair c.take_stage-stage.result c.index_mut.result.now taken_s is_pair.two controller_in_s
     c.index_mut.ensures.value in
-    let first_side : PairedComponent = record { partner = controller; given = c.given.result } in
-    let second_side : PairedComponent = record { partner = plant; given = c.given-2.result } in
+    let first_side = c.paired.result in
+    let second_side = c.paired-2.result in
     record {
       run =
           OnOk-weaker c.run_sides-run.result
           (AreSidesRun round first_side second_side plant_stage controller_stage plant_part controller_part)
           (IsRun round (frames_of parts) next' stages' pair)
           (pair_is_run round parts next' stages' pair first_side second_side plant_stage controller_stage plant_part
-          controller_part c.given.ensures c.given-2.ensures refl refl
+          controller_part c.paired.ensures c.paired-2.ensures
           (back_first next mid next' plant controller c.take_part-part.result plant_part controller_part taken put
           is_pair.two plant_in controller_in)
           (back_second next mid next' plant controller c.take_part-part.result plant_part controller_part taken put

@@ -10,7 +10,7 @@ use Rattle.plant_fuse.proofs.sides.make_steps.Goals as goal
 
 pub row_before-last-requires : goal.row_before-last-requires
 row_before-last-requires c =
-    let component = c.args.controller.given.component.now in
+    let component = c.args.fused.controller.wired.component.now in
     let sizes = ap (λ (s : StageSize). s.rows) (c.loop-step.invariant.controller_room ∙ c.requires.controller_room) in
     let count =
     count_of_rows c.loop-step.controller_stage.rows component.rate (length component.behaviour.outs) sizes in
@@ -18,20 +18,20 @@ row_before-last-requires c =
 
 pub make_step-requires-clause-step : goal.make_step-requires-clause-step
 make_step-requires-clause-step c =
-    let component = c.args.plant.given.component.now in
+    let component = c.args.fused.plant.wired.component.now in
     let sizes = ap (λ (s : StageSize). s.rows) (c.loop-step.invariant.plant_room ∙ c.requires.plant_room) in
     omega (arith, count_of_rows c.loop-step.plant_stage.rows component.rate (length component.behaviour.outs) sizes)
 
 pub make_step-requires-clause-row : goal.make_step-requires-clause-row
 make_step-requires-clause-row c =
-    let component = c.args.plant.given.component.now in
+    let component = c.args.fused.plant.wired.component.now in
     let sizes = ap (λ (s : StageSize). s.rows) (c.loop-step.invariant.plant_room ∙ c.requires.plant_room) in
     length_of_row c.loop-step.plant_stage.rows component.rate (length component.behaviour.outs) c.loop-step.step []
     sizes (omega arith)
 
 pub index-requires : goal.index-requires
 index-requires c =
-    let component = c.args.plant.given.component.now in
+    let component = c.args.fused.plant.wired.component.now in
     let sizes = ap (λ (s : StageSize). s.rows) (c.loop-step.invariant.plant_room ∙ c.requires.plant_room) in
     let same = ap (λ (s : StageSize). s.rows) c.in_ok-make_step.ensures.stage_size in
     omega (
@@ -42,7 +42,7 @@ index-requires c =
 
 pub make_step-requires-in-loop-step-clause-step : goal.make_step-requires-in-loop-step-clause-step
 make_step-requires-in-loop-step-clause-step c =
-    let component = c.args.controller.given.component.now in
+    let component = c.args.fused.controller.wired.component.now in
     let sizes = ap (λ (s : StageSize). s.rows) (c.loop-step.invariant.controller_room ∙ c.requires.controller_room) in
     omega (
       arith,
@@ -52,7 +52,7 @@ make_step-requires-in-loop-step-clause-step c =
 
 pub make_step-requires-in-loop-step-clause-row : goal.make_step-requires-in-loop-step-clause-row
 make_step-requires-in-loop-step-clause-row c =
-    let component = c.args.controller.given.component.now in
+    let component = c.args.fused.controller.wired.component.now in
     let sizes = ap (λ (s : StageSize). s.rows) (c.loop-step.invariant.controller_room ∙ c.requires.controller_room) in
     length_of_row c.loop-step.controller_stage.rows component.rate (length component.behaviour.outs) c.loop-step.step []
     sizes (omega (arith, c.requires.rates))
@@ -61,8 +61,8 @@ pub loop-step-preserved : goal.loop-step-preserved
 loop-step-preserved c =
     let round = c.args.round in
     let step = c.loop-step.step in
-    let plant = seat_of c.args.plant in
-    let controller = seat_of c.args.controller in
+    let plant = seat_of c.args.fused.plant in
+    let controller = seat_of c.args.fused.controller in
     let rows_p = c.loop-step.plant_stage.rows in
     let rows_c = c.loop-step.controller_stage.rows in
     let v = c.write_read.new.inputs in

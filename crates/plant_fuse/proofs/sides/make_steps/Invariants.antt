@@ -7,11 +7,11 @@ use Rattle.plant_fuse.proofs.sides.make_steps.Given as goal
 abbrev pub invariant-loop-step : goal.invariant-loop-step
 invariant-loop-step l = record {
   made :
-      AreMade l.round (seat_of l.plant) (seat_of l.controller) l.step
+      AreMade l.round (seat_of l.fused.plant) (seat_of l.fused.controller) l.step
       (work l.fn.plant_frame (take l.step l.plant_stage.rows) l.plant_frame)
       (work l.fn.controller_frame (take l.step l.controller_stage.rows) l.controller_frame);
   plant_room : stage_size l.plant_stage ≡ stage_size l.fn.plant_stage;
   controller_room : stage_size l.controller_stage ≡ stage_size l.fn.controller_stage;
-  plant_size : frame_size l.plant_frame ≡ frame_size_of l.plant.given.component.now;
-  controller_size : frame_size l.controller_frame ≡ frame_size_of l.controller.given.component.now;
+  plant_size : frame_size l.plant_frame ≡ frame_size_of l.fused.plant.wired.component.now;
+  controller_size : frame_size l.controller_frame ≡ frame_size_of l.fused.controller.wired.component.now;
 }

@@ -10,7 +10,7 @@ pub loop-at-preserved : goal.loop-at-preserved
 loop-at-preserved c =
     let at = c.loop-at.at in
     let f = side_value c.args.round (seat_of c.args.side) c.args.step (option_copied c.args.last) in
-    let sources = c.args.side.given.sources.now in
+    let sources = c.args.side.wired.sources.now in
     let wanted = map f sources in
     let size : length wanted ≡ length sources = length-map sources f in
     let item = c.place_read.ensures ∙ sym (get_or-map f sources at _ c.place_read.result c.loop-at-test.true) in
@@ -25,7 +25,7 @@ loop-at-preserved c =
 pub returns-clause-inputs : goal.returns-clause-inputs
 returns-clause-inputs c =
     let f = side_value c.args.round (seat_of c.args.side) c.args.step (option_copied c.args.last) in
-    let sources = c.args.side.given.sources.now in
+    let sources = c.args.side.wired.sources.now in
     let wanted = map f sources in
     let size : length wanted ≡ length sources = length-map sources f in
     filled_all c.loop-at.inputs wanted c.loop-at.at (omega (arith, c.requires.count)) (omega arith)

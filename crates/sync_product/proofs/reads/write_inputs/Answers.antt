@@ -9,8 +9,8 @@ use Rattle.sync_product.proofs.reads.write_inputs.Goals as goal
 pub loop-at-preserved : goal.loop-at-preserved
 loop-at-preserved c =
     let at = c.loop-at.at in
-    let f = brought c.args.round c.args.rate in
-    let sources = c.args.sources.now in
+    let f = brought c.args.round c.args.wired.component.now.rate in
+    let sources = c.args.wired.sources.now in
     let wanted = column c.args.step (map f sources) in
     let size : length wanted ≡ length sources = length-column_of_map f sources c.args.step in
     let item =
@@ -26,8 +26,8 @@ loop-at-preserved c =
 
 pub returns-clause-inputs : goal.returns-clause-inputs
 returns-clause-inputs c =
-    let f = brought c.args.round c.args.rate in
-    let sources = c.args.sources.now in
+    let f = brought c.args.round c.args.wired.component.now.rate in
+    let sources = c.args.wired.sources.now in
     let wanted = column c.args.step (map f sources) in
     let size : length wanted ≡ length sources = length-column_of_map f sources c.args.step in
     filled_all c.loop-at.inputs wanted c.loop-at.at (omega (arith, c.requires.count)) (omega arith)

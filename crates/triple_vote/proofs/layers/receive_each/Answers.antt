@@ -19,7 +19,7 @@ loop-at-preserved c =
     let within : at < length heard = omega (arith, c.loop-at.heard.ok.0, c.loop-at-test.true) in
     record {
       received =
-          received_more c.args.design.now c.args.replicated.now c.args.faults.now c.args.layers.now heard at new within
+          received_more c.args.design.now c.args.replicated.now c.args.table.faults.now c.args.layers.now heard at new within
           c.receive_all.ensures.received
           c.loop-at.invariant.received;
       heard = heard_stay c.args.design.now heard at new c.loop-at.invariant.heard c.receive_all.ensures.sizes;

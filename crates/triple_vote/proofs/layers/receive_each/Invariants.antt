@@ -5,6 +5,6 @@ use Rattle.triple_vote.proofs.layers.receive_each.Given as goal
 -- the replicas of the first layers have received
 abbrev pub invariant-loop-at : goal.invariant-loop-at
 invariant-loop-at l = record {
-  received : ReceivedTo l.design l.replicated l.faults l.layers l.heard.items l.at;
+  received : ReceivedTo l.design l.replicated l.table.faults.now l.layers l.heard.items l.at;
   heard : AreHeard l.design l.heard.items;
 }

@@ -20,7 +20,7 @@ receive-requires-clause-number c =
 
 pub receive-requires-clause-sent : goal.receive-requires-clause-sent
 receive-requires-clause-sent c =
-    sent_fit c.args.design.now c.args.replicated.now c.args.faults.now c.args.layers.now c.args.at c.requires.layers
+    sent_fit c.args.design.now c.args.replicated.now c.args.table.faults.now c.args.layers.now c.args.at c.requires.layers
     c.requires.faults c.loop-number.heard
     c.loop-number.invariant.sizes c.links-link-items.result.now c.loop-number.number no_link
     c.index_mut-tuple.result.now c.links-link-items.ensures.value
@@ -28,7 +28,7 @@ receive-requires-clause-sent c =
 
 pub receive-requires-clause-faults : goal.receive-requires-clause-faults
 receive-requires-clause-faults c =
-    faults_are_fit c.args.design.now c.args.replicated.now c.args.faults.now c.args.layers.now c.args.at
+    faults_are_fit c.args.design.now c.args.replicated.now c.args.table.faults.now c.args.layers.now c.args.at
     c.requires.layers c.requires.faults c.loop-number.heard
     c.loop-number.invariant.sizes c.links-link-items.result.now c.loop-number.number no_link
     c.index_mut-tuple.result.now c.links-link-items.ensures.value
@@ -56,7 +56,7 @@ loop-number-preserved-then-not-is_there c =
       done =
           filled_skip c.args.design.now.links
           (λ (x : Link). is_there (slice_index_or (there_in layers) at []) x.target.0)
-          (λ k (x : Link). received_of (is_replicated c.args.replicated.now x.source.0) c.args.faults.now
+          (λ k (x : Link). received_of (is_replicated c.args.replicated.now x.source.0) c.args.table.faults.now
           (sent_in layers) k at) c.loop-number.heard number link
           (ap (λ l. slice_get l number) (sym c.links-link-items.ensures.value)
           ∙ slice_get-get_or items number no_link c.loop-number-test.true)
@@ -67,17 +67,17 @@ loop-number-preserved-then-not-is_there c =
 pub loop-number-preserved : goal.loop-number-preserved
 loop-number-preserved c =
     let is = c.receive.ensures
-    ∙ ap (λ b. received_of b c.args.faults.now (sent_in c.args.layers.now) c.loop-number.number c.args.at)
+    ∙ ap (λ b. received_of b c.args.table.faults.now (sent_in c.args.layers.now) c.loop-number.number c.args.at)
     c.is_there-three.ensures in
     record {
       sizes =
-          heard_sizes_stay c.args.design.now c.args.replicated.now c.args.faults.now c.args.layers.now c.args.at
+          heard_sizes_stay c.args.design.now c.args.replicated.now c.args.table.faults.now c.args.layers.now c.args.at
           c.requires.layers c.requires.faults c.loop-number.heard
           c.loop-number.invariant.sizes c.links-link-items.result.now c.loop-number.number _
           c.index_mut-tuple.result.now c.links-link-items.ensures.value
           c.loop-number-test.true c.index_mut-tuple.ensures.value c.receive.new.to is;
       done =
-          heard_more c.args.design.now c.args.replicated.now c.args.faults.now c.args.layers.now c.args.at
+          heard_more c.args.design.now c.args.replicated.now c.args.table.faults.now c.args.layers.now c.args.at
           c.requires.layers c.requires.faults c.loop-number.heard
           c.loop-number.invariant.sizes c.links-link-items.result.now c.loop-number.number _
           c.index_mut-tuple.result.now c.links-link-items.ensures.value
@@ -89,7 +89,7 @@ returns-clause-received c =
     filled_all c.args.design.now.links
     (λ (link : Link). is_there (slice_index_or (there_in c.args.layers.now) c.args.at []) link.target.0)
     (λ number (link : Link).
-    received_of (is_replicated c.args.replicated.now link.source.0) c.args.faults.now (sent_in c.args.layers.now)
+    received_of (is_replicated c.args.replicated.now link.source.0) c.args.table.faults.now (sent_in c.args.layers.now)
     number c.args.at)
     c.loop-number.heard c.loop-number.number
     (omega (arith, ap length c.links-link-items.ensures.value, c.loop-number-test.false))

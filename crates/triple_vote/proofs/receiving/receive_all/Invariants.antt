@@ -13,6 +13,6 @@ invariant-loop-number l = record {
   sizes : lengths l.heard ≡ message_sizes l.design;
   done : Filled l.design.links (λ (link : Link). is_there (slice_index_or (there_in l.layers) l.at []) link.target.0)
       (λ number (link : Link).
-      received_of (is_replicated l.replicated link.source.0) l.faults (sent_in l.layers) number l.at)
+      received_of (is_replicated l.replicated link.source.0) l.table.faults.now (sent_in l.layers) number l.at)
       l.heard l.number;
 }

@@ -11,7 +11,7 @@ use Rattle.sync_product.specs.proof.Rounds.{frames_of}
 use Rattle.plant_fuse.specs.Fused.{ArePairs}
 use Rattle.plant_fuse.specs.proof.Messages.{sent_on}
 use Rattle.plant_fuse.specs.proof.State.{FuseState, IsAdvanced}
-use Rattle.plant_fuse.proofs.Counts.{count_of_parts}
+use Rattle.sync_product.proofs.Fitting.{count_of_parts}
 use Rattle.plant_fuse.proofs.RoundSolutions.{standing, advanced_by}
 use Rattle.plant_fuse.proofs.product.FuseProduct.advance.Goals as goal
 

@@ -20,7 +20,7 @@ returns-clause-ok c =
     let values = c.args.values.now in
     let round : RoundInputs =
     record { design = c.deref.result; values = c.args.values; messages = c.as_slice.result } in
-    let before = c.as_slice-4.result.now in
+    let before = c.as_slice-2.result.now in
     let next = c.run_all.new.next in
     let stages = c.run_all.new.stages.items in
     let messages = c.send_all.new.messages in
@@ -34,7 +34,7 @@ returns-clause-ok c =
     let size : length before ≡ length here.components =
     omega (
       arith,
-      c.as_slice-4.ensures.len,
+      c.as_slice-2.ensures.len,
       count_of_sized part_size inside.parts (part_sizes design) c.self.invariant.1.parts_fit,
     ) in
     let count : length next ≡ length here.components =
@@ -47,7 +47,7 @@ returns-clause-ok c =
     ∙ ap stage_sizes (sym c.deref.ensures) in
     let are : messages ≡ map (sent_by stages) here.links =
     (c.send_all.ensures.sent
-    ∙ ap (λ ss. map (sent_by ss) c.deref-2.result.now.links) c.as_slice-5.ensures.value
+    ∙ ap (λ ss. map (sent_by ss) c.deref-2.result.now.links) c.as_slice-3.ensures.value
     ∙ ap (λ (d : DesignParts). map (sent_by stages) d.links) same) in
     ap (λ ps. standing design (frames_of ps) c.swap-2.new.x ps) c.swap.ensures.x_after
     ∙ ap (λ ms. standing design (frames_of next) ms next) c.swap-2.ensures.x_after
@@ -56,5 +56,5 @@ returns-clause-ok c =
     ∙ ap (λ (d : DesignParts). advanced (standing d (frames_of before) c.as_slice.result.now before) values)
     c.deref.ensures
     ∙ ap (λ ms. advanced (standing design (frames_of before) ms before) values) c.as_slice.ensures.value
-    ∙ ap (λ ps. advanced (standing design (frames_of ps) inside.messages ps) values) c.as_slice-4.ensures.value
+    ∙ ap (λ ps. advanced (standing design (frames_of ps) inside.messages ps) values) c.as_slice-2.ensures.value
     ∙ ap (λ (s : ProductState). advanced s values) c.self.view_is

@@ -12,18 +12,18 @@ use Rattle.sync_product.proofs.stage.Stage.make_steps.Goals as goal
 
 pub make_step-requires-clause-row : goal.make_step-requires-clause-row
 make_step-requires-clause-row c =
-    let component = c.args.component.now in
+    let component = c.args.wired.component.now in
     let sizes = ap (λ (s : StageSize). s.rows) (c.loop-step.invariant.stage_size ∙ c.requires.stage) in
     length_of_row c.loop-step.self.rows component.rate (length component.behaviour.outs) c.loop-step.step [] sizes
     (omega arith)
 
 pub loop-step-preserved : goal.loop-step-preserved
 loop-step-preserved c =
-    let component = c.args.component.now in
+    let component = c.args.wired.component.now in
     let b = component.behaviour in
     let from = c.args.from.now in
     let step = c.loop-step.step in
-    let read = map (brought c.args.round component.rate) c.args.sources.now in
+    let read = map (brought c.args.round component.rate) c.args.wired.sources.now in
     let inputs = column step read in
     let more = map_upwards_more (λ at. column at read) step in
     let sizes = ap (λ (s : StageSize). s.rows) (c.loop-step.invariant.stage_size ∙ c.requires.stage) in

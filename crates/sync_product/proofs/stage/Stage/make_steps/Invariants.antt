@@ -7,10 +7,11 @@ use Rattle.sync_product.proofs.stage.Stage.make_steps.Given as goal
 -- the first steps are made
 abbrev pub invariant-loop-step : goal.invariant-loop-step
 invariant-loop-step l =
-    let made = columns l.step (map (brought l.round l.component.rate) l.sources) in
+    let component = l.wired.component.now in
+    let made = columns l.step (map (brought l.round component.rate) l.wired.sources.now) in
     record {
-      frame : l.to ≡ frame_after l.component.behaviour l.from made;
-      rows : take l.step l.self.rows ≡ outputs l.component.behaviour l.from made;
-      to_size : frame_size l.to ≡ frame_size_of l.component;
+      frame : l.to ≡ frame_after component.behaviour l.from made;
+      rows : take l.step l.self.rows ≡ outputs component.behaviour l.from made;
+      to_size : frame_size l.to ≡ frame_size_of component;
       stage_size : stage_size l.self ≡ stage_size l.fn.self;
     }
