@@ -1,8 +1,8 @@
-use Rattle.std.proofs.Common.{◌<◌, sym, length, arith}
+use Rattle.std.proofs.Common.{◌∙◌, ◌<◌, sym, ap, length, slice_index_or, arith}
 use Rattle.std.proofs.lemmas.List.{get_or-map}
 use Rattle.pals_model.specs.declared.rounds.Part.{Part}
 use Rattle.pals_model.specs.Composition.{no_frame}
-use Rattle.sync_product.specs.proof.Sizes.{part_size, stage_size}
+use Rattle.sync_product.specs.proof.Sizes.{frame_size, part_size, stage_size}
 use Rattle.sync_product.proofs.Filling.{same_sizes}
 use Rattle.sync_product.proofs.Fitting.{count_of_parts, count_of_stages, fits_sources, fits_part, fits_frame, fits_stage}
 use Rattle.plant_fuse.proofs.PairRuns.{alone_is_run}
@@ -36,7 +36,8 @@ run-requires-clause-sources c =
 
 pub run-requires-clause-from : goal.run-requires-clause-from
 run-requires-clause-from c =
-    fits_frame c.args.round.design.now c.args.node c.component-wired.result c.component-wired.ensures
+    ap (λ (p : Part). frame_size p.frame) (sym c.index-parts-node.is)
+    ∙ fits_frame c.args.round.design.now c.args.node c.component-wired.result c.component-wired.ensures
     c.args.parts.now c.index-parts-node.result c.requires.parts c.index-parts-node.is
 
 pub run-requires-clause-part : goal.run-requires-clause-part
@@ -71,7 +72,7 @@ returns c =
     let in_next : node < length next = omega (arith, c.requires.node, count_of_parts design next c.requires.next) in
     let in_stages : node < length stages =
     omega (arith, c.requires.node, count_of_stages design stages c.requires.stages) in
-    let from = c.index-parts-node.result.frame in
+    let from = (slice_index_or parts node c.index-parts-node.result).frame in
     let from_is =
     sym (get_or-map (λ (p : Part). p.frame) parts node c.index-parts-node.result no_frame inside) in
     let done = c.in_ok-run.ensures in

@@ -1,7 +1,8 @@
-use Rattle.std.proofs.Common.{◌∙◌, ◌<◌, ap, length, slice_index_or, arith}
+use Rattle.std.proofs.Common.{◌∙◌, ◌<◌, ap, sym, length, slice_index_or, arith}
 use Rattle.std.proofs.lemmas.List.{get_or_default}
 use Rattle.std.proofs.lemmas.Option.{slice_get_within}
-use Rattle.sync_product.specs.proof.Sizes.{part_size, stage_size}
+use Rattle.pals_model.specs.declared.rounds.Part.{Part}
+use Rattle.sync_product.specs.proof.Sizes.{frame_size, part_size, stage_size}
 use Rattle.sync_product.proofs.Filling.{same_sizes}
 use Rattle.sync_product.proofs.Fitting.{count_of_parts, count_of_stages, fits_sources, fits_part, fits_frame, fits_stage}
 use Rattle.sync_product.proofs.Stepping.{stepped_more, rows_by, part_by}
@@ -48,7 +49,8 @@ run-requires-clause-sources c =
 
 pub run-requires-clause-from : goal.run-requires-clause-from
 run-requires-clause-from c =
-    fits_frame c.args.round.design.now c.loop-node.node c.component-wired.result c.component-wired.ensures
+    ap (λ (p : Part). frame_size p.frame) (sym c.index-parts-node.is)
+    ∙ fits_frame c.args.round.design.now c.loop-node.node c.component-wired.result c.component-wired.ensures
     c.args.parts.now c.index-parts-node.result c.requires.parts c.index-parts-node.is
 
 pub run-requires-clause-part : goal.run-requires-clause-part
