@@ -20,6 +20,15 @@ use aadl_tree::{AnnexTree, Transition};
 use pals_base::{BehaviourParts, Items, NoMemory, Transition as Edge, TryClone};
 use std::alloc::Global;
 
+// The states of a behaviour and the ways between them: its parts, how their transitions depart, and for
+// each state whether it is on a cycle of states that are not complete.
+#[derive(Clone, Copy)]
+struct StateGraph<'b> {
+    parts: &'b BehaviourParts,
+    legs: &'b Items<Departure>,
+    cyclic: &'b Items<bool>,
+}
+
 // Adds a finding that names a state.
 fn add_named(
     alloc: Global,
@@ -43,28 +52,27 @@ fn add_named(
 // Adds what is wrong with a state.
 fn add_state(
     alloc: Global,
-    parts: &BehaviourParts,
-    legs: &Items<Departure>,
-    cyclic: &Items<bool>,
+    graph: &StateGraph<'_>,
     number: usize,
     state: &StateAt,
     found: &mut Items<Violation>,
 ) -> Result<(), NoMemory>
-    ensures { OnOk result (found.new ≡ found.old ++ state_rules parts.now legs.now cyclic.now (number, state.now)) }
+    ensures { OnOk result (found.new
+        ≡ found.old ++ state_rules graph.now.parts.now graph.now.legs.now graph.now.cyclic.now (number, state.now)) }
 {
     add_named(
         alloc,
         found,
-        breaks_dispatch(parts, number),
+        breaks_dispatch(graph.parts, number),
         state,
         DISPATCH_COUNT,
     )?;
     if state.complete {
         return Ok(());
     }
-    let lacks = lacks_otherwise(alloc, legs.as_slice(), number)?;
+    let lacks = lacks_otherwise(alloc, graph.legs.as_slice(), number)?;
     add_named(alloc, found, lacks, state, NO_OTHERWISE)?;
-    let returns = is_marked(cyclic, number);
+    let returns = is_marked(graph.cyclic, number);
     add_named(alloc, found, returns, state, CYCLE_WITHOUT_COMPLETE)
 }
 
@@ -81,17 +89,16 @@ fn is_marked(marks: &Items<bool>, state: usize) -> bool
 // Adds what is wrong with states.
 fn add_states(
     alloc: Global,
-    parts: &BehaviourParts,
-    legs: &Items<Departure>,
-    cyclic: &Items<bool>,
+    graph: &StateGraph<'_>,
     states: &[StateAt],
     found: &mut Items<Violation>,
 ) -> Result<(), NoMemory>
-    ensures { OnOk result (found.new
-        ≡ found.old ++ flat_map (state_rules parts.now legs.now cyclic.now) (enumerate_from 0 states.now)) }
+    ensures { OnOk result (found.new ≡ found.old
+        ++ flat_map (state_rules graph.now.parts.now graph.now.legs.now graph.now.cyclic.now)
+        (enumerate_from 0 states.now)) }
 {
     for number in 0..states.len() {
-        add_state(alloc, parts, legs, cyclic, number, &states[number], found)?;
+        add_state(alloc, graph, number, &states[number], found)?;
     }
     Ok(())
 }
@@ -143,7 +150,12 @@ fn add_rules(
     add_if(alloc, found, !has_initial(states), at, NO_INITIAL)?;
     let legs = legs_of(alloc, states, transitions)?;
     let cyclic = cyclic_states(alloc, parts)?;
-    add_states(alloc, parts, &legs, &cyclic, states, found)
+    let graph = StateGraph {
+        parts,
+        legs: &legs,
+        cyclic: &cyclic,
+    };
+    add_states(alloc, &graph, states, found)
 }
 
 /// Resolves an annex that begins at a place, over the ports and variables of its scope, and adds what

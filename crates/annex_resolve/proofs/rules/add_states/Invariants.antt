@@ -6,4 +6,6 @@ use Rattle.annex_resolve.proofs.rules.add_states.Given as goal
 
 abbrev pub invariant-loop-number : goal.invariant-loop-number
 invariant-loop-number l =
-    l.found ≡ l.fn.found ++ flat_map (state_rules l.parts l.legs l.cyclic) (enumerate_from 0 (take l.number l.states))
+    l.found ≡ l.fn.found
+    ++ flat_map (state_rules l.graph.parts.now l.graph.legs.now l.graph.cyclic.now)
+    (enumerate_from 0 (take l.number l.states))
