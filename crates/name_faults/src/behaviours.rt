@@ -22,12 +22,23 @@ use aadl_names::{Finder, NameTable, Role};
 use aadl_tree::{Annex, AnnexContent, AnnexTree, Implementation, PackageTree};
 use std::alloc::{AllocError, Global};
 
-// Whether what a type declares goes before what an implementation declares.
-fn comes_first(tree: &PackageTree, of_type: Option<usize>, x: &Implementation) -> bool
-    ensures { result ≡ spec.comes_first (type_numbered (placed tree.now) of_type) (implementation_view kept_place x.now) }
+/// An implementation in its package, with the number of its type and what the names of that type's ports
+/// stand for.
+#[derive(Clone, Copy)]
+pub struct TypedImplementation<'t> {
+    pub tree: &'t PackageTree,
+    pub of_type: Option<usize>,
+    pub roles: &'t NameTable<Role>,
+    pub implementation: &'t Implementation,
+}
+
+// Whether what its type declares goes before what an implementation declares.
+fn comes_first(typed: &TypedImplementation<'_>) -> bool
+    ensures { result ≡ spec.comes_first (type_numbered (placed typed.now.tree.now) typed.now.of_type)
+        (implementation_view kept_place typed.now.implementation.now) }
 {
-    match type_numbered(tree, of_type) {
-        Some(declaration) => declaration.at < x.at,
+    match type_numbered(typed.tree, typed.of_type) {
+        Some(declaration) => declaration.at < typed.implementation.at,
         None => true,
     }
 }
@@ -51,44 +62,46 @@ fn scope_of<'t>(
 // Finds how a behaviour of an implementation uses names wrongly.
 fn check_behaviour(
     finder: &mut Finder,
-    tree: &PackageTree,
-    of_type: Option<usize>,
-    roles: &NameTable<Role>,
-    x: &Implementation,
+    typed: &TypedImplementation<'_>,
     behaviour: &AnnexTree,
 ) -> Result<(), AllocError>
-    requires of_type { of_type ≡ type_number (placed tree.now) (implementation_view kept_place x.now) }
-    requires roles { HasRolesOf (ports_of (placed tree.now) (implementation_view kept_place x.now)) roles.now }
+    requires of_type { typed.now.of_type
+        ≡ type_number (placed typed.now.tree.now) (implementation_view kept_place typed.now.implementation.now) }
+    requires roles { HasRolesOf
+        (ports_of (placed typed.now.tree.now) (implementation_view kept_place typed.now.implementation.now))
+        typed.now.roles.now }
     ensures { OnOk result (finder.new ≡ found finder.old
-        (spec.behaviour_faults (placed tree.now) (implementation_view kept_place x.now) (annex_tree_view kept_place behaviour.now))) }
+        (spec.behaviour_faults (placed typed.now.tree.now) (implementation_view kept_place typed.now.implementation.now)
+        (annex_tree_view kept_place behaviour.now))) }
 {
     let alloc = finder.alloc();
     let variables = variable_roles(alloc, behaviour)?;
     let states = state_names(alloc, behaviour)?;
-    let scope = scope_of(alloc, comes_first(tree, of_type, x), roles, &variables);
+    let scope = scope_of(alloc, comes_first(typed), typed.roles, &variables);
     check_transitions(finder, &states, &scope, transitions_in(behaviour))
 }
 
 // Finds what is wrong with an annex, where a behaviour is expected or is one too many.
 fn check_annex(
     finder: &mut Finder,
-    tree: &PackageTree,
-    of_type: Option<usize>,
-    roles: &NameTable<Role>,
-    x: &Implementation,
+    typed: &TypedImplementation<'_>,
     expected: bool,
     annex: &Annex,
 ) -> Result<(), AllocError>
-    requires of_type { of_type ≡ type_number (placed tree.now) (implementation_view kept_place x.now) }
-    requires roles { HasRolesOf (ports_of (placed tree.now) (implementation_view kept_place x.now)) roles.now }
+    requires of_type { typed.now.of_type
+        ≡ type_number (placed typed.now.tree.now) (implementation_view kept_place typed.now.implementation.now) }
+    requires roles { HasRolesOf
+        (ports_of (placed typed.now.tree.now) (implementation_view kept_place typed.now.implementation.now))
+        typed.now.roles.now }
     ensures { OnOk result (finder.new ≡ found finder.old
-        (annex_uses (placed tree.now) (implementation_view kept_place x.now) expected (annex_view kept_place annex.now))) }
+        (annex_uses (placed typed.now.tree.now) (implementation_view kept_place typed.now.implementation.now) expected
+        (annex_view kept_place annex.now))) }
 {
     match &annex.content {
         AnnexContent::Unread(_) => Ok(()),
         AnnexContent::Behaviour(behaviour) => {
             if expected {
-                check_behaviour(finder, tree, of_type, roles, x, behaviour)
+                check_behaviour(finder, typed, behaviour)
             } else {
                 finder.wrong_if(true, annex.at);
                 Ok(())
@@ -111,19 +124,21 @@ fn still_expected(expected: bool, annex: &Annex) -> bool
 /// that is one too many.
 pub fn check_behaviours(
     finder: &mut Finder,
-    tree: &PackageTree,
-    of_type: Option<usize>,
-    roles: &NameTable<Role>,
-    x: &Implementation,
+    typed: &TypedImplementation<'_>,
 ) -> Result<(), AllocError>
-    requires of_type { of_type ≡ type_number (placed tree.now) (implementation_view kept_place x.now) }
-    requires roles { HasRolesOf (ports_of (placed tree.now) (implementation_view kept_place x.now)) roles.now }
+    requires of_type { typed.now.of_type
+        ≡ type_number (placed typed.now.tree.now) (implementation_view kept_place typed.now.implementation.now) }
+    requires roles { HasRolesOf
+        (ports_of (placed typed.now.tree.now) (implementation_view kept_place typed.now.implementation.now))
+        typed.now.roles.now }
     ensures { OnOk result (finder.new ≡ found finder.old
-        (spec.annex_faults (placed tree.now) (implementation_view kept_place x.now) (behaviours (implementation_view kept_place x.now).annexes))) }
+        (spec.annex_faults (placed typed.now.tree.now) (implementation_view kept_place typed.now.implementation.now)
+        (behaviours (implementation_view kept_place typed.now.implementation.now).annexes))) }
 {
+    let x = typed.implementation;
     let mut expected = is_thread(x.category);
     for annex in &x.annexes {
-        check_annex(finder, tree, of_type, roles, x, expected, annex)?;
+        check_annex(finder, typed, expected, annex)?;
         expected = still_expected(expected, annex);
     }
     Ok(())

@@ -14,7 +14,7 @@ ghost use Rattle.aadl_names.specs.PackageFaults as spec;
 ghost use Rattle.name_faults.specs.proof.PortNames.{AreAllNamesOf};
 ghost use Rattle.name_faults.specs.proof.NumberedImplementations.{StandsAt};
 
-use crate::behaviours::check_behaviours;
+use crate::behaviours::{TypedImplementation, check_behaviours};
 use crate::implementations::check_outside_behaviours;
 use crate::types::check_type;
 use crate::{AllPortNames, names_at};
@@ -50,9 +50,14 @@ fn check_implementation(
         (spec.implementation_faults (placed wires.now.uses.names.tree.now) of_root (implementation_view kept_place x.now))) }
 {
     check_outside_behaviours(finder, wires, number, of_root, x)?;
-    let tree = wires.uses.names.tree;
     let of_type = wires.uses.type_number(number);
-    check_behaviours(finder, tree, of_type, &names_at(all, of_type).roles, x)
+    let typed = TypedImplementation {
+        tree: wires.uses.names.tree,
+        of_type,
+        roles: &names_at(all, of_type).roles,
+        implementation: x,
+    };
+    check_behaviours(finder, &typed)
 }
 
 // Finds what is wrong with the names in the declaration of a number.

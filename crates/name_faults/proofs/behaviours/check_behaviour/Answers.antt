@@ -12,8 +12,8 @@ use Rattle.name_faults.proofs.behaviours.check_behaviour.Goals as goal
 pub returns : goal.returns
 unfolding behaviour_faults
 returns c =
-    let tree = placed c.args.tree.now in
-    let x = implementation_view kept_place c.args.x.now in
+    let tree = placed c.args.typed.now.tree.now in
+    let x = implementation_view kept_place c.args.typed.now.implementation.now in
     closed c.check_transitions.result c.check_transitions.new.finder _ _
     (ap (found c.args.finder.now) (same_uses _ _ _ _ _ _
     (for_all _ _ c.in_ok-states.ensures)

@@ -10,7 +10,8 @@ use Rattle.name_faults.proofs.behaviours.check_behaviours.Goals as goal
 
 pub loop-annex-preserved : goal.loop-annex-preserved
 loop-annex-preserved c =
-    next_annex (annex_view kept_place) (placed c.args.tree.now) (implementation_view kept_place c.args.x.now) _ _
+    next_annex (annex_view kept_place) (placed c.args.typed.now.tree.now)
+    (implementation_view kept_place c.args.typed.now.implementation.now) _ _
     c.annex-item.result
     c.loop-annex.expected _ _ _ _
     c.loop-annex-test.true c.annex-item.is c.loop-annex.invariant c.in_ok-check_annex.ensures
@@ -18,8 +19,8 @@ loop-annex-preserved c =
 
 pub returns : goal.returns
 returns c =
-    let tree = placed c.args.tree.now in
-    let x = implementation_view kept_place c.args.x.now in
+    let tree = placed c.args.typed.now.tree.now in
+    let x = implementation_view kept_place c.args.typed.now.implementation.now in
     last_annex (annex_view kept_place) tree x _ _ c.loop-annex.expected _ _ c.loop-annex-test.false
     c.loop-annex.invariant
     ∙ ap (found c.args.finder.now)

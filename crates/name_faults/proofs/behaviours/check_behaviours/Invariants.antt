@@ -11,8 +11,10 @@ use Rattle.name_faults.proofs.behaviours.check_behaviours.Given as goal
 -- what is left is still to be looked at
 abbrev pub invariant-loop-annex : goal.invariant-loop-annex
 invariant-loop-annex l =
-    found l.initial.finder (behaviours_left (placed l.tree) (implementation_view kept_place l.x)
-    (is_thread l.x.category)
+    found l.initial.finder (behaviours_left (placed l.typed.tree.now)
+    (implementation_view kept_place l.typed.implementation.now)
+    (is_thread l.typed.implementation.now.category)
     (behaviours (map (annex_view kept_place) l.annex-items)))
-    ≡ found l.finder (behaviours_left (placed l.tree) (implementation_view kept_place l.x) l.expected
+    ≡ found l.finder (behaviours_left (placed l.typed.tree.now)
+    (implementation_view kept_place l.typed.implementation.now) l.expected
     (behaviours (map (annex_view kept_place) (drop l.annex-index l.annex-items))))
