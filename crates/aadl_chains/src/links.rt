@@ -46,6 +46,14 @@ pub fn has_too_many_links(
     Ok(count_at(counts.as_slice(), root) > LINKS)
 }
 
+// The ports at which connections between subcomponents begin and end: to how many in ports of threads each
+// in port leads, and to which out ports a thread gives.
+#[derive(Clone, Copy)]
+struct LinkEnds<'c> {
+    takes: &'c PortCounts,
+    gives: &'c InnerJoins,
+}
+
 // How many links there are below each declaration; the limit where there are more.
 fn link_counts(
     alloc: Global,
@@ -60,11 +68,15 @@ fn link_counts(
 {
     let takes = PortCounts::of(alloc, wires, order, limit)?;
     let gives = InnerJoins::of(alloc, wires, order, Direction::Out)?;
+    let ends = LinkEnds {
+        takes: &takes,
+        gives: &gives,
+    };
     let mut counts = zeros(alloc, wires.uses.len())?;
     for at in 0..order.len() {
         if let Some(number) = order.get_index(at) {
             let number = *number;
-            let count = links_below(wires, &takes, &gives, counts.as_slice(), number, limit);
+            let count = links_below(wires, &ends, counts.as_slice(), number, limit);
             put(&mut counts, number, count);
         }
     }
@@ -93,22 +105,21 @@ fn put(counts: &mut Vec<usize>, number: usize, count: usize)
 // The links below a declaration, by those below its subcomponents.
 fn links_below(
     wires: &Wires<'_>,
-    takes: &PortCounts,
-    gives: &InnerJoins,
+    ends: &LinkEnds<'_>,
     counts: &[usize],
     number: usize,
     limit: usize,
 ) -> usize
     requires declared { AreDeclared (placed wires.now.uses.names.tree.now) }
-    requires takes { AreTakenBelow (placed wires.now.uses.names.tree.now) limit takes.now number }
-    requires direction { gives.now.direction ≡ directions.Out }
-    requires gives { IsInside (placed wires.now.uses.names.tree.now) directions.Out gives.now.ports }
+    requires takes { AreTakenBelow (placed wires.now.uses.names.tree.now) limit ends.now.takes.now number }
+    requires direction { ends.now.gives.now.direction ≡ directions.Out }
+    requires gives { IsInside (placed wires.now.uses.names.tree.now) directions.Out ends.now.gives.now.ports }
     requires counts { (s m : ℕ) → below (placed wires.now.uses.names.tree.now) number s ≡ Some m
         → IsNumber limit (EndsLink (placed wires.now.uses.names.tree.now) m) (slice_index counts.now m) }
     ensures { IsNumber limit (EndsLink (placed wires.now.uses.names.tree.now) number) result }
 {
     let deeper = links_deeper(wires, counts, number, limit);
-    let carried = links_carried(wires, takes, gives, number, limit);
+    let carried = links_carried(wires, ends, number, limit);
     add_up_to(limit, deeper, carried)
 }
 
@@ -126,26 +137,17 @@ fn links_deeper(wires: &Wires<'_>, counts: &[usize], number: usize, limit: usize
 }
 
 // Those that its connections carry.
-fn links_carried(
-    wires: &Wires<'_>,
-    takes: &PortCounts,
-    gives: &InnerJoins,
-    number: usize,
-    limit: usize,
-) -> usize
+fn links_carried(wires: &Wires<'_>, ends: &LinkEnds<'_>, number: usize, limit: usize) -> usize
     requires declared { AreDeclared (placed wires.now.uses.names.tree.now) }
-    requires takes { AreTakenBelow (placed wires.now.uses.names.tree.now) limit takes.now number }
-    requires direction { gives.now.direction ≡ directions.Out }
-    requires gives { IsInside (placed wires.now.uses.names.tree.now) directions.Out gives.now.ports }
+    requires takes { AreTakenBelow (placed wires.now.uses.names.tree.now) limit ends.now.takes.now number }
+    requires direction { ends.now.gives.now.direction ≡ directions.Out }
+    requires gives { IsInside (placed wires.now.uses.names.tree.now) directions.Out ends.now.gives.now.ports }
     ensures { IsNumber limit (λ port. (k : ℕ) × FromThread (placed wires.now.uses.names.tree.now) number k port) result }
 {
     let mut count = 0;
     for (at, wire) in wires.wires(number).iter().enumerate() {
-        count = add_up_to(
-            limit,
-            count,
-            carried(wires, takes, gives, number, at, *wire, limit),
-        );
+        let more = carried(wires, ends, number, at, *wire, limit);
+        count = add_up_to(limit, count, more);
     }
     count
 }
@@ -153,8 +155,7 @@ fn links_carried(
 // Those that one connection carries.
 fn carried(
     wires: &Wires<'_>,
-    takes: &PortCounts,
-    gives: &InnerJoins,
+    ends: &LinkEnds<'_>,
     number: usize,
     at: usize,
     wire: Wire,
@@ -162,16 +163,16 @@ fn carried(
 ) -> usize
     requires wire { slice_get (wires_at (placed wires.now.uses.names.tree.now) number) at ≡ Some wire }
     requires declared { AreDeclared (placed wires.now.uses.names.tree.now) }
-    requires takes { AreTakenBelow (placed wires.now.uses.names.tree.now) limit takes.now number }
-    requires direction { gives.now.direction ≡ directions.Out }
-    requires gives { IsInside (placed wires.now.uses.names.tree.now) directions.Out gives.now.ports }
+    requires takes { AreTakenBelow (placed wires.now.uses.names.tree.now) limit ends.now.takes.now number }
+    requires direction { ends.now.gives.now.direction ≡ directions.Out }
+    requires gives { IsInside (placed wires.now.uses.names.tree.now) directions.Out ends.now.gives.now.ports }
     ensures { IsNumber limit (FromThread (placed wires.now.uses.names.tree.now) number at) result }
 {
     match wire.source {
         Some(source) => match source {
             PortPlace::Inner(sub, port) => {
-                if gives.reaches(wires, number, sub, port) {
-                    takes.through(wires, number, at, wire, limit)
+                if ends.gives.reaches(wires, number, sub, port) {
+                    ends.takes.through(wires, number, at, wire, limit)
                 } else {
                     0
                 }

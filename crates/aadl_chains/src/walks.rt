@@ -8,7 +8,7 @@ ghost use Rattle.aadl_uses.specs.proof.Orders.{IsOrder};
 ghost use Rattle.aadl_chains.specs.proof.Inside.{is_thread_at, is_in_at};
 ghost use Rattle.aadl_chains.specs.proof.Sound.{AreDeclared};
 ghost use Rattle.aadl_chains.specs.proof.Walks as walks;
-ghost use Rattle.aadl_chains.specs.proof.Walks.{crosses, OneEach, IsThreadPort};
+ghost use Rattle.aadl_chains.specs.proof.Walks.{OneEach, IsThreadPort};
 ghost use Rattle.aadl_chains.specs.proof.Routes.{Descends, Traces, TracesTap};
 ghost use Rattle.aadl_chains.specs.proof.Climbing as spec;
 ghost use Rattle.aadl_chains.specs.proof.Climbing.{IsFromInner, IsLower, LeadsDown};
@@ -97,7 +97,11 @@ pub fn trace_back(
         ClimbResult::Nowhere => Ok(None),
         ClimbResult::Root(last, from) => Ok(route_from_root(root, last, from)),
         ClimbResult::Crossing(crossed) => {
-            trace_over(alloc, wires, order, root, path, port, crossed)
+            let source = PortPlace::Inner(crossed.sub, crossed.port);
+            let lower = lower_of(wires, crossed.declaration, source);
+            let way = way_to(alloc, path, crossed.depth, crossed.sub)?;
+            let begin = descend(wires, order, way, lower.number, lower.port)?;
+            Ok(route_from(begin, crossed.declaration, crossed.connection))
         }
     }
 }
@@ -227,34 +231,6 @@ fn entry_into(
         }),
         None => None,
     }
-}
-
-// The link that comes over a connection between two subcomponents, if there is one.
-fn trace_over(
-    alloc: Global,
-    wires: &Wires<'_>,
-    order: &IndexSet<usize>,
-    root: usize,
-    path: &[usize],
-    port: usize,
-    crossed: CrossConnection,
-) -> Result<Option<ChainRoute>, AllocError>
-    requires order { IsOrder (inner.containment (placed wires.now.uses.names.tree.now)) order.now.keys }
-    requires declared { AreDeclared (placed wires.now.uses.names.tree.now) }
-    requires one { OneEach (placed wires.now.uses.names.tree.now) root }
-    requires no_thread { is_thread_at (placed wires.now.uses.names.tree.now) root ≡ false }
-    requires thread { IsThreadPort (placed wires.now.uses.names.tree.now) root (record { path = reverse path.now; port = port }) }
-    requires climbs { walks.climb (placed wires.now.uses.names.tree.now) root None (reverse path.now) port ≡ crosses (spec.crossing path.now crossed) }
-    ensures { IfOk result (Traces (placed wires.now.uses.names.tree.now) root (record { path = reverse path.now; port = port })) }
-{
-    let lower = lower_of(
-        wires,
-        crossed.declaration,
-        PortPlace::Inner(crossed.sub, crossed.port),
-    );
-    let way = way_to(alloc, path, crossed.depth, crossed.sub)?;
-    let begin = descend(wires, order, way, lower.number, lower.port)?;
-    Ok(route_from(begin, crossed.declaration, crossed.connection))
 }
 
 // The first `depth` steps of a path, and one more.

@@ -5,8 +5,8 @@ use Rattle.aadl_uses.specs.declared.connections.Wire.{Wire}
 use Rattle.aadl_chains.proofs.Counted.{none_carried, carried_more, carried_all}
 use Rattle.aadl_chains.proofs.links.links_carried.Goals as goal
 
-pub carried-requires-clause-wire : goal.carried-requires-clause-wire
-carried-requires-clause-wire c =
+pub carried-more-requires-clause-wire : goal.carried-more-requires-clause-wire
+carried-more-requires-clause-wire c =
     let items = c.wires-wire-items.result.now in
     ap (λ (l : List Wire). slice_get l c.loop-at.at) (sym c.wires-wire-items.ensures)
     ∙ slice_get-get_or items c.loop-at.at (record { source = None; target = None }) (omega arith)
@@ -17,8 +17,8 @@ loop-at-init c = none_carried (placed c.args.wires.now.uses.names.tree.now) c.ar
 pub loop-at-preserved : goal.loop-at-preserved
 loop-at-preserved c =
     carried_more (placed c.args.wires.now.uses.names.tree.now) c.args.limit c.args.number c.loop-at.at c.loop-at.count
-    c.carried.result c.add_up_to-count.result
-    c.loop-at.invariant c.carried.ensures c.add_up_to-count.ensures
+    c.carried-more.result c.add_up_to-count.result
+    c.loop-at.invariant c.carried-more.ensures c.add_up_to-count.ensures
 
 pub returns : goal.returns
 returns c =
