@@ -1,5 +1,6 @@
 //! What is wrong with the root.
-ghost use Rattle.std.specs.Prelude.{◌≡◌, ◌≤◌, ◌++◌, OnOk, option_map, option_copied};
+ghost use Rattle.std.specs.Prelude.{◌≡◌, ◌≤◌, ◌++◌, OnOk, not, option_map, option_copied};
+ghost use Rattle.std.specs.Option.{is_some};
 ghost use Rattle.pals_base.specs.declared.limits.TheConstants.{RATE};
 ghost use Rattle.aadl_tree.specs.proof.Maps.{kept_place};
 ghost use Rattle.aadl_tree.specs.proof.PackageViews.{placed};
@@ -62,21 +63,11 @@ fn root_place(tree: &PackageTree, root: usize) -> usize
     }
 }
 
-// Adds the finding that the root lacks a property.
-fn add_missing(
-    alloc: Global,
-    uses: &Uses<'_>,
-    root: usize,
-    number: u32,
-    details: &str,
-    property: PropertyName,
-    found: &mut Items<Violation>,
-) -> Result<(), NoMemory>
-    ensures { OnOk result (found.new ≡ found.old ++ spec.missing (placed uses.now.names.tree.now) root number details.now property) }
+// Whether the root lacks a property.
+fn lacks(uses: &Uses<'_>, root: usize, property: PropertyName) -> bool
+    ensures { result ≡ not (is_some (spec.at_root (placed uses.now.names.tree.now) root property)) }
 {
-    let at = root_place(uses.names.tree, root);
-    let given = root_property(uses, root, property);
-    add_named(alloc, found, given.is_none(), at, number, details)
+    root_property(uses, root, property).is_none()
 }
 
 // Adds the finding that the root lacks one of the bounds.
@@ -89,8 +80,9 @@ fn add_missing_bound(
 ) -> Result<(), NoMemory>
     ensures { OnOk result (found.new ≡ found.old ++ spec.missing_bound (placed uses.now.names.tree.now) root property) }
 {
-    let number = GAMMA_MISSING;
-    add_missing(alloc, uses, root, number, shown(property), property, found)
+    let at = root_place(uses.names.tree, root);
+    let missing = lacks(uses, root, property);
+    add_named(alloc, found, missing, at, GAMMA_MISSING, shown(property))
 }
 
 // Adds the findings that the root lacks its period or bounds.
@@ -102,15 +94,9 @@ fn add_missing_findings(
 ) -> Result<(), NoMemory>
     ensures { OnOk result (found.new ≡ found.old ++ spec.missing_findings (placed uses.now.names.tree.now) root) }
 {
-    add_missing(
-        alloc,
-        uses,
-        root,
-        NO_PERIOD,
-        "",
-        PropertyName::Period,
-        found,
-    )?;
+    let at = root_place(uses.names.tree, root);
+    let missing = lacks(uses, root, PropertyName::Period);
+    add_named(alloc, found, missing, at, NO_PERIOD, "")?;
     add_missing_bound(alloc, uses, root, PropertyName::Skew, found)?;
     add_missing_bound(alloc, uses, root, PropertyName::Execution, found)?;
     add_missing_bound(alloc, uses, root, PropertyName::Network, found)
