@@ -83,9 +83,9 @@ impl Carriers {
     }
 
     /// Whether a connection is among them.
-    pub fn has(&self, declaration: usize, connection: usize) -> bool
-        ensures { result ≡ carries self.now declaration connection }
+    pub fn has(&self, place: ConnAt) -> bool
+        ensures { result ≡ carries self.now place.declaration place.connection }
     {
-        self.places.contains(&(declaration, connection))
+        self.places.contains(&(place.declaration, place.connection))
     }
 }

@@ -15,6 +15,7 @@ ghost use Rattle.model_violations.specs.Connections as spec;
 ghost use Rattle.model_violations.specs.proof.Connections.{IsConnection};
 
 use crate::carriers::Carriers;
+use aadl_instance::ConnAt;
 use aadl_names::PortPlace;
 use aadl_names::numbered::type_numbered;
 use aadl_tree::{Connection, Identifier, Implementation, PackageTree};
@@ -59,12 +60,13 @@ fn kind_at(uses: &Uses<'_>, number: usize, end: Option<PortPlace>) -> Option<Kin
     }
 }
 
-// What a connection joins, by its declaration's number and its own there.
-fn wire_at(wires: &Wires<'_>, number: usize, at: usize) -> Wire
-    ensures { (x : trees.Implementation ℕ) (c : trees.Connection ℕ) → IsConnection (placed wires.now.uses.names.tree.now) number at x c
+// What a connection joins, by its place.
+fn wire_at(wires: &Wires<'_>, place: ConnAt) -> Wire
+    ensures { (x : trees.Implementation ℕ) (c : trees.Connection ℕ)
+        → IsConnection (placed wires.now.uses.names.tree.now) place.declaration place.connection x c
         → result ≡ wire_of (placed wires.now.uses.names.tree.now) x c }
 {
-    match wires.wires(number).get(at) {
+    match wires.wires(place.declaration).get(place.connection) {
         Some(wire) => *wire,
         None => Wire {
             source: None,
@@ -90,22 +92,22 @@ fn joins_own(connection: &Connection) -> bool
     is_own(&connection.source.second) || is_own(&connection.target.second)
 }
 
-// Adds the finding that the ends of a connection of two numbers are of different types.
+// Adds the finding that the ends of a connection at a place are of different types.
 fn add_ends_findings(
     alloc: Global,
     wires: &Wires<'_>,
-    number: usize,
-    at: usize,
+    place: ConnAt,
     connection: &Connection,
     found: &mut Items<Violation>,
 ) -> Result<(), NoMemory>
     ensures { OnOk result ((x : trees.Implementation ℕ)
-        → IsConnection (placed wires.now.uses.names.tree.now) number at x (connection_view kept_place connection.now)
+        → IsConnection (placed wires.now.uses.names.tree.now) place.declaration place.connection x
+        (connection_view kept_place connection.now)
         → found.new ≡ found.old ++ spec.ends_findings (placed wires.now.uses.names.tree.now) x (connection_view kept_place connection.now)) }
 {
-    let wire = wire_at(wires, number, at);
-    let source = kind_at(&wires.uses, number, wire.source);
-    let target = kind_at(&wires.uses, number, wire.target);
+    let wire = wire_at(wires, place);
+    let source = kind_at(&wires.uses, place.declaration, wire.source);
+    let target = kind_at(&wires.uses, place.declaration, wire.target);
     expect(alloc, found, connection.name.at, source, target)?;
     Ok(())
 }
@@ -153,25 +155,26 @@ fn add_adaptor_findings(
     )
 }
 
-// Adds what is wrong with the connection of two numbers.
+// Adds what is wrong with the connection at a place.
 fn add_connection_findings(
     alloc: Global,
     wires: &Wires<'_>,
     carriers: &Carriers,
-    number: usize,
-    at: usize,
+    place: ConnAt,
     connection: &Connection,
     found: &mut Items<Violation>,
 ) -> Result<(), NoMemory>
     ensures { OnOk result ((x : trees.Implementation ℕ)
-        → IsConnection (placed wires.now.uses.names.tree.now) number at x (connection_view kept_place connection.now)
-        → found.new ≡ found.old ++ spec.connection_findings (placed wires.now.uses.names.tree.now) (carries carriers.now) number x
-        (at, connection_view kept_place connection.now)) }
+        → IsConnection (placed wires.now.uses.names.tree.now) place.declaration place.connection x
+        (connection_view kept_place connection.now)
+        → found.new ≡ found.old
+        ++ spec.connection_findings (placed wires.now.uses.names.tree.now) (carries carriers.now) place.declaration x
+        (place.connection, connection_view kept_place connection.now)) }
 {
-    add_ends_findings(alloc, wires, number, at, connection, found)?;
+    add_ends_findings(alloc, wires, place, connection, found)?;
     let said = Carried::of(alloc, connection.properties.as_slice())?;
     add_delay_findings(alloc, connection, said, found)?;
-    add_adaptor_findings(alloc, carriers.has(number, at), connection, said, found)?;
+    add_adaptor_findings(alloc, carriers.has(place), connection, said, found)?;
     Ok(())
 }
 
@@ -190,7 +193,11 @@ pub fn add_connections_findings(
         ++ spec.connections_findings (placed wires.now.uses.names.tree.now) (carries carriers.now) number (implementation_view kept_place x.now)) }
 {
     for (at, connection) in x.connections.iter().enumerate() {
-        add_connection_findings(alloc, wires, carriers, number, at, connection, found)?;
+        let place = ConnAt {
+            declaration: number,
+            connection: at,
+        };
+        add_connection_findings(alloc, wires, carriers, place, connection, found)?;
     }
     Ok(())
 }

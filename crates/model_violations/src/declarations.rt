@@ -25,6 +25,17 @@ use indexmap::IndexSet;
 use pals_base::{Items, NoMemory};
 use std::alloc::Global;
 
+/// A package with what is in use of it below a root: the numbers of implementations and of types, and the
+/// connections that carry chains.
+#[derive(Clone, Copy)]
+pub struct UsedPackage<'t> {
+    pub wires: &'t Wires<'t>,
+    pub root: usize,
+    pub implementations: &'t IndexSet<usize>,
+    pub types: &'t IndexSet<usize>,
+    pub carriers: &'t Carriers,
+}
+
 // Whether a type is the root's.
 fn is_root_type(uses: &Uses<'_>, root: usize, number: usize) -> bool
     ensures { result ≡ is_root_type (placed uses.now.names.tree.now) root number }
@@ -88,54 +99,55 @@ fn add_thread_findings(
 // Adds what is wrong with the implementation of a number.
 fn add_implementation_findings(
     alloc: Global,
-    wires: &Wires<'_>,
-    root: usize,
-    carriers: &Carriers,
+    in_use: &UsedPackage<'_>,
     number: usize,
     x: &Implementation,
     found: &mut Items<Violation>,
 ) -> Result<(), NoMemory>
-    requires number { slice_get (placed wires.now.uses.names.tree.now).declarations number ≡ Some (implementation (implementation_view kept_place x.now)) }
-    requires small { is_thread x.now.category ≡ true → IsSmall (placed wires.now.uses.names.tree.now) (implementation_view kept_place x.now) }
+    requires number { slice_get (placed in_use.now.wires.now.uses.names.tree.now).declarations number
+        ≡ Some (implementation (implementation_view kept_place x.now)) }
+    requires small { is_thread x.now.category ≡ true
+        → IsSmall (placed in_use.now.wires.now.uses.names.tree.now) (implementation_view kept_place x.now) }
     ensures { OnOk result (found.new ≡ found.old
-        ++ spec.implementation_findings (placed wires.now.uses.names.tree.now) root (carries carriers.now) number (implementation_view kept_place x.now)) }
+        ++ spec.implementation_findings (placed in_use.now.wires.now.uses.names.tree.now) in_use.now.root
+        (carries in_use.now.carriers.now) number (implementation_view kept_place x.now)) }
 {
-    let holder = PropertyHolder::Declaration(x.category, number == root);
+    let wires = in_use.wires;
+    let holder = PropertyHolder::Declaration(x.category, number == in_use.root);
     add_times_too_big(alloc, holder, x.properties.as_slice(), found)?;
     add_subs_findings(alloc, x.subcomponents.as_slice(), found)?;
-    add_connections_findings(alloc, wires, carriers, number, x, found)?;
+    add_connections_findings(alloc, wires, in_use.carriers, number, x, found)?;
     add_thread_findings(alloc, &wires.uses, number, x, found)
 }
 
 // Adds what is wrong with the declaration of a number, where it is in use.
 fn add_declaration_findings(
     alloc: Global,
-    wires: &Wires<'_>,
-    root: usize,
-    used: &IndexSet<usize>,
-    types: &IndexSet<usize>,
-    carriers: &Carriers,
+    in_use: &UsedPackage<'_>,
     number: usize,
     declaration: &Declaration,
     found: &mut Items<Violation>,
 ) -> Result<(), NoMemory>
-    requires number { slice_get (placed wires.now.uses.names.tree.now).declarations number ≡ Some (declaration_view kept_place declaration.now) }
-    requires small { spec.AreSmall (placed wires.now.uses.names.tree.now) (has used.now.keys) }
+    requires number { slice_get (placed in_use.now.wires.now.uses.names.tree.now).declarations number
+        ≡ Some (declaration_view kept_place declaration.now) }
+    requires small { spec.AreSmall (placed in_use.now.wires.now.uses.names.tree.now)
+        (has in_use.now.implementations.now.keys) }
     ensures { OnOk result (found.new ≡ found.old
-        ++ spec.declaration_findings (placed wires.now.uses.names.tree.now) root (has used.now.keys) (has types.now.keys) (carries carriers.now)
+        ++ spec.declaration_findings (placed in_use.now.wires.now.uses.names.tree.now) in_use.now.root
+        (has in_use.now.implementations.now.keys) (has in_use.now.types.now.keys) (carries in_use.now.carriers.now)
         (number, declaration_view kept_place declaration.now)) }
 {
     match declaration {
         Declaration::Type(x) => {
-            if types.contains(&number) {
-                add_type_findings(alloc, &wires.uses, root, number, x, found)
+            if in_use.types.contains(&number) {
+                add_type_findings(alloc, &in_use.wires.uses, in_use.root, number, x, found)
             } else {
                 Ok(())
             }
         }
         Declaration::Implementation(x) => {
-            if used.contains(&number) {
-                add_implementation_findings(alloc, wires, root, carriers, number, x, found)
+            if in_use.implementations.contains(&number) {
+                add_implementation_findings(alloc, in_use, number, x, found)
             } else {
                 Ok(())
             }
@@ -143,33 +155,21 @@ fn add_declaration_findings(
     }
 }
 
-/// Adds what is wrong with the declarations in use: the implementations and types of these numbers,
-/// where the connections carry chains.
+/// Adds what is wrong with the declarations that are in use of a package.
 pub fn add_declarations_findings(
     alloc: Global,
-    wires: &Wires<'_>,
-    root: usize,
-    used: &IndexSet<usize>,
-    types: &IndexSet<usize>,
-    carriers: &Carriers,
+    in_use: &UsedPackage<'_>,
     found: &mut Items<Violation>,
 ) -> Result<(), NoMemory>
-    requires { spec.AreSmall (placed wires.now.uses.names.tree.now) (has used.now.keys) }
+    requires { spec.AreSmall (placed in_use.now.wires.now.uses.names.tree.now)
+        (has in_use.now.implementations.now.keys) }
     ensures { OnOk result (found.new ≡ found.old
-        ++ spec.declarations_findings (placed wires.now.uses.names.tree.now) root (has used.now.keys) (has types.now.keys) (carries carriers.now)) }
+        ++ spec.declarations_findings (placed in_use.now.wires.now.uses.names.tree.now) in_use.now.root
+        (has in_use.now.implementations.now.keys) (has in_use.now.types.now.keys) (carries in_use.now.carriers.now)) }
 {
-    for (number, declaration) in wires.uses.names.tree.declarations.iter().enumerate() {
-        add_declaration_findings(
-            alloc,
-            wires,
-            root,
-            used,
-            types,
-            carriers,
-            number,
-            declaration,
-            found,
-        )?;
+    let tree = in_use.wires.uses.names.tree;
+    for (number, declaration) in tree.declarations.iter().enumerate() {
+        add_declaration_findings(alloc, in_use, number, declaration, found)?;
     }
     Ok(())
 }

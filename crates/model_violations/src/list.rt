@@ -10,7 +10,7 @@ ghost use Rattle.model_violations.specs.proof.Violations as inner;
 
 use crate::carriers::Carriers;
 use crate::chains::{RatedThreads, add_feed_findings, add_link_findings, add_tap_findings};
-use crate::declarations::add_declarations_findings;
+use crate::declarations::{UsedPackage, add_declarations_findings};
 use crate::order::in_order;
 use crate::usage::{types_used, used_below};
 use aadl_instance::{Chain, Instance, ThreadAt};
@@ -157,7 +157,14 @@ fn add_used_findings(
     let used = used_below(alloc, &wires.uses, root)?;
     let types = types_used(alloc, &wires.uses, &used)?;
     let carriers = carriers_of(alloc, instance)?;
-    add_declarations_findings(alloc, wires, root, &used, &types, &carriers, found)?;
+    let in_use = UsedPackage {
+        wires,
+        root,
+        implementations: &used,
+        types: &types,
+        carriers: &carriers,
+    };
+    add_declarations_findings(alloc, &in_use, found)?;
     Ok(())
 }
 

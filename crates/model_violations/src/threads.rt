@@ -69,30 +69,6 @@ fn setting_of(
     Ok(setting)
 }
 
-// Resolves the behaviour of the implementation of a number that begins at a place, and adds what is wrong with it.
-fn resolve_behaviour(
-    alloc: Global,
-    uses: &Uses<'_>,
-    number: usize,
-    x: &Implementation,
-    at: usize,
-    annex: &AnnexTree,
-    found: &mut Items<Violation>,
-) -> Result<BehaviourParts, NoMemory>
-    requires number { implementation_at (placed uses.now.names.tree.now) number ≡ Some (implementation_view kept_place x.now) }
-    requires ports { length (ports_of (placed uses.now.names.tree.now) (implementation_view kept_place x.now)) ≤ PORTS }
-    requires variables { length (variables_of (annex_tree_view kept_place annex.now)) ≤ VARIABLES }
-    ensures parts { IfOk result (λ parts. Some parts
-        ≡ spec.behaviour_by (placed uses.now.names.tree.now) (implementation_view kept_place x.now) (Some (at, annex_tree_view kept_place annex.now))) }
-    ensures found { OnOk result (found.new ≡ found.old
-        ++ spec.annex_rules (placed uses.now.names.tree.now) (implementation_view kept_place x.now) (Some (at, annex_tree_view kept_place annex.now))) }
-{
-    let (values, scope) = setting_of(alloc, uses, number, x, annex)?;
-    add_variables_findings(alloc, annex, found)?;
-    let parts = resolve_annex(alloc, values, &scope, at, annex, found)?;
-    Ok(parts)
-}
-
 // Resolves the behaviour of the implementation of a number, if it has one, and adds what is wrong with
 // it.
 fn resolve_numbered(
@@ -108,17 +84,15 @@ fn resolve_numbered(
     ensures found { OnOk result (found.new ≡ found.old
         ++ spec.implementation_findings (placed uses.now.names.tree.now) (implementation_view kept_place x.now)) }
 {
-    match first_behaviour(x.annexes.as_slice()) {
-        Some((at, annex)) => {
-            let parts = resolve_behaviour(alloc, uses, number, x, at, annex, found)?;
-            Ok(Some(parts))
-        }
-        None => {
-            let at = x.name.component_type.at;
-            found.push(Violation::bare(alloc, at, NO_INITIAL))?;
-            Ok(None)
-        }
-    }
+    let Some((at, annex)) = first_behaviour(x.annexes.as_slice()) else {
+        let at = x.name.component_type.at;
+        found.push(Violation::bare(alloc, at, NO_INITIAL))?;
+        return Ok(None);
+    };
+    add_variables_findings(alloc, annex, found)?;
+    let (values, scope) = setting_of(alloc, uses, number, x, annex)?;
+    let parts = resolve_annex(alloc, values, &scope, at, annex, found)?;
+    Ok(Some(parts))
 }
 
 /// Resolves the behaviour of a thread's implementation, by its number, and adds what is wrong with it.

@@ -13,7 +13,8 @@ add_implementation_findings-requires-clause-number c =
 
 pub add_implementation_findings-requires-clause-small : goal.add_implementation_findings-requires-clause-small
 add_implementation_findings-requires-clause-small c =
-    let at : slice_get (placed c.args.wires.now.uses.names.tree.now).declarations c.args.number ≡ Some (implementation (implementation_view kept_place c.in-Implementation.x)) =
+    let at : slice_get (placed c.args.in_use.now.wires.now.uses.names.tree.now).declarations c.args.number
+    ≡ Some (implementation (implementation_view kept_place c.in-Implementation.x)) =
     c.requires.number ∙ ap (λ d. Some (declaration_view kept_place d)) c.in-Implementation.is in
     λ thread. c.requires.small.each c.args.number (implementation_view kept_place c.in-Implementation.x)
     (sym c.contains-in-Implementation.ensures ∙ c.if-contains-2.true) (ap implementation_in at) thread

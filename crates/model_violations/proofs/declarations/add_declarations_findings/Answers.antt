@@ -12,7 +12,7 @@ use Rattle.model_violations.proofs.declarations.add_declarations_findings.Goals 
 
 pub add_declaration_findings-requires-clause-number : goal.add_declaration_findings-requires-clause-number
 add_declaration_findings-requires-clause-number c =
-    let items = c.args.wires.now.uses.names.tree.now.declarations.items in
+    let items = c.args.in_use.now.wires.now.uses.names.tree.now.declarations.items in
     let within : c.loop-number.number < length items =
     omega (arith, ap length c.deref-declaration-items.ensures.value) in
     slice_get-map (declaration_view kept_place) items c.loop-number.number
@@ -23,11 +23,13 @@ add_declaration_findings-requires-clause-number c =
 
 pub loop-number-preserved : goal.loop-number-preserved
 loop-number-preserved c =
-    let items = c.args.wires.now.uses.names.tree.now.declarations.items in
+    let items = c.args.in_use.now.wires.now.uses.names.tree.now.declarations.items in
     let within : c.loop-number.number < length items =
     omega (arith, ap length c.deref-declaration-items.ensures.value) in
-    one_more (declaration_findings (placed c.args.wires.now.uses.names.tree.now) c.args.root (has c.args.used.now.keys)
-    (has c.args.types.now.keys) (carries c.args.carriers.now)) (declaration_view kept_place) items
+    one_more (declaration_findings (placed c.args.in_use.now.wires.now.uses.names.tree.now) c.args.in_use.now.root
+    (has c.args.in_use.now.implementations.now.keys) (has c.args.in_use.now.types.now.keys)
+    (carries c.args.in_use.now.carriers.now))
+    (declaration_view kept_place) items
     c.loop-number.number
     c.declaration-item.result c.args.found.now _ _ within
     (c.declaration-item.is ∙ ap (λ l. get_or l c.loop-number.number c.declaration-item.result)
