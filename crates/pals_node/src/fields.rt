@@ -15,7 +15,7 @@ ghost use Rattle.pals_node.specs.proof.NodeInvariants.{Keeps, IsProgram, PhaseKe
 
 use crate::buffers::{absent_tuples, write_places, write_ports};
 use crate::inputs::{empty_all, empty_slots, round_vectors};
-use crate::job::{Done, Job};
+use crate::job::{Done, Job, StepStart};
 use crate::memory::Memory;
 use crate::plan::NodePlan;
 use bus_machine::Plan;
@@ -113,17 +113,13 @@ impl Fields {
         requires step { step < (arc_value self.now.plan).plan.rate }
         ensures { IfOk result (λ job. job ≡ job_at (value_of self.now) step) }
     {
-        let inputs = &self.vectors[step as usize];
-        let round = self.count.saturating_sub(1);
-        Job::new(
-            self.alloc,
-            &self.plan,
-            round,
+        let start = StepStart {
+            round: self.count.saturating_sub(1),
             step,
-            &self.frame,
-            inputs,
-            None,
-        )
+            frame: &self.frame,
+            inputs: &self.vectors[step as usize],
+        };
+        Job::new(self.alloc, &self.plan, start, None)
     }
 
     /// Starts the next round, and reserves what its steps, its part and its messages need.
@@ -137,17 +133,52 @@ impl Fields {
     {
         self.parts.reserve(1)?;
         let spare = self.spare.take();
-        let (room, job) = begun(
-            self.alloc,
-            &self.plan,
-            self.count,
-            env,
-            self.slots.as_slice(),
-            &self.frame,
-            spare,
-        )?;
+        let (room, job) = self.next_round(env, spare)?;
         self.begin(room);
         Ok(job)
+    }
+
+    // What the start of the next round reserves, and the job of its first step.
+    fn next_round(
+        &self,
+        env: &[PortValue],
+        spare: Option<Memory>,
+    ) -> Result<(RoundRoom, Job), NoMemory>
+        requires program { IsProgram (arc_value self.now.plan) }
+        requires slots { length self.now.slots ≡ length (arc_value self.now.plan).plan.inputs }
+        requires frame { HasShape (arc_value self.now.plan).plan.behaviour self.now.frame }
+        requires spare { HasMemory (arc_value self.now.plan).code spare }
+        ensures room { IfOk result (λ made. IsBegun (arc_value self.now.plan).plan env.now self.now.slots made.0) }
+        ensures job { IfOk result (λ made. made.1 ≡ first_job_of (arc_value self.now.plan) self.now.count self.now.frame env.now self.now.slots) }
+    {
+        let (vectors, job) = self.first_job(env, spare)?;
+        let room = round_room(self.alloc, &self.plan.plan, vectors)?;
+        Ok((room, job))
+    }
+
+    // The vectors of the next round, and the job of its first step.
+    fn first_job(
+        &self,
+        env: &[PortValue],
+        spare: Option<Memory>,
+    ) -> Result<(Items<Tuple>, Job), NoMemory>
+        requires program { IsProgram (arc_value self.now.plan) }
+        requires slots { length self.now.slots ≡ length (arc_value self.now.plan).plan.inputs }
+        requires frame { HasShape (arc_value self.now.plan).plan.behaviour self.now.frame }
+        requires spare { HasMemory (arc_value self.now.plan).code spare }
+        ensures vectors { IfOk result (λ found. found.0 ≡ vectors_of (arc_value self.now.plan).plan env.now self.now.slots) }
+        ensures job { IfOk result (λ found. found.1 ≡ first_job_of (arc_value self.now.plan) self.now.count self.now.frame env.now self.now.slots) }
+    {
+        let plan = &self.plan;
+        let vectors = round_vectors(self.alloc, &plan.plan, env, self.slots.as_slice())?;
+        let start = StepStart {
+            round: self.count,
+            step: 0,
+            frame: &self.frame,
+            inputs: &vectors[0],
+        };
+        let job = Job::new(self.alloc, plan, start, spare)?;
+        Ok((vectors, job))
     }
 
     // Begins a round with what its start reserved. It takes no memory.
@@ -280,28 +311,6 @@ fn round_room(alloc: Global, plan: &Plan, vectors: Items<Tuple>) -> Result<Round
     })
 }
 
-// What a start reserves, and the job of the first step.
-fn begun(
-    alloc: Global,
-    plan: &Arc<NodePlan>,
-    round: u32,
-    env: &[PortValue],
-    slots: &[Slot],
-    frame: &Frame,
-    spare: Option<Memory>,
-) -> Result<(RoundRoom, Job), NoMemory>
-    requires program { IsProgram (arc_value plan.now) }
-    requires slots { length slots.now ≡ length (arc_value plan.now).plan.inputs }
-    requires frame { HasShape (arc_value plan.now).plan.behaviour frame.now }
-    requires spare { HasMemory (arc_value plan.now).code spare }
-    ensures room { IfOk result (λ made. IsBegun (arc_value plan.now).plan env.now slots.now made.0) }
-    ensures job { IfOk result (λ made. made.1 ≡ first_job_of (arc_value plan.now) round frame.now env.now slots.now) }
-{
-    let (vectors, job) = first_job(alloc, plan, round, env, slots, frame, spare)?;
-    let room = round_room(alloc, &plan.plan, vectors)?;
-    Ok((room, job))
-}
-
 // The room for the part of a round.
 fn part_room(alloc: Global, plan: &Plan) -> Result<Part, NoMemory>
     ensures { IfOk result (λ part. part ≡ empty_part plan.now) }
@@ -309,28 +318,6 @@ fn part_room(alloc: Global, plan: &Plan) -> Result<Part, NoMemory>
     let frame = Frame::initial(alloc, &plan.behaviour)?;
     let outs = absent_tuples(alloc, plan.taps.len(), plan.rate)?;
     Ok(Part { frame, outs })
-}
-
-// The vectors of a round, and the job of its first step.
-fn first_job(
-    alloc: Global,
-    plan: &Arc<NodePlan>,
-    round: u32,
-    env: &[PortValue],
-    slots: &[Slot],
-    frame: &Frame,
-    spare: Option<Memory>,
-) -> Result<(Items<Tuple>, Job), NoMemory>
-    requires program { IsProgram (arc_value plan.now) }
-    requires slots { length slots.now ≡ length (arc_value plan.now).plan.inputs }
-    requires frame { HasShape (arc_value plan.now).plan.behaviour frame.now }
-    requires spare { HasMemory (arc_value plan.now).code spare }
-    ensures vectors { IfOk result (λ found. found.0 ≡ vectors_of (arc_value plan.now).plan env.now slots.now) }
-    ensures job { IfOk result (λ found. found.1 ≡ first_job_of (arc_value plan.now) round frame.now env.now slots.now) }
-{
-    let vectors = round_vectors(alloc, &plan.plan, env, slots)?;
-    let job = Job::new(alloc, plan, round, 0, frame, &vectors[0], spare)?;
-    Ok((vectors, job))
 }
 
 // The phase between two rounds.

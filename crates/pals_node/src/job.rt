@@ -16,6 +16,16 @@ use std::sync::Arc;
 use step_code::{CodeParts, Instr};
 use step_vm::Room;
 
+/// Where a step starts: its round, its number in that, from 0, the frame that it goes on from, and what
+/// the in ports have in it.
+#[derive(Clone, Copy)]
+pub(crate) struct StepStart<'a> {
+    pub round: u32,
+    pub step: u32,
+    pub frame: &'a Frame,
+    pub inputs: &'a Tuple,
+}
+
 /// The job of one step: the inputs, the frame that it goes on from, and all the room that it needs.
 /// Contracts see its step and its code.
 pub struct Job {
@@ -104,19 +114,16 @@ impl Job {
     pub(crate) fn new(
         alloc: Global,
         plan: &Arc<NodePlan>,
-        round: u32,
-        step: u32,
-        frame: &Frame,
-        inputs: &Tuple,
+        start: StepStart,
         spare: Option<Memory>,
     ) -> Result<Job, NoMemory>
-        requires frame { FitsCode (arc_value plan.now).code frame.now }
-        requires inputs { length inputs.now ≡ (arc_value plan.now).code.ins }
+        requires frame { FitsCode (arc_value plan.now).code start.frame.now }
+        requires inputs { length start.inputs.now ≡ (arc_value plan.now).code.ins }
         requires spare { HasMemory (arc_value plan.now).code spare }
-        ensures { IfOk result (λ job. job ≡ job_value (arc_value plan.now) round step frame.now inputs.now) }
+        ensures { IfOk result (λ job. job ≡ job_value (arc_value plan.now) start.entry.round start.entry.step start.entry.frame.now start.entry.inputs.now) }
     {
         let plan = Arc::try_clone(plan)?;
-        let memory = memory_for(alloc, &plan.code, frame, inputs, spare)?;
+        let memory = memory_for(alloc, &plan.code, start.frame, start.inputs, spare)?;
         let Memory {
             frame,
             inputs,
@@ -126,8 +133,8 @@ impl Job {
         } = memory;
         Ok(Job {
             plan,
-            round,
-            step,
+            round: start.round,
+            step: start.step,
             frame,
             inputs,
             result,
@@ -207,21 +214,14 @@ impl Job {
 
 impl Done {
     /// Whether this is the job of a step.
-    pub(crate) fn is_of(
-        &self,
-        plan: &NodePlan,
-        round: u32,
-        step: u32,
-        frame: &Frame,
-        inputs: &Tuple,
-    ) -> bool
-        ensures { IsTrue result ↔ (self.now ≡ job_value plan.now round step frame.now inputs.now) }
+    pub(crate) fn is_of(&self, plan: &NodePlan, start: StepStart) -> bool
+        ensures { IsTrue result ↔ (self.now ≡ job_value plan.now start.entry.round start.entry.step start.entry.frame.now start.entry.inputs.now) }
     {
         self.plan.plan.node == plan.plan.node
-            && self.round == round
-            && self.step == step
-            && self.frame.same(frame)
-            && self.inputs.same(inputs)
+            && self.round == start.round
+            && self.step == start.step
+            && self.frame.same(start.frame)
+            && self.inputs.same(start.inputs)
             && same_code(self.plan.code.parts(), plan.code.parts())
     }
 

@@ -11,7 +11,7 @@ ghost use Rattle.pals_node.specs.proof.Answers.{is_early, Starts, StartEnds, Ste
 
 use crate::answers::{FinishEnd, Finished, SendEnd, StartEnd, StepEnd};
 use crate::fields::Fields;
-use crate::job::{Done, Job};
+use crate::job::{Done, Job, StepStart};
 use crate::plan::NodePlan;
 use crate::targets::{next_in_round, next_send, next_start};
 use bus_machine::{Input, Next, Plan};
@@ -152,13 +152,13 @@ impl Node {
             return Err(FinishEnd::NotRunning);
         };
         let f = &mut self.fields;
-        if done.is_of(
-            &f.plan,
-            f.count - 1,
+        let start = StepStart {
+            round: f.count - 1,
             step,
-            &f.frame,
-            &f.vectors[step as usize],
-        ) {
+            frame: &f.frame,
+            inputs: &f.vectors[step as usize],
+        };
+        if done.is_of(&f.plan, start) {
             f.take_step(step, done);
             return Ok(Finished::Used);
         }

@@ -12,5 +12,5 @@ new-requires-clause-inputs c =
     let round = c.requires.round in
     let count = round.vectors.count_is in
     let below = c.requires.step in
-    ap length c.index-inputs.ensures ∙ round.vectors.places_are c.args.step c.index-inputs.result.now (omega arith)
+    ap length c.index.ensures ∙ round.vectors.places_are c.args.step c.index.result.now (omega arith)
     ∙ sym c.requires.keeps.program.means.ins

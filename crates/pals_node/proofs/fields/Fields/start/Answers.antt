@@ -17,8 +17,7 @@ returns-clause-ok c =
     let is = c.in_ok-room.ensures.room in
     ap value_of c.begin.ensures
     ∙ starts_value f c.args.env.now room.vectors room.outs c.reserve.new.self.items
-    (is.vectors_are ∙ ap (vectors_of plan c.args.env.now) c.as_slice.ensures.value)
-    is.outs_are c.reserve.ensures.items
+    is.vectors_are is.outs_are c.reserve.ensures.items
 
 pub returns-clause-keeps : goal.returns-clause-keeps
 returns-clause-keeps c =
@@ -28,8 +27,7 @@ returns-clause-keeps c =
     let rules = keeps.program.plan in
     let rests = subst (PhaseKeeps plan f) c.requires.waits keeps.phase_keeps in
     let is = c.in_ok-room.ensures.room in
-    let vectors : c.in_ok-room.room.vectors ≡ vectors_of plan c.args.env.now f.slots = is.vectors_are
-    ∙ ap (vectors_of plan c.args.env.now) c.as_slice.ensures.value in
+    let vectors : c.in_ok-room.room.vectors ≡ vectors_of plan c.args.env.now f.slots = is.vectors_are in
     subst Keeps (sym c.begin.ensures) (record {
       program = keeps.program;
       rounds = keeps.rounds;
