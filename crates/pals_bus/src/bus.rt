@@ -16,6 +16,7 @@ use crate::fields::Fields;
 use crate::node_list::NodeList;
 use crate::opening::{empty_flights, empty_queues, fresh_nodes, opening_nodes, room_for_values};
 use crate::outgoing::Outgoing;
+use crate::run::Run;
 use bus_machine::{Next, Plan};
 use pals_base::{Items, LinkNo, NoMemory, NodeNo, Same, TryClone};
 use pals_model::{Delays, Design, Env, FlightCopy, Part};
@@ -73,30 +74,34 @@ impl Bus {
         ensures { IfOk result (λ bus. bus ≡ opening_bus (record { design = arc_value design; env = env; rounds = rounds; delays = delays }) codes meeting) }
     {
         let nodes = opening_nodes(alloc, &design, codes, rounds)?;
-        Bus::open(alloc, design, env, rounds, delays, meeting, nodes)
+        let run = Run {
+            design,
+            env,
+            rounds,
+            delays,
+        };
+        Bus::open(alloc, run, meeting, nodes)
     }
 
     // A run before its first event, of nodes that stand before theirs.
-    fn open(
-        alloc: Global,
-        design: Arc<Design>,
-        env: Env,
-        rounds: u32,
-        delays: Delays,
-        meeting: bool,
-        nodes: NodeList,
-    ) -> Result<Bus, NoMemory>
-        requires some { 1 ≤ rounds }
-        requires most { rounds ≤ ROUNDS }
-        requires delays { AreDelays (length (arc_value design).links) delays }
-        requires codes { AreCodes (arc_value design) (codes_in nodes) }
-        requires nodes { AreOpening (arc_value design) (codes_in nodes) rounds nodes }
-        ensures { IfOk result (λ bus. bus ≡ opening_bus (record { design = arc_value design; env = env; rounds = rounds; delays = delays }) (codes_in nodes) meeting) }
+    fn open(alloc: Global, run: Run, meeting: bool, nodes: NodeList) -> Result<Bus, NoMemory>
+        requires some { 1 ≤ run.rounds }
+        requires most { run.rounds ≤ ROUNDS }
+        requires delays { AreDelays (length (arc_value run.design).links) run.delays }
+        requires codes { AreCodes (arc_value run.design) (codes_in nodes) }
+        requires nodes { AreOpening (arc_value run.design) (codes_in nodes) run.rounds nodes }
+        ensures { IfOk result (λ bus. bus ≡ opening_bus (record { design = arc_value run.design; env = run.env; rounds = run.rounds; delays = run.delays }) (codes_in nodes) meeting) }
     {
-        let values = room_for_values(alloc, &env)?;
-        let outgoing = Outgoing::new(alloc, &design)?;
-        let flights = empty_flights(alloc, &design)?;
+        let values = room_for_values(alloc, &run.env)?;
+        let outgoing = Outgoing::new(alloc, &run.design)?;
+        let flights = empty_flights(alloc, &run.design)?;
         let queues = empty_queues(alloc, nodes.as_slice())?;
+        let Run {
+            design,
+            env,
+            rounds,
+            delays,
+        } = run;
         Ok(Bus {
             fields: Fields {
                 alloc,
@@ -255,8 +260,14 @@ impl Bus {
         let design = Arc::try_clone(&f.design)?;
         let env = f.env.try_clone(alloc)?;
         let delays = f.delays.try_clone(alloc)?;
+        let run = Run {
+            design,
+            env,
+            rounds: f.rounds,
+            delays,
+        };
         let nodes = fresh_nodes(alloc, f.nodes.as_slice())?;
-        Bus::open(alloc, design, env, f.rounds, delays, f.meeting, nodes)
+        Bus::open(alloc, run, f.meeting, nodes)
     }
 
     /// Whether another bus is of the same run: of an equal design, with equal values of the root in

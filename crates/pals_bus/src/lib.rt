@@ -18,6 +18,7 @@ mod nodes;
 mod opening;
 mod outgoing;
 mod refusals;
+mod run;
 mod stops;
 mod target_list;
 
