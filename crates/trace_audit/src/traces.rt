@@ -45,34 +45,11 @@ pub fn audit(
 {
     match read_report(alloc, &design, &env, trace)? {
         ReportEnd::Whole(size) => {
-            audit_whole(alloc, design, codes, env, rounds, delays, trace, size)
+            let mut replay = open(alloc, &design, codes, env, rounds, delays)?;
+            audit_behind(alloc, &design, &mut replay, trace, size)
         }
         ReportEnd::Wrong(index) => Ok(wrong(index, TraceRule::Row)),
     }
-}
-
-// The verdict on a trace whose report is of this size, and the composition's.
-fn audit_whole(
-    alloc: Global,
-    design: Arc<Design>,
-    codes: Items<Code>,
-    env: Env,
-    rounds: u32,
-    delays: Delays,
-    trace: &[Text],
-    size: usize,
-) -> Result<Verdict, NoMemory>
-    requires some { 1 ≤ rounds }
-    requires most { rounds ≤ ROUNDS }
-    requires delays { AreDelays (length (arc_value design).links) delays }
-    requires codes { AreCodes (arc_value design) codes }
-    requires few { length trace.now < 2 ^ 32 }
-    requires report { ReportEnds (arc_value design) env trace.now (Whole size) }
-    requires within { size ≤ length trace.now }
-    ensures { IfOk result (λ v. v ≡ verdict (record { design = arc_value design; env = env; rounds = rounds; delays = delays }) trace.now) }
-{
-    let mut replay = open(alloc, &design, codes, env, rounds, delays)?;
-    audit_behind(alloc, &design, &mut replay, trace, size)
 }
 
 // A run before its first event, to be done again.

@@ -5,14 +5,15 @@ use Rattle.pals_model.specs.declared.design.DesignParts.{DesignParts}
 use Rattle.pals_runs.specs.declared.verdicts.Verdict.{Verdict}
 use Rattle.bus_machine.specs.States.{Run}
 use Rattle.run_laws.specs.Traces.{opening_audit, row_size}
+use Rattle.trace_audit.specs.proof.Reports.{ReportEnds}
 use Rattle.trace_audit.proofs.Judging.{judged_whole}
-use Rattle.trace_audit.proofs.traces.audit_whole.Goals as goal
+use Rattle.trace_audit.proofs.traces.audit.Goals as goal
 
 pub audit_behind-requires-clause-design : goal.audit_behind-requires-clause-design
 audit_behind-requires-clause-design c = c.deref.ensures ∙ sym (ap (λ (r : Run). r.design) c.in_ok-replay.ensures.run)
 
-pub returns : goal.returns
-returns c =
+pub returns-in-Whole : goal.returns-in-Whole
+returns-in-Whole c =
     let run : Run = record {
       design = arc_value c.args.design;
       env = c.args.env;
@@ -20,9 +21,10 @@ returns c =
       delays = c.args.delays;
     } in
     let replay = c.in_ok-replay.replay in
-    let size = c.args.size in
+    let size = c.in-Whole.size in
+    let report = subst (ReportEnds run.design run.env c.args.trace.now) c.in-Whole.is c.in_ok-size.ensures.value in
     subst (λ (v : Verdict). IfOk c.audit_behind.result (λ w. w ≡ v))
-    (judged_whole run replay.bus.run c.args.trace.now size _ _ c.requires.report.0 c.requires.report.1
+    (judged_whole run replay.bus.run c.args.trace.now size _ _ report.0 report.1
     c.in_ok-replay.ensures.run
     (c.in_ok-replay.ensures.value ∙ ap opening_audit c.in_ok-replay.ensures.run)
     (ap (λ (d : DesignParts). size / row_size d) c.deref.ensures))
