@@ -8,6 +8,7 @@ mod course;
 mod driving;
 mod ends;
 mod gates;
+mod host;
 mod locked;
 mod opening;
 mod sleepers;
@@ -20,5 +21,6 @@ mod workers;
 
 pub use ends::NodeEnd;
 pub use gates::{Gate, NoGate};
+pub use host::Host;
 pub use starters::{FakeStarter, Starter, ThreadStarter};
 pub use threads::{RunEnd, run_threads};

@@ -9,6 +9,7 @@ use crate::course::SharedRun;
 use crate::driving::drive_with_spare;
 use crate::ends::NodeEnd;
 use crate::gates::Gate;
+use crate::host::Host;
 use crate::locked::Locked;
 use crate::opening::open_with_spare;
 use crate::sleepers::Sleepers;
@@ -33,34 +34,35 @@ pub struct RunEnd {
 /// where the nodes of the bus meet, and else a list for each node; what was picked of a list does not
 /// count. It may wait for a lock, and for the threads to end.
 pub fn run_threads<R: Threads + Wait + Sync, W: Starter, G: Gate + Sync>(
-    rt: &R,
+    host: Host<'_, R, W, G>,
     alloc: Global,
     bus: Bus,
     clocks: Clocks,
-    starter: &mut W,
-    gate: &G,
 ) -> Result<RunEnd, NoMemory>
     requires opening { bus ≡ opening_bus bus.run bus.codes bus.meeting }
     requires clocks { AreClocksOf bus clocks }
     ensures { IfOk result (λ end. IsOutcome bus clocks end.bus end.ends) }
 {
     let (course, kept) = open_with_spare(alloc, bus, clocks)?;
-    run_beside(rt, alloc, course, kept, starter, gate)
+    run_beside(host, alloc, course, kept)
 }
 
 // A run in threads, and what comes of it for the run that is kept beside it.
 fn run_beside<R: Threads + Wait + Sync, W: Starter, G: Gate + Sync>(
-    rt: &R,
+    host: Host<'_, R, W, G>,
     alloc: Global,
     course: SharedRun,
     kept: SharedRun,
-    starter: &mut W,
-    gate: &G,
 ) -> Result<RunEnd, NoMemory>
     ensures { IfOk result (λ end. IsOutcome kept.bus kept.clocks end.bus end.ends) }
 {
-    match in_threads(rt, alloc, course, starter, gate) {
-        Ok(out) => drive_with_spare(rt, alloc, out, kept, gate),
+    let Host {
+        runtime,
+        starter,
+        gate,
+    } = host;
+    match in_threads(runtime, alloc, course, starter, gate) {
+        Ok(out) => drive_with_spare(runtime, alloc, out, kept, gate),
         Err(no_memory) => Err(no_memory),
     }
 }

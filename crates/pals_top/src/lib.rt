@@ -9,7 +9,6 @@ mod check;
 mod coded;
 mod execution;
 mod fuse;
-mod host;
 mod loose;
 mod opening;
 mod print;

@@ -13,9 +13,8 @@ ghost use Rattle.pals_top.specs.proof.Statuses.{status_of, text_of};
 
 use crate::answer::Answer;
 use crate::coded::{BundleMeaning, Coded, CodedCommand, meaning_of};
-use crate::host::Host;
 use crate::opening::opened;
-use node_threads::{Gate, Starter};
+use node_threads::{Gate, Host, Starter};
 use pals_base::limits::BUNDLE_BYTES;
 use pals_base::{NoMemory, Text};
 use pals_clock::Clocks;
@@ -92,11 +91,6 @@ fn run_nodes<R: Threads + Wait + Sync, W: Starter, G: Gate + Sync>(
     requires kept { IsScenarioOf coded.design coded.scenario }
     ensures { IfOk result (λ answer. IsRunAnswer coded.design coded.scenario trace (status_of answer) (text_of answer)) }
 {
-    let Host {
-        runtime,
-        starter,
-        gate,
-    } = host;
     let Coded {
         design,
         codes,
@@ -111,7 +105,7 @@ fn run_nodes<R: Threads + Wait + Sync, W: Starter, G: Gate + Sync>(
     } = scenario;
     let meeting = matches!(clocks, Clocks::Meet);
     let bus = opened(alloc, design, codes, env, rounds, delays, meeting)?;
-    match tell_run(runtime, alloc, bus, clocks, trace, starter, gate)? {
+    match tell_run(host, alloc, bus, clocks, trace)? {
         RunReport::Completed(text) => Ok(Answer::Done(text)),
         RunReport::Stopped(text) => Ok(Answer::Stopped(text)),
         RunReport::ClockEnded(text) => Ok(Answer::ClockEnded(text)),

@@ -14,7 +14,7 @@ ghost use Rattle.run_texts.specs.proof.Ends.{TellsEnd, journal_lines};
 
 use crate::ends::first_ended;
 use loose_world::{add_finished_by_all, add_journal};
-use node_threads::{Gate, NodeEnd, RunEnd, Starter, run_threads};
+use node_threads::{Gate, Host, NodeEnd, RunEnd, Starter, run_threads};
 use pals_base::{Nanos, NoMemory, NodeNo};
 use pals_bus::Bus;
 use pals_clock::Clocks;
@@ -40,13 +40,11 @@ pub enum RunReport {
 /// and it can be started, and tells what came of it. The clocks are those of a meeting where the nodes of
 /// the bus meet, and else a list for each node. It may wait for a lock, and for the threads to end.
 pub fn tell_run<R: Threads + Wait + Sync, W: Starter, G: Gate + Sync>(
-    rt: &R,
+    host: Host<'_, R, W, G>,
     alloc: Global,
     bus: Bus,
     clocks: Clocks,
     trace: bool,
-    starter: &mut W,
-    gate: &G,
 ) -> Result<RunReport, NoMemory>
     requires opening { bus ≡ opening_bus bus.run bus.codes bus.meeting }
     requires clocks { AreClocksOf bus clocks }
@@ -54,7 +52,7 @@ pub fn tell_run<R: Threads + Wait + Sync, W: Starter, G: Gate + Sync>(
 {
     bus.agreement();
     are_readings(&clocks);
-    let end = run_threads(rt, alloc, bus, clocks, starter, gate)?;
+    let end = run_threads(host, alloc, bus, clocks)?;
     tell_ended(alloc, end, trace)
 }
 

@@ -6,8 +6,8 @@ ghost use Rattle.node_threads.specs.proof.Courses.{AreClocksOf};
 use crate::designs::design_of;
 use design_codes::compile_all;
 use loose_world::add_finished_by_all;
-use node_threads::{FakeStarter, Gate, NodeEnd, RunEnd, run_threads};
-use pals_base::{Items, Nanos, NoMemory, NodeNo, PortValue};
+use node_threads::{Gate, Host, NodeEnd, RunEnd, Starter, run_threads};
+use pals_base::{Items, Nanos, NoMemory, PortValue};
 use pals_bus::Bus;
 use pals_clock::Clocks;
 use pals_model::{Delays, Design, Env};
@@ -57,20 +57,17 @@ fn are_of(clocks: &Clocks, bus: &Bus) -> bool
     }
 }
 
-// A run of a bus from its opening, in which these nodes get no thread.
-fn run<R: Threads + Wait + Sync, G: Gate + Sync>(
-    rt: &R,
+// A run of a bus from its opening.
+fn run<R: Threads + Wait + Sync, W: Starter, G: Gate + Sync>(
+    host: Host<'_, R, W, G>,
     alloc: Global,
     bus: &Bus,
     clocks: Clocks,
-    refused: &[NodeNo],
-    gate: &G,
 ) -> Result<RunEnd, NoMemory>
     requires { AreClocksOf bus.now clocks }
 {
-    let mut starter = FakeStarter::new(Items::from_slice(alloc, refused)?);
     let fresh = bus.fresh(alloc)?;
-    run_threads(rt, alloc, fresh, clocks, &mut starter, gate)
+    run_threads(host, alloc, fresh, clocks)
 }
 
 // The rows of the rounds that all nodes have finished, and a line for the end of each node.
@@ -94,19 +91,17 @@ fn end_line(alloc: Global, end: NodeEnd) -> Result<String, NoMemory> {
     })
 }
 
-/// Whether a run of a bus from its opening, in which these nodes get no thread, tells this.
-pub fn tells<R: Threads + Wait + Sync, G: Gate + Sync>(
-    rt: &R,
+/// Whether a run of a bus from its opening tells this.
+pub fn tells<R: Threads + Wait + Sync, W: Starter, G: Gate + Sync>(
+    host: Host<'_, R, W, G>,
     alloc: Global,
     bus: &Bus,
     clocks: Clocks,
-    refused: &[NodeNo],
-    gate: &G,
     wanted: &str,
 ) -> Result<bool, NoMemory> {
     if !are_of(&clocks, bus) {
         return Ok(false);
     }
-    let end = run(rt, alloc, bus, clocks, refused, gate)?;
+    let end = run(host, alloc, bus, clocks)?;
     Ok(told(alloc, &end)?.as_slice() == wanted.as_bytes())
 }

@@ -5,7 +5,7 @@ ghost use Rattle.pals_clock.specs.Clock.{AreReadings};
 
 use crate::buses::{bus_of, tells};
 use case_files::designs::TWO_COUNTERS;
-use node_threads::NoGate;
+use node_threads::{Host, NoGate, ThreadStarter};
 use pals_base::{Items, Nanos, NoMemory};
 use pals_clock::{Clocks, ListClock};
 use std::alloc::Global;
@@ -63,7 +63,12 @@ fn tells_by<R: Threads + Wait + Sync + Abort>(
     let mut lists = Items::new(alloc);
     lists.push(clocks.0)?;
     lists.push(clocks.1)?;
-    Ok(tells(rt, alloc, &bus, Clocks::Lists(lists), &[], &NoGate, wanted)?)
+    let host = Host {
+        runtime: rt,
+        starter: &mut ThreadStarter,
+        gate: &NoGate,
+    };
+    Ok(tells(host, alloc, &bus, Clocks::Lists(lists), wanted)?)
 }
 
 const ENDED_AT_ONCE: &str = "clock ended 9000000\nclock ended 9000000\n";

@@ -2,8 +2,8 @@
 use crate::buses::{bus_of, tells};
 use crate::gates::{Meets, Yields};
 use case_files::designs::TURN;
-use node_threads::NoGate;
-use pals_base::NodeNo;
+use node_threads::{FakeStarter, Host, NoGate, ThreadStarter};
+use pals_base::{Items, NodeNo};
 use pals_clock::Clocks;
 use std::test::Fail;
 
@@ -30,7 +30,12 @@ fn jobs_meet(rt: HostRuntime) -> Result<(), Fail> {
     let alloc = rt.alloc();
     let bus = bus_of(&rt, alloc, TURN, true)?;
     let gate = Meets::new();
-    assert!(rt; tells(&rt, alloc, &bus, Clocks::Meet, &[], &gate, TURNED)?);
+    let host = Host {
+        runtime: &rt,
+        starter: &mut ThreadStarter,
+        gate: &gate,
+    };
+    assert!(rt; tells(host, alloc, &bus, Clocks::Meet, TURNED)?);
     assert!(rt; gate.all_met());
     Ok(())
 }
@@ -48,7 +53,12 @@ fn refused_starts_do_not_show(rt: HostRuntime) -> Result<(), Fail> {
     let alloc = rt.alloc();
     let bus = bus_of(&rt, alloc, TURN, true)?;
     for refused in &REFUSED {
-        assert!(rt; tells(&rt, alloc, &bus, Clocks::Meet, refused, &NoGate, TURNED)?);
+        let host = Host {
+            runtime: &rt,
+            starter: &mut FakeStarter::new(Items::from_slice(alloc, refused)?),
+            gate: &NoGate,
+        };
+        assert!(rt; tells(host, alloc, &bus, Clocks::Meet, TURNED)?);
     }
     Ok(())
 }
@@ -59,8 +69,13 @@ fn schedules_do_not_show(rt: HostRuntime) -> Result<(), Fail> {
     let bus = bus_of(&rt, alloc, TURN, true)?;
     for seed in 0..1_000 {
         let gate = Yields::new(seed);
+        let host = Host {
+            runtime: &rt,
+            starter: &mut ThreadStarter,
+            gate: &gate,
+        };
         assert!(rt;
-            tells(&rt, alloc, &bus, Clocks::Meet, &[], &gate, TURNED)?,
+            tells(host, alloc, &bus, Clocks::Meet, TURNED)?,
             "seed {seed}"
         );
     }

@@ -1,4 +1,4 @@
-//! What a run in threads needs of the program's host, and no other command does.
+//! What a run in threads needs of the program's host.
 
 /// The runtime, which starts threads and may wait for them and for locks; the starter, which admits
 /// nodes to threads of their own; and the gate, which is told of their jobs.
