@@ -8,7 +8,7 @@ mod series;
 mod traces;
 
 use case_files::{asked, check_answer, text_of, word};
-use question::ask;
+use question::{Transfer, ask};
 use rings::check_ring;
 use series::answer_series;
 use std::sync::Wait;
@@ -40,19 +40,14 @@ fn answer<R: Threads + Wait + Sync>(
     if !word(case, "each").is_empty() {
         return answer_series(threads, rt, case);
     }
-    let failing_read = word(case, "failing-read").parse().unwrap_or(0);
-    let failing_write = word(case, "failing-write").parse().unwrap_or(0);
+    let transfer = Transfer {
+        size: 4096,
+        failing_read: word(case, "failing-read").parse().unwrap_or(0),
+        failing_write: word(case, "failing-write").parse().unwrap_or(0),
+    };
     let bundle = text_of(rt, case)?;
     let alloc = rt.alloc();
-    let asked = ask(
-        threads,
-        alloc,
-        asked(case),
-        bundle,
-        4096,
-        failing_read,
-        failing_write,
-    )?;
+    let asked = ask(threads, alloc, asked(case), bundle, transfer)?;
     let mut answer = format!(in alloc; "{}\n", asked.status)?.into_bytes();
     answer.extend_from_slice(asked.text.as_slice())?;
     Ok(answer)

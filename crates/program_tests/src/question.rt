@@ -16,24 +16,43 @@ pub struct ProgramAnswer {
     pub end: (u64, u64),
 }
 
-/// What the program answers to the words of a command line and to these bytes. The source gives `size` bytes a call. The calls of
+/// How a bundle is read and an answer is written: the source gives `size` bytes a call, and the calls of
 /// these numbers fail, from 1; 0 is none.
+#[derive(Clone, Copy)]
+pub struct Transfer {
+    pub size: usize,
+    pub failing_read: u64,
+    pub failing_write: u64,
+}
+
+impl Transfer {
+    /// One in which the source gives `size` bytes a call, and no call fails.
+    pub fn whole(size: usize) -> Transfer {
+        Transfer {
+            size,
+            failing_read: 0,
+            failing_write: 0,
+        }
+    }
+}
+
+/// What the program answers to the words of a command line and to these bytes.
 pub fn ask<R: Threads + Wait + Sync>(
     threads: &R,
     alloc: Global,
     line: &str,
     bundle: Vec<u8>,
-    size: usize,
-    failing_read: u64,
-    failing_write: u64,
+    transfer: Transfer,
 ) -> io::Result<ProgramAnswer> {
-    if size == 0 {
+    if transfer.size == 0 {
         return Err(io::ErrorKind::InvalidInput.into());
     }
     let words = words(alloc, line)?;
     let end = end_of(bundle.as_slice());
-    let mut source = MemSource::new(bundle, size, calls(alloc, failing_read)?);
-    let mut sink = MemSink::new(alloc, 65_536, 8, calls(alloc, failing_write)?)?;
+    let failing_reads = calls(alloc, transfer.failing_read)?;
+    let failing_writes = calls(alloc, transfer.failing_write)?;
+    let mut source = MemSource::new(bundle, transfer.size, failing_reads);
+    let mut sink = MemSink::new(alloc, 65_536, 8, failing_writes)?;
     let status = pals(
         threads,
         alloc,

@@ -12,7 +12,7 @@
 //!
 //! In the answer `END` is the place where the bundle ends, `_` is another place, and `..` stands for the first bytes of the
 //! answer, 8 for each write that did not fail.
-use crate::question::{ProgramAnswer, ask};
+use crate::question::{ProgramAnswer, Transfer, ask};
 use crate::runs::Runs;
 use crate::traces::run_and_audit;
 use case_files::{asked, text_of, word};
@@ -77,7 +77,7 @@ fn add_cut<R: Threads + Wait + Sync>(
         bundle.extend_from_slice(b"\n")?;
         bundle.extend_from_slice(behind.as_bytes())?;
     }
-    let asked = ask(threads, alloc, asked(case), bundle, PIECE, 0, 0)?;
+    let asked = ask(threads, alloc, asked(case), bundle, Transfer::whole(PIECE))?;
     runs.add(alloc, cut.len() as u64, &asked)
 }
 
@@ -90,15 +90,12 @@ fn reads<R: Threads + Wait + Sync>(
     let alloc = rt.alloc();
     let mut runs = Runs::new(alloc);
     for call in 1..MOST {
-        let asked = ask(
-            threads,
-            alloc,
-            asked(case),
-            text_of(rt, case)?,
+        let transfer = Transfer {
             size,
-            call,
-            0,
-        )?;
+            failing_read: call,
+            failing_write: 0,
+        };
+        let asked = ask(threads, alloc, asked(case), text_of(rt, case)?, transfer)?;
         runs.add(alloc, call, &asked)?;
         if asked.status != READ_FAULT {
             break;
@@ -113,18 +110,21 @@ fn writes<R: Threads + Wait + Sync>(
     case: &str,
 ) -> io::Result<Vec<u8>> {
     let alloc = rt.alloc();
-    let whole = ask(threads, alloc, asked(case), text_of(rt, case)?, PIECE, 0, 0)?;
+    let whole = ask(
+        threads,
+        alloc,
+        asked(case),
+        text_of(rt, case)?,
+        Transfer::whole(PIECE),
+    )?;
     let mut runs = Runs::new(alloc);
     for call in 1..MOST {
-        let mut asked = ask(
-            threads,
-            alloc,
-            asked(case),
-            text_of(rt, case)?,
-            PIECE,
-            0,
-            call,
-        )?;
+        let transfer = Transfer {
+            size: PIECE,
+            failing_read: 0,
+            failing_write: call,
+        };
+        let mut asked = ask(threads, alloc, asked(case), text_of(rt, case)?, transfer)?;
         let over = asked.status != WRITE_FAULT;
         if !over && is_first_part(&asked, &whole, call) {
             asked.text.clear();
@@ -181,7 +181,7 @@ fn add_without<R: Threads + Wait + Sync>(
     let alloc = rt.alloc();
     let shorter = without(alloc, case, left_out)?;
     let bundle = text_of(rt, shorter.as_str())?;
-    let asked = ask(threads, alloc, asked(case), bundle, PIECE, 0, 0)?;
+    let asked = ask(threads, alloc, asked(case), bundle, Transfer::whole(PIECE))?;
     runs.add(alloc, left_out as u64, &asked)
 }
 

@@ -1,5 +1,5 @@
 //! Runs in threads whose journals hang on the schedule: what they show under each, and what an audit answers to what they wrote.
-use crate::question::ask;
+use crate::question::{Transfer, ask};
 use case_files::{asked, text_of};
 use std::alloc::Global;
 use std::io;
@@ -16,7 +16,13 @@ pub fn run_and_audit<R: Threads + Wait + Sync>(
     case: &str,
 ) -> io::Result<Vec<u8>> {
     let alloc = rt.alloc();
-    let run = ask(threads, alloc, asked(case), text_of(rt, case)?, 4096, 0, 0)?;
+    let run = ask(
+        threads,
+        alloc,
+        asked(case),
+        text_of(rt, case)?,
+        Transfer::whole(4096),
+    )?;
     let text = std::str::from_utf8(run.text.as_slice()).unwrap_or("no text");
     let mut answer = format!(in alloc; "{}\n", run.status)?;
     for line in text.lines() {
@@ -25,7 +31,13 @@ pub fn run_and_audit<R: Threads + Wait + Sync>(
         }
     }
     let bundle = with_trace(alloc, text_of(rt, case)?.as_slice(), text)?;
-    let audit = ask(threads, alloc, "audit Top.impl", bundle, 4096, 0, 0)?;
+    let audit = ask(
+        threads,
+        alloc,
+        "audit Top.impl",
+        bundle,
+        Transfer::whole(4096),
+    )?;
     let verdict = std::str::from_utf8(audit.text.as_slice()).unwrap_or("no text");
     write!(answer, "{}\n{verdict}", audit.status)?;
     Ok(answer.into_bytes())
