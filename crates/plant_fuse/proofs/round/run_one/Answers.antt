@@ -1,4 +1,4 @@
-use Rattle.std.proofs.Common.{◌∙◌, ◌<◌, sym, ap, length, slice_index_or, arith}
+use Rattle.std.proofs.Common.{◌∙◌, ◌<◌, sym, ap, length, slice_index_or, arith, rules}
 use Rattle.std.proofs.lemmas.List.{get_or-map}
 use Rattle.pals_model.specs.declared.rounds.Part.{Part}
 use Rattle.pals_model.specs.Composition.{no_frame}
@@ -11,6 +11,12 @@ use Rattle.plant_fuse.proofs.round.run_one.Goals as goal
 pub bounds-parts-node : goal.bounds-parts-node
 bounds-parts-node c =
     omega (arith, c.requires.node, count_of_parts c.args.round.design.now c.args.parts.now c.requires.parts)
+
+pub offset_bounds-parts-node : goal.offset_bounds-parts-node
+offset_bounds-parts-node c =
+    let within : c.args.node < length c.args.parts.now =
+    omega (arith, c.requires.node, count_of_parts c.args.round.design.now c.args.parts.now c.requires.parts) in
+    search rules
 
 pub index_mut-requires : goal.index_mut-requires
 index_mut-requires c =
