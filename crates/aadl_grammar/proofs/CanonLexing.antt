@@ -11,7 +11,7 @@ use Rattle.aadl_lex.specs.Rules.{is_blank, close_from, first, after}
 use Rattle.aadl_lex.specs.Tokens.{token, Lexes, ended, takes, reads}
 use Rattle.aadl_tree.specs.declared.mark.Mark.TheVariants as k
 use Rattle.aadl_tree.specs.Marks.{mark_text, keyword_of, symbol_of}
-use Rattle.aadl_tree.specs.Kinds.{Kind, mark, class_kind, inside_behind, spots_from, kinds_of}
+use Rattle.aadl_tree.specs.Terminals.{Kind, mark, class_kind, inside_behind, spots_from, kinds_of}
 use Rattle.aadl_tree.specs.Canon.{kind_text, line_end, between, text_behind}
 use Rattle.aadl_grammar.specs.proof.Machine.{kind_number}
 use Rattle.aadl_grammar.proofs.SideBySide.{AreNeighbours}

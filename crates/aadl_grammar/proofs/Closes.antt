@@ -12,7 +12,7 @@ use Rattle.aadl_lex.specs.Rules.{is_in_word, is_word, close_from}
 use Rattle.aadl_tree.specs.declared.mark.Mark.{Mark}
 use Rattle.aadl_tree.specs.declared.mark.Mark.TheVariants as k
 use Rattle.aadl_tree.specs.Marks.{mark_text}
-use Rattle.aadl_tree.specs.Kinds.{Kind, mark}
+use Rattle.aadl_tree.specs.Terminals.{Kind, mark}
 use Rattle.aadl_tree.specs.Canon.{kind_text}
 use Rattle.aadl_grammar.proofs.FirstTokens.{other_bytes}
 use Rattle.aadl_lex.proofs.Closes.{none_parts}

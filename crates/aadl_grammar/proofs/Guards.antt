@@ -3,7 +3,7 @@ use Rattle.std.proofs.Common.{◌≡◌, ℕ, Bool, true, ◌&&◌, ◌∙◌, s
 use Rattle.std.proofs.lemmas.List.{append-nil}
 use Rattle.std.proofs.lemmas.Bool.{eqb-true, and_from}
 use Rattle.std.specs.Cmp.{first_so, second_so}
-use Rattle.aadl_tree.specs.Kinds.{Kind}
+use Rattle.aadl_tree.specs.Terminals.{Kind}
 use Rattle.aadl_grammar.specs.proof.Symbols.{Symbol, Row}
 use Rattle.aadl_grammar.specs.proof.Table.{rows, can_omit}
 use Rattle.aadl_grammar.specs.proof.Machine.{Stack, class_number, kind_number}

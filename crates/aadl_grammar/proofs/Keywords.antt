@@ -13,7 +13,7 @@ use Rattle.aadl_lex.specs.Rules.{after}
 use Rattle.aadl_tree.specs.declared.mark.Mark.{Mark}
 use Rattle.aadl_tree.specs.declared.mark.Mark.TheVariants as k
 use Rattle.aadl_tree.specs.Marks.{mark_text, keywords, symbols, keyword_of, symbol_of}
-use Rattle.aadl_tree.specs.Kinds.{mark}
+use Rattle.aadl_tree.specs.Terminals.{mark}
 use Rattle.aadl_grammar.proofs.Basics.{heads, tails}
 use Rattle.aadl_grammar.proofs.TextTerminals.{is_inside, behind}
 use Rattle.aadl_grammar.proofs.Tokens.{keyword_then, symbol_then}

@@ -5,7 +5,7 @@ use Rattle.std.proofs.lemmas.List.{append-nil}
 use Rattle.aadl_tree.specs.declared.mark.Mark.TheVariants as k
 use Rattle.aadl_tree.specs.declared.values.Value.{Value}
 use Rattle.aadl_tree.specs.declared.values.Association.{Association}
-use Rattle.aadl_tree.specs.Kinds.{word, mark, Spot}
+use Rattle.aadl_tree.specs.Terminals.{word, mark, Spot}
 use Rattle.aadl_tree.specs.Parts.{Part, plain}
 use Rattle.aadl_tree.specs.Values as v
 use Rattle.aadl_tree.specs.proof.ValueViews.{value_view, values_view, association_view, associations_view}

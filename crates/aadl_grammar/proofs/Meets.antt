@@ -11,7 +11,7 @@ use Rattle.aadl_tree.specs.declared.mark.Mark.{Mark}
 use Rattle.aadl_tree.specs.declared.mark.Mark.TheVariants as k
 use Rattle.aadl_tree.specs.Marks.{mark_text}
 use Rattle.aadl_tree.specs.proof.Marks.{mark_number}
-use Rattle.aadl_tree.specs.Kinds.{Kind, whole, mark}
+use Rattle.aadl_tree.specs.Terminals.{Kind, whole, mark}
 use Rattle.aadl_tree.specs.Canon.{kind_text, holds_left, holds_right, ends_line, line_end, text_behind}
 use Rattle.aadl_grammar.specs.proof.Machine.{kind_number}
 use Rattle.aadl_grammar.proofs.SideBySide.{may_stand_behind, AreNeighbours}

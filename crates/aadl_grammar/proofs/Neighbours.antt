@@ -4,7 +4,7 @@ use Rattle.std.proofs.lemmas.Bool.{and_from}
 use Rattle.aadl_tree.specs.declared.mark.Mark.{Mark}
 use Rattle.aadl_tree.specs.declared.mark.Mark.TheVariants as k
 use Rattle.aadl_tree.specs.proof.Marks.{mark_number}
-use Rattle.aadl_tree.specs.Kinds.{Kind}
+use Rattle.aadl_tree.specs.Terminals.{Kind}
 use Rattle.aadl_grammar.specs.proof.Symbols.{Class, a_word, a_whole, a_real, a_quoted, an_unread, the, Symbol}
 use Rattle.aadl_grammar.specs.proof.Symbols as s
 use Rattle.aadl_grammar.specs.proof.Machine.{class_number, kind_number, whole_package}

@@ -2,7 +2,7 @@
 use Rattle.std.proofs.Common.{◌≡◌, ◌∙◌, ap, sym, List, [], ◌∷◌, ◌++◌, map, flat_map, append_assoc}
 use Rattle.aadl_tree.specs.declared.mark.Mark.TheVariants as k
 use Rattle.aadl_tree.specs.declared.names.Identifier.{Identifier}
-use Rattle.aadl_tree.specs.Kinds.{Spot}
+use Rattle.aadl_tree.specs.Terminals.{Spot}
 use Rattle.aadl_tree.specs.Parts.{plain}
 use Rattle.aadl_tree.specs.Names.{identifier_parts, qualifier_parts}
 use Rattle.aadl_tree.specs.proof.NameViews.{identifier_view}

@@ -7,7 +7,7 @@ use Rattle.aadl_lex.specs.Tokens.{AreInOrder}
 use Rattle.aadl_lex.proofs.Order.{order_lexes}
 use Rattle.aadl_lex.proofs.Unique.{lexes_one}
 use Rattle.aadl_tree.specs.declared.mark.Mark.TheVariants as k
-use Rattle.aadl_tree.specs.Kinds.{Kind, mark, inside_behind, spots_from, spots, kinds_of}
+use Rattle.aadl_tree.specs.Terminals.{Kind, mark, inside_behind, spots_from, spots, kinds_of}
 use Rattle.aadl_tree.specs.Parts.{Spells, Written, kept}
 use Rattle.aadl_tree.specs.Declarations.{PackageTree, package_parts}
 use Rattle.aadl_tree.specs.proof.Maps.{package_to, no_place}

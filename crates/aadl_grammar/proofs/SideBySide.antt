@@ -1,7 +1,7 @@
 -- What may stand side by side in a text of the grammar.
 use Rattle.std.specs.Prelude.{ℕ, ◌≡◌, ◌==◌, Bool, true, not, ◌&&◌, ◌||◌, List, [], ◌∷◌}
 use Rattle.aadl_tree.specs.declared.mark.Mark.TheVariants as k
-use Rattle.aadl_tree.specs.Kinds.{Kind}
+use Rattle.aadl_tree.specs.Terminals.{Kind}
 use Rattle.aadl_grammar.specs.proof.Symbols.{Class, a_word, an_unread, the}
 use Rattle.aadl_grammar.specs.proof.Machine.{class_number, kind_number}
 

@@ -2,7 +2,7 @@
 use Rattle.std.proofs.Common.{◌≡◌, refl, [], ◌∷◌}
 use Rattle.aadl_tree.specs.declared.expressions.Sign.{Sign}
 use Rattle.aadl_tree.specs.declared.expressions.Sign.TheVariants as signs
-use Rattle.aadl_tree.specs.Kinds.{mark}
+use Rattle.aadl_tree.specs.Terminals.{mark}
 use Rattle.aadl_tree.specs.Values.{sign_mark}
 use Rattle.aadl_grammar.specs.proof.Symbols as s
 use Rattle.aadl_grammar.specs.proof.Machine.{takes, move}

@@ -10,7 +10,7 @@ use Rattle.aadl_tree.specs.declared.mark.Mark.{Mark}
 use Rattle.aadl_tree.specs.declared.mark.Mark.TheVariants as k
 use Rattle.aadl_tree.specs.Marks.{mark_text, keyword_of, symbol_of}
 use Rattle.aadl_tree.specs.proof.Marks.{mark_number}
-use Rattle.aadl_tree.specs.Kinds.{Kind, word, whole, real, quoted, unread, mark}
+use Rattle.aadl_tree.specs.Terminals.{Kind, word, whole, real, quoted, unread, mark}
 use Rattle.aadl_tree.specs.Parts.{Part, token, may, feature_section, subcomponent_section, connection_section, property_section, Extra, empty_section, last_semicolon, extra_kinds, Spells, kept}
 use Rattle.aadl_grammar.specs.proof.Machine.{kind_number}
 use Rattle.aadl_grammar.proofs.SideBySide.{may_stand_behind, AreNeighbours}

@@ -2,7 +2,7 @@
 use Rattle.std.proofs.Common.{◌≡◌, ◌⊎◌, inl, inr, ℕ, sym, subst, List, [], ◌∷◌, length, refl}
 use Rattle.aadl_lex.specs.declared.token.Token.{Token}
 use Rattle.aadl_lex.specs.Tokens.{AreTokensOf}
-use Rattle.aadl_tree.specs.Kinds.{Spot, spots, kinds_of}
+use Rattle.aadl_tree.specs.Terminals.{Spot, spots, kinds_of}
 use Rattle.aadl_tree.specs.Parts.{Part, Spells, Written}
 use Rattle.aadl_tree.specs.Declarations.{PackageTree, package_parts}
 use Rattle.aadl_tree.specs.Grammar.{IsPackage}

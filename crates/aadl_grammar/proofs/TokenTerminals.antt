@@ -19,7 +19,7 @@ use Rattle.aadl_lex.proofs.Spelled.{spelled_tokens}
 use Rattle.aadl_tree.specs.declared.mark.Mark.{Mark}
 use Rattle.aadl_tree.specs.declared.mark.Mark.TheVariants as k
 use Rattle.aadl_tree.specs.Marks.{keyword_of, symbol_of}
-use Rattle.aadl_tree.specs.Kinds.{mark, word_kind, symbol_kind, class_kind, inside_behind, spots_from, spots, kinds_of}
+use Rattle.aadl_tree.specs.Terminals.{mark, word_kind, symbol_kind, class_kind, inside_behind, spots_from, spots, kinds_of}
 use Rattle.aadl_tree.proofs.Symbols.{symbol_known}
 use Rattle.aadl_grammar.proofs.Literals.{at_seam}
 use Rattle.aadl_grammar.proofs.TextTerminals.{is_inside, Spoken, a_word, a_number, a_real, a_string, an_annex, a_keyword, a_symbol, opens, closes, behind, Said}

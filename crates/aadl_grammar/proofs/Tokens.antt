@@ -14,7 +14,7 @@ use Rattle.aadl_lex.specs.Rules.{is_in_word, is_word, first, after}
 use Rattle.aadl_tree.specs.declared.mark.Mark.{Mark}
 use Rattle.aadl_tree.specs.declared.mark.Mark.TheVariants as k
 use Rattle.aadl_tree.specs.Marks.{mark_text, keyword_of, symbol_of}
-use Rattle.aadl_tree.specs.Kinds.{Kind, word, whole, real, quoted, mark, word_kind, symbol_kind, class_kind, inside_behind}
+use Rattle.aadl_tree.specs.Terminals.{Kind, word, whole, real, quoted, mark, word_kind, symbol_kind, class_kind, inside_behind}
 use Rattle.aadl_tree.specs.Canon.{kind_text}
 use Rattle.aadl_grammar.proofs.FirstTokens.{stops, extends, word_first, symbol_first}
 use Rattle.aadl_grammar.proofs.Literals.{in_number, number_first, number_some, real_first, string_first, unread_first}

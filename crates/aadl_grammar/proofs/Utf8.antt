@@ -13,7 +13,7 @@ use Rattle.aadl_lex.specs.Rules.{is_word, is_in_word, is_blank}
 use Rattle.aadl_tree.specs.declared.mark.Mark.{Mark}
 use Rattle.aadl_tree.specs.declared.mark.Mark.TheVariants as k
 use Rattle.aadl_tree.specs.Marks.{mark_text}
-use Rattle.aadl_tree.specs.Kinds.{Kind}
+use Rattle.aadl_tree.specs.Terminals.{Kind}
 use Rattle.aadl_tree.specs.Canon.{kind_text, line_end, between, text_behind}
 use Rattle.aadl_lex.specs.proof.Spelled.{IsReal}
 use Rattle.aadl_grammar.proofs.Literals.{number_digits}

@@ -1,7 +1,7 @@
 //! The terminal at a place, by its class.
 ghost use Rattle.std.specs.Prelude.{◌≡◌, [], true, MatchOption, MatchBool, IfOk, IfErr, string_bytes};
 ghost use Rattle.aadl_tree.specs.Grammar as grammar;
-ghost use Rattle.aadl_tree.specs.Kinds.{whole, real, quoted, unread};
+ghost use Rattle.aadl_tree.specs.Terminals.{whole, real, quoted, unread};
 ghost use Rattle.aadl_tree.specs.proof.NameViews.{identifier_view};
 ghost use Rattle.aadl_tree.specs.proof.Maps.{kept_place};
 ghost use Rattle.aadl_grammar.specs.proof.Symbols as s;

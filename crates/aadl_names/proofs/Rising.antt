@@ -6,7 +6,7 @@ use Rattle.aadl_lex.specs.Tokens.{AreInOrder}
 use Rattle.aadl_lex.proofs.Order.{order_tokens}
 use Rattle.aadl_tree.specs.Declarations.{PackageTree, package_parts}
 use Rattle.aadl_tree.specs.Given.{IsTreeOf}
-use Rattle.aadl_tree.specs.Kinds.{Kind, Spot, spots_from, spots, inside_behind}
+use Rattle.aadl_tree.specs.Terminals.{Kind, Spot, spots_from, spots, inside_behind}
 use Rattle.aadl_tree.specs.Parts.{Part, token, may, AreAt, HaveKinds, Written, extra_kinds}
 use Rattle.aadl_names.specs.proof.Orders.{places_of, StandsBefore}
 

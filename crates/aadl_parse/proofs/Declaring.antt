@@ -6,7 +6,7 @@ use Rattle.aadl_tree.specs.declared.declarations.Feature.{Feature}
 use Rattle.aadl_tree.specs.declared.declarations.Subcomponent.{Subcomponent}
 use Rattle.aadl_tree.specs.declared.declarations.Connection.{Connection}
 use Rattle.aadl_tree.specs.declared.annex.Annex.{Annex}
-use Rattle.aadl_tree.specs.Kinds.{mark, Spot}
+use Rattle.aadl_tree.specs.Terminals.{mark, Spot}
 use Rattle.aadl_tree.specs.Annexes.{annex_parts}
 use Rattle.aadl_tree.specs.Declarations.{category_mark, feature_parts, subcomponent_parts, connection_parts}
 use Rattle.aadl_tree.specs.proof.Views.{feature_view, subcomponent_view, connection_view, annex_view}

@@ -2,7 +2,7 @@
 use Rattle.std.proofs.Common.{◌≡◌, ℕ, ap, refl, List, [], ◌∷◌, ◌++◌, inl, inr}
 use Rattle.aadl_tree.specs.declared.mark.Mark.TheVariants as k
 use Rattle.aadl_tree.specs.declared.values.Association.{Association}
-use Rattle.aadl_tree.specs.Kinds.{mark, Spot}
+use Rattle.aadl_tree.specs.Terminals.{mark, Spot}
 use Rattle.aadl_tree.specs.Parts.{Part, Section, section_mark, property_section}
 use Rattle.aadl_tree.specs.Values as v
 use Rattle.aadl_tree.specs.proof.ValueViews.{association_view, associations_view}

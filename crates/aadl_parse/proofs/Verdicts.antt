@@ -6,7 +6,7 @@ use Rattle.aadl_lex.specs.declared.token.Token.{Token}
 use Rattle.aadl_lex.specs.Tokens.{AreTokensOf}
 use Rattle.aadl_lex.proofs.Unique.{one_list, one_fault, not_both}
 use Rattle.aadl_tree.proofs.Parts.{written_spells}
-use Rattle.aadl_tree.specs.Kinds.{Spot, spots, kinds_of}
+use Rattle.aadl_tree.specs.Terminals.{Spot, spots, kinds_of}
 use Rattle.aadl_tree.specs.Parts.{Written}
 use Rattle.aadl_tree.specs.Declarations.{PackageTree, package_parts}
 use Rattle.aadl_tree.specs.Grammar.{IsPackage, IsShallow, FailsAt, DeepAt, place}

@@ -1,7 +1,7 @@
 //! Types, implementations, and the package that has them.
 ghost use Rattle.std.specs.Prelude.{◌≡◌, [], ◌∷◌, flat_map, map};
 ghost use Rattle.aadl_tree.specs.declared.mark.Mark.TheVariants as k;
-ghost use Rattle.aadl_tree.specs.Kinds.{mark};
+ghost use Rattle.aadl_tree.specs.Terminals.{mark};
 ghost use Rattle.aadl_tree.specs.Parts.{token, behind};
 ghost use Rattle.aadl_tree.specs.Names.{identifier_parts, name_parts};
 ghost use Rattle.aadl_tree.specs.Annexes.{annex_parts, content_parts};

@@ -1,6 +1,6 @@
 //! What stands between two terminals.
 ghost use Rattle.std.specs.Prelude.{◌≡◌};
-ghost use Rattle.aadl_tree.specs.Kinds.{mark};
+ghost use Rattle.aadl_tree.specs.Terminals.{mark};
 ghost use Rattle.aadl_tree.specs.Canon.{holds_left};
 
 use aadl_tree::Mark;

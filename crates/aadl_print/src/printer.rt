@@ -1,6 +1,6 @@
 //! The text that is being written.
 ghost use Rattle.std.specs.Prelude.{◌≡◌, OnOk};
-ghost use Rattle.aadl_tree.specs.Kinds.{word, whole, real, quoted, unread, mark};
+ghost use Rattle.aadl_tree.specs.Terminals.{word, whole, real, quoted, unread, mark};
 
 use crate::gap::{Spacing, stands_close};
 use aadl_tree::Mark;

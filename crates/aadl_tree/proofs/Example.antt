@@ -3,7 +3,7 @@ use Rattle.std.proofs.Common.{◌≡◌, [], ◌∷◌, refl}
 use Rattle.std.proofs.Common.{inl, inr}
 use Rattle.std.specs.Fmt.{digits}
 use Rattle.aadl_tree.specs.declared.mark.Mark.TheVariants as k
-use Rattle.aadl_tree.specs.Kinds.{mark}
+use Rattle.aadl_tree.specs.Terminals.{mark}
 use Rattle.aadl_tree.specs.Parts.{Spells, kept}
 use Rattle.aadl_tree.specs.Annexes.{transition_parts}
 use Rattle.aadl_tree.specs.Canon.{canonical}

@@ -1,7 +1,7 @@
 -- Spellings, part for part.
 use Rattle.std.proofs.Common.{◌≡◌, ℕ, ◌∙◌, sym, ap, subst, refl, List, [], ◌∷◌, ◌++◌}
 use Rattle.std.proofs.Common.{inl, inr}
-use Rattle.aadl_tree.specs.Kinds.{Kind, Spot, kinds_of}
+use Rattle.aadl_tree.specs.Terminals.{Kind, Spot, kinds_of}
 use Rattle.aadl_tree.specs.Parts.{Part, token, may, extra_kinds, Spells, HaveKinds, Written, kept}
 
 pub kept_spells : {P : Type 0} → (ps : List (Part P)) (rest : List Kind) → Spells ps (kept ps ++ rest) rest

@@ -10,7 +10,7 @@ use Rattle.aadl_lex.specs.declared.token.TokenKind.TheVariants.{Word, Symbol}
 use Rattle.aadl_lex.specs.declared.rules.Reading.TheVariants.{Outside}
 use Rattle.aadl_lex.specs.Rules.{first}
 use Rattle.aadl_lex.specs.Tokens.{Lexes, ended, skips, takes, AreTokensOf}
-use Rattle.aadl_tree.specs.Kinds.{Kind, spots, kinds_of}
+use Rattle.aadl_tree.specs.Terminals.{Kind, spots, kinds_of}
 use Rattle.aadl_tree.specs.Parts.{Written}
 use Rattle.aadl_tree.specs.Declarations.{package_parts}
 use Rattle.aadl_tree.specs.Grammar.{opened, is_end, nesting_from, IsShallow}

@@ -1,7 +1,7 @@
 -- Actions as plain trees, and what they are spelled by.
 use Rattle.std.specs.Prelude.{List, [], ◌∷◌, ◌++◌}
 use Rattle.aadl_tree.specs.declared.actions.Bound.{Bound}
-use Rattle.aadl_tree.specs.Kinds.{whole, mark}
+use Rattle.aadl_tree.specs.Terminals.{whole, mark}
 use Rattle.aadl_tree.specs.Parts.{Part, token, may, last_semicolon, plain, marked_if}
 use Rattle.aadl_tree.specs.Names.{Identifier, Reference, identifier_parts, reference_parts}
 use Rattle.aadl_tree.specs.Expressions.{Expression, expression_parts}

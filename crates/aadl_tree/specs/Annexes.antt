@@ -1,7 +1,7 @@
 -- Annexes and behaviours as plain trees, and what they are spelled by.
 use Rattle.std.specs.Prelude.{ℕ, Bool, List, [], ◌∷◌, ◌++◌, flat_map, Option}
 use Rattle.aadl_tree.specs.declared.mark.Mark.{Mark}
-use Rattle.aadl_tree.specs.Kinds.{mark, unread}
+use Rattle.aadl_tree.specs.Terminals.{mark, unread}
 use Rattle.aadl_tree.specs.Parts.{Part, token, plain, marked_if, parts_if}
 use Rattle.aadl_tree.specs.Names.{Identifier, Identifiers, Reference, identifier_parts, identifiers_parts, reference_parts}
 use Rattle.aadl_tree.specs.Values.{Associations, properties_parts}

@@ -5,7 +5,7 @@ use Rattle.aadl_tree.specs.declared.expressions.Sign.{Sign}
 use Rattle.aadl_tree.specs.declared.expressions.LogicOperator.{LogicOperator}
 use Rattle.aadl_tree.specs.declared.expressions.RelationOperator.{RelationOperator}
 use Rattle.aadl_tree.specs.declared.expressions.MultiplyOperator.{MultiplyOperator}
-use Rattle.aadl_tree.specs.Kinds.{whole, mark}
+use Rattle.aadl_tree.specs.Terminals.{whole, mark}
 use Rattle.aadl_tree.specs.Parts.{Part, token, plain, parts_if}
 use Rattle.aadl_tree.specs.Names.{Identifier, identifier_parts}
 use Rattle.aadl_tree.specs.Values.{sign_mark}

@@ -2,7 +2,7 @@
 use Rattle.std.specs.Prelude.{ℕ, true, List, [], length}
 use Rattle.aadl_lex.specs.declared.token.Token.{Token}
 use Rattle.aadl_lex.specs.Tokens.{AreTokensOf}
-use Rattle.aadl_tree.specs.Kinds.{spots_from, spots, kinds_of}
+use Rattle.aadl_tree.specs.Terminals.{spots_from, spots, kinds_of}
 use Rattle.aadl_tree.specs.Parts.{Written}
 use Rattle.aadl_tree.specs.Annexes.{AnnexTree, annex_tree_parts}
 use Rattle.aadl_tree.specs.Declarations.{PackageTree, package_parts}

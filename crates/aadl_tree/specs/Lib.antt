@@ -1,5 +1,5 @@
 pub mod Marks
-pub mod Kinds
+pub mod Terminals
 pub mod Parts
 pub mod Names
 pub mod Values

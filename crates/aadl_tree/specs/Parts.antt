@@ -1,7 +1,7 @@
 -- What a tree is spelled by, part for part, and which terminals spell it.
 use Rattle.std.specs.Prelude.{ℕ, ◌≡◌, ◌⊎◌, Bool, true, false, List, [], ◌∷◌, ◌++◌, flat_map, Option, Some, None}
 use Rattle.aadl_tree.specs.declared.mark.Mark.{Mark}
-use Rattle.aadl_tree.specs.Kinds.{Kind, mark, Spot}
+use Rattle.aadl_tree.specs.Terminals.{Kind, mark, Spot}
 use Rattle.aadl_tree.specs.declared.mark.Mark.TheVariants as k
 
 -- the sections of a type or an implementation

@@ -4,7 +4,7 @@ ghost use Rattle.aadl_lex.specs.proof.Spelled.{IsSymbol};
 ghost use Rattle.aadl_lex.specs.Tokens.{AreTokensOf};
 ghost use Rattle.aadl_tree.specs.declared.mark.Mark.TheVariants as k;
 ghost use Rattle.aadl_tree.specs.Marks.{mark_text, keywords_inside, keywords_outside, symbols, keyword_of, symbol_of};
-ghost use Rattle.aadl_tree.specs.Kinds.{Kind, word, mark, Spot, spots, kinds_of};
+ghost use Rattle.aadl_tree.specs.Terminals.{Kind, word, mark, Spot, spots, kinds_of};
 ghost use Rattle.aadl_tree.specs.Parts.{Part, Spells, Written, kept};
 ghost use Rattle.aadl_tree.specs.Annexes.{transition_parts};
 ghost use Rattle.aadl_tree.specs.declared.package.PackageTree.{PackageTree as SourceTree};

@@ -11,7 +11,7 @@ use Rattle.annex_resolve.specs.declared.violation.Violation.{Violation}
 use Rattle.model_violations.specs.Violations.{shown_by, AreViolations}
 use Rattle.aadl_names.specs.declared.fault.PackageFault.{PackageFault}
 use Rattle.pals_report.specs.TextFaults.{text_fault_line}
-use Rattle.pals_report.specs.FlatFaults.{flat_fault_line}
+use Rattle.pals_report.specs.PackageFaultLines.{flat_fault_line}
 use Rattle.pals_report.specs.Violations.{violation_lines}
 use Rattle.design_laws.specs.PackageDesigns as laws
 use Rattle.design_laws.proofs.Verdicts.{one_instance, one_list, no_list}

@@ -7,7 +7,7 @@ use Rattle.model_violations.specs.Violations.{shown_by, AreViolations}
 use Rattle.pals_model.specs.declared.design.DesignParts.{DesignParts}
 use Rattle.pals_model.specs.Rules.{IsDesign}
 use Rattle.pals_model.specs.RoundTexts.{line_end, text_of as lines_text}
-use Rattle.pals_report.specs.FlatFaults.{flat_fault_line}
+use Rattle.pals_report.specs.PackageFaultLines.{flat_fault_line}
 use Rattle.pals_report.specs.Violations.{violation_lines}
 use Rattle.bundle_designs.specs.Accepted.{IsRefusedIn, IsAccepted}
 use Rattle.pals_top.specs.declared.status.TheConstants.{TEXT_REFUSED, DESIGN_REFUSED}

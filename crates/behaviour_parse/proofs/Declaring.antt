@@ -4,7 +4,7 @@ use Rattle.aadl_tree.specs.declared.mark.Mark.TheVariants as k
 use Rattle.aadl_tree.specs.declared.annex.VariableDeclaration.{VariableDeclaration}
 use Rattle.aadl_tree.specs.declared.annex.StateDeclaration.{StateDeclaration}
 use Rattle.aadl_tree.specs.declared.annex.Transition.{Transition}
-use Rattle.aadl_tree.specs.Kinds.{Spot}
+use Rattle.aadl_tree.specs.Terminals.{Spot}
 use Rattle.aadl_tree.specs.Parts.{Part, plain}
 use Rattle.aadl_tree.specs.Names as n
 use Rattle.aadl_tree.specs.Annexes as x

@@ -13,7 +13,7 @@ use Rattle.aadl_tree.specs.declared.expressions.LogicOperator.TheVariants as log
 use Rattle.aadl_tree.specs.declared.expressions.Factor.{Factor}
 use Rattle.aadl_tree.specs.declared.expressions.Term.{Term}
 use Rattle.aadl_tree.specs.declared.expressions.Relation.{Relation}
-use Rattle.aadl_tree.specs.Kinds.{mark, Spot}
+use Rattle.aadl_tree.specs.Terminals.{mark, Spot}
 use Rattle.aadl_tree.specs.Parts.{Part, plain}
 use Rattle.aadl_tree.specs.Values.{sign_mark}
 use Rattle.aadl_tree.specs.Expressions as e

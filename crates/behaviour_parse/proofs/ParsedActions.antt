@@ -13,7 +13,7 @@ use Rattle.aadl_tree.specs.declared.actions.Action.TheOpen.{Choice-F}
 use Rattle.aadl_tree.specs.declared.actions.Action.TheViews.{out-roll-Choice}
 use Rattle.aadl_tree.specs.declared.limits.TheConstants.{GREATEST_NESTING}
 use Rattle.aadl_tree.specs.Grammar.{place}
-use Rattle.aadl_tree.specs.Kinds.{Kind, whole, Spot}
+use Rattle.aadl_tree.specs.Terminals.{Kind, whole, Spot}
 use Rattle.aadl_tree.specs.Parts.{Part, plain, may, last_semicolon}
 use Rattle.aadl_tree.specs.Names.{identifier_parts, reference_parts}
 use Rattle.aadl_tree.specs.Actions as a

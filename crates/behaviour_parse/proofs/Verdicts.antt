@@ -2,7 +2,7 @@
 use Rattle.std.proofs.Common.{◌≡◌, sym, ℕ, ◌-◌, ◌<◌, ◌∙◌, ap, subst, refl, List, [], ◌∷◌, length, get_or, drop, arith, zero, suc}
 use Rattle.aadl_lex.specs.declared.token.Token.{Token}
 use Rattle.aadl_tree.proofs.Parts.{written_spells}
-use Rattle.aadl_tree.specs.Kinds.{Spot, spots_from, kinds_of}
+use Rattle.aadl_tree.specs.Terminals.{Spot, spots_from, kinds_of}
 use Rattle.std.specs.Prelude.{true, IfErr, Result, Ok, Err}
 use Rattle.std.specs.Result.{IsErrAnd}
 use Rattle.aadl_tree.specs.Parts.{Written}

@@ -1,7 +1,7 @@
 pub mod Lines
 pub mod LineWords
 pub mod Spelled
-pub mod Runs
+pub mod RunsOfLines
 pub mod PlainNames
 pub mod PortNames
 pub mod ToldInstrs

@@ -27,7 +27,7 @@ use Rattle.code_listing.specs.Numbers.{NumbersFit}
 use Rattle.code_listing.specs.proof.Told.{state_names, told_component, told_components, IsCodeOf}
 use Rattle.code_listing.proofs.LineWords.{is_plain, same_words, path_plain}
 use Rattle.code_listing.proofs.PlainNames.{HasPlainNames, names_are_plain, state_plain}
-use Rattle.code_listing.proofs.Runs.{begins, EndsAt, no_end, parted, all_begin, none_begins, run_parted, items_told, cons_told}
+use Rattle.code_listing.proofs.RunsOfLines.{begins, EndsAt, no_end, parted, all_begin, none_begins, run_parted, items_told, cons_told}
 use Rattle.code_listing.proofs.ToldComponents.{number_told, IsFit, port_told, variable_told, states_told}
 use Rattle.code_listing.proofs.ToldInstrs.{instrs_told}
 

@@ -18,7 +18,7 @@ use Rattle.code_listing.specs.Numbers.{NumbersFit, AllFit}
 use Rattle.code_listing.specs.proof.Told.{ToldComponent, told_component, told_components, told, IsCodeOf, AreListed, ListingTells}
 use Rattle.code_listing.proofs.LineWords.{is_plain, same_lines, same_words, decimal_plain}
 use Rattle.code_listing.proofs.PortNames.{Ported, names_of, ported, outs_of, ins_of}
-use Rattle.code_listing.proofs.Runs.{none_begins, run_parted, items_told, cons_told}
+use Rattle.code_listing.proofs.RunsOfLines.{none_begins, run_parted, items_told, cons_told}
 use Rattle.code_listing.proofs.ToldBlocks.{EndsComponents, AreSound, IsSound, all_told}
 use Rattle.code_listing.proofs.ToldLinks.{AreAlike, link_told, feed_told, tap_told}
 use Rattle.code_listing.proofs.WholeLines.{behind_feeds, behind_links, behind_components, lines_in_order, in_order, listing_has_lines}

@@ -1,7 +1,7 @@
 -- What actions do with names: each place of theirs has one finding.
 use Rattle.std.proofs.Common.{ℕ, [], ◌∷◌, Option, Some, None}
 use Rattle.aadl_tree.specs.declared.mark.Mark.TheVariants as k
-use Rattle.aadl_tree.specs.Kinds.{mark}
+use Rattle.aadl_tree.specs.Terminals.{mark}
 use Rattle.aadl_tree.specs.Parts.{token, may, last_semicolon, plain}
 use Rattle.aadl_tree.specs.Names.{Identifier, identifier_parts, reference_parts}
 use Rattle.aadl_tree.specs.Expressions.{Expression}

@@ -3,7 +3,7 @@ use Rattle.std.proofs.Common.{◌≡◌, ℕ, zero, suc, List, [], ◌∷◌, �
 use Rattle.std.specs.Prelude.{flat_map, slice_get}
 use Rattle.std.proofs.lemmas.Option.{same_Some}
 use Rattle.aadl_tree.specs.declared.mark.Mark.TheVariants as k
-use Rattle.aadl_tree.specs.Kinds.{mark}
+use Rattle.aadl_tree.specs.Terminals.{mark}
 use Rattle.aadl_tree.specs.Parts.{Part, token, plain, parts_if, feature_section, subcomponent_section, connection_section, property_section}
 use Rattle.aadl_tree.specs.Names.{Identifier, identifier_parts, identifiers_parts, name_parts, identifiers, listed_in}
 use Rattle.aadl_tree.specs.Values.{associations_parts}

@@ -3,7 +3,7 @@ use Rattle.std.proofs.Common.{ℕ, List, [], ◌∷◌, ◌++◌, Contains}
 use Rattle.std.specs.Prelude.{flat_map}
 use Rattle.std.proofs.lemmas.List.Elements.{Contains-append_left}
 use Rattle.aadl_tree.specs.declared.mark.Mark.TheVariants as k
-use Rattle.aadl_tree.specs.Kinds.{mark, Kind}
+use Rattle.aadl_tree.specs.Terminals.{mark, Kind}
 use Rattle.aadl_tree.specs.Parts.{Part, token, plain, parts_if, behind, feature_section, subcomponent_section, connection_section, property_section}
 use Rattle.aadl_tree.specs.Names.{Identifier, Reference, identifier_parts, qualifier_parts, name_parts, reference_parts}
 use Rattle.aadl_tree.specs.Values.{associations_parts}

@@ -18,7 +18,7 @@ use Rattle.design_laws.proofs.Placed.{Rise}
 use Rattle.design_laws.proofs.PossibleNameFaults.{possible}
 use Rattle.design_laws.proofs.FaultDeclaring.{possible_clear}
 use Rattle.design_laws.proofs.Again.{again_of, in_package, subcomponent_has, connection_has}
-use Rattle.design_laws.proofs.Findings.{one_finding}
+use Rattle.design_laws.proofs.FindingsAtOnePlace.{one_finding}
 
 -- ---- limits: the line says what is above its limit
 what_at : ℕ → List ℕ

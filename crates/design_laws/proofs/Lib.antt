@@ -51,7 +51,7 @@ pub mod FaultDeclaring
 pub mod Covering
 pub mod Found
 pub mod Again
-pub mod Findings
+pub mod FindingsAtOnePlace
 pub mod Faults
 pub mod Least
 mod Sorting

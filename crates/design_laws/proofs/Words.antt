@@ -15,8 +15,8 @@ use Rattle.aadl_lex.proofs.Spelled.{words_of}
 use Rattle.aadl_tree.specs.declared.mark.Mark.{Mark}
 use Rattle.aadl_tree.specs.declared.mark.Mark.TheVariants as k
 use Rattle.aadl_tree.specs.Marks.{keyword_of, symbol_of}
-use Rattle.aadl_tree.specs.Kinds.{Kind, word, whole, real, quoted, unread, mark, other, word_kind, symbol_kind, class_kind, Spot, spots_from, spots}
-use Rattle.aadl_tree.specs.Kinds.{inside_behind}
+use Rattle.aadl_tree.specs.Terminals.{Kind, word, whole, real, quoted, unread, mark, other, word_kind, symbol_kind, class_kind, Spot, spots_from, spots}
+use Rattle.aadl_tree.specs.Terminals.{inside_behind}
 use Rattle.aadl_tree.specs.Parts.{Section, feature_section, subcomponent_section, connection_section, property_section, extra_kinds}
 use Rattle.aadl_tree.specs.Parts.{Part, token, may, plain, parts_if, behind, HaveKinds, Written}
 use Rattle.aadl_tree.specs.Names.{Identifier, Identifiers, identifier_parts, identifiers_parts, name_parts, identifiers, listed_in}

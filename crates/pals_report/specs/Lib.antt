@@ -1,6 +1,6 @@
 pub mod Positions
 pub mod CheckReports
-pub mod FlatFaults
+pub mod PackageFaultLines
 pub mod Violations
 pub mod TextFaults
 pub mod EventFaults

@@ -2,7 +2,7 @@
 use Rattle.std.specs.Prelude.{ℕ, codes, decimal, List, [], ◌∷◌, ◌++◌, map, slice_index_or}
 use Rattle.annex_resolve.specs.declared.violation.Violation.{Violation}
 use Rattle.pals_report.specs.Positions.{position_text}
-use Rattle.pals_report.specs.FlatFaults.{and_word}
+use Rattle.pals_report.specs.PackageFaultLines.{and_word}
 
 -- the names of the rules, from rule 1 on
 abbrev pub rule_names : List (List ℕ)

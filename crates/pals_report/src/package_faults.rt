@@ -2,7 +2,7 @@
 ghost use Rattle.std.specs.Prelude.{◌≡◌, ◌++◌, OnOk, OnErr};
 ghost use Rattle.pals_model.specs.RoundTexts.{line_end};
 ghost use Rattle.pals_report.specs.proof.Appended.{BeginsWith};
-ghost use Rattle.pals_report.specs.FlatFaults.{and_word, flat_words, flat_fault_line};
+ghost use Rattle.pals_report.specs.PackageFaultLines.{and_word, flat_words, flat_fault_line};
 ghost use Rattle.pals_report.specs.Positions.{position_text};
 
 use crate::{Cursor, whole_or_none};

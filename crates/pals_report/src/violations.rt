@@ -2,7 +2,7 @@
 ghost use Rattle.std.specs.Prelude.{◌≡◌, ◌++◌, OnOk, OnErr};
 ghost use Rattle.pals_model.specs.RoundTexts.{line_end, text_of};
 ghost use Rattle.pals_report.specs.proof.Appended.{BeginsWith};
-ghost use Rattle.pals_report.specs.FlatFaults.{and_word};
+ghost use Rattle.pals_report.specs.PackageFaultLines.{and_word};
 ghost use Rattle.pals_report.specs.Violations.{rule_name, details_text, violation_line, violation_lines};
 
 use crate::{Cursor, whole_or_none};

@@ -4,7 +4,7 @@ use Rattle.std.specs.Prelude.{nat_lt}
 use Rattle.std.proofs.lemmas.Bool.{eqb-true, ltb-true}
 use Rattle.aadl_tree.specs.declared.mark.Mark.{Mark}
 use Rattle.aadl_tree.specs.declared.mark.Mark.TheVariants as k
-use Rattle.aadl_tree.specs.Kinds.{Kind, word, whole, real, quoted, unread, mark, other}
+use Rattle.aadl_tree.specs.Terminals.{Kind, word, whole, real, quoted, unread, mark, other}
 use Rattle.aadl_grammar.specs.proof.Symbols.{Class, a_word, a_whole, a_real, a_quoted, an_unread, the}
 use Rattle.aadl_tree.specs.proof.Marks.{mark_number}
 use Rattle.aadl_tree.proofs.Numbers.{same_number}

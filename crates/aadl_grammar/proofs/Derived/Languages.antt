@@ -1,6 +1,6 @@
 -- What can be derived is what spells trees, and it spells one.
 use Rattle.std.proofs.Common.{◌≡◌, Bool, true, false, sym, subst, refl, List, [], ◌∷◌, ◌++◌, inl, inr}
-use Rattle.aadl_tree.specs.Kinds.{Kind}
+use Rattle.aadl_tree.specs.Terminals.{Kind}
 use Rattle.aadl_tree.specs.Parts.{Spells}
 use Rattle.aadl_grammar.specs.proof.Symbols.{Symbol, Row}
 use Rattle.aadl_grammar.specs.proof.Table.{rows, can_omit}

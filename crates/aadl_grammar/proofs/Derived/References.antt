@@ -1,7 +1,7 @@
 -- A reference, by its first word: its names as a chain, the last of which is the type.
 use Rattle.std.proofs.Common.{◌≡◌, ℕ, ◌∙◌, sym, ap, ap₂, refl, List, [], ◌∷◌, ◌++◌, flat_map, append_assoc, Option}
 use Rattle.aadl_tree.specs.declared.mark.Mark.TheVariants as k
-use Rattle.aadl_tree.specs.Kinds.{Kind, word}
+use Rattle.aadl_tree.specs.Terminals.{Kind, word}
 use Rattle.aadl_tree.specs.Parts.{Part, Spells, parts_if, behind}
 use Rattle.aadl_tree.specs.Names as n
 use Rattle.aadl_grammar.proofs.Derived.Trees.{U, id}

@@ -1,6 +1,6 @@
 -- Trees by how they begin: what each row of a symbol builds.
 use Rattle.std.proofs.Common.{◌≡◌, ◌⊎◌, ◌∙◌, sym, ap, ap₂, subst, refl, List, [], ◌∷◌, ◌++◌, inl, inr}
-use Rattle.aadl_tree.specs.Kinds.{Kind}
+use Rattle.aadl_tree.specs.Terminals.{Kind}
 use Rattle.aadl_tree.specs.Parts.{Part, Spells}
 use Rattle.aadl_tree.proofs.Parts.{spells_append, spells_split}
 use Rattle.aadl_grammar.specs.proof.Symbols.{Symbol, Row}

@@ -1,7 +1,7 @@
 -- Each stack has a text.
 use Rattle.std.proofs.Common.{◌≡◌, ℕ, zero, suc, Bool, true, false, cond, subst, refl, List, [], ◌∷◌, ◌++◌, Option, Some, None, append_assoc, is_some, inl, pos}
 use Rattle.std.proofs.lemmas.Option.{same_Some}
-use Rattle.aadl_tree.specs.Kinds.{Kind}
+use Rattle.aadl_tree.specs.Terminals.{Kind}
 use Rattle.aadl_grammar.specs.proof.Symbols.{Class, a_word, a_whole, a_real, a_quoted, an_unread, the, Symbol, Row}
 use Rattle.aadl_grammar.specs.proof.Symbols as s
 use Rattle.aadl_grammar.specs.proof.Table.{rows, can_omit}

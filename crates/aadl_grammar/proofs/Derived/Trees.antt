@@ -8,7 +8,7 @@ use Rattle.aadl_tree.specs.declared.values.AssociationOperator.{AssociationOpera
 use Rattle.aadl_tree.specs.declared.declarations.Category.{Category}
 use Rattle.aadl_tree.specs.declared.declarations.Direction.{Direction}
 use Rattle.aadl_tree.specs.declared.actions.Bound.{Bound}
-use Rattle.aadl_tree.specs.Kinds.{Kind, word, whole, real, quoted, unread, mark}
+use Rattle.aadl_tree.specs.Terminals.{Kind, word, whole, real, quoted, unread, mark}
 use Rattle.aadl_tree.specs.Parts.{Part, token, may, plain, marked_if, parts_if}
 use Rattle.aadl_tree.specs.Parts as p
 use Rattle.aadl_tree.specs.Names as n

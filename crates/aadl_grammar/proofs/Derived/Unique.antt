@@ -1,6 +1,6 @@
 -- The terminals have one tree.
 use Rattle.std.proofs.Common.{◌≡◌, Bool, true, false, ◌∙◌, sym, ap, ap₂, subst, refl, List, [], ◌∷◌, ◌++◌, inl, inr, not, ◌==◌, eq-eqb}
-use Rattle.aadl_tree.specs.Kinds.{Kind}
+use Rattle.aadl_tree.specs.Terminals.{Kind}
 use Rattle.aadl_tree.specs.Parts.{Spells}
 use Rattle.aadl_grammar.specs.proof.Symbols.{Symbol, Row}
 use Rattle.aadl_grammar.specs.proof.Table.{rows, can_omit}

@@ -1,6 +1,6 @@
 -- The machine answers what the grammar says, whichever it is.
 use Rattle.std.proofs.Common.{◌≡◌, ◌↔◌, ℕ, ap, List}
-use Rattle.aadl_tree.specs.Kinds.{Kind, Spot, kinds_of}
+use Rattle.aadl_tree.specs.Terminals.{Kind, Spot, kinds_of}
 use Rattle.aadl_tree.specs.Grammar.{IsShallow, FailsAt, DeepAt}
 use Rattle.aadl_grammar.specs.proof.Machine.{Fate, finished, syntax_at, deep_at, fate}
 use Rattle.aadl_grammar.proofs.Fates.Stops.{Tells, tells}

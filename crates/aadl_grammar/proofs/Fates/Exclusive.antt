@@ -1,7 +1,7 @@
 -- The answers exclude one another, and each names one place.
 use Rattle.std.proofs.Common.{◌≡◌, ℕ, ◌∙◌, sym, ap, subst, refl, List, [], ◌∷◌, ◌++◌, arith, append_assoc}
 use Rattle.std.proofs.lemmas.List.{append-nil, map-append}
-use Rattle.aadl_tree.specs.Kinds.{Kind, Spot, kinds_of}
+use Rattle.aadl_tree.specs.Terminals.{Kind, Spot, kinds_of}
 use Rattle.aadl_tree.specs.Grammar.{Begins, nesting, IsShallow, IsStuck, place, FailsAt, DeepAt}
 use Rattle.aadl_grammar.proofs.Basics.{heads, tails}
 

@@ -2,7 +2,7 @@
 use Rattle.std.proofs.Common.{◌≡◌, ℕ, ◌+◌, ◌-◌, Bool, true, false, cond, not, ◌||◌, ◌==◌, ◌∙◌, sym, ap, subst, refl, List, [], ◌∷◌, ◌++◌, Option, Some, inl, inr, arith}
 use Rattle.std.proofs.lemmas.Bool.{eqb-true}
 use Rattle.aadl_tree.specs.declared.mark.Mark.TheVariants as k
-use Rattle.aadl_tree.specs.Kinds.{Kind, mark}
+use Rattle.aadl_tree.specs.Terminals.{Kind, mark}
 use Rattle.aadl_tree.specs.Grammar.{opened, is_end}
 use Rattle.aadl_grammar.specs.proof.Symbols.{the, Symbol, Row}
 use Rattle.aadl_grammar.specs.proof.Symbols as s

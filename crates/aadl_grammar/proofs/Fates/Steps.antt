@@ -3,7 +3,7 @@
 use Rattle.std.proofs.Common.{◌≡◌, ℕ, ◌+◌, ◌<◌, ◌≤◌, Bool, true, false, cond, ◌∙◌, sym, ap, subst, refl, List, [], ◌∷◌, ◌++◌, append_assoc, le-ltb, lt-ltb, ◌&&◌}
 use Rattle.std.specs.Prelude.{nat_lt}
 use Rattle.aadl_tree.specs.declared.mark.Mark.{Mark}
-use Rattle.aadl_tree.specs.Kinds.{Kind, mark, Spot}
+use Rattle.aadl_tree.specs.Terminals.{Kind, mark, Spot}
 use Rattle.aadl_tree.specs.declared.limits.TheConstants.{GREATEST_NESTING}
 use Rattle.aadl_tree.specs.Grammar.{place}
 use Rattle.aadl_grammar.specs.proof.Symbols.{the, Symbol, Row}

@@ -1,7 +1,7 @@
 -- Actions take the places of the terminals that spell them.
 use Rattle.std.proofs.Common.{ℕ, sym, [], ◌∷◌, ◌++◌}
 use Rattle.aadl_tree.specs.declared.mark.Mark.TheVariants as k
-use Rattle.aadl_tree.specs.Kinds.{whole, mark}
+use Rattle.aadl_tree.specs.Terminals.{whole, mark}
 use Rattle.aadl_tree.specs.Parts.{token, may, last_semicolon, marked_if}
 use Rattle.aadl_grammar.proofs.Filling.Fills.{U, Fills, split, cut, cut_at, cut_may, nil, joined, consed, marked_fill}
 use Rattle.aadl_tree.specs.declared.actions.Bound.{Bound}

@@ -1,7 +1,7 @@
 -- Declarations take the places of the terminals that spell them.
 use Rattle.std.proofs.Common.{ℕ, sym, List, [], ◌∷◌, ◌++◌, flat_map}
 use Rattle.aadl_tree.specs.declared.mark.Mark.TheVariants as k
-use Rattle.aadl_tree.specs.Kinds.{mark}
+use Rattle.aadl_tree.specs.Terminals.{mark}
 use Rattle.aadl_tree.specs.Parts.{Part, token, feature_section, subcomponent_section, connection_section, property_section, parts_if, behind}
 use Rattle.aadl_grammar.proofs.Filling.Fills.{U, Fills, split, cut, cut_at, nil, joined, consed, list_fill, option_fill, chain_fill, sectioned, section_fill}
 use Rattle.aadl_tree.specs.Parts.{chained}

@@ -1,7 +1,7 @@
 -- Expressions take the places of the terminals that spell them.
 use Rattle.std.proofs.Common.{ℕ, sym, Bool, true, false, [], ◌∷◌, ◌++◌}
 use Rattle.aadl_tree.specs.declared.mark.Mark.TheVariants as k
-use Rattle.aadl_tree.specs.Kinds.{whole, mark}
+use Rattle.aadl_tree.specs.Terminals.{whole, mark}
 use Rattle.aadl_tree.specs.Parts.{token, parts_if}
 use Rattle.aadl_grammar.proofs.Filling.Fills.{U, Fills, split, cut, cut_at, nil, joined, consed, option_fill}
 use Rattle.aadl_tree.specs.declared.expressions.LogicOperator.{LogicOperator}

@@ -1,7 +1,7 @@
 -- Names take the places of the terminals that spell them.
 use Rattle.std.proofs.Common.{ℕ, sym, [], ◌∷◌, ◌++◌, flat_map}
 use Rattle.aadl_tree.specs.declared.mark.Mark.TheVariants as k
-use Rattle.aadl_tree.specs.Kinds.{word, mark}
+use Rattle.aadl_tree.specs.Terminals.{word, mark}
 use Rattle.aadl_tree.specs.Parts.{token, parts_if, behind}
 use Rattle.aadl_grammar.proofs.Filling.Fills.{U, Fills, split, cut, cut_at, nil, joined, consed, list_fill, option_fill, chain_fill}
 use Rattle.aadl_tree.specs.Names as n

@@ -1,6 +1,6 @@
 -- Terminals that spell parts give them their places.
 use Rattle.std.proofs.Common.{◌≡◌, ℕ, sym, subst, List, [], ◌∷◌, ◌++◌, refl, inl, inr}
-use Rattle.aadl_tree.specs.Kinds.{Kind, Spot, kinds_of}
+use Rattle.aadl_tree.specs.Terminals.{Kind, Spot, kinds_of}
 use Rattle.aadl_tree.specs.Parts.{Part, token, may, extra_kinds, Spells, AreAt, HaveKinds, Written}
 use Rattle.aadl_grammar.proofs.Basics.{heads, tails}
 use Rattle.aadl_grammar.proofs.Filling.Fills.{U, AreAsMany, Like}

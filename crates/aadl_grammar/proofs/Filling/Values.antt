@@ -1,7 +1,7 @@
 -- Values and properties take the places of the terminals that spell them.
 use Rattle.std.proofs.Common.{ℕ, sym, List, [], ◌∷◌, ◌++◌, flat_map}
 use Rattle.aadl_tree.specs.declared.mark.Mark.TheVariants as k
-use Rattle.aadl_tree.specs.Kinds.{whole, real, quoted, mark}
+use Rattle.aadl_tree.specs.Terminals.{whole, real, quoted, mark}
 use Rattle.aadl_tree.specs.Parts.{token, marked_if, parts_if, behind}
 use Rattle.aadl_grammar.proofs.Filling.Fills.{U, Fills, split, cut, nil, joined, consed, option_fill, chain_fill, marked_fill}
 use Rattle.aadl_tree.specs.declared.expressions.Sign.{Sign}

@@ -2,7 +2,7 @@
 use Rattle.std.proofs.Common.{◌≡◌, ◌⊎◌, ℕ, sym, refl, List, [], ◌∷◌, ◌++◌, append_assoc, inl, inr}
 use Rattle.std.proofs.lemmas.List.{append-nil}
 use Rattle.aadl_tree.specs.declared.mark.Mark.TheVariants as k
-use Rattle.aadl_tree.specs.Kinds.{Kind, word, mark}
+use Rattle.aadl_tree.specs.Terminals.{Kind, word, mark}
 use Rattle.aadl_tree.specs.Parts.{Part, may, last_semicolon, Spells, plain}
 use Rattle.aadl_tree.specs.Names as n
 use Rattle.aadl_tree.specs.Expressions as e

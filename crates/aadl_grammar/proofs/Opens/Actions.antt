@@ -1,7 +1,7 @@
 -- A spelled tree is what a row makes, or its symbol is left out.
 use Rattle.std.proofs.Common.{ℤ, Bool, true, false, sym, refl, List, [], ◌∷◌, append_assoc, inl, inr}
 use Rattle.std.proofs.lemmas.List.{append-nil}
-use Rattle.aadl_tree.specs.Kinds.{Kind}
+use Rattle.aadl_tree.specs.Terminals.{Kind}
 use Rattle.aadl_tree.specs.Parts.{may, last_semicolon, Spells}
 use Rattle.aadl_tree.specs.Names as n
 use Rattle.aadl_tree.specs.Actions as a

@@ -1,6 +1,6 @@
 -- Each symbol: how its trees begin, and what is left out.
 use Rattle.std.proofs.Common.{◌≡◌, ◌⊎◌, Bool, true, false, refl, List, inl}
-use Rattle.aadl_tree.specs.Kinds.{Kind}
+use Rattle.aadl_tree.specs.Terminals.{Kind}
 use Rattle.aadl_tree.specs.Parts.{Spells}
 use Rattle.aadl_grammar.specs.proof.Symbols.{Symbol}
 use Rattle.aadl_grammar.specs.proof.Symbols as s

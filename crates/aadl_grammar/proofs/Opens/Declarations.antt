@@ -5,7 +5,7 @@ use Rattle.aadl_tree.specs.declared.mark.Mark.TheVariants as k
 use Rattle.aadl_tree.specs.declared.declarations.Category.{Category}
 use Rattle.aadl_tree.specs.declared.declarations.Category.TheVariants as categories
 use Rattle.aadl_tree.specs.declared.declarations.Direction.TheVariants as directions
-use Rattle.aadl_tree.specs.Kinds.{Kind, mark}
+use Rattle.aadl_tree.specs.Terminals.{Kind, mark}
 use Rattle.aadl_tree.specs.Parts.{token, Spells}
 use Rattle.aadl_tree.specs.Parts as p
 use Rattle.aadl_tree.specs.Names as n

@@ -7,7 +7,7 @@ use Rattle.aadl_tree.specs.declared.expressions.LogicOperator.TheVariants as log
 use Rattle.aadl_tree.specs.declared.expressions.RelationOperator.{RelationOperator}
 use Rattle.aadl_tree.specs.declared.expressions.RelationOperator.TheVariants as compare
 use Rattle.aadl_tree.specs.declared.expressions.MultiplyOperator.TheVariants as multiply
-use Rattle.aadl_tree.specs.Kinds.{Kind}
+use Rattle.aadl_tree.specs.Terminals.{Kind}
 use Rattle.aadl_tree.specs.Parts.{Spells}
 use Rattle.aadl_tree.specs.Expressions as e
 use Rattle.aadl_grammar.specs.proof.Symbols as s

@@ -1,6 +1,6 @@
 -- A package, and a behaviour, with its places is the only one that its tokens spell.
 use Rattle.std.proofs.Common.{◌≡◌, ℕ, ◌∙◌, sym, ap, List, []}
-use Rattle.aadl_tree.specs.Kinds.{Spot, kinds_of}
+use Rattle.aadl_tree.specs.Terminals.{Spot, kinds_of}
 use Rattle.aadl_tree.specs.Parts.{Part, Written}
 use Rattle.aadl_tree.specs.Annexes.{AnnexTree, annex_tree_parts}
 use Rattle.aadl_tree.specs.Declarations.{PackageTree, package_parts}

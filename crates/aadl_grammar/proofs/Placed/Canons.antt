@@ -3,7 +3,7 @@ use Rattle.std.proofs.Common.{◌≡◌, ℕ, ◌<◌, cond, ◌==◌, ◌∙◌
 use Rattle.std.proofs.lemmas.Bool.{eqb-true, false_from_ne_true}
 use Rattle.std.proofs.lemmas.List.{append-nil}
 use Rattle.std.proofs.Common.{inl, inr}
-use Rattle.aadl_tree.specs.Kinds.{Kind, Spot, kinds_of}
+use Rattle.aadl_tree.specs.Terminals.{Kind, Spot, kinds_of}
 use Rattle.aadl_tree.specs.Parts.{Part, token, may, extra_kinds, HaveKinds, Written, Spells, kept}
 use Rattle.aadl_tree.specs.Declarations.{PackageTree, package_parts}
 use Rattle.aadl_tree.proofs.Parts.{written_spells, kept_spells}

@@ -1,7 +1,7 @@
 -- How many places the tokens of parts keep, and terminals that no tree keeps.
 use Rattle.std.proofs.Common.{◌≡◌, Bool, true, false, cond, List, [], ◌∷◌, refl}
 use Rattle.aadl_tree.specs.declared.mark.Mark.TheVariants as k
-use Rattle.aadl_tree.specs.Kinds.{Kind, mark}
+use Rattle.aadl_tree.specs.Terminals.{Kind, mark}
 use Rattle.aadl_tree.specs.Parts.{Part, token, may, feature_section, subcomponent_section, connection_section, property_section, Extra, empty_section, last_semicolon, extra_kinds}
 
 -- Terminals that stand in what a tree does not keep. None of them keeps a place.

@@ -1,6 +1,6 @@
 -- Terminals for the machine, each at the place of its number.
 use Rattle.std.specs.Prelude.{ℕ, ◌+◌, List, [], ◌∷◌, ◌++◌, replicate, codes}
-use Rattle.aadl_tree.specs.Kinds.{Kind, word, mark, Spot}
+use Rattle.aadl_tree.specs.Terminals.{Kind, word, mark, Spot}
 use Rattle.aadl_tree.specs.declared.mark.Mark.TheVariants as k
 
 abbrev pub numbered : ℕ → List Kind → List Spot

@@ -1,6 +1,6 @@
 -- Terminals one behind the other, and a package at other places.
 use Rattle.std.specs.Prelude.{ℕ, ◌<◌, ◌≡◌, List, [], ◌∷◌}
-use Rattle.aadl_tree.specs.Kinds.{Spot}
+use Rattle.aadl_tree.specs.Terminals.{Spot}
 use Rattle.aadl_tree.specs.Parts.{Written}
 use Rattle.aadl_tree.specs.Declarations.{PackageTree, package_parts}
 use Rattle.aadl_tree.specs.proof.Maps.{package_to, no_place}

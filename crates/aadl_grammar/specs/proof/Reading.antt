@@ -1,7 +1,7 @@
 -- What a part of a parser answers, in terms of what the machine wants.
 use Rattle.std.specs.Prelude.{ℕ, ◌+◌, ◌≡◌, ◌≤◌, true, false, IfOk, List, [], ◌∷◌, ◌++◌, drop, Bool, Result, Ok, Err}
 use Rattle.aadl_tree.specs.declared.mark.Mark.{Mark}
-use Rattle.aadl_tree.specs.Kinds.{Kind, word, mark, Spot}
+use Rattle.aadl_tree.specs.Terminals.{Kind, word, mark, Spot}
 use Rattle.aadl_tree.specs.Parts.{Part, Written}
 use Rattle.aadl_tree.specs.Names.{Identifier}
 use Rattle.aadl_tree.specs.declared.limits.TheConstants.{GREATEST_NESTING}

@@ -1,7 +1,7 @@
 -- Terminals, and the spots that they stand for.
 use Rattle.std.specs.Prelude.{ℕ, ◌≡◌, ◌-◌, Bool, true, List, All, map, take, drop}
 use Rattle.aadl_lex.specs.Rules.{is_word}
-use Rattle.aadl_tree.specs.Kinds.{Kind, word, whole, real, quoted, unread, mark, other, Spot}
+use Rattle.aadl_tree.specs.Terminals.{Kind, word, whole, real, quoted, unread, mark, other, Spot}
 use Rattle.aadl_grammar.specs.declared.terminal.Terminal.{Terminal}
 use Rattle.aadl_grammar.specs.declared.terminal.TerminalKind.{TerminalKind}
 use Rattle.aadl_grammar.specs.declared.terminal.TerminalKind.TheVariants as t

@@ -3,7 +3,7 @@ use Rattle.std.specs.List.{All}
 use Rattle.aadl_lex.specs.declared.token.Token.{Token}
 use Rattle.aadl_lex.specs.proof.Spelled.{IsWordAt}
 use Rattle.aadl_lex.proofs.Spelled.{words_of}
-use Rattle.aadl_tree.specs.Kinds.{spots}
+use Rattle.aadl_tree.specs.Terminals.{spots}
 use Rattle.aadl_grammar.specs.proof.Machine.{depth}
 use Rattle.aadl_grammar.specs.proof.Reading.{here}
 use Rattle.aadl_grammar.specs.proof.Terminals.{spots_of}

@@ -1,7 +1,7 @@
 -- Which tree a reading gives, and where the reading of a behaviour stops or nests too deep.
 use Rattle.std.specs.Prelude.{ℕ, true, List, [], ◌∷◌}
 use Rattle.aadl_lex.specs.declared.token.Token.{Token}
-use Rattle.aadl_tree.specs.Kinds.{spots_from}
+use Rattle.aadl_tree.specs.Terminals.{spots_from}
 use Rattle.aadl_tree.specs.Declarations.{PackageTree}
 use Rattle.aadl_tree.specs.Grammar.{IsBehaviour, FailsAt, DeepAt}
 use Rattle.aadl_tree.specs.Given.{IsTreeOf, outer_nesting}

@@ -1,5 +1,5 @@
 use Rattle.std.proofs.Common.{true}
-use Rattle.aadl_tree.specs.Kinds.{spots_from}
+use Rattle.aadl_tree.specs.Terminals.{spots_from}
 use Rattle.aadl_tree.specs.Grammar.{IsBehaviour}
 use Rattle.aadl_tree.specs.proof.Given.{end_of}
 use Rattle.aadl_grammar.proofs.Fates.Exclusive.{fails_once, fails_not_deep, deep_once}

@@ -1,7 +1,7 @@
 -- The operators between relations.
 use Rattle.std.specs.Prelude.{List}
 use Rattle.aadl_tree.specs.declared.expressions.LogicOperator.{LogicOperator}
-use Rattle.aadl_tree.specs.Kinds.{Spot}
+use Rattle.aadl_tree.specs.Terminals.{Spot}
 use Rattle.aadl_grammar.specs.proof.Symbols.{the}
 use Rattle.aadl_grammar.specs.proof.Reading.{AtMark, Misses}
 use Rattle.aadl_tree.specs.declared.mark.Mark.TheVariants as k

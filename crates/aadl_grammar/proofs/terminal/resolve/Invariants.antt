@@ -1,5 +1,5 @@
 use Rattle.std.proofs.Common.{◌≡◌, ◌++◌, drop}
-use Rattle.aadl_tree.specs.Kinds.{spots_from}
+use Rattle.aadl_tree.specs.Terminals.{spots_from}
 use Rattle.aadl_grammar.specs.proof.Terminals.{spots_of, AreWords}
 use Rattle.aadl_grammar.proofs.terminal.resolve.Given as goal
 

@@ -5,7 +5,7 @@ use Rattle.aadl_grammar.specs.proof.Reading.{here}
 use Rattle.aadl_grammar.proofs.SymbolRows.{takes_row, refuses_unless}
 use Rattle.aadl_grammar.proofs.Written.{nothing, told, respelled}
 use Rattle.std.proofs.Common.{rules, to_z-of_z}
-use Rattle.aadl_tree.specs.Kinds.{whole}
+use Rattle.aadl_tree.specs.Terminals.{whole}
 use Rattle.aadl_tree.specs.Parts.{token}
 use Rattle.aadl_grammar.specs.proof.Symbols as s
 use Rattle.aadl_grammar.specs.proof.Machine.{move, depth, syntax_at}

@@ -5,7 +5,7 @@ use Rattle.aadl_grammar.specs.proof.Reading.{here}
 use Rattle.aadl_grammar.proofs.Written.{nothing, then, told, respelled, flagged}
 use Rattle.std.proofs.Common.{rules, to_z-of_z}
 use Rattle.aadl_tree.specs.Parts.{token}
-use Rattle.aadl_tree.specs.Kinds.{whole}
+use Rattle.aadl_tree.specs.Terminals.{whole}
 use Rattle.behaviour_parse.proofs.ParsedActions.{bound_runs, bound_refuses}
 use Rattle.aadl_tree.specs.declared.mark.Mark.TheVariants as k
 use Rattle.aadl_grammar.specs.proof.Machine.{move, depth, syntax_at}

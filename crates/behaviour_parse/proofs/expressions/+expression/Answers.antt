@@ -5,7 +5,7 @@ use Rattle.aadl_grammar.specs.proof.Reading.{here}
 use Rattle.aadl_grammar.proofs.SymbolRows.{takes_row, deep_row, omits_unless, refuses_unless, begins_as, begins_past, along, exits, no_reads, too_deep, a_word_at}
 use Rattle.aadl_grammar.proofs.Written.{nothing, then, marked, named, respelled, shorter, placed_at}
 use Rattle.aadl_tree.specs.Parts.{token}
-use Rattle.aadl_tree.specs.Kinds.{whole}
+use Rattle.aadl_tree.specs.Terminals.{whole}
 use Rattle.aadl_tree.specs.Expressions.{group, absolute, negated, compared, primary_parts, factor_parts, factors_parts, term_parts, terms_parts, sum_parts, relation_parts, relations_parts, expression_parts}
 use Rattle.aadl_tree.specs.proof.ExpressionViews.{primary_view, factor_view, factors_view, term_view, terms_view, sum_view, relation_view, relations_view, expression_view}
 use Rattle.aadl_tree.specs.proof.Maps.{kept_place}

@@ -1,4 +1,4 @@
-use Rattle.design_laws.proofs.Findings.{rises}
+use Rattle.design_laws.proofs.FindingsAtOnePlace.{rises}
 use Rattle.design_laws.proofs.Faults.{one_fault}
 use Rattle.design_laws.proofs.first_faults.one_fault.Goals as goal
 
