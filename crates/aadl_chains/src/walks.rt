@@ -121,7 +121,7 @@ pub fn trace_tap(
     requires out { is_in_at (placed wires.now.uses.names.tree.now) root port ≡ false }
     ensures { IfOk result (TracesTap (placed wires.now.uses.names.tree.now) root (record { path = []; port = port })) }
 {
-    match wires.into(root, PortPlace::Own(port)) {
+    match wires.connection_into(root, PortPlace::Own(port)) {
         Some(from) => {
             let lower = lower_of(wires, root, from.1);
             let path = way_to(alloc, &[], 0, lower.sub)?;
@@ -223,7 +223,7 @@ fn entry_into(
 ) -> Option<ConnectionInto>
     ensures { result ≡ spec.entry (placed wires.now.uses.names.tree.now) (Some declaration) sub port }
 {
-    match wires.into(declaration, PortPlace::Inner(sub, port)) {
+    match wires.connection_into(declaration, PortPlace::Inner(sub, port)) {
         Some(from) => Some(ConnectionInto {
             declaration,
             connection: from.0,
@@ -279,7 +279,7 @@ fn step_down(wires: &Wires<'_>, here: usize, out: usize) -> Option<PortBelow>
     requires out { is_in_at (placed wires.now.uses.names.tree.now) here out ≡ false }
     ensures { LeadsDown (placed wires.now.uses.names.tree.now) here out result }
 {
-    match wires.into(here, PortPlace::Own(out)) {
+    match wires.connection_into(here, PortPlace::Own(out)) {
         Some(from) => Some(lower_of(wires, here, from.1)),
         None => None,
     }

@@ -15,19 +15,19 @@ use crate::fault::ParseFault;
 use crate::names::{name, path, reference};
 use crate::reader::{Parsed, Reader};
 use aadl_tree::{
-    Association, AssociationOperator, Figure, Identifier, Mark, Number, Path, Quantity, Reference,
+    Association, AssociationOperator, UnsignedNumber, Identifier, Mark, Number, Path, Quantity, Reference,
     Value,
 };
 
 /// `whole | real`
-fn figure(reader: &Reader<'_>, at: usize) -> Parsed<Figure>
+fn figure(reader: &Reader<'_>, at: usize) -> Parsed<UnsignedNumber>
     ensures { Parses reader.now AnyRoom (s.figure ∷ []) (λ x. figure_parts (figure_view x)) at result }
 {
     if let Some((value, next)) = reader.whole(at) {
-        return Ok((Figure::Whole(value), next));
+        return Ok((UnsignedNumber::Whole(value), next));
     }
     match reader.real(at)? {
-        Some((bytes, next)) => Ok((Figure::Real(bytes), next)),
+        Some((bytes, next)) => Ok((UnsignedNumber::Real(bytes), next)),
         None => Err(ParseFault::Syntax {
             at: reader.place(at),
         }),

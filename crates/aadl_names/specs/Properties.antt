@@ -6,7 +6,7 @@ use Rattle.std.specs.Str.{bytes_eq}
 use Rattle.aadl_lex.specs.Rules.{whole_len, decimal, most}
 use Rattle.aadl_tree.specs.declared.declarations.Category.{Category}
 use Rattle.aadl_tree.specs.Names.{Path, Reference, Identifier, same_name}
-use Rattle.aadl_tree.specs.Values.{Figure, whole_figure, real_figure, Quantity, Value, list, text, named, number, no_values, value, Association, association, Associations, no_associations, associate}
+use Rattle.aadl_tree.specs.Values.{UnsignedNumber, whole_figure, real_figure, Quantity, Value, list, text, named, number, no_values, value, Association, association, Associations, no_associations, associate}
 use Rattle.aadl_names.specs.declared.fault.PackageFault.{PackageFault}
 use Rattle.aadl_names.specs.declared.holder.PropertyName.{PropertyName}
 use Rattle.aadl_names.specs.declared.holder.PropertyName.TheVariants.{Period, Dispatch, Timing, Adaptor, Skew, Execution, Network, Initial}
@@ -61,7 +61,7 @@ unit_of name =
     else if same_name name (codes "hr") then Some 3600000000000
     else None
 
-abbrev pub whole_of : Figure → Option ℕ
+abbrev pub whole_of : UnsignedNumber → Option ℕ
 whole_of (whole_figure (pos n)) = Some n
 whole_of (whole_figure n) = None
 whole_of (real_figure bytes) = None

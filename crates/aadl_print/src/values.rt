@@ -12,7 +12,7 @@ ghost use Rattle.aadl_print.specs.proof.Printed.{printed, under};
 use crate::items::{PrintItem, print_behind, print_chain, print_if, print_option};
 use crate::printer::Printer;
 use aadl_tree::{
-    Association, AssociationOperator, Figure, Mark, Number, Path, Quantity, Sign, Value,
+    Association, AssociationOperator, UnsignedNumber, Mark, Number, Path, Quantity, Sign, Value,
 };
 use std::alloc::AllocError;
 
@@ -35,11 +35,11 @@ fn association_mark(operator: AssociationOperator) -> Mark
     }
 }
 
-impl PrintItem for Figure {
-    ghost use Rattle.aadl_tree.specs.Values.{Figure, figure_parts};
+impl PrintItem for UnsignedNumber {
+    ghost use Rattle.aadl_tree.specs.Values.{UnsignedNumber, figure_parts};
     ghost use Rattle.aadl_tree.specs.proof.ValueViews.{figure_view};
 
-    ghost Tree = { Figure };
+    ghost Tree = { UnsignedNumber };
 
     ghost tree = { figure_view };
 
@@ -47,8 +47,8 @@ impl PrintItem for Figure {
 
     fn print(&self, printer: &mut Printer) -> Result<(), AllocError> {
         match self {
-            Figure::Whole(value) => printer.whole(*value),
-            Figure::Real(bytes) => printer.verbatim(bytes.as_slice()),
+            UnsignedNumber::Whole(value) => printer.whole(*value),
+            UnsignedNumber::Real(bytes) => printer.verbatim(bytes.as_slice()),
         }
     }
 }

@@ -11,13 +11,13 @@ use Rattle.aadl_tree.specs.declared.expressions.Sign.TheVariants as signs
 use Rattle.aadl_tree.specs.declared.values.AssociationOperator.TheVariants as operators
 
 -- a number without its sign
-pub data Figure : Type 0 where
-  whole_figure : ℤ → Figure
-  real_figure : List ℕ → Figure
+pub data UnsignedNumber : Type 0 where
+  whole_figure : ℤ → UnsignedNumber
+  real_figure : List ℕ → UnsignedNumber
 
 pub record Number : Type 0 where
   pub sign : Option Sign
-  pub figure : Figure
+  pub figure : UnsignedNumber
 
 pub record Quantity (P : Type 0) : Type 0 where
   pub number : Number
@@ -52,7 +52,7 @@ sign_mark signs.Minus = k.Minus
 abbrev pub sign_parts : {P : Type 0} → Sign → List (Part P)
 sign_parts sign = plain (sign_mark sign) ∷ []
 
-abbrev pub figure_parts : {P : Type 0} → Figure → List (Part P)
+abbrev pub figure_parts : {P : Type 0} → UnsignedNumber → List (Part P)
 figure_parts (whole_figure n) = token (whole n) [] ∷ []
 figure_parts (real_figure bytes) = token (real bytes) [] ∷ []
 

@@ -91,12 +91,12 @@ impl Drop for Quantity {
 #[derive(Drop)]
 pub struct Number {
     pub sign: Option<Sign>,
-    pub figure: Figure,
+    pub figure: UnsignedNumber,
 }
 
 /// A number without its sign.
 #[derive(Drop)]
-pub enum Figure {
+pub enum UnsignedNumber {
     /// A whole number.
     Whole(i64),
     /// A real, as the text spells it.

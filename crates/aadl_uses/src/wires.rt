@@ -68,8 +68,8 @@ impl<'t> Wires<'t> {
     }
 
     /// The first connection of a declaration into a port, and where it comes from.
-    pub fn into(&self, number: usize, target: PortPlace) -> Option<(usize, PortPlace)>
-        ensures { result ≡ spec.into (placed self.now.uses.names.tree.now) number target }
+    pub fn connection_into(&self, number: usize, target: PortPlace) -> Option<(usize, PortPlace)>
+        ensures { result ≡ spec.connection_into (placed self.now.uses.names.tree.now) number target }
     {
         let wire = self.first_into(number, target)?;
         match self.wires(number).get(wire) {

@@ -12,11 +12,11 @@ use Rattle.aadl_uses.specs.declared.thread_places.SubAt.{SubAt}
 use Rattle.aadl_uses.specs.Uses.{sub_at, below}
 use Rattle.aadl_uses.specs.proof.Types.{type_number_at}
 use Rattle.annex_resolve.proofs.ReadingSums.{take_next}
-use Rattle.component_checks.specs.declared.timed.Timed.{Timed}
+use Rattle.component_checks.specs.declared.timed.ComponentProperties.{ComponentProperties}
 use Rattle.component_checks.specs.PropertyLookup.{type_lists, own_lists, sub_lists, lists_at, lists_along, root_lists, first_in}
-use Rattle.component_checks.specs.proof.Carried as carried
-use Rattle.component_checks.specs.proof.Carried.{carried_by, connections_carried}
-use Rattle.component_checks.specs.proof.Timed.{period_at, dispatch_at, timed_by, nearer, type_timed, own_timed, sub_timed, subs_timed, or_nothing, or_none, numbered, numbered_in}
+use Rattle.component_checks.specs.proof.ChainProperties as carried
+use Rattle.component_checks.specs.proof.ChainProperties.{carried_by, connections_carried}
+use Rattle.component_checks.specs.proof.ComponentProperties.{period_at, dispatch_at, timed_by, nearer, type_timed, own_timed, sub_timed, subs_timed, or_nothing, or_none, numbered, numbered_in}
 use Rattle.component_checks.proofs.Looking.{first-append}
 
 map_or : {A B : Type 0} (f : A → B) (a b : Option A)
@@ -24,7 +24,7 @@ map_or : {A B : Type 0} (f : A → B) (a b : Option A)
 map_or f None b = refl
 map_or f (Some a) b = refl
 
-timed : Option (Option ℕ) → Option Bool → Timed
+timed : Option (Option ℕ) → Option Bool → ComponentProperties
 timed period periodic = record { period = period; periodic = periodic }
 
 -- one list behind the other
@@ -98,15 +98,15 @@ connections_numbered tree n i =
     ∙ slice_get-map (λ c. carried_by c.properties) (connections_of (implementation_in d)) i
 
 -- ---- a list, and what is said by number behind it
-behind_list : (lists : List (Associations ℕ)) (xs : Associations ℕ) (own behind said result : Timed)
+behind_list : (lists : List (Associations ℕ)) (xs : Associations ℕ) (own behind said result : ComponentProperties)
     → own ≡ timed_by (xs ∷ []) → behind ≡ said → said ≡ timed_by lists
     → result ≡ nearer own behind → result ≡ timed_by (xs ∷ lists)
 behind_list lists xs own behind said result is_own is_behind is_said is =
     is ∙ ap (λ t. nearer t behind) is_own ∙ ap (nearer (timed_by (xs ∷ []))) (is_behind ∙ is_said)
     ∙ sym (timed_append (xs ∷ []) lists)
 
-pub own_is : (tree : PackageTree ℕ) (n : ℕ) (x : Implementation ℕ) (types : List Timed) (number : Option ℕ)
-    (own behind result : Timed) → types ≡ map type_timed tree.declarations
+pub own_is : (tree : PackageTree ℕ) (n : ℕ) (x : Implementation ℕ) (types : List ComponentProperties) (number : Option ℕ)
+    (own behind result : ComponentProperties) → types ≡ map type_timed tree.declarations
     → Some x ≡ implementation_at tree n → number ≡ type_number_at tree n → own ≡ timed_by (x.properties ∷ [])
     → behind ≡ numbered types number → result ≡ nearer own behind
     → result ≡ timed_by (root_lists tree n)
@@ -118,8 +118,8 @@ own_is tree n x types number own behind result are declared names is_own is_behi
     ∙ types_numbered tree.declarations (type_number tree x)) is
     ∙ ap (λ o. timed_by (own_lists tree o)) declared
 
-pub sub_is : (tree : PackageTree ℕ) (at : SubAt) (x : Subcomponent ℕ) (owns : List Timed) (number : Option ℕ)
-    (own behind result : Timed) → owns ≡ map (own_timed tree) tree.declarations
+pub sub_is : (tree : PackageTree ℕ) (at : SubAt) (x : Subcomponent ℕ) (owns : List ComponentProperties) (number : Option ℕ)
+    (own behind result : ComponentProperties) → owns ≡ map (own_timed tree) tree.declarations
     → Some x ≡ sub_at tree at.declaration at.sub → number ≡ below tree at.declaration at.sub
     → own ≡ timed_by (x.properties ∷ []) → behind ≡ numbered owns number → result ≡ nearer own behind
     → result ≡ timed_by (lists_at tree at)

@@ -3,7 +3,7 @@ ghost use Rattle.std.specs.Prelude.{◌≡◌, IfOk, codes, option_map, option_c
 ghost use Rattle.aadl_tree.specs.proof.Maps.{kept_place};
 ghost use Rattle.aadl_tree.specs.proof.ValueViews.{association_view, associations_view, value_view};
 ghost use Rattle.aadl_names.specs.Properties.{text_of};
-ghost use Rattle.component_checks.specs.proof.Carried.{carried_by, adaptor_of};
+ghost use Rattle.component_checks.specs.proof.ChainProperties.{carried_by, adaptor_of};
 ghost use Rattle.component_checks.specs.Rates.{adaptor_named};
 ghost use Rattle.component_checks.specs.Threads.{says};
 
@@ -18,21 +18,21 @@ use std::alloc::Global;
 
 /// What the list of a connection says of the chains that it carries.
 #[derive(Clone, Copy)]
-pub struct Carried {
+pub struct ChainProperties {
     /// Whether they are delayed.
     pub delayed: bool,
     /// Their adaptor: none is given, or a text, which may name no adaptor.
     pub adaptor: Option<Option<Adaptor>>,
 }
 
-impl Carried {
+impl ChainProperties {
     /// What a list says.
-    pub fn of(alloc: Global, list: &[Association]) -> Result<Carried, NoMemory>
+    pub fn of(alloc: Global, list: &[Association]) -> Result<ChainProperties, NoMemory>
         ensures { IfOk result (λ carried. carried ≡ carried_by (associations_view kept_place list.now)) }
     {
         let timing = property_in(list, PropertyName::Timing);
         let adaptor = adaptor_of(property_in(list, PropertyName::Adaptor));
-        Ok(Carried {
+        Ok(ChainProperties {
             delayed: is_delayed(alloc, timing)?,
             adaptor,
         })

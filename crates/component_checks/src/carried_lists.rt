@@ -3,15 +3,15 @@ ghost use Rattle.std.specs.Prelude.{◌≡◌, IfOk, map};
 ghost use Rattle.aadl_tree.specs.proof.Maps.{kept_place};
 ghost use Rattle.aadl_tree.specs.proof.PackageViews.{placed};
 ghost use Rattle.aadl_tree.specs.proof.Views.{connection_view, declaration_view};
-ghost use Rattle.component_checks.specs.proof.Carried as spec;
+ghost use Rattle.component_checks.specs.proof.ChainProperties as spec;
 
-use crate::carried::Carried;
+use crate::carried::ChainProperties;
 use aadl_tree::{Connection, Declaration, PackageTree};
 use pals_base::{Items, NoMemory};
 use std::alloc::Global;
 
 /// What stands at a number in the list of a number.
-pub fn carried_at(carried: &[Items<Carried>], list: usize, number: usize) -> Option<Carried>
+pub fn carried_at(carried: &[Items<ChainProperties>], list: usize, number: usize) -> Option<ChainProperties>
     ensures { result ≡ spec.carried_at carried.now list number }
 {
     match carried.get(list) {
@@ -21,18 +21,18 @@ pub fn carried_at(carried: &[Items<Carried>], list: usize, number: usize) -> Opt
 }
 
 // What connections say, in order.
-fn connections_of(alloc: Global, connections: &[Connection]) -> Result<Items<Carried>, NoMemory>
+fn connections_of(alloc: Global, connections: &[Connection]) -> Result<Items<ChainProperties>, NoMemory>
     ensures { IfOk result (λ carried. carried ≡ map (λ c. spec.carried_by c.properties) (map (connection_view kept_place) connections.now)) }
 {
     let mut carried = Items::new(alloc);
     for connection in connections {
-        carried.push(Carried::of(alloc, connection.properties.as_slice())?)?;
+        carried.push(ChainProperties::of(alloc, connection.properties.as_slice())?)?;
     }
     Ok(carried)
 }
 
 // What the connections of a declaration say.
-fn connections_in(alloc: Global, declaration: &Declaration) -> Result<Items<Carried>, NoMemory>
+fn connections_in(alloc: Global, declaration: &Declaration) -> Result<Items<ChainProperties>, NoMemory>
     ensures { IfOk result (λ carried. carried ≡ spec.connections_carried (declaration_view kept_place declaration.now)) }
 {
     match declaration {
@@ -45,7 +45,7 @@ fn connections_in(alloc: Global, declaration: &Declaration) -> Result<Items<Carr
 pub fn all_of_connections(
     alloc: Global,
     tree: &PackageTree,
-) -> Result<Items<Items<Carried>>, NoMemory>
+) -> Result<Items<Items<ChainProperties>>, NoMemory>
     ensures { IfOk result (λ carried. carried ≡ map spec.connections_carried (placed tree.now).declarations) }
 {
     let mut carried = Items::new(alloc);

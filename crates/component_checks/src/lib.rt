@@ -20,7 +20,7 @@ pub mod types;
 pub mod words;
 
 pub use adaptors::{Carrier, adaptor_named};
-pub use carried::Carried;
+pub use carried::ChainProperties;
 pub use numbers::{gamma_by, range_of, rate_of, skew_of};
 pub use properties::Properties;
 pub use rates::{add_bound_findings, add_period_findings};

@@ -3,14 +3,14 @@ ghost use Rattle.std.specs.Prelude.{◌≡◌, IfOk, map, option_map, slice_get}
 ghost use Rattle.std.proofs.Props.{props};
 ghost use Rattle.aadl_tree.specs.proof.PackageViews.{placed};
 ghost use Rattle.aadl_names.specs.Resolving.{implementation_at, connections_of};
-ghost use Rattle.component_checks.specs.proof.Carried.{carried_by, connections_carried};
+ghost use Rattle.component_checks.specs.proof.ChainProperties.{carried_by, connections_carried};
 ghost use Rattle.component_checks.specs.PropertyLookup.{lists_at, root_lists, lists_along, sub_lists, innermost};
-ghost use Rattle.component_checks.specs.proof.Timed as spec;
-ghost use Rattle.component_checks.specs.proof.Timed.{timed_by};
+ghost use Rattle.component_checks.specs.proof.ComponentProperties as spec;
+ghost use Rattle.component_checks.specs.proof.ComponentProperties.{timed_by};
 
-use crate::carried::Carried;
+use crate::carried::ChainProperties;
 use crate::carried_lists::{all_of_connections, carried_at};
-use crate::timed::Timed;
+use crate::timed::ComponentProperties;
 use crate::timed_lists::{all_of_subs, all_of_types, all_own, numbered, numbered_in};
 use aadl_uses::{SubAt, Uses};
 use pals_base::{Items, NoMemory};
@@ -19,20 +19,20 @@ use std::alloc::Global;
 // What the lists of properties of a package say, by the numbers of declarations, subcomponents and
 // connections.
 #[derive(Drop)]
-struct Said {
+struct PackageProperties {
     // of each implementation, with its type
-    own: Items<Timed>,
+    own: Items<ComponentProperties>,
     // of each subcomponent, with its implementation and that one's type
-    subs: Items<Items<Timed>>,
+    subs: Items<Items<ComponentProperties>>,
     // of each connection
-    connections: Items<Items<Carried>>,
+    connections: Items<Items<ChainProperties>>,
 }
 
 /// A package with what is looked up of it, and what its lists of properties say.
 pub struct Properties<'t> {
     /// The package with what is looked up of it.
     pub uses: &'t Uses<'t>,
-    said: Said,
+    said: PackageProperties,
     ghost of_own: { said.own ≡ map (spec.own_timed (placed uses.now.names.tree.now)) (placed uses.now.names.tree.now).declarations } by { Prim.hlevel props },
     ghost of_subs: { said.subs
         ≡ map (spec.subs_timed (placed uses.now.names.tree.now)) (placed uses.now.names.tree.now).declarations } by { Prim.hlevel props },
@@ -46,7 +46,7 @@ impl Drop for Properties<'_> {
 }
 
 // What implementations say, and their types.
-fn own_in(alloc: Global, uses: &Uses<'_>) -> Result<Items<Timed>, NoMemory>
+fn own_in(alloc: Global, uses: &Uses<'_>) -> Result<Items<ComponentProperties>, NoMemory>
     ensures { IfOk result (λ own. own ≡ map (spec.own_timed (placed uses.now.names.tree.now)) (placed uses.now.names.tree.now).declarations) }
 {
     let types = all_of_types(alloc, uses.names.tree)?;
@@ -54,7 +54,7 @@ fn own_in(alloc: Global, uses: &Uses<'_>) -> Result<Items<Timed>, NoMemory>
 }
 
 // What the lists of a package say.
-fn said_in(alloc: Global, uses: &Uses<'_>) -> Result<Said, NoMemory>
+fn said_in(alloc: Global, uses: &Uses<'_>) -> Result<PackageProperties, NoMemory>
     ensures own { IfOk result (λ said. said.own ≡ map (spec.own_timed (placed uses.now.names.tree.now)) (placed uses.now.names.tree.now).declarations) }
     ensures subs { IfOk result (λ said. said.subs ≡ map (spec.subs_timed (placed uses.now.names.tree.now)) (placed uses.now.names.tree.now).declarations) }
     ensures connections { IfOk result (λ said. said.connections ≡ map connections_carried (placed uses.now.names.tree.now).declarations) }
@@ -62,7 +62,7 @@ fn said_in(alloc: Global, uses: &Uses<'_>) -> Result<Said, NoMemory>
     let connections = all_of_connections(alloc, uses.names.tree)?;
     let own = own_in(alloc, uses)?;
     let subs = all_of_subs(alloc, uses, own.as_slice())?;
-    Ok(Said {
+    Ok(PackageProperties {
         own,
         subs,
         connections,
@@ -79,21 +79,21 @@ impl<'t> Properties<'t> {
     }
 
     /// What is said of the root.
-    pub fn of_root(&self, root: usize) -> Timed
+    pub fn of_root(&self, root: usize) -> ComponentProperties
         ensures { result ≡ timed_by (root_lists (placed self.now.uses.now.names.tree.now) root) }
     {
         numbered(self.said.own.as_slice(), Some(root))
     }
 
     /// What is said at a subcomponent.
-    pub fn of_sub(&self, sub: SubAt) -> Timed
+    pub fn of_sub(&self, sub: SubAt) -> ComponentProperties
         ensures { result ≡ timed_by (lists_at (placed self.now.uses.now.names.tree.now) sub) }
     {
         numbered_in(self.said.subs.as_slice(), sub.declaration, sub.sub)
     }
 
     /// What is said of a component below the root, by the nearest place on the way there.
-    pub fn along(&self, root: usize, subs: &[SubAt]) -> Timed
+    pub fn along(&self, root: usize, subs: &[SubAt]) -> ComponentProperties
         ensures { result ≡ timed_by (lists_along (placed self.now.uses.now.names.tree.now) root subs.now) }
     {
         let mut nearest = self.of_root(root);
@@ -105,17 +105,17 @@ impl<'t> Properties<'t> {
 
     /// What is said of a component by its own places alone: the subcomponent that it is, its
     /// implementation and its type.
-    pub fn of_component(&self, subs: &[SubAt]) -> Timed
+    pub fn of_component(&self, subs: &[SubAt]) -> ComponentProperties
         ensures { result ≡ timed_by (sub_lists (placed self.now.uses.now.names.tree.now) (innermost (placed self.now.uses.now.names.tree.now) subs.now)) }
     {
         match subs.last() {
             Some(sub) => self.of_sub(*sub),
-            None => Timed::none(),
+            None => ComponentProperties::none(),
         }
     }
 
     /// What a connection says of the chains that it carries.
-    pub fn of_connection(&self, declaration: usize, connection: usize) -> Option<Carried>
+    pub fn of_connection(&self, declaration: usize, connection: usize) -> Option<ChainProperties>
         ensures { result ≡ option_map (λ c. carried_by c.properties)
             (slice_get (connections_of (implementation_at (placed self.now.uses.now.names.tree.now) declaration)) connection) }
     {

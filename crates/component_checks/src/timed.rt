@@ -2,7 +2,7 @@
 ghost use Rattle.std.specs.Prelude.{◌≡◌, ◌∷◌, [], IfOk, option_map, option_copied};
 ghost use Rattle.aadl_tree.specs.proof.Maps.{kept_place};
 ghost use Rattle.aadl_tree.specs.proof.ValueViews.{association_view, associations_view};
-ghost use Rattle.component_checks.specs.proof.Timed.{period_at, dispatch_at, timed_by, nearer};
+ghost use Rattle.component_checks.specs.proof.ComponentProperties.{period_at, dispatch_at, timed_by, nearer};
 
 use crate::property_lookup::property_in;
 use crate::times::time_within;
@@ -14,19 +14,19 @@ use std::alloc::Global;
 
 /// What lists of properties say of a component, the nearest list first.
 #[derive(Clone, Copy)]
-pub struct Timed {
+pub struct ComponentProperties {
     /// The period in nanoseconds, where one is given; none above an hour.
     pub period: Option<Option<Nanos>>,
     /// Whether the dispatch is periodic, where one is given.
     pub periodic: Option<bool>,
 }
 
-impl Timed {
+impl ComponentProperties {
     /// What no list says.
-    pub fn none() -> Timed
+    pub fn none() -> ComponentProperties
         ensures { result ≡ timed_by [] }
     {
-        Timed {
+        ComponentProperties {
             period: None,
             periodic: None,
         }
@@ -34,22 +34,22 @@ impl Timed {
 
     /// What one list says.
     #[tactic(auto, using(crate::proofs::Looking::first_of_one))]
-    pub fn of(alloc: Global, list: &[Association]) -> Result<Timed, NoMemory>
+    pub fn of(alloc: Global, list: &[Association]) -> Result<ComponentProperties, NoMemory>
         ensures { IfOk result (λ timed. timed ≡ timed_by (associations_view kept_place list.now ∷ [])) }
     {
         let period = period_at(property_in(list, PropertyName::Period));
         let dispatch = property_in(list, PropertyName::Dispatch);
-        Ok(Timed {
+        Ok(ComponentProperties {
             period,
             periodic: dispatch_at(alloc, dispatch)?,
         })
     }
 
     /// The same, and where nothing is given what lists further out say.
-    pub fn or(self, further: Timed) -> Timed
+    pub fn or(self, further: ComponentProperties) -> ComponentProperties
         ensures { result ≡ nearer self further }
     {
-        Timed {
+        ComponentProperties {
             period: self.period.or(further.period),
             periodic: self.periodic.or(further.periodic),
         }

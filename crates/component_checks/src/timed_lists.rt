@@ -5,50 +5,50 @@ ghost use Rattle.aadl_tree.specs.proof.PackageViews.{placed};
 ghost use Rattle.aadl_tree.specs.proof.Views.{declaration_view};
 ghost use Rattle.aadl_names.specs.Resolving.{implementation_at, subcomponents_of};
 ghost use Rattle.component_checks.specs.PropertyLookup.{lists_at, root_lists};
-ghost use Rattle.component_checks.specs.proof.Timed as spec;
-ghost use Rattle.component_checks.specs.proof.Timed.{timed_by};
+ghost use Rattle.component_checks.specs.proof.ComponentProperties as spec;
+ghost use Rattle.component_checks.specs.proof.ComponentProperties.{timed_by};
 
-use crate::timed::Timed;
+use crate::timed::ComponentProperties;
 use aadl_tree::{Declaration, PackageTree};
 use aadl_uses::{SubAt, Uses};
 use pals_base::{Items, NoMemory};
 use std::alloc::Global;
 
 /// What stands at a number, or nothing.
-pub fn numbered(timed: &[Timed], number: Option<usize>) -> Timed
+pub fn numbered(timed: &[ComponentProperties], number: Option<usize>) -> ComponentProperties
     ensures { result ≡ spec.numbered timed.now number }
 {
     let Some(number) = number else {
-        return Timed::none();
+        return ComponentProperties::none();
     };
     match timed.get(number) {
         Some(timed) => *timed,
-        None => Timed::none(),
+        None => ComponentProperties::none(),
     }
 }
 
 /// What stands at a number in the list of a number, or nothing.
-pub fn numbered_in(timed: &[Items<Timed>], list: usize, number: usize) -> Timed
+pub fn numbered_in(timed: &[Items<ComponentProperties>], list: usize, number: usize) -> ComponentProperties
     ensures { result ≡ spec.numbered_in timed.now list number }
 {
     match timed.get(list) {
         Some(timed) => numbered(timed.as_slice(), Some(number)),
-        None => Timed::none(),
+        None => ComponentProperties::none(),
     }
 }
 
 // What a type says.
-fn of_type(alloc: Global, declaration: &Declaration) -> Result<Timed, NoMemory>
+fn of_type(alloc: Global, declaration: &Declaration) -> Result<ComponentProperties, NoMemory>
     ensures { IfOk result (λ timed. timed ≡ spec.type_timed (declaration_view kept_place declaration.now)) }
 {
     match declaration {
-        Declaration::Type(x) => Timed::of(alloc, x.properties.as_slice()),
-        Declaration::Implementation(_) => Ok(Timed::none()),
+        Declaration::Type(x) => ComponentProperties::of(alloc, x.properties.as_slice()),
+        Declaration::Implementation(_) => Ok(ComponentProperties::none()),
     }
 }
 
 /// What the types of a package say, by their numbers.
-pub fn all_of_types(alloc: Global, tree: &PackageTree) -> Result<Items<Timed>, NoMemory>
+pub fn all_of_types(alloc: Global, tree: &PackageTree) -> Result<Items<ComponentProperties>, NoMemory>
     ensures { IfOk result (λ types. types ≡ map spec.type_timed (placed tree.now).declarations) }
 {
     let mut types = Items::new(alloc);
@@ -59,19 +59,19 @@ pub fn all_of_types(alloc: Global, tree: &PackageTree) -> Result<Items<Timed>, N
 }
 
 // What the implementation of a number says, and its type.
-fn own_of(alloc: Global, uses: &Uses<'_>, types: &[Timed], number: usize) -> Result<Timed, NoMemory>
+fn own_of(alloc: Global, uses: &Uses<'_>, types: &[ComponentProperties], number: usize) -> Result<ComponentProperties, NoMemory>
     requires { types.now ≡ map spec.type_timed (placed uses.now.names.tree.now).declarations }
     ensures { IfOk result (λ timed. timed ≡ timed_by (root_lists (placed uses.now.names.tree.now) number)) }
 {
     let Some(x) = uses.implementation(number) else {
-        return Ok(Timed::none());
+        return Ok(ComponentProperties::none());
     };
-    let own = Timed::of(alloc, x.properties.as_slice())?;
+    let own = ComponentProperties::of(alloc, x.properties.as_slice())?;
     Ok(own.or(numbered(types, uses.type_number(number))))
 }
 
 /// What the implementations of a package say, and their types, by their numbers.
-pub fn all_own(alloc: Global, uses: &Uses<'_>, types: &[Timed]) -> Result<Items<Timed>, NoMemory>
+pub fn all_own(alloc: Global, uses: &Uses<'_>, types: &[ComponentProperties]) -> Result<Items<ComponentProperties>, NoMemory>
     requires { types.now ≡ map spec.type_timed (placed uses.now.names.tree.now).declarations }
     ensures { IfOk result (λ own. own ≡ map (spec.own_timed (placed uses.now.names.tree.now)) (placed uses.now.names.tree.now).declarations) }
 {
@@ -83,14 +83,14 @@ pub fn all_own(alloc: Global, uses: &Uses<'_>, types: &[Timed]) -> Result<Items<
 }
 
 // What a subcomponent says, its implementation and that one's type.
-fn sub_of(alloc: Global, uses: &Uses<'_>, own: &[Timed], at: SubAt) -> Result<Timed, NoMemory>
+fn sub_of(alloc: Global, uses: &Uses<'_>, own: &[ComponentProperties], at: SubAt) -> Result<ComponentProperties, NoMemory>
     requires { own.now ≡ map (spec.own_timed (placed uses.now.names.tree.now)) (placed uses.now.names.tree.now).declarations }
     ensures { IfOk result (λ timed. timed ≡ timed_by (lists_at (placed uses.now.names.tree.now) at)) }
 {
     let Some(sub) = uses.subcomponent(at.declaration, at.sub) else {
-        return Ok(Timed::none());
+        return Ok(ComponentProperties::none());
     };
-    let said = Timed::of(alloc, sub.properties.as_slice())?;
+    let said = ComponentProperties::of(alloc, sub.properties.as_slice())?;
     Ok(said.or(numbered(own, uses.below(at.declaration, at.sub))))
 }
 
@@ -98,9 +98,9 @@ fn sub_of(alloc: Global, uses: &Uses<'_>, own: &[Timed], at: SubAt) -> Result<Ti
 fn subs_of(
     alloc: Global,
     uses: &Uses<'_>,
-    own: &[Timed],
+    own: &[ComponentProperties],
     declaration: usize,
-) -> Result<Items<Timed>, NoMemory>
+) -> Result<Items<ComponentProperties>, NoMemory>
     requires { own.now ≡ map (spec.own_timed (placed uses.now.names.tree.now)) (placed uses.now.names.tree.now).declarations }
     ensures { IfOk result (λ timed. timed ≡ map (spec.sub_timed (placed uses.now.names.tree.now))
         (subcomponents_of (implementation_at (placed uses.now.names.tree.now) declaration))) }
@@ -116,8 +116,8 @@ fn subs_of(
 pub fn all_of_subs(
     alloc: Global,
     uses: &Uses<'_>,
-    own: &[Timed],
-) -> Result<Items<Items<Timed>>, NoMemory>
+    own: &[ComponentProperties],
+) -> Result<Items<Items<ComponentProperties>>, NoMemory>
     requires { own.now ≡ map (spec.own_timed (placed uses.now.names.tree.now)) (placed uses.now.names.tree.now).declarations }
     ensures { IfOk result (λ subs. subs ≡ map (spec.subs_timed (placed uses.now.names.tree.now)) (placed uses.now.names.tree.now).declarations) }
 {

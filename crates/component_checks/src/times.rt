@@ -12,7 +12,7 @@ ghost use Rattle.component_checks.specs.Times as spec;
 use aadl_names::name_comparison::is_spelled;
 use aadl_names::units::unit_of;
 use aadl_names::{PropertyHolder, PropertyName};
-use aadl_tree::{Association, Figure, Identifier, Quantity, Sign, Value};
+use aadl_tree::{Association, UnsignedNumber, Identifier, Quantity, Sign, Value};
 use annex_resolve::Violation;
 use annex_resolve::violation::NUMBER_TOO_BIG;
 use pals_base::limits::HOUR;
@@ -20,11 +20,11 @@ use pals_base::{Items, Nanos, NoMemory, Text};
 use std::alloc::Global;
 
 // A whole number.
-fn whole_of(figure: &Figure) -> Option<u64>
+fn whole_of(figure: &UnsignedNumber) -> Option<u64>
     ensures { result ≡ properties.whole_of (figure_view figure.now) }
 {
     match figure {
-        Figure::Whole(number) if *number >= 0 => Some(*number as u64),
+        UnsignedNumber::Whole(number) if *number >= 0 => Some(*number as u64),
         _ => None,
     }
 }

@@ -5,8 +5,8 @@ use Rattle.pals_model.specs.declared.design.DesignParts.{DesignParts}
 use Rattle.step_code.specs.Lengths.{code_length}
 use Rattle.step_code.specs.Capped.{capped}
 use Rattle.bus_machine.specs.Plans.{component_at}
-use Rattle.design_codes.specs.declared.CodesEnd.{CodesEnd}
-use Rattle.design_codes.specs.declared.CodesEnd.TheVariants as end
+use Rattle.design_codes.specs.declared.CodesError.{CodesError}
+use Rattle.design_codes.specs.declared.CodesError.TheVariants as end
 
 -- how many instructions the code of a component has
 abbrev pub length_of : DesignParts → ℕ → ℕ
@@ -23,6 +23,6 @@ pub record IsFirstTooLong (design : DesignParts) (node size : ℕ) : Type 0 wher
   pub over : INSTRUCTIONS < length_of design node
   pub before : (k : ℕ) → k < node → length_of design k ≤ INSTRUCTIONS
 
-abbrev pub IsCause : DesignParts → CodesEnd → Type 0
+abbrev pub IsCause : DesignParts → CodesError → Type 0
 IsCause design (end.TooLong node size) = IsFirstTooLong design node.0 size
 IsCause design end.Memory = Unit {0}

@@ -15,7 +15,7 @@ use step_compiler::{CompileFault, compile};
 
 /// Why a design has no codes.
 #[derive(Clone, Copy, Debug)]
-pub enum CodesEnd {
+pub enum CodesError {
     /// The code of the component `node` would have `length` instructions, which is more than a code
     /// may have. It is the first such component.
     TooLong { node: NodeNo, length: u64 },
@@ -23,20 +23,20 @@ pub enum CodesEnd {
     Memory,
 }
 
-impl From<NoMemory> for CodesEnd {
+impl From<NoMemory> for CodesError {
     ghost use Rattle.std.specs.Prelude.{◌≡◌};
-    ghost use Rattle.design_codes.specs.declared.CodesEnd.TheVariants.{Memory};
+    ghost use Rattle.design_codes.specs.declared.CodesError.TheVariants.{Memory};
 
     ghost from_gives = { λ _ e. e ≡ Memory };
 
-    fn from(_error: NoMemory) -> CodesEnd {
-        CodesEnd::Memory
+    fn from(_error: NoMemory) -> CodesError {
+        CodesError::Memory
     }
 }
 
 /// The code of each component: it is laid out for the component's behaviour, and means what the
 /// component does.
-pub fn compile_all(alloc: Global, design: &Design) -> Result<Items<Code>, CodesEnd>
+pub fn compile_all(alloc: Global, design: &Design) -> Result<Items<Code>, CodesError>
     ensures ok { IfOk result (AreCodes design.now) }
     ensures layout { IfOk result (AreLaidOut (behaviours design.now)) }
     ensures short { IfOk result (λ _. AreShort design.now) }
@@ -50,10 +50,10 @@ pub fn compile_all(alloc: Global, design: &Design) -> Result<Items<Code>, CodesE
                 let _verified = code.parts();
                 codes.push(code)?;
             }
-            Err(CompileFault::Memory) => return Err(CodesEnd::Memory),
+            Err(CompileFault::Memory) => return Err(CodesError::Memory),
             Err(CompileFault::CodeTooLong { length }) => {
                 let node = NodeNo(codes.len() as u32);
-                return Err(CodesEnd::TooLong { node, length });
+                return Err(CodesError::TooLong { node, length });
             }
         }
     }

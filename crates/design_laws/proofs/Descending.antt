@@ -11,7 +11,7 @@ use Rattle.aadl_uses.specs.Uses.{standing}
 use Rattle.aadl_uses.specs.proof.Uses.{containment}
 use Rattle.aadl_uses.specs.Threads.{IsThreadAt}
 use Rattle.aadl_uses.specs.proof.Threads.{is_thread_in}
-use Rattle.aadl_uses.specs.proof.Wiring.{into}
+use Rattle.aadl_uses.specs.proof.Wiring.{connection_into}
 use Rattle.aadl_uses.specs.proof.Orders.{IsOrder}
 use Rattle.aadl_chains.specs.proof.Inside.{is_thread_at, is_in_at}
 use Rattle.aadl_chains.specs.Chains.{Port, Place, Leads, IsStart}
@@ -47,7 +47,7 @@ module _ (tree : PackageTree ℕ) (root : ℕ) (sound : AreDeclared tree) (one :
 
   by_inner : (fuel : ℕ) → Ends fuel → (end : Port) (path : List ℕ) (here out : ℕ) → rank keys here < suc fuel
       → Descending tree root end path here out
-      → (k : ℕ) (source : PortPlace) → into tree here (Own out) ≡ Some (k, source) → Gives tree root end
+      → (k : ℕ) (source : PortPlace) → connection_into tree here (Own out) ≡ Some (k, source) → Gives tree root end
   by_inner fuel rest end path here out less d k source e =
       let i = inner_of tree sound here out k source d.goes_out e in
       let falls = rank_falls tree keys order here i.0 i.2 i.4 in
@@ -57,7 +57,7 @@ module _ (tree : PackageTree ℕ) (root : ℕ) (sound : AreDeclared tree) (one :
 
   by_into : (fuel : ℕ) → Ends fuel → (end : Port) (path : List ℕ) (here out : ℕ) → rank keys here < suc fuel
       → is_thread_at tree here ≡ false
-      → Descending tree root end path here out → (o : Option (ℕ × PortPlace)) → into tree here (Own out) ≡ o
+      → Descending tree root end path here out → (o : Option (ℕ × PortPlace)) → connection_into tree here (Own out) ≡ o
       → Gives tree root end
   by_into fuel rest end path here out less thread d None e =
       inr (descend_none tree root sound one end path here out thread e d)
@@ -74,7 +74,7 @@ module _ (tree : PackageTree ℕ) (root : ℕ) (sound : AreDeclared tree) (one :
             (thread_here tree root (reverse path) here d.stands e) d,
       )
   by_thread fuel rest end path here out less d false e =
-      by_into fuel rest end path here out less e d (into tree here (Own out)) refl
+      by_into fuel rest end path here out less e d (connection_into tree here (Own out)) refl
 
   ends : (fuel : ℕ) → Ends fuel
   ends zero end path here out less d = absurd (omega arith)

@@ -7,7 +7,7 @@ use Rattle.aadl_names.specs.declared.site.PortPlace.TheVariants.{Own, Inner}
 use Rattle.aadl_names.specs.Resolving.{implementation_at, ports_at}
 use Rattle.aadl_uses.specs.proof.Uses.{containment}
 use Rattle.aadl_uses.specs.Threads.{Lists}
-use Rattle.aadl_uses.specs.proof.Wiring.{into}
+use Rattle.aadl_uses.specs.proof.Wiring.{connection_into}
 use Rattle.aadl_uses.specs.proof.Orders.{IsOrder}
 use Rattle.aadl_chains.specs.proof.Inside.{is_thread_at, is_in_at}
 use Rattle.aadl_chains.specs.Chains.{Port, Leads}
@@ -44,11 +44,11 @@ module _ (tree : PackageTree ℕ) (root : ℕ) (sound : AreDeclared tree) (one :
     are : AreTapsTo tree root paths port taps
 
   module _ (port : ℕ) (out : is_in_at tree root port ≡ false) (k t q : ℕ)
-      (is : into tree root (Own port) ≡ Some (k, Inner t q)) where
+      (is : connection_into tree root (Own port) ≡ Some (k, Inner t q)) where
     abbrev found : Port → Ends
     found from = record { from = from; to = record { path = []; port = port }; declaration = root; connection = k }
 
-    there : (ends : Ends) (s p : ℕ) → into tree root (Own port) ≡ Some (ends.connection, Inner s p) → (cs : List _)
+    there : (ends : Ends) (s p : ℕ) → connection_into tree root (Own port) ≡ Some (ends.connection, Inner s p) → (cs : List _)
         → Leads tree root cs ends.from (record { path = s ∷ []; port = p })
         → Leads tree root cs ends.from (record { path = t ∷ []; port = q })
     there ends s p e cs leads =
@@ -71,8 +71,8 @@ module _ (tree : PackageTree ℕ) (root : ℕ) (sound : AreDeclared tree) (one :
             → y ≡ record { from = from; to = record { path = []; port = port }; declaration = root; connection = k }
         only y tap e =
             let m = tap_met tree root sound one no_thread y tap in
-            let enters : into tree root (Own port) ≡ Some (y.connection, Inner m.sub m.port) =
-            ap (λ (p : Port). into tree root (Own p.port)) (sym e) ∙ m.enters in
+            let enters : connection_into tree root (Own port) ≡ Some (y.connection, Inner m.sub m.port) =
+            ap (λ (p : Port). connection_into tree root (Own p.port)) (sym e) ∙ m.enters in
             same_ends y (record {
               from = from;
               to = record { path = []; port = port };
@@ -92,14 +92,14 @@ module _ (tree : PackageTree ℕ) (root : ℕ) (sound : AreDeclared tree) (one :
         }
 
   by_inner : (port : ℕ) → is_in_at tree root port ≡ false → Tapped port → (k : ℕ) (source : PortPlace)
-      → into tree root (Own port) ≡ Some (k, source) → Tapped (port + 1)
+      → connection_into tree root (Own port) ≡ Some (k, source) → Tapped (port + 1)
   by_inner port out x k source e =
       let i = inner_of tree sound root port k source out e in
       by_giver port out k i.0 i.1 (e ∙ ap (λ (s : PortPlace). Some (k, s)) i.3) x
       (gives tree root sound one keys order (i.0 ∷ []) i.2 i.1 (next_at tree root [] root i.0 i.2 refl i.4) i.5)
 
   by_into : (port : ℕ) → is_in_at tree root port ≡ false → Tapped port → (o : Option (ℕ × PortPlace))
-      → into tree root (Own port) ≡ o → Tapped (port + 1)
+      → connection_into tree root (Own port) ≡ o → Tapped (port + 1)
   by_into port out x None e =
       record {
         taps = x.taps;
@@ -116,7 +116,7 @@ module _ (tree : PackageTree ℕ) (root : ℕ) (sound : AreDeclared tree) (one :
             in_tap tree root paths port no_thread x.taps
             (is_in-at tree root (record { path = []; port = port }) root refl ∙ e) x.are;
       }
-  by_way port x false e = by_into port e x (into tree root (Own port)) refl
+  by_way port x false e = by_into port e x (connection_into tree root (Own port)) refl
 
   all_ports : (port : ℕ) → Tapped port
   all_ports zero = record { taps = []; are = taps_none tree root paths }

@@ -3,13 +3,13 @@ ghost use Rattle.std.specs.Prelude.{◌≡◌, IfSome, option_map, option_copied
 ghost use Rattle.aadl_tree.specs.proof.Maps.{kept_place};
 ghost use Rattle.aadl_tree.specs.proof.PackageViews.{placed};
 ghost use Rattle.aadl_tree.specs.proof.Views.{connection_view};
-ghost use Rattle.component_checks.specs.proof.Carried.{carried_by};
+ghost use Rattle.component_checks.specs.proof.ChainProperties.{carried_by};
 ghost use Rattle.model_violations.specs.Carriers as spec;
 
 use aadl_instance::ConnAt;
 use aadl_names::numbered::implementation_at;
 use aadl_tree::{Connection, PackageTree};
-use component_checks::{Carried, Properties};
+use component_checks::{ChainProperties, Properties};
 use indexmap::IndexSet;
 use pals_base::NoMemory;
 use std::alloc::Global;
@@ -30,7 +30,7 @@ pub fn connection_of<'t>(tree: &'t PackageTree, place: ConnAt) -> Option<&'t Con
 pub fn carrier_of<'t>(
     properties: &Properties<'t>,
     place: ConnAt,
-) -> Option<(&'t Connection, Carried)>
+) -> Option<(&'t Connection, ChainProperties)>
     ensures connection { option_map (λ carrier. connection_view kept_place carrier.0.now) result
         ≡ spec.connection_of (placed properties.now.uses.now.names.tree.now) place }
     ensures carried { IfSome result (λ carrier. carrier.1 ≡ carried_by (connection_view kept_place carrier.0.now).properties) }

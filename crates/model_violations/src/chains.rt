@@ -2,7 +2,7 @@
 ghost use Rattle.std.specs.Prelude.{◌≡◌, ◌<◌, ◌++◌, ℕ, OnOk, Some};
 ghost use Rattle.aadl_tree.specs.proof.Maps.{kept_place};
 ghost use Rattle.aadl_tree.specs.proof.Views.{connection_view};
-ghost use Rattle.component_checks.specs.proof.Carried.{carried_by};
+ghost use Rattle.component_checks.specs.proof.ChainProperties.{carried_by};
 ghost use Rattle.model_violations.specs.Chains as spec;
 ghost use Rattle.model_violations.specs.proof.Chains.{tree_of, ArePositive};
 
@@ -13,7 +13,7 @@ use aadl_tree::Connection;
 use annex_resolve::Violation;
 use annex_resolve::violation::{NOT_DELAYED, STRAY_ADAPTOR};
 use component_checks::threads::add_named;
-use component_checks::{Carried, Carrier, Properties};
+use component_checks::{ChainProperties, Carrier, Properties};
 use pals_base::{Adaptor, Items, NoMemory};
 use std::alloc::Global;
 
@@ -68,7 +68,7 @@ fn add_adaptor_findings(
     rated: &RatedThreads<'_>,
     chain: &Chain,
     connection: &Connection,
-    said: Carried,
+    said: ChainProperties,
     found: &mut Items<Violation>,
 ) -> Result<(), NoMemory>
     requires rates { ArePositive rated.now.rates.now }
@@ -98,7 +98,7 @@ fn add_timing_findings(
     rated: &RatedThreads<'_>,
     chain: &Chain,
     connection: &Connection,
-    said: Carried,
+    said: ChainProperties,
     found: &mut Items<Violation>,
 ) -> Result<(), NoMemory>
     requires { said ≡ carried_by (connection_view kept_place connection.now).properties }

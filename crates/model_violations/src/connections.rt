@@ -9,7 +9,7 @@ ghost use Rattle.aadl_tree.specs.proof.PackageViews.{placed};
 ghost use Rattle.aadl_tree.specs.proof.Views.{connection_view, implementation_view};
 ghost use Rattle.aadl_names.specs.Resolving.{features_of, implementation_at, type_numbered};
 ghost use Rattle.aadl_uses.specs.Wiring.{wire_of};
-ghost use Rattle.component_checks.specs.proof.Carried.{carried_by};
+ghost use Rattle.component_checks.specs.proof.ChainProperties.{carried_by};
 ghost use Rattle.model_violations.specs.Carriers.{carries};
 ghost use Rattle.model_violations.specs.Connections as spec;
 ghost use Rattle.model_violations.specs.proof.Connections.{IsConnection};
@@ -22,7 +22,7 @@ use aadl_tree::{Connection, Identifier, Implementation, PackageTree};
 use aadl_uses::{Uses, Wire, Wires};
 use annex_resolve::violation::{DELAYED_ROOT, STRAY_ADAPTOR};
 use annex_resolve::{Violation, expect};
-use component_checks::Carried;
+use component_checks::ChainProperties;
 use component_checks::threads::add_named;
 use component_checks::types::kind_in;
 use pals_base::{Items, Kind, NoMemory};
@@ -116,7 +116,7 @@ fn add_ends_findings(
 fn add_delay_findings(
     alloc: Global,
     connection: &Connection,
-    said: Carried,
+    said: ChainProperties,
     found: &mut Items<Violation>,
 ) -> Result<(), NoMemory>
     requires { said ≡ carried_by (connection_view kept_place connection.now).properties }
@@ -139,7 +139,7 @@ fn add_adaptor_findings(
     alloc: Global,
     carried: bool,
     connection: &Connection,
-    said: Carried,
+    said: ChainProperties,
     found: &mut Items<Violation>,
 ) -> Result<(), NoMemory>
     requires { said ≡ carried_by (connection_view kept_place connection.now).properties }
@@ -172,7 +172,7 @@ fn add_connection_findings(
         (place.connection, connection_view kept_place connection.now)) }
 {
     add_ends_findings(alloc, wires, place, connection, found)?;
-    let said = Carried::of(alloc, connection.properties.as_slice())?;
+    let said = ChainProperties::of(alloc, connection.properties.as_slice())?;
     add_delay_findings(alloc, connection, said, found)?;
     add_adaptor_findings(alloc, carriers.has(place), connection, said, found)?;
     Ok(())

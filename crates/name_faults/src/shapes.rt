@@ -11,7 +11,7 @@ ghost use Rattle.aadl_names.specs.Properties as spec;
 use crate::digits::is_number;
 use aadl_names::PropertyName;
 use aadl_names::units::unit_of;
-use aadl_tree::{Figure, Identifier, Quantity, Sign, Value};
+use aadl_tree::{UnsignedNumber, Identifier, Quantity, Sign, Value};
 
 // Whether it is a unit of time.
 fn is_unit(unit: &Option<Identifier>) -> bool
@@ -24,12 +24,12 @@ fn is_unit(unit: &Option<Identifier>) -> bool
 }
 
 // Whether it is a whole number.
-fn is_whole(figure: &Figure) -> bool
+fn is_whole(figure: &UnsignedNumber) -> bool
     ensures { result ≡ is_some (spec.whole_of (figure_view figure.now)) }
 {
     match figure {
-        Figure::Whole(value) => *value >= 0,
-        Figure::Real(_) => false,
+        UnsignedNumber::Whole(value) => *value >= 0,
+        UnsignedNumber::Real(_) => false,
     }
 }
 

@@ -11,7 +11,7 @@ ghost use Rattle.pals_code.specs.proof.Statuses.{status_of, text_of, Says};
 use crate::answer::Answer;
 use bundle_designs::accept;
 use code_listing::add_listing;
-use design_codes::{CodesEnd, compile_all};
+use design_codes::{CodesError, compile_all};
 use pals_base::{NoMemory, NodeNo, Text};
 use pals_model::Design;
 use pals_report::add_code_fault;
@@ -36,8 +36,8 @@ fn answer_design(alloc: Global, design: &Design) -> Result<Answer, NoMemory>
 {
     match compile_all(alloc, design) {
         Ok(codes) => list(alloc, design, codes.as_slice()),
-        Err(CodesEnd::TooLong { node, length }) => code_too_long(alloc, design, node, length),
-        Err(CodesEnd::Memory) => Err(AllocError),
+        Err(CodesError::TooLong { node, length }) => code_too_long(alloc, design, node, length),
+        Err(CodesError::Memory) => Err(AllocError),
     }
 }
 

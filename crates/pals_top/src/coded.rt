@@ -10,7 +10,7 @@ ghost use Rattle.pals_top.specs.proof.Statuses.{Says};
 use crate::answer::Answer;
 use crate::refused_scenario::refused_scenario;
 use bundle_designs::accept;
-use design_codes::{CodesEnd, compile_all};
+use design_codes::{CodesError, compile_all};
 use pals_base::{Items, NoMemory, NodeNo, Text};
 use pals_model::Design;
 use pals_report::add_code_fault;
@@ -65,11 +65,11 @@ pub fn meaning_of<C: CodedCommand>(
     };
     let codes = match compile_all(alloc, &accepted.design) {
         Ok(codes) => codes,
-        Err(CodesEnd::TooLong { node, length }) => {
+        Err(CodesError::TooLong { node, length }) => {
             let answer = code_too_long(alloc, &accepted.design, node, length)?;
             return Ok(BundleMeaning::Refused(answer));
         }
-        Err(CodesEnd::Memory) => return Err(AllocError),
+        Err(CodesError::Memory) => return Err(AllocError),
     };
     let job = command.command(root);
     match read_scenario(alloc, accepted.scenario, &accepted.design, job) {

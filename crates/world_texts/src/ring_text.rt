@@ -9,7 +9,7 @@ ghost use Rattle.timed_world.specs.proof.EventLists.{Leads};
 ghost use Rattle.world_gen.specs.Rings.{ring, ring_number, ring_sum};
 ghost use Rattle.world_texts.specs.RingTexts.{ring_text, number_in, IsDoneRing};
 
-use design_codes::{CodesEnd, compile_all};
+use design_codes::{CodesError, compile_all};
 use pals_base::{Items, NoMemory, NodeNo};
 use pals_bus::Bus;
 use pals_model::{Design, Env, Part};
@@ -88,8 +88,8 @@ fn codes_of(alloc: Global, design: &Design) -> Result<Items<Code>, NoMemory>
 {
     match compile_all(alloc, design) {
         Ok(codes) => Ok(codes),
-        Err(CodesEnd::Memory) => Err(AllocError),
-        Err(CodesEnd::TooLong { .. }) => unreachable!(),
+        Err(CodesError::Memory) => Err(AllocError),
+        Err(CodesError::TooLong { .. }) => unreachable!(),
     }
 }
 

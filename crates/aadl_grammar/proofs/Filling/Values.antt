@@ -14,7 +14,7 @@ sign_fill t b l =
     let s0 = cut (mark (v.sign_mark t)) [] (b) (l) in
     record { tree = t; is = consed (sym (nil (s0.back) (s0.rest))) (s0.is) }
 
-figure_fill : Fills v.Figure v.Figure v.figure_parts v.figure_parts
+figure_fill : Fills v.UnsignedNumber v.UnsignedNumber v.figure_parts v.figure_parts
 figure_fill (v.whole_figure z) b l =
     let s0 = cut (whole z) [] (b) (l) in
     record { tree = v.whole_figure z; is = consed (sym (nil (s0.back) (s0.rest))) (s0.is) }

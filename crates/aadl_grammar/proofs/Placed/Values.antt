@@ -36,7 +36,7 @@ option_fixed to parts f (Some t) None xs ys s h = absurd cc
 -- nothing of these keeps a place
 number_none : (x : v.Number) (ps : List (Part ℕ)) (xs : List ℕ) → placed (v.number_parts x ++ ps) xs ≡ placed ps xs
 number_none x ps xs = by_parts x.sign x.figure ps xs where
-  by_parts : (o : Option Sign) (f : v.Figure) (qs : List (Part ℕ)) (ys : List ℕ)
+  by_parts : (o : Option Sign) (f : v.UnsignedNumber) (qs : List (Part ℕ)) (ys : List ℕ)
       → placed (v.number_parts (record { sign = o; figure = f }) ++ qs) ys ≡ placed qs ys
   by_parts None (v.whole_figure z) qs ys = refl
   by_parts None (v.real_figure z) qs ys = refl

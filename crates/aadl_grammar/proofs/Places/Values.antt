@@ -37,7 +37,7 @@ reference_alike f t =
     both (each n.qualifier_parts n.qualifier_parts (identifier_to f) (λ y. one refl (one refl none)) t.qualifiers)
     (one refl (dotted_alike f t.implementation))
 
-figure_alike : {P Q : Type 0} {f : P → Q} (t : v.Figure) → Alike f (v.figure_parts t) (v.figure_parts t)
+figure_alike : {P Q : Type 0} {f : P → Q} (t : v.UnsignedNumber) → Alike f (v.figure_parts t) (v.figure_parts t)
 figure_alike (v.whole_figure t) = one refl none
 figure_alike (v.real_figure t) = one refl none
 

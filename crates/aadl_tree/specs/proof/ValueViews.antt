@@ -1,16 +1,16 @@
 -- The plain trees that properties and their values stand for.
 use Rattle.std.specs.Prelude.{ℕ, List, [], ◌∷◌, map, option_map}
 use Rattle.aadl_tree.specs.declared.values.Value.TheOpen.{Value-F, Association-F}
-use Rattle.aadl_tree.specs.Values.{Figure, whole_figure, real_figure, Number, Quantity, Value, list, fields, text, reference, classifier, named, number, Values, no_values, value, Association, association, Associations, no_associations, associate}
+use Rattle.aadl_tree.specs.Values.{UnsignedNumber, whole_figure, real_figure, Number, Quantity, Value, list, fields, text, reference, classifier, named, number, Values, no_values, value, Association, association, Associations, no_associations, associate}
 use Rattle.aadl_tree.specs.proof.NameViews.{identifier_view, name_view, path_view, reference_view}
 use Rattle.aadl_tree.specs.declared.values.Value as source_value
 use Rattle.aadl_tree.specs.declared.values.Association as source_association
 use Rattle.aadl_tree.specs.declared.values.Quantity as source_quantity
 use Rattle.aadl_tree.specs.declared.values.Number as source_number
-use Rattle.aadl_tree.specs.declared.values.Figure as source_figure
-use Rattle.aadl_tree.specs.declared.values.Figure.TheVariants as figures
+use Rattle.aadl_tree.specs.declared.values.UnsignedNumber as source_figure
+use Rattle.aadl_tree.specs.declared.values.UnsignedNumber.TheVariants as figures
 
-abbrev pub figure_view : source_figure.Figure → Figure
+abbrev pub figure_view : source_figure.UnsignedNumber → UnsignedNumber
 figure_view (figures.Whole n) = whole_figure n
 figure_view (figures.Real bytes) = real_figure bytes.items
 

@@ -4,20 +4,20 @@ ghost use Rattle.aadl_tree.specs.proof.ValueViews.{value_view, values_view, asso
 ghost use Rattle.aadl_tree.specs.proof.Maps.{no_place};
 
 use super::items::{Same, same_items, same_option};
-use crate::values::{Association, Figure, Number, Quantity, Value};
+use crate::values::{Association, UnsignedNumber, Number, Quantity, Value};
 
-impl Same for Figure {
-    ghost use Rattle.aadl_tree.specs.Values.{Figure};
+impl Same for UnsignedNumber {
+    ghost use Rattle.aadl_tree.specs.Values.{UnsignedNumber};
     ghost use Rattle.aadl_tree.specs.proof.ValueViews.{figure_view};
 
-    ghost Meaning = { Figure };
+    ghost Meaning = { UnsignedNumber };
 
     ghost meaning = { figure_view };
 
-    fn same(&self, other: &Figure) -> bool {
+    fn same(&self, other: &UnsignedNumber) -> bool {
         match (self, other) {
-            (Figure::Whole(left), Figure::Whole(right)) => *left == *right,
-            (Figure::Real(left), Figure::Real(right)) => left.as_slice() == right.as_slice(),
+            (UnsignedNumber::Whole(left), UnsignedNumber::Whole(right)) => *left == *right,
+            (UnsignedNumber::Real(left), UnsignedNumber::Real(right)) => left.as_slice() == right.as_slice(),
             _ => false,
         }
     }

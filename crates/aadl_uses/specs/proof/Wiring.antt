@@ -23,5 +23,5 @@ abbrev pub sourced : List Wire → ℕ → Option (ℕ × PortPlace)
 sourced wires number = option_and_then (with_source number) (slice_get wires number)
 
 -- the first connection of a declaration into a port, and where it comes from
-abbrev pub into : PackageTree ℕ → ℕ → PortPlace → Option (ℕ × PortPlace)
-into tree n target = option_and_then (sourced (wires_at tree n)) (first_into_at tree n target)
+abbrev pub connection_into : PackageTree ℕ → ℕ → PortPlace → Option (ℕ × PortPlace)
+connection_into tree n target = option_and_then (sourced (wires_at tree n)) (first_into_at tree n target)

@@ -7,4 +7,4 @@ pub lower_of-requires : goal.lower_of-requires
 lower_of-requires c =
     inner_of (placed c.args.wires.now.uses.names.tree.now) c.requires.declared c.args.here c.args.out c.in-Some.from.0
     c.in-Some.from.1 c.requires.out
-    (sym c.into.ensures ∙ c.in-Some.is)
+    (sym c.connection_into.ensures ∙ c.in-Some.is)

@@ -11,7 +11,7 @@ pub lower_of-lower-requires : goal.lower_of-lower-requires
 lower_of-lower-requires c =
     inner_of (placed c.args.wires.now.uses.names.tree.now) c.requires.declared c.args.root c.args.port c.in-Some.from.0
     c.in-Some.from.1 c.requires.out
-    (sym c.into.ensures ∙ c.in-Some.is)
+    (sym c.connection_into.ensures ∙ c.in-Some.is)
 
 pub returns-in_ok-begin-in-Some : goal.returns-in_ok-begin-in-Some
 returns-in_ok-begin-in-Some c =
@@ -21,7 +21,7 @@ returns-in_ok-begin-in-Some c =
     (tap_route tree c.args.root c.requires.declared c.requires.one c.requires.no_thread c.args.port c.in-Some.from.0
     c.in-Some.from.1
     c.in_ok-begin-in-Some.begin c.in_ok-path-in-Some.path.items c.lower_of-lower.result
-    (sym c.into.ensures ∙ c.in-Some.is) c.requires.out
+    (sym c.connection_into.ensures ∙ c.in-Some.is) c.requires.out
     (ap reverse c.in_ok-path-in-Some.ensures) c.lower_of-lower.ensures.is c.lower_of-lower.ensures.names
     (λ stands. c.in_ok-begin-in-Some.ensures c.args.root c.requires.one stands))
 
@@ -29,4 +29,4 @@ pub returns-in-None : goal.returns-in-None
 returns-in-None c =
     no_tap (placed c.args.wires.now.uses.names.tree.now) c.args.root c.requires.declared c.requires.one
     c.requires.no_thread c.args.port
-    (sym c.into.ensures ∙ c.in-None.is)
+    (sym c.connection_into.ensures ∙ c.in-None.is)

@@ -1,6 +1,6 @@
 use Rattle.std.proofs.Common.{◌≡◌, map, take}
 use Rattle.aadl_tree.specs.proof.PackageViews.{placed}
-use Rattle.component_checks.specs.proof.Timed.{subs_timed}
+use Rattle.component_checks.specs.proof.ComponentProperties.{subs_timed}
 use Rattle.component_checks.proofs.timed_lists.all_of_subs.Given as goal
 
 abbrev pub invariant-loop-declaration : goal.invariant-loop-declaration

@@ -1,6 +1,6 @@
 use Rattle.std.proofs.Common.{◌≡◌, map, take}
 use Rattle.aadl_tree.specs.proof.PackageViews.{placed}
-use Rattle.component_checks.specs.proof.Timed.{own_timed}
+use Rattle.component_checks.specs.proof.ComponentProperties.{own_timed}
 use Rattle.component_checks.proofs.timed_lists.all_own.Given as goal
 
 abbrev pub invariant-loop-number : goal.invariant-loop-number

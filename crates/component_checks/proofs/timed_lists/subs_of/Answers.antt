@@ -4,7 +4,7 @@ use Rattle.aadl_tree.specs.Declarations.{Subcomponent}
 use Rattle.aadl_tree.specs.proof.PackageViews.{placed}
 use Rattle.aadl_names.specs.Resolving.{implementation_at, subcomponents_of, referred}
 use Rattle.component_checks.specs.PropertyLookup.{sub_lists}
-use Rattle.component_checks.specs.proof.Timed.{timed_by, sub_timed}
+use Rattle.component_checks.specs.proof.ComponentProperties.{timed_by, sub_timed}
 use Rattle.component_checks.proofs.Numbered.{made_next}
 use Rattle.component_checks.proofs.timed_lists.subs_of.Goals as goal
 

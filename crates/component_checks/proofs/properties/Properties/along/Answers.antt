@@ -3,7 +3,7 @@ use Rattle.std.specs.Prelude.{slice_index_or}
 use Rattle.aadl_tree.specs.proof.PackageViews.{placed}
 use Rattle.aadl_uses.specs.declared.thread_places.SubAt.{SubAt}
 use Rattle.component_checks.specs.PropertyLookup.{lists_at}
-use Rattle.component_checks.specs.proof.Timed.{timed_by, nearer}
+use Rattle.component_checks.specs.proof.ComponentProperties.{timed_by, nearer}
 use Rattle.component_checks.proofs.Saying.{along_turn}
 use Rattle.component_checks.proofs.properties.Properties.along.Goals as goal
 

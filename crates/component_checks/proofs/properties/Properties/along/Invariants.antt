@@ -1,7 +1,7 @@
 use Rattle.std.proofs.Common.{◌≡◌, take}
 use Rattle.aadl_tree.specs.proof.PackageViews.{placed}
 use Rattle.component_checks.specs.PropertyLookup.{lists_along}
-use Rattle.component_checks.specs.proof.Timed.{timed_by}
+use Rattle.component_checks.specs.proof.ComponentProperties.{timed_by}
 use Rattle.component_checks.proofs.properties.Properties.along.Given as goal
 
 -- the nearest so far

@@ -6,7 +6,7 @@ use Rattle.aadl_tree.specs.Values.{Association, Associations}
 use Rattle.aadl_tree.specs.Declarations.{Declaration}
 use Rattle.aadl_names.specs.Properties.{association_named, association_value, name_of, text_of}
 use Rattle.aadl_names.specs.Resolving.{implementation_in, connections_of}
-use Rattle.component_checks.specs.declared.carried.Carried.{Carried}
+use Rattle.component_checks.specs.declared.carried.ChainProperties.{ChainProperties}
 use Rattle.component_checks.specs.Rates.{adaptor_named}
 use Rattle.component_checks.specs.Threads.{says}
 use Rattle.aadl_names.specs.declared.holder.PropertyName.TheVariants as properties
@@ -14,7 +14,7 @@ use Rattle.aadl_names.specs.declared.holder.PropertyName.TheVariants as properti
 abbrev pub adaptor_of : Option (Association ℕ) → Option (Option Adaptor)
 adaptor_of x = option_map adaptor_named (option_and_then (λ a. text_of (association_value a)) x)
 
-abbrev pub carried_by : Associations ℕ → Carried
+abbrev pub carried_by : Associations ℕ → ChainProperties
 carried_by xs =
     record {
       delayed = says (codes "Delayed") (association_named xs (name_of properties.Timing));
@@ -22,13 +22,13 @@ carried_by xs =
     }
 
 -- by the connections of a declaration
-abbrev pub connections_carried : Declaration ℕ → List Carried
+abbrev pub connections_carried : Declaration ℕ → List ChainProperties
 connections_carried d = map (λ c. carried_by c.properties) (connections_of (implementation_in (Some d)))
 
 -- what stands at a number in the list of a number
-abbrev pub or_none : Option (List Carried) → List Carried
+abbrev pub or_none : Option (List ChainProperties) → List ChainProperties
 or_none None = []
 or_none (Some carried) = carried
 
-abbrev pub carried_at : List (List Carried) → ℕ → ℕ → Option Carried
+abbrev pub carried_at : List (List ChainProperties) → ℕ → ℕ → Option ChainProperties
 carried_at carried n i = slice_get (or_none (slice_get carried n)) i

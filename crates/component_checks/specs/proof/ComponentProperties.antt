@@ -6,7 +6,7 @@ use Rattle.aadl_tree.specs.Declarations.{Subcomponent, Declaration, PackageTree}
 use Rattle.aadl_names.specs.declared.holder.PropertyName.TheVariants.{Period, Dispatch}
 use Rattle.aadl_names.specs.Properties.{association_value, reference_of, time_of}
 use Rattle.aadl_names.specs.Resolving.{type_in, implementation_in, subcomponents_of}
-use Rattle.component_checks.specs.declared.timed.Timed.{Timed}
+use Rattle.component_checks.specs.declared.timed.ComponentProperties.{ComponentProperties}
 use Rattle.component_checks.specs.Numbers.{within_hour}
 use Rattle.component_checks.specs.Threads.{is_word}
 use Rattle.component_checks.specs.PropertyLookup.{type_lists, own_lists, sub_lists, first_in}
@@ -19,38 +19,38 @@ period_at x = option_map (λ a. option_and_then within_hour (time_of (associatio
 abbrev pub dispatch_at : Option (Association ℕ) → Option Bool
 dispatch_at x = option_map (λ a. is_word (codes "Periodic") (reference_of (association_value a))) x
 
-abbrev pub timed_by : List (Associations ℕ) → Timed
+abbrev pub timed_by : List (Associations ℕ) → ComponentProperties
 timed_by lists = record { period = period_at (first_in Period lists); periodic = dispatch_at (first_in Dispatch lists) }
 
 -- where nothing is given, what is further out
-abbrev pub nearer : Timed → Timed → Timed
+abbrev pub nearer : ComponentProperties → ComponentProperties → ComponentProperties
 nearer a b = record { period = option_or a.period b.period; periodic = option_or a.periodic b.periodic }
 
 -- ---- at each number of a declaration, or of a subcomponent there
-abbrev pub type_timed : Declaration ℕ → Timed
+abbrev pub type_timed : Declaration ℕ → ComponentProperties
 type_timed d = timed_by (type_lists (type_in (Some d)))
 
-abbrev pub own_timed : PackageTree ℕ → Declaration ℕ → Timed
+abbrev pub own_timed : PackageTree ℕ → Declaration ℕ → ComponentProperties
 own_timed tree d = timed_by (own_lists tree (implementation_in (Some d)))
 
-abbrev pub sub_timed : PackageTree ℕ → Subcomponent ℕ → Timed
+abbrev pub sub_timed : PackageTree ℕ → Subcomponent ℕ → ComponentProperties
 sub_timed tree sub = timed_by (sub_lists tree (Some sub))
 
-abbrev pub subs_timed : PackageTree ℕ → Declaration ℕ → List Timed
+abbrev pub subs_timed : PackageTree ℕ → Declaration ℕ → List ComponentProperties
 subs_timed tree d = map (sub_timed tree) (subcomponents_of (implementation_in (Some d)))
 
 -- ---- what stands at a number, or nothing
-abbrev pub or_nothing : Option Timed → Timed
+abbrev pub or_nothing : Option ComponentProperties → ComponentProperties
 or_nothing None = timed_by []
 or_nothing (Some timed) = timed
 
-abbrev pub numbered : List Timed → Option ℕ → Timed
+abbrev pub numbered : List ComponentProperties → Option ℕ → ComponentProperties
 numbered timed number = or_nothing (option_and_then (slice_get timed) number)
 
 -- the same in one of several lists
-abbrev pub or_none : Option (List Timed) → List Timed
+abbrev pub or_none : Option (List ComponentProperties) → List ComponentProperties
 or_none None = []
 or_none (Some timed) = timed
 
-abbrev pub numbered_in : List (List Timed) → ℕ → ℕ → Timed
+abbrev pub numbered_in : List (List ComponentProperties) → ℕ → ℕ → ComponentProperties
 numbered_in timed n i = or_nothing (slice_get (or_none (slice_get timed n)) i)
