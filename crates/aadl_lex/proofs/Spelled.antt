@@ -3,10 +3,9 @@ use Rattle.std.proofs.Common.{◌≡◌, ℕ, zero, suc, ◌+◌, ◌-◌, ◌<�
 use Rattle.std.specs.Prelude.{codes, if◌then◌else◌}
 use Rattle.std.specs.List.{All, starts_with}
 use Rattle.std.specs.Str.{str_eq_ignore_ascii_case}
-use Rattle.std.proofs.lemmas.List.{length-drop, length-take-le, drop-take, take-take, take_all}
+use Rattle.std.proofs.lemmas.List.{length-drop, length-take-le, drop-drop, drop-take, take-take, take_all}
 use Rattle.std.proofs.lemmas.List.Elements.{All-drop, All-take}
 use Rattle.std.proofs.Math.Seq.{drop-append_seam, take-append_seam}
-use Rattle.list_lemmas.proofs.Lists.{drop_add}
 use Rattle.aadl_lex.specs.declared.token.Token.{Token}
 use Rattle.aadl_lex.specs.declared.token.TokenKind.{TokenKind}
 use Rattle.aadl_lex.specs.declared.token.TokenKind.TheVariants.{Word, Whole, Real, Quoted, Symbol, AnnexOpen, AnnexClose, Unread}
@@ -76,7 +75,7 @@ open_bytes s e = let exact = starts_exact 123 42 42 s e in ap (take 3) exact.1
 close_bytes : (at n : ℕ) (text : List ℕ) → close_from 0 (drop at text) ≡ Some n
     → take 3 (drop (at + n) text) ≡ codes "**}"
 close_bytes at n text e =
-    ap (take 3) (drop_add at n text) ∙ closes_bytes (drop at text) n (closes_of (drop at text) n e)
+    ap (take 3) (sym (drop-drop n at text)) ∙ closes_bytes (drop at text) n (closes_of (drop at text) n e)
 
 spelled_lexes : (full : List ℕ) (r : Reading) (text : List ℕ) (at : ℕ) (ts : List Token) → IsFront text full
     → at ≤ length text → (r ≡ Inside → close_from 0 (drop at text) ≡ None)
@@ -87,7 +86,7 @@ spelled_lexes full _ _ _ _ front le clear (skips r text at n ts g e l) more rest
     let w = stands_within r text at (Skipped n) g e in
     let size = length-drop at text in
     spelled_lexes full r text (at + n) ts front (omega (arith, w.1))
-    (λ i. ap (close_from 0) (drop_add at n text) ∙ none_drop (drop at text) n 0 (clear i)) l more rest
+    (λ i. ap (close_from 0) (sym (drop-drop n at text)) ∙ none_drop (drop at text) n 0 (clear i)) l more rest
 spelled_lexes full _ _ _ _ front le clear (takes r text at kind n ts g e l) more rest =
     let w = stands_within r text at (Taken kind n) g e in
     let size = length-drop at text in
@@ -96,7 +95,7 @@ spelled_lexes full _ _ _ _ front le clear (takes r text at kind n ts g e l) more
     let s = after r kind b in
     let same : can_open s ≡ can_open r = after_opens r kind b in
     let clear_on : s ≡ Inside → close_from 0 (drop (at + n) text) ≡ None =
-    λ (i : s ≡ Inside). ap (close_from 0) (drop_add at n text)
+    λ (i : s ≡ Inside). ap (close_from 0) (sym (drop-drop n at text))
     ∙ none_drop (drop at text) n 0 (clear (inside_is r (sym same ∙ ap can_open i))) in
     let p = taken_spelled r (drop at text) kind n (shape_at r text at (Taken kind n) g e) clear in
     let on = spelled_lexes full s text (at + n) ts front within clear_on l more (λ q i. rest q (i ∙ same)) in
@@ -110,7 +109,7 @@ spelled_lexes full _ _ _ _ front le clear (reads r text at n body ts g e b l) mo
     let stop = at + 3 + n in
     let within : stop + 3 ≤ length text = omega arith in
     let cut = length-take-le stop text (omega arith) in
-    let found : close_from 0 (drop (at + 3) text) ≡ Some n = ap (close_from 0) (drop_add at 3 text) ∙ shape.2 in
+    let found : close_from 0 (drop (at + 3) text) ≡ Some n = ap (close_from 0) (sym (drop-drop 3 at text)) ∙ shape.2 in
     let none : close_from 0 (drop (at + 3) (take stop text)) ≡ None = ap (close_from 0) (drop-take (at + 3) n text)
     ∙ none_before (drop (at + 3) text) n found in
     let close = token AnnexClose stop 3 in

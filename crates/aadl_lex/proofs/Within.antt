@@ -1,5 +1,6 @@
 -- What stands at the front of a text has a byte at least, and lies within the text.
-use Rattle.std.proofs.Common.{◌≡◌, ℕ, ◌+◌, ◌<◌, ◌≤◌, Bool, true, false, cond, ◌&&◌, ◌||◌, List, [], ◌∷◌, length, drop, take, get_or, arith, refl, sym, ap, Option, Some, None, nat_eq, nat_le, nat_lt}
+use Rattle.std.proofs.Common.{inl, inr, ◌≡◌, ℕ, ◌+◌, ◌<◌, ◌≤◌, Bool, true, false, cond, ◌&&◌, ◌||◌, List, [], ◌∷◌, length, drop, take, get_or, arith, refl, sym, ap, Option, Some, None, nat_eq, nat_le, nat_lt}
+use Rattle.std.proofs.lemmas.Bool.{cases_Bool, or_cases}
 use Rattle.std.proofs.lemmas.Bool.Decides.{nat_tests}
 use Rattle.std.proofs.lemmas.List.{length-take, length-drop, get_or_past, length-take-le}
 use Rattle.std.proofs.lemmas.List.Sums.{prefix_len-le-length}
@@ -9,7 +10,6 @@ use Rattle.std.specs.Prelude.{◌==◌, codes}
 use Rattle.std.specs.List.{starts_with, list_any, list_all, prefix_len}
 use Rattle.std.specs.Char.{is_ascii_digit, is_ascii_alphabetic}
 use Rattle.std.specs.Cmp.{first_so, second_so}
-use Rattle.list_lemmas.proofs.Booleans.{or_second, by_test}
 use Rattle.aadl_lex.specs.declared.rules.First.{First}
 use Rattle.aadl_lex.specs.declared.rules.Reading.{Reading}
 use Rattle.aadl_lex.specs.declared.rules.Reading.TheVariants.{Outside, AfterName, Inside}
@@ -47,11 +47,17 @@ whole_len_some (c ∷ cs) some h = rw h (omega arith)
 pub close_le : (s : List ℕ) (i n : ℕ) → close_from i s ≡ Some n → n + 3 ≤ i + length s
 close_le [] i n e = absurd cc
 close_le (c ∷ cs) i n e =
-    by_test (starts_with nat_eq (c ∷ cs) (codes "**}")) (n + 3 ≤ i + length (c ∷ cs))
-    (λ here. let within = begins_le (c ∷ cs) (codes "**}") here in let same : Some i ≡ Some n = rw here at e in
-    let at : i ≡ n = cc in omega arith)
-    (λ not_here. let later : close_from (i + 1) cs ≡ Some n = rw not_here at e in
-    let rest = close_le cs (i + 1) n later in omega arith)
+    elim (cases_Bool (starts_with nat_eq (c ∷ cs) (codes "**}"))) as (λ r. n + 3 ≤ i + length (c ∷ cs)) [
+      | inl here ↦
+          let within = begins_le (c ∷ cs) (codes "**}") here in
+          let same : Some i ≡ Some n = rw here at e in
+          let at : i ≡ n = cc in
+          omega arith
+      | inr not_here ↦
+          let later : close_from (i + 1) cs ≡ Some n = rw not_here at e in
+          let rest = close_le cs (i + 1) n later in
+          omega arith
+    ]
 
 pub body_le : (s : List ℕ) (n : ℕ) → 3 ≤ length s → body_len (drop 3 s) ≡ Some n → n + 6 ≤ length s
 body_le s n some e = let rest = close_le (drop 3 s) 0 n e in omega (arith, length-drop 3 s)
@@ -60,12 +66,13 @@ any_le : (s : List ℕ) (n : ℕ) (symbols : List (List ℕ)) → list_all (λ x
     → list_any (starts_with nat_eq s) symbols ≡ true → n ≤ length s
 any_le s n [] all h = absurd cc
 any_le s n (x ∷ xs) all h =
-    by_test (starts_with nat_eq s x) (n ≤ length s)
-    (λ holds. let within = begins_le s x holds in
-    let len : (length x == n) ≡ true = first_so (length x == n) (list_all (λ y. length y == n) xs) all in
-    grind (arith, nat_tests))
-    (λ not_this. any_le s n xs (second_so (length x == n) (list_all (λ y. length y == n) xs) all)
-    (or_second (starts_with nat_eq s x) (list_any (starts_with nat_eq s) xs) not_this h))
+    elim (or_cases (starts_with nat_eq s x) (list_any (starts_with nat_eq s) xs) h) as (λ r. n ≤ length s) [
+      | inl holds ↦
+          let within = begins_le s x holds in
+          let len : (length x == n) ≡ true = first_so (length x == n) (list_all (λ y. length y == n) xs) all in
+          grind (arith, nat_tests)
+      | inr later ↦ any_le s n xs (second_so (length x == n) (list_all (λ y. length y == n) xs) all) later
+    ]
 
 comment_dash : (s : List ℕ) → 0 < length s → starts_with nat_eq s (codes "--") ≡ true → get_or s 0 0 ≡ 45
 comment_dash [] some h = absurd (omega arith)
@@ -78,13 +85,18 @@ if_within false len x y holds fails = fails refl
 
 symbol_le : (s : List ℕ) → 0 < length s → symbol_len s ≤ length s
 symbol_le s some =
-    by_test (list_any (starts_with nat_eq s) symbols_of_three) (symbol_len s ≤ length s)
-    (λ three. rw three (any_le s 3 symbols_of_three refl three))
-    (λ not_three. by_test (list_any (starts_with nat_eq s) symbols_of_two) (symbol_len s ≤ length s)
-    (λ two. rw (not_three, two) (any_le s 2 symbols_of_two refl two))
-    (λ not_two. by_test (list_any (λ c. c == get_or s 0 0) symbols_of_one) (symbol_len s ≤ length s)
-    (λ one. rw (not_three, not_two, one) some)
-    (λ none. rw (not_three, not_two, none) (omega arith))))
+    elim (cases_Bool (list_any (starts_with nat_eq s) symbols_of_three)) as (λ r. symbol_len s ≤ length s) [
+      | inl three ↦ rw three (any_le s 3 symbols_of_three refl three)
+      | inr not_three ↦
+          elim (cases_Bool (list_any (starts_with nat_eq s) symbols_of_two)) as (λ r. symbol_len s ≤ length s) [
+            | inl two ↦ rw (not_three, two) (any_le s 2 symbols_of_two refl two)
+            | inr not_two ↦
+                elim (cases_Bool (list_any (λ c. c == get_or s 0 0) symbols_of_one)) as (λ r. symbol_len s ≤ length s) [
+                  | inl one ↦ rw (not_three, not_two, one) some
+                  | inr none ↦ rw (not_three, not_two, none) (omega arith)
+                ]
+          ]
+    ]
 
 pub symbol_within : (at : ℕ) (s : List ℕ) → 0 < length s → IsWithin (length s) (symbol_first at s)
 symbol_within at s some =
@@ -113,15 +125,16 @@ real_within : (s : List ℕ) (n : ℕ) → real_len s ≡ Some n → (0 < n) × 
 real_within s n e =
     let whole = run is_ascii_digit s in
     let fraction = run is_ascii_digit (drop (whole + 1) s) in
-    by_test (get_or s whole 0 == 46 && nat_lt 0 fraction) ((0 < n) × (n ≤ length s))
-    (λ holds.
-    let some : nat_lt 0 fraction ≡ true = second_so (get_or s whole 0 == 46) (nat_lt 0 fraction) holds in
-    let positive : 0 < fraction = grind (arith, nat_tests) in
-    let same : Some (whole + 1 + fraction) ≡ Some n = rw holds at e in
-    let len : whole + 1 + fraction ≡ n = cc in
-    let within = run_le is_ascii_digit (drop (whole + 1) s) in
-    (omega arith, omega (arith, length-drop (whole + 1) s)))
-    (λ fails. let none : ◌≡◌ {A = Option ℕ} None (Some n) = rw fails at e in absurd cc)
+    elim (cases_Bool (get_or s whole 0 == 46 && nat_lt 0 fraction)) as (λ r. (0 < n) × (n ≤ length s)) [
+      | inl holds ↦
+          let some : nat_lt 0 fraction ≡ true = second_so (get_or s whole 0 == 46) (nat_lt 0 fraction) holds in
+          let positive : 0 < fraction = grind (arith, nat_tests) in
+          let same : Some (whole + 1 + fraction) ≡ Some n = rw holds at e in
+          let len : whole + 1 + fraction ≡ n = cc in
+          let within = run_le is_ascii_digit (drop (whole + 1) s) in
+          (omega arith, omega (arith, length-drop (whole + 1) s))
+      | inr fails ↦ let none : ◌≡◌ {A = Option ℕ} None (Some n) = rw fails at e in absurd cc
+    ]
 
 number_within : (at : ℕ) (s : List ℕ) → 0 < length s → is_ascii_digit (get_or s 0 0) ≡ true
     → IsWithin (length s) (number_first at s)
@@ -134,10 +147,13 @@ string_within at s =
     (λ h.
     let quote : get_or s (inner + 1) 0 ≡ 34 = grind (arith, nat_tests) in (
       omega arith,
-      by_test (nat_le (length s) (inner + 1)) (inner + 2 ≤ length s)
-          (λ past. let le : length s ≤ inner + 1 = grind (arith, nat_tests) in
-          let zero_there = get_or_past s (inner + 1) 0 le in absurd (omega arith))
-          (λ before. grind (arith, nat_tests)),
+      elim (cases_Bool (nat_le (length s) (inner + 1))) as (λ r. inner + 2 ≤ length s) [
+        | inl past ↦
+            let le : length s ≤ inner + 1 = grind (arith, nat_tests) in
+            let zero_there = get_or_past s (inner + 1) 0 le in
+            absurd (omega arith)
+        | inr before ↦ grind (arith, nat_tests)
+      ],
     ))
     (λ _. tt)
 

@@ -64,18 +64,6 @@ pub list_any-map : {X Y : Type 0} (p : Y → Bool) (f : X → Y) (xs : List X)
 list_any-map p f [] = refl
 list_any-map p f (x ∷ xs) = ap (λ b. p (f x) || b) (list_any-map p f xs)
 
-list_all_kept : {A : Type 0} (p : A → Bool) (kept : Bool) (x : A) (xs : List A) → p x ≡ true → list_all p xs ≡ true
-    → list_all p (cond kept (x ∷ xs) xs) ≡ true
-list_all_kept p true x xs here all = ap (λ b. b && list_all p xs) here ∙ all
-list_all_kept p false x xs here all = all
-
-pub list_all-filter : {A : Type 0} (p q : A → Bool) (xs : List A) → list_all p xs ≡ true
-    → list_all p (filter q xs) ≡ true
-list_all-filter p q [] all = refl
-list_all-filter p q (x ∷ xs) all =
-    let both = and_parts (p x) (list_all p xs) all in
-    list_all_kept p (q x) x (filter q xs) both.0 (list_all-filter p q xs both.1)
-
 -- what holds of the first of two where it is found, and else of what is found behind it
 pub found_either : {X : Type 0} (P : X → Type 0) (b : Bool) (y x : X) (rest : Option X) → P y → (rest ≡ Some x → P x)
     → cond b (Some y) rest ≡ Some x → P x

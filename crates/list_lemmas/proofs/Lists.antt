@@ -48,10 +48,6 @@ pub filled_all : {X : Type 0} (xs wanted : List X) (i : ℕ) → length xs ≡ l
 filled_all xs wanted i size past so_far = sym (take_all i xs (omega arith)) ∙ so_far ∙ take_all i wanted past
 
 -- ---- mapped
-pub map-same : {X Y : Type 0} (f g : X → Y) → ((x : X) → f x ≡ g x) → (xs : List X) → map f xs ≡ map g xs
-map-same f g same [] = refl
-map-same f g same (x ∷ xs) = ap₂ (λ y ys. y ∷ ys) (same x) (map-same f g same xs)
-
 pub flat_map-take_more : {X Y : Type 0} (f : X → List Y) (xs : List X) (i : ℕ) (x : X) → i < length xs
     → x ≡ get_or xs i x → flat_map f (take (i + 1) xs) ≡ flat_map f (take i xs) ++ f x
 flat_map-take_more f xs i x within is =

@@ -5,8 +5,9 @@ use Rattle.std.specs.List.{list_all}
 use Rattle.std.specs.Option.{unwrap_or, is_some}
 use Rattle.std.proofs.lemmas.Bool.{and_parts, ltb-true, true≢false, false≢true}
 use Rattle.std.proofs.lemmas.List.{length-map, length-replicate}
+use Rattle.std.proofs.lemmas.List.Elements.{All-contains, All-filter}
+use Rattle.std.proofs.lemmas.List.Sums.{AllPass-from_list_all, list_all-from_AllPass}
 use Rattle.std.proofs.lemmas.Option.{slice_get_within}
-use Rattle.list_lemmas.proofs.Elements.{list_all-filter, passes_by_list_all}
 use Rattle.pals_base.specs.declared.values.Trap.{Trap}
 use Rattle.pals_base.specs.declared.values.Frame.{Frame}
 use Rattle.pals_base.specs.declared.values.PortValue.{PortValue}
@@ -142,8 +143,11 @@ target_within b e sound =
     (and_parts (ends && has_condition b e.trigger) (are_sound e.actions b 0 1) sound).0 in
     ltb-true e.target n (and_parts (nat_lt e.source n) (nat_lt e.target n) typed.0).1
 
-leaving_sound : (b : BehaviourParts) (s : ℕ) → IsBehaviour b → list_all (is_edge b) (leaving b s) ≡ true
-leaving_sound b s rules' = list_all-filter (is_edge b) (λ e. nat_eq e.source s) b.transitions rules'.edges
+pub leaving_sound : (b : BehaviourParts) (s : ℕ) → IsBehaviour b → list_all (is_edge b) (leaving b s) ≡ true
+leaving_sound b s rules' =
+    list_all-from_AllPass (is_edge b) (leaving b s)
+    (All-filter (λ e. nat_eq e.source s) (λ e. is_edge b e ≡ true) b.transitions
+    (AllPass-from_list_all (is_edge b) b.transitions rules'.edges))
 
 moves : (n : ℕ) (b : BehaviourParts) (fresh : List Bool) (at : Fired) (r : Result (Option Edge) Trap) → IsBehaviour b
     → HasSizes b at
@@ -258,7 +262,8 @@ way_within b zero s t rules' within way = subst (λ x. x < length b.states) way 
 way_within b (suc n) s t rules' within way =
     let e = way.1.0 in
     way_within b n e.target t rules'
-    (target_within b e (passes_by_list_all (is_edge b) (leaving b s) e (leaving_sound b s rules') way.1.1)) way.1.2
+    (target_within b e (All-contains (λ e. is_edge b e ≡ true) (leaving b s) e
+    (AllPass-from_list_all (is_edge b) (leaving b s) (leaving_sound b s rules')) way.1.1)) way.1.2
 
 pub ways_are_short : (b : BehaviourParts) (s t n : ℕ) → IsBehaviour b → IsWay b n s t → n < length b.states
 ways_are_short b s t zero rules' way =

@@ -1,10 +1,9 @@
 -- Which states settle, a round of marks at a time.
-use Rattle.std.proofs.Common.{◌≡◌, ℕ, ◌+◌, ◌<◌, ◌≤◌, zero, suc, Bool, true, ◌&&◌, ◌||◌, List, [], ◌∷◌, length, map, refl, ap, sym, ◌∙◌, arith, zero-add, add-one}
+use Rattle.std.proofs.Common.{◌≡◌, ℕ, ◌+◌, ◌<◌, ◌≤◌, zero, suc, Bool, true, ◌&&◌, ◌||◌, List, [], ◌∷◌, length, map, refl, ap, ap₂, sym, ◌∙◌, arith, zero-add, add-one}
 use Rattle.std.specs.List.{list_all}
 use Rattle.std.proofs.lemmas.Bool.{and_parts}
 use Rattle.std.proofs.lemmas.Option.{slice_get_past}
 use Rattle.std.proofs.lemmas.List.Folds.{list_all-map}
-use Rattle.list_lemmas.proofs.Lists.{map-same}
 use Rattle.pals_base.specs.declared.behaviour.BehaviourParts.{BehaviourParts}
 use Rattle.pals_base.specs.Fire.{completes, is_complete, leaving}
 use Rattle.pals_base.specs.Steps.{upwards}
@@ -14,6 +13,10 @@ pub list_all-same : {A : Type 0} (f g : A → Bool) → ((x : A) → f x ≡ g x
     → list_all f xs ≡ list_all g xs
 list_all-same f g same [] = refl
 list_all-same f g same (x ∷ xs) = ap (λ b. b && list_all f xs) (same x) ∙ ap (λ b. g x && b) (list_all-same f g same xs)
+
+pub map-same : {X Y : Type 0} (f g : X → Y) → ((x : X) → f x ≡ g x) → (xs : List X) → map f xs ≡ map g xs
+map-same f g same [] = refl
+map-same f g same (x ∷ xs) = ap₂ (λ y ys. y ∷ ys) (same x) (map-same f g same xs)
 
 pub all_marked : {A : Type 0} (f : A → Bool) (xs : List A) → list_all (λ mark. mark) (map f xs) ≡ list_all f xs
 all_marked f xs = list_all-map (λ mark. mark) f xs

@@ -8,7 +8,8 @@ use Rattle.std.proofs.Math.Bool.{or-true}
 use Rattle.std.proofs.lemmas.Bool.{or_parts, or_cases, both_ways, true≢false, eqb-true, false_from_ne_true, cases_Bool}
 use Rattle.std.proofs.lemmas.Map.Keys.{IsDistinct-cons}
 use Rattle.std.proofs.lemmas.Map.Steps.{length-le_from_distinct_below}
-use Rattle.list_lemmas.proofs.Elements.{passes_by_list_all}
+use Rattle.std.proofs.lemmas.List.Elements.{All-contains}
+use Rattle.std.proofs.lemmas.List.Sums.{AllPass-from_list_all}
 use Rattle.pals_base.specs.declared.behaviour.BehaviourParts.{BehaviourParts}
 use Rattle.pals_base.specs.Tree.{Edge}
 use Rattle.pals_base.specs.Fire.{is_complete, leaving}
@@ -132,8 +133,9 @@ settled_unless_cycle b s acyclic =
 goes_further : (n : ℕ) (b : BehaviourParts) (s : ℕ) (e : Edge) → is_complete b s ≡ false → settles (suc n) b s ≡ true
     → Contains (leaving b s) e → settles n b e.target ≡ true
 goes_further n b s e under_way settle is =
-    passes_by_list_all (λ e. settles n b e.target) (leaving b s) e
-    (ap (λ c. c || list_all (λ e. settles n b e.target) (leaving b s)) (sym under_way) ∙ settle) is
+    All-contains (λ e. settles n b e.target ≡ true) (leaving b s) e
+    (AllPass-from_list_all (λ e. settles n b e.target) (leaving b s)
+    (ap (λ c. c || list_all (λ e. settles n b e.target) (leaving b s)) (sym under_way) ∙ settle)) is
 
 never_back : (m : ℕ) (b : BehaviourParts) (s at n k : ℕ) → IsWay b (suc n) s s → IsWay b k at s
     → settles m b at ≡ true → ⊥

@@ -7,7 +7,8 @@ use Rattle.std.proofs.lemmas.List.{length-map}
 use Rattle.std.proofs.lemmas.List.Elements.{All-head, All-tail}
 use Rattle.std.proofs.lemmas.Option.{slice_get_cases, get_or_from_slice_get}
 use Rattle.list_lemmas.proofs.Places.{slice_get-map_some}
-use Rattle.list_lemmas.proofs.Lists.{length-map_enumerate_from, map-same, same_from_places}
+use Rattle.list_lemmas.proofs.Lists.{length-map_enumerate_from, same_from_places}
+use Rattle.pals_base.proofs.Settling.{map-same}
 use Rattle.pals_base.specs.declared.values.PortValue.{PortValue}
 use Rattle.pals_base.specs.declared.values.PortValue.TheVariants.{Absent}
 use Rattle.pals_base.specs.declared.values.Frame.{Frame}

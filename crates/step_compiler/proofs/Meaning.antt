@@ -5,7 +5,6 @@ use Rattle.std.specs.List.{list_all}
 use Rattle.std.proofs.lemmas.Bool.{and_parts}
 use Rattle.std.proofs.lemmas.List.{length-map, length-replicate, get_or_append_left}
 use Rattle.std.proofs.lemmas.Option.{slice_get-get_or, slice_get_within}
-use Rattle.list_lemmas.proofs.Elements.{list_all-filter}
 use Rattle.pals_base.specs.declared.values.Trap.{Trap}
 use Rattle.pals_base.specs.declared.values.Frame.{Frame}
 use Rattle.pals_base.specs.declared.values.PortValue.{PortValue as Value}
@@ -21,6 +20,7 @@ use Rattle.pals_base.specs.Rules.{is_edge, dispatch_count, ends_unguarded, has_w
 use Rattle.pals_base.specs.proof.Settling.{settles}
 use Rattle.pals_base.proofs.Settling.{rule_at}
 use Rattle.pals_base.proofs.Ways.{settled_unless_cycle}
+use Rattle.pals_base.proofs.Ending.{leaving_sound}
 use Rattle.step_code.specs.declared.instr.Instr.{Instr}
 use Rattle.step_code.specs.declared.instr.CodeParts.{CodeParts}
 use Rattle.step_code.specs.Step.{Senses}
@@ -99,9 +99,6 @@ goods b m (e ∷ es) sound settle none room =
     let t = and_parts (settles m b e.target) (list_all (λ e. settles m b e.target) es) settle in
     let d = no_dispatch e es (is_dispatch e.trigger) refl none in
     (good b m e s.0 t.0 (omega arith), d.0, goods b m es s.1 t.1 d.1 (omega arith))
-
-pub leaving_sound : (b : BehaviourParts) (s : ℕ) → IsBehaviour b → list_all (is_edge b) (leaving b s) ≡ true
-leaving_sound b s rules = list_all-filter (is_edge b) (λ e. nat_eq e.source s) b.transitions rules.edges
 
 -- ---- ways
 pub record HasOnward (b : BehaviourParts) (s : ℕ) : Type 0 where
