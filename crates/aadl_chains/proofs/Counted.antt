@@ -1,6 +1,7 @@
 -- The number of targets of links tells whether there are more links than a limit.
-use Rattle.std.proofs.Common.{◌≡◌, ◌⊎◌, inl, inr, ◌↔◌, ℕ, suc, ◌+◌, ◌<◌, ◌≤◌, Bool, true, false, not, min, List, [], ◌∷◌, map, length, slice_get, get_or}
-use Rattle.std.proofs.Common.{All, AllPairs, Option, Some, None, option_map, refl, sym, ap, subst, ◌∙◌, arith}
+use Rattle.std.proofs.Common.{◌≡◌, ◌⊎◌, inl, inr, ◌↔◌, ℕ, suc, ◌+◌, ◌<◌, ◌≤◌, Bool, true, false, not, min, List, []}
+use Rattle.std.proofs.Common.{◌∷◌, map, length, slice_get, get_or, All, AllPairs, Option, Some, None, option_map, refl}
+use Rattle.std.proofs.Common.{sym, ap, subst, ◌∙◌, arith}
 use Rattle.std.specs.List.{AllByRecursion}
 use Rattle.std.specs.Option.{option_and_then}
 use Rattle.std.proofs.lemmas.Bool.{true≢false, cases_order}
@@ -37,8 +38,8 @@ use Rattle.aadl_chains.proofs.Numbers.{no_number, same_number, both_numbers, no_
 use Rattle.aadl_chains.proofs.Steps.{goes_at}
 use Rattle.aadl_chains.proofs.Climbs.{crossed}
 use Rattle.aadl_chains.proofs.Linked.{link_from, link_met}
-use Rattle.aadl_chains.proofs.Through.{link_parts, deeper_ends, thread_ends, one_through, one_deeper}
-use Rattle.aadl_chains.proofs.Through.{not_both, deeper_number, no_deeper, none_first, more_first}
+use Rattle.aadl_chains.proofs.Through.{link_parts, deeper_ends, thread_ends, one_through, one_deeper, not_both}
+use Rattle.aadl_chains.proofs.Through.{deeper_number, no_deeper, none_first, more_first}
 
 -- ---- threads that give to an out port
 module _ (tree : PackageTree ℕ) (root : ℕ) where

@@ -13,18 +13,21 @@ use Rattle.aadl_tree.specs.declared.declarations.Direction.{Direction}
 use Rattle.aadl_tree.specs.declared.declarations.Category.{Category}
 use Rattle.aadl_tree.specs.declared.declarations.Category.TheVariants as categories
 use Rattle.aadl_tree.specs.Names.{Identifier}
-use Rattle.aadl_tree.specs.Declarations.{Feature, Subcomponent, ConnectionEnd, Connection, Implementation, Declaration, type, implementation, PackageTree}
+use Rattle.aadl_tree.specs.Declarations.{Feature, Subcomponent, ConnectionEnd, Connection, Implementation, Declaration}
+use Rattle.aadl_tree.specs.Declarations.{type, implementation, PackageTree}
 use Rattle.aadl_names.specs.declared.holder.PropertyHolder.TheVariants as holders
 use Rattle.aadl_names.specs.declared.site.PortPlace.{PortPlace}
 use Rattle.aadl_names.specs.declared.site.PortPlace.TheVariants.{Own, Inner}
 use Rattle.aadl_names.specs.Findings.{wrong_if}
 use Rattle.aadl_names.specs.Properties.{list_faults}
 use Rattle.aadl_names.specs.Behaviours.{behaviours}
-use Rattle.aadl_names.specs.Resolving.{implementation_in, implementation_at, is_thread, subcomponents_of, target_of, referred, port_named, sub_named}
-use Rattle.aadl_names.specs.Resolving.{inner_ports, inner_site, site_by, site, ports_at, ports_of, direction_of, with_direction}
-use Rattle.aadl_names.specs.PackageFaults.{is_own, goes_in, may_leave, may_enter, end_faults, sited, connection_faults, subcomponent_faults, names_faults}
-use Rattle.aadl_names.specs.PackageFaults.{may_contain, variables_faults, heading_faults, outer_faults, annex_faults}
-use Rattle.aadl_names.specs.PackageFaults.{declaration_faults, wrong_names, package_faults}
+use Rattle.aadl_names.specs.Resolving.{implementation_in, implementation_at, is_thread, subcomponents_of, target_of}
+use Rattle.aadl_names.specs.Resolving.{referred, port_named, sub_named, inner_ports, inner_site, site_by, site}
+use Rattle.aadl_names.specs.Resolving.{ports_at, ports_of, direction_of, with_direction}
+use Rattle.aadl_names.specs.PackageFaults.{is_own, goes_in, may_leave, may_enter, end_faults, sited, connection_faults}
+use Rattle.aadl_names.specs.PackageFaults.{subcomponent_faults, names_faults, may_contain, variables_faults}
+use Rattle.aadl_names.specs.PackageFaults.{heading_faults, outer_faults, annex_faults, declaration_faults, wrong_names}
+use Rattle.aadl_names.specs.PackageFaults.{package_faults}
 use Rattle.aadl_uses.specs.Uses.{below}
 use Rattle.aadl_uses.specs.proof.Threads.{is_thread_in}
 use Rattle.aadl_uses.specs.declared.connections.Wire.{Wire}

@@ -1,6 +1,6 @@
 -- Walks below an implementation are those below its subcomponents, and one connection more.
-use Rattle.std.proofs.Common.{◌≡◌, ◌⊎◌, inl, inr, ℕ, true, List, [], ◌∷◌, ◌++◌, slice_get}
-use Rattle.std.proofs.Common.{Option, Some, None, option_map, refl, sym, ap, subst, ◌∙◌}
+use Rattle.std.proofs.Common.{◌≡◌, ◌⊎◌, inl, inr, ℕ, true, List, [], ◌∷◌, ◌++◌, slice_get, Option, Some, None}
+use Rattle.std.proofs.Common.{option_map, refl, sym, ap, subst, ◌∙◌}
 use Rattle.std.specs.Option.{option_and_then}
 use Rattle.std.proofs.lemmas.Option.{none-some}
 use Rattle.aadl_tree.specs.Declarations.{Feature, PackageTree}
@@ -14,7 +14,8 @@ use Rattle.aadl_uses.specs.proof.Threads.{is_thread_in}
 use Rattle.aadl_uses.specs.proof.Wiring.{into}
 use Rattle.aadl_chains.specs.proof.Inside.{is_thread_at}
 use Rattle.aadl_chains.specs.Chains.{Port, is_in}
-use Rattle.aadl_chains.specs.proof.Walks.{Crossing, Climb, nowhere, at_root, crosses, climb_by, climb_along, climb_into, climb, IsThreadPort}
+use Rattle.aadl_chains.specs.proof.Walks.{Crossing, Climb, nowhere, at_root, crosses, climb_by, climb_along, climb_into}
+use Rattle.aadl_chains.specs.proof.Walks.{climb, IsThreadPort}
 use Rattle.aadl_chains.proofs.Steps.{Entered, entered}
 
 abbrev port : List ℕ → ℕ → Port

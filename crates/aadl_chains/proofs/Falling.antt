@@ -1,6 +1,6 @@
 -- The set of ports that lead out, declaration after declaration in an order in which each stands before those that it contains.
-use Rattle.std.proofs.Common.{◌≡◌, ◌⊎◌, inl, inr, ℕ, zero, suc, ◌+◌, ◌<◌, ◌≤◌, false, nat_eq, List, [], ◌∷◌, length, slice_get, Contains}
-use Rattle.std.proofs.Common.{Some, None, refl, sym, ap, subst, ◌∙◌, arith}
+use Rattle.std.proofs.Common.{◌≡◌, ◌⊎◌, inl, inr, ℕ, zero, suc, ◌+◌, ◌<◌, ◌≤◌, false, nat_eq, List, [], ◌∷◌, length}
+use Rattle.std.proofs.Common.{slice_get, Contains, Some, None, refl, sym, ap, subst, ◌∙◌, arith}
 use Rattle.std.specs.List.{IsDistinct, AllByRecursion}
 use Rattle.std.proofs.lemmas.Bool.{true≢false, eq-eqb}
 use Rattle.std.proofs.lemmas.List.{length-map}
@@ -19,7 +19,8 @@ use Rattle.aadl_uses.specs.Wiring.{wires_at}
 use Rattle.aadl_uses.specs.proof.Orders.{IsOrder}
 use Rattle.aadl_chains.specs.declared.ports.PortAt.{PortAt}
 use Rattle.aadl_chains.specs.proof.Inside.{inner_end, outer_end, port_at}
-use Rattle.aadl_chains.specs.proof.Outside.{LeadsOut, of_root, of_own, of_beside, LeadsFrom, AreLeading, HasLeading, AreLed, AreLedIfUsed, IsOutside}
+use Rattle.aadl_chains.specs.proof.Outside.{LeadsOut, of_root, of_own, of_beside, LeadsFrom, AreLeading, HasLeading}
+use Rattle.aadl_chains.specs.proof.Outside.{AreLed, AreLedIfUsed, IsOutside}
 use Rattle.aadl_chains.proofs.Ordered.{no_wires, split}
 use Rattle.aadl_chains.proofs.Leading.{leads_in_use}
 

@@ -16,7 +16,8 @@ use Rattle.aadl_chains.specs.proof.Outside.{LeadsOut, of_root, of_own, of_beside
 use Rattle.aadl_chains.specs.Chains.{Port, Place, port_at, Goes, Leads, is_in, IsStart, IsEnd}
 use Rattle.aadl_chains.specs.proof.Sound.{MayLeave, MayEnter, NotBothOwn, AreDeclared}
 use Rattle.aadl_chains.specs.proof.OnChains.{IsOnWay}
-use Rattle.aadl_chains.proofs.OnChains.{port, opposed, next_at, below_at, is_in-at, thread_from, wire_of_goes, among_goes, Chained}
+use Rattle.aadl_chains.proofs.OnChains.{port, opposed, next_at, below_at, is_in-at, thread_from, wire_of_goes}
+use Rattle.aadl_chains.proofs.OnChains.{among_goes, Chained}
 
 module _ (tree : PackageTree ℕ) (root : ℕ) where
   -- connections one behind the other, the first of them first

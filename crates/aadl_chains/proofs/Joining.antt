@@ -1,6 +1,6 @@
 -- What connections join to threads below, as sets of ports have it on the way to all of them.
-use Rattle.std.proofs.Common.{◌≡◌, ◌⊎◌, inl, inr, ℕ, zero, suc, ◌+◌, ◌<◌, ◌≤◌, Bool, true, false, cond, List, [], ◌∷◌, length, get_or}
-use Rattle.std.proofs.Common.{slice_get, Contains, Option, Some, None, refl, sym, ap, subst, ◌∙◌, arith}
+use Rattle.std.proofs.Common.{◌≡◌, ◌⊎◌, inl, inr, ℕ, zero, suc, ◌+◌, ◌<◌, ◌≤◌, Bool, true, false, cond, List, [], ◌∷◌}
+use Rattle.std.proofs.Common.{length, get_or, slice_get, Contains, Option, Some, None, refl, sym, ap, subst, ◌∙◌, arith}
 use Rattle.std.proofs.lemmas.Bool.{true≢false}
 use Rattle.std.proofs.lemmas.Option.{same_Some, none-some}
 use Rattle.aadl_tree.specs.declared.declarations.Direction.{Direction}
@@ -12,8 +12,9 @@ use Rattle.aadl_uses.specs.declared.connections.Wire.{Wire}
 use Rattle.aadl_uses.specs.Wiring.{wires_at}
 use Rattle.aadl_chains.specs.declared.ports.PortAt.{PortAt}
 use Rattle.aadl_chains.specs.proof.Ports.{has, with_port}
-use Rattle.aadl_chains.specs.proof.Inside.{is_thread_at, is_in_at, is_way, inner_end, outer_end, Reaches, of_thread, of_inner, port_at, reaches_by}
-use Rattle.aadl_chains.specs.proof.Inside.{reaches_in, joined_inner, joined_by, AreReaching, HasAll, IsJoined, AreJoined, IsInside}
+use Rattle.aadl_chains.specs.proof.Inside.{is_thread_at, is_in_at, is_way, inner_end, outer_end, Reaches, of_thread}
+use Rattle.aadl_chains.specs.proof.Inside.{of_inner, port_at, reaches_by, reaches_in, joined_inner, joined_by}
+use Rattle.aadl_chains.specs.proof.Inside.{AreReaching, HasAll, IsJoined, AreJoined, IsInside}
 use Rattle.aadl_chains.proofs.Sets.{has-true, has-from, kept, added, either}
 
 module _ (tree : PackageTree ℕ) (d : Direction) where

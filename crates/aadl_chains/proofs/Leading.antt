@@ -1,6 +1,6 @@
 -- Ports that lead out, as sets of ports have them on the way to all of them.
-use Rattle.std.proofs.Common.{◌≡◌, ◌⊎◌, inl, inr, ℕ, ◌+◌, ◌<◌, ◌≤◌, Bool, true, false, cond, ◌||◌, nat_eq, List, [], ◌∷◌, length, slice_get}
-use Rattle.std.proofs.Common.{Contains, Option, Some, None, refl, sym, ap, subst, ◌∙◌, arith}
+use Rattle.std.proofs.Common.{◌≡◌, ◌⊎◌, inl, inr, ℕ, ◌+◌, ◌<◌, ◌≤◌, Bool, true, false, cond, ◌||◌, nat_eq, List, []}
+use Rattle.std.proofs.Common.{◌∷◌, length, slice_get, Contains, Option, Some, None, refl, sym, ap, subst, ◌∙◌, arith}
 use Rattle.std.specs.Option.{option_and_then}
 use Rattle.std.proofs.lemmas.Bool.{true≢false, eqb-true, eq-eqb, or_cases, or_right}
 use Rattle.std.proofs.lemmas.Option.{same_Some, none-some}
@@ -15,8 +15,8 @@ use Rattle.aadl_uses.specs.Wiring.{wires_at}
 use Rattle.aadl_chains.specs.declared.ports.PortAt.{PortAt}
 use Rattle.aadl_chains.specs.proof.Ports.{has, with_port}
 use Rattle.aadl_chains.specs.proof.Inside.{inner_end, outer_end, port_at, reaches_in, IsInside}
-use Rattle.aadl_chains.specs.proof.Outside.{opposite, LeadsOut, of_root, of_own, of_beside, LeadsFrom, leads_from, port_below, port_in, led_by, AreLeading}
-use Rattle.aadl_chains.specs.proof.Outside.{HasLeading, IsLed, AreLed}
+use Rattle.aadl_chains.specs.proof.Outside.{opposite, LeadsOut, of_root, of_own, of_beside, LeadsFrom, leads_from}
+use Rattle.aadl_chains.specs.proof.Outside.{port_below, port_in, led_by, AreLeading, HasLeading, IsLed, AreLed}
 use Rattle.aadl_chains.proofs.Sets.{has-true, has-from, kept, added, either}
 use Rattle.aadl_chains.proofs.Joining.{reaches_in_to, reaches_from}
 use Rattle.aadl_chains.proofs.Ordered.{one_of_two}

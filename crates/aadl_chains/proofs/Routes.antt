@@ -1,6 +1,6 @@
 -- What the walk back finds is the one chain to a port.
-use Rattle.std.proofs.Common.{◌≡◌, ◌⊎◌, inl, inr, ℕ, true, false, List, [], ◌∷◌, ◌++◌, reverse}
-use Rattle.std.proofs.Common.{Some, None, refl, sym, ap, subst, ◌∙◌}
+use Rattle.std.proofs.Common.{◌≡◌, ◌⊎◌, inl, inr, ℕ, true, false, List, [], ◌∷◌, ◌++◌, reverse, Some, None, refl, sym}
+use Rattle.std.proofs.Common.{ap, subst, ◌∙◌}
 use Rattle.std.proofs.lemmas.List.{reverse-append}
 use Rattle.std.proofs.lemmas.Option.{same_Some, none-some}
 use Rattle.aadl_tree.specs.Declarations.{PackageTree}
@@ -23,7 +23,8 @@ use Rattle.aadl_chains.specs.proof.Routes.{route_ends, IsGiver, Descends, Traces
 use Rattle.aadl_chains.proofs.ChainsFromEnds.{passes_end, passes_before, only_start, no_chain}
 use Rattle.aadl_chains.proofs.Steps.{entered, goes_into, into_of_goes, inner_of}
 use Rattle.aadl_chains.proofs.Coming.{into_own}
-use Rattle.aadl_chains.proofs.Linked.{link_from, feed_from, tap_from, LinkMet, link_met, FeedMet, feed_met, TapMet, tap_met}
+use Rattle.aadl_chains.proofs.Linked.{link_from, feed_from, tap_from, LinkMet, link_met, FeedMet, feed_met, TapMet}
+use Rattle.aadl_chains.proofs.Linked.{tap_met}
 use Rattle.aadl_chains.proofs.Soundness.{sound_by}
 
 ends_by : (a b : Ends) → a.from ≡ b.from → a.to ≡ b.to → a.declaration ≡ b.declaration

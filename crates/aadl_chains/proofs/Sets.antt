@@ -1,6 +1,6 @@
 -- Sets of ports.
-use Rattle.std.proofs.Common.{◌≡◌, ◌⊎◌, inl, Bool, true, false, ◌&&◌, nat_eq, List, [], ◌∷◌, ◌++◌, Contains, refl, ap, ◌∙◌}
-use Rattle.std.proofs.Common.{if◌then◌else◌}
+use Rattle.std.proofs.Common.{◌≡◌, ◌⊎◌, inl, Bool, true, false, ◌&&◌, nat_eq, List, [], ◌∷◌, ◌++◌, Contains, refl, ap}
+use Rattle.std.proofs.Common.{◌∙◌, if◌then◌else◌}
 use Rattle.std.proofs.lemmas.Bool.{eqb-true, eq-eqb, and_parts}
 use Rattle.std.proofs.lemmas.List.Folds.{list_any_at}
 use Rattle.std.proofs.lemmas.List.Elements.{Contains-append_left, Contains-push, Contains-push_cases}

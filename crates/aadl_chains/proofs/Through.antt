@@ -1,6 +1,6 @@
 -- Ports of threads below an implementation, by the connections of the implementation through which they are entered.
-use Rattle.std.proofs.Common.{◌≡◌, ◌⊎◌, inl, inr, ℕ, zero, suc, ◌+◌, ◌<◌, true, false, min, List, [], ◌∷◌, ◌++◌, slice_get}
-use Rattle.std.proofs.Common.{Option, Some, None, refl, sym, ap, subst, ◌∙◌, arith}
+use Rattle.std.proofs.Common.{◌≡◌, ◌⊎◌, inl, inr, ℕ, zero, suc, ◌+◌, ◌<◌, true, false, min, List, [], ◌∷◌, ◌++◌}
+use Rattle.std.proofs.Common.{slice_get, Option, Some, None, refl, sym, ap, subst, ◌∙◌, arith}
 use Rattle.std.proofs.lemmas.Option.{same_Some, none-some}
 use Rattle.aadl_tree.specs.declared.declarations.Direction.TheVariants as directions
 use Rattle.aadl_tree.specs.Declarations.{PackageTree}
@@ -19,8 +19,9 @@ use Rattle.aadl_chains.specs.proof.Walks.{Crossing, at_root, crosses, climb, IsT
 use Rattle.aadl_chains.specs.proof.PortCounts.{ComesFrom, EndsLink, Through, Deeper, AmongFirst, FromOwn, FromThread}
 use Rattle.aadl_chains.proofs.Numbers.{no_number, one_number, both_numbers, image_number}
 use Rattle.aadl_chains.proofs.Steps.{first_wire, into_first, known_into}
-use Rattle.aadl_chains.proofs.Deepened.{last_of, same_ends, port_outer, port_inner, climb_outer, root_outer, Within, Itself, crossing_outer}
-use Rattle.aadl_chains.proofs.Deepened.{crossing_kept, root_kept, root_crosses, below_of, thread_itself}
+use Rattle.aadl_chains.proofs.Deepened.{last_of, same_ends, port_outer, port_inner, climb_outer, root_outer, Within}
+use Rattle.aadl_chains.proofs.Deepened.{Itself, crossing_outer, crossing_kept, root_kept, root_crosses, below_of}
+use Rattle.aadl_chains.proofs.Deepened.{thread_itself}
 
 abbrev port : List ℕ → ℕ → Port
 port path p = record { path = path; port = p }

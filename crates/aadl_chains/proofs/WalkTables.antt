@@ -1,6 +1,7 @@
 -- Tables of how many ports of threads the in ports of implementations lead to, on the way to all of them.
-use Rattle.std.proofs.Common.{◌≡◌, ◌⊎◌, inl, inr, ℕ, ◌+◌, ◌<◌, ◌≤◌, Bool, true, false, cond, ◌&&◌, nat_eq, min, List, [], length, slice_get, get_or}
-use Rattle.std.proofs.Common.{Contains, Option, Some, None, refl, sym, ap, subst, ◌∙◌, arith}
+use Rattle.std.proofs.Common.{◌≡◌, ◌⊎◌, inl, inr, ℕ, ◌+◌, ◌<◌, ◌≤◌, Bool, true, false, cond, ◌&&◌, nat_eq, min, List}
+use Rattle.std.proofs.Common.{[], length, slice_get, get_or, Contains, Option, Some, None, refl, sym, ap, subst, ◌∙◌}
+use Rattle.std.proofs.Common.{arith}
 use Rattle.std.specs.List.{IsDistinct}
 use Rattle.std.specs.Map.{lookup}
 use Rattle.std.specs.Option.{option_map_or}
@@ -27,10 +28,12 @@ use Rattle.aadl_chains.specs.Chains.{Port}
 use Rattle.aadl_chains.specs.proof.Sound.{MayEnter, AreDeclared}
 use Rattle.aadl_chains.proofs.OnChains.{is_in-at}
 use Rattle.aadl_chains.specs.proof.Numbers.{IsNumber}
-use Rattle.aadl_chains.specs.proof.PortCounts.{ComesFrom, Through, AmongFirst, FromOwn, taken, taken_by, AreTaken, AreTakenBelow, IsTaken, IsNew, AreAdded}
+use Rattle.aadl_chains.specs.proof.PortCounts.{ComesFrom, Through, AmongFirst, FromOwn, taken, taken_by, AreTaken}
+use Rattle.aadl_chains.specs.proof.PortCounts.{AreTakenBelow, IsTaken, IsNew, AreAdded}
 use Rattle.aadl_chains.proofs.Numbers.{no_number, same_number}
 use Rattle.aadl_chains.proofs.Steps.{first_if, second_never, first_wire}
-use Rattle.aadl_chains.proofs.Through.{through_number, own_from, own_to, one_through, thread_number, no_thread_number, none_first, more_first}
+use Rattle.aadl_chains.proofs.Through.{through_number, own_from, own_to, one_through, thread_number, no_thread_number}
+use Rattle.aadl_chains.proofs.Through.{none_first, more_first}
 
 -- ---- one more number in a table
 same_port-apart : (m n p q : ℕ) → (m ≡ n → ⊥) → same_port (port_at m p) (port_at n q) ≡ false

@@ -1,5 +1,6 @@
 -- Ports and connections of the flattened design, and the chains that connections make.
-use Rattle.std.specs.Prelude.{◌≡◌, ◌⊎◌, ◌≢◌, ℕ, Bool, true, false, List, [], ◌∷◌, Option, Some, option_map, slice_get, Contains}
+use Rattle.std.specs.Prelude.{◌≡◌, ◌⊎◌, ◌≢◌, ℕ, Bool, true, false, List, [], ◌∷◌, Option, Some, option_map, slice_get}
+use Rattle.std.specs.Prelude.{Contains}
 use Rattle.aadl_tree.specs.Declarations.{Feature, Connection, Implementation, PackageTree}
 use Rattle.aadl_names.specs.declared.fault.PackageFault.{PackageFault}
 use Rattle.aadl_names.specs.declared.fault.PackageFault.TheVariants.{DeadEnd, TwoSources}

@@ -1,5 +1,6 @@
 //! Whether there are more links than a design may have, by numbers of declarations alone.
-ghost use Rattle.std.specs.Prelude.{◌≡◌, ◌↔◌, ◌<◌, ℕ, false, Some, length, slice_get, slice_index, slice_set, IfOk, IsTrue};
+ghost use Rattle.std.specs.Prelude.{◌≡◌, ◌↔◌, ◌<◌, ℕ, false, Some, length, slice_get, slice_index, slice_set, IfOk};
+ghost use Rattle.std.specs.Prelude.{IsTrue};
 ghost use Rattle.pals_base.specs.declared.limits.TheConstants.{LINKS};
 ghost use Rattle.aadl_tree.specs.proof.PackageViews.{placed};
 ghost use Rattle.aadl_tree.specs.declared.declarations.Direction.TheVariants as directions;

@@ -8,7 +8,8 @@ ghost use Rattle.aadl_chains.specs.declared.ports.PortAt.{PortAt};
 ghost use Rattle.aadl_chains.specs.proof.Ports.{same_port};
 ghost use Rattle.aadl_chains.specs.proof.Sound.{AreDeclared};
 ghost use Rattle.aadl_chains.specs.proof.Numbers.{IsNumber};
-ghost use Rattle.aadl_chains.specs.proof.PortCounts.{taken, taken_by, Through, AreTaken, AreTakenBelow, IsTaken, AreAdded};
+ghost use Rattle.aadl_chains.specs.proof.PortCounts.{taken, taken_by, Through, AreTaken, AreTakenBelow, IsTaken};
+ghost use Rattle.aadl_chains.specs.proof.PortCounts.{AreAdded};
 
 use crate::PortAt;
 use aadl_names::PortPlace;

@@ -1,5 +1,6 @@
 //! Chains, walked back from where they end.
-ghost use Rattle.std.specs.Prelude.{◌≡◌, ◌++◌, ◌∷◌, ◌<◌, ℕ, false, take, reverse, length, None, Some, [], slice_index, IfOk};
+ghost use Rattle.std.specs.Prelude.{◌≡◌, ◌++◌, ◌∷◌, ◌<◌, ℕ, false, take, reverse, length, None, Some, [], slice_index};
+ghost use Rattle.std.specs.Prelude.{IfOk};
 ghost use Rattle.aadl_tree.specs.proof.PackageViews.{placed};
 ghost use Rattle.aadl_names.specs.declared.site.PortPlace.TheVariants.{Own};
 ghost use Rattle.aadl_uses.specs.Uses as uses;

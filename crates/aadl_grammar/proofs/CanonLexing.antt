@@ -1,5 +1,6 @@
 -- The canonical text of terminals that a text can have is lexed as these terminals.
-use Rattle.std.proofs.Common.{◌≡◌, ◌⊎◌, ℕ, zero, suc, ◌+◌, Bool, true, false, ◌∙◌, sym, ap, ap₂, subst, refl, List, [], ◌∷◌, ◌++◌, length, take, drop, arith, Some, None, inl, inr}
+use Rattle.std.proofs.Common.{◌≡◌, ◌⊎◌, ℕ, zero, suc, ◌+◌, Bool, true, false, ◌∙◌, sym, ap, ap₂, subst, refl, List, []}
+use Rattle.std.proofs.Common.{◌∷◌, ◌++◌, length, take, drop, arith, Some, None, inl, inr}
 use Rattle.std.proofs.Math.Seq.{take-append_seam}
 use Rattle.std.proofs.lemmas.List.{length-take-le, length-drop}
 use Rattle.aadl_lex.specs.declared.token.Token.{Token}
@@ -16,11 +17,13 @@ use Rattle.aadl_tree.specs.Canon.{kind_text, line_end, between, text_behind}
 use Rattle.aadl_grammar.specs.proof.Machine.{kind_number}
 use Rattle.aadl_grammar.proofs.SideBySide.{AreNeighbours}
 use Rattle.aadl_grammar.proofs.Literals.{body_first}
-use Rattle.aadl_grammar.proofs.TextTerminals.{is_inside, Spoken, a_word, a_number, a_real, a_string, an_annex, a_keyword, a_symbol, opens, closes, behind, Said}
+use Rattle.aadl_grammar.proofs.TextTerminals.{is_inside, Spoken, a_word, a_number, a_real, a_string, an_annex}
+use Rattle.aadl_grammar.proofs.TextTerminals.{a_keyword, a_symbol, opens, closes, behind, Said}
 use Rattle.aadl_grammar.proofs.Tokens.{Ends, Lexed, IsPlain, lexed}
 use Rattle.aadl_grammar.proofs.Meets.{ends_behind}
 use Rattle.aadl_grammar.proofs.Closes.{close_past, kind_past, close_at}
-use Rattle.aadl_grammar.proofs.Pieces.{line, is_gap, gap_blank, stands_within, drop_past, drop_cut, gap_skipped, token_bytes, close_gap}
+use Rattle.aadl_grammar.proofs.Pieces.{line, is_gap, gap_blank, stands_within, drop_past, drop_cut, gap_skipped}
+use Rattle.aadl_grammar.proofs.Pieces.{token_bytes, close_gap}
 
 -- from a place outside on
 pub record Outer (r : Reading) (text : List ℕ) (at : ℕ) (ks : List Kind) : Type 0 where

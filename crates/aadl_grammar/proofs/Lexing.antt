@@ -1,15 +1,14 @@
 -- From each byte on a text has tokens or a first fault.
-use Rattle.std.proofs.Common.{◌≡◌, ◌⊎◌, inl, inr, ℕ, zero, suc, ◌+◌, ◌<◌, ◌≤◌, Bool, true, false, cond, List, [], ◌∷◌, ◌++◌, length, take, drop, Option, Some, None, arith, refl}
-use Rattle.std.proofs.Common.{nat_eq, nat_le, ◌&&◌}
+use Rattle.std.proofs.Common.{◌≡◌, ◌⊎◌, inl, inr, ℕ, zero, suc, ◌+◌, ◌<◌, ◌≤◌, Bool, true, false, cond, List, [], ◌∷◌}
+use Rattle.std.proofs.Common.{◌++◌, length, take, drop, Option, Some, None, arith, refl, nat_eq, nat_le, ◌&&◌}
 use Rattle.std.proofs.lemmas.Bool.{cases_lt}
 use Rattle.std.proofs.lemmas.List.{length-take, length-drop}
 use Rattle.std.proofs.lemmas.Str.{IsUtf8-from_is_utf8, is_utf8-from_IsUtf8}
-use Rattle.std.specs.Prelude.{◌≢◌, ◌==◌, codes}
+use Rattle.std.specs.Prelude.{◌≢◌, ◌==◌, codes, slice_index}
 use Rattle.std.specs.List.{starts_with}
 use Rattle.std.specs.Char.{is_ascii_digit, is_ascii_alphabetic}
 use Rattle.std.specs.Str.{IsUtf8, is_utf8}
 use Rattle.std.specs.Str.Lossy.{utf8_valid_len}
-use Rattle.std.specs.Prelude.{slice_index}
 use Rattle.aadl_lex.specs.declared.token.Token.{Token}
 use Rattle.aadl_lex.specs.declared.token.TokenKind.{TokenKind}
 use Rattle.aadl_lex.specs.declared.token.TokenKind.TheVariants.{AnnexOpen, AnnexClose}
@@ -20,8 +19,11 @@ use Rattle.aadl_lex.specs.declared.rules.First.{First}
 use Rattle.aadl_lex.specs.declared.rules.First.TheVariants.{Skipped, Taken, Body, Refused}
 use Rattle.aadl_lex.specs.declared.rules.Reading.{Reading}
 use Rattle.aadl_lex.specs.declared.rules.Reading.TheVariants.{Outside, AfterName, Inside}
-use Rattle.aadl_lex.specs.Rules.{is_blank, run, is_in_word, word_first, whole_len, decimal, most, whole_first, number_by, real_len, is_in_string, string_first, body_len, annex_by, can_open, symbol_len, symbol_first, first, after, IsWithin}
-use Rattle.aadl_lex.specs.Tokens.{token, Lexes, ended, skips, takes, reads, Faults, refused, past_skipped, past_token, in_body, past_body, not_utf8, not_lexed}
+use Rattle.aadl_lex.specs.Rules.{is_blank, run, is_in_word, word_first, whole_len, decimal, most, whole_first}
+use Rattle.aadl_lex.specs.Rules.{number_by, real_len, is_in_string, string_first, body_len, annex_by, can_open}
+use Rattle.aadl_lex.specs.Rules.{symbol_len, symbol_first, first, after, IsWithin}
+use Rattle.aadl_lex.specs.Tokens.{token, Lexes, ended, skips, takes, reads, Faults, refused, past_skipped, past_token}
+use Rattle.aadl_lex.specs.Tokens.{in_body, past_body, not_utf8, not_lexed}
 use Rattle.aadl_lex.proofs.Order.{stands_within}
 use Rattle.aadl_grammar.specs.proof.Texts.{HasTokens, HasLexFault}
 

@@ -1,5 +1,7 @@
 -- Numbers, strings and annexes, each lexed as its token.
-use Rattle.std.proofs.Common.{◌≡◌, ℕ, suc, ◌+◌, ◌/◌, ◌%◌, ◌<◌, ◌≤◌, ◌^◌, Bool, true, false, cond, ◌&&◌, ◌||◌, ◌==◌, ◌∙◌, sym, ap, subst, refl, List, [], ◌∷◌, ◌++◌, append_assoc, lt-ltb, length, length-append, take, drop, get_or, arith, Some, None, nat_eq, nat_le, inl, inr}
+use Rattle.std.proofs.Common.{◌≡◌, ℕ, suc, ◌+◌, ◌/◌, ◌%◌, ◌<◌, ◌≤◌, ◌^◌, Bool, true, false, cond, ◌&&◌, ◌||◌, ◌==◌, ◌∙◌}
+use Rattle.std.proofs.Common.{sym, ap, subst, refl, List, [], ◌∷◌, ◌++◌, append_assoc, lt-ltb, length, length-append}
+use Rattle.std.proofs.Common.{take, drop, get_or, arith, Some, None, nat_eq, nat_le, inl, inr}
 use Rattle.std.specs.Prelude.{codes, pos, nat_lt}
 use Rattle.std.specs.List.{list_all, starts_with}
 use Rattle.std.specs.Char.{is_ascii_alphabetic, is_ascii_digit}
@@ -14,7 +16,8 @@ use Rattle.aadl_lex.specs.declared.rules.First.{First}
 use Rattle.aadl_lex.specs.declared.rules.First.TheVariants.{Taken, Body, Refused}
 use Rattle.aadl_lex.specs.declared.rules.Reading.{Reading}
 use Rattle.aadl_lex.specs.declared.rules.Reading.TheVariants.{Outside, AfterName}
-use Rattle.aadl_lex.specs.Rules.{is_blank, is_in_string, run, whole_len, decimal, decimal_from, most, real_len, number_by, close_from, annex_by, first}
+use Rattle.aadl_lex.specs.Rules.{is_blank, is_in_string, run, whole_len, decimal, decimal_from, most, real_len}
+use Rattle.aadl_lex.specs.Rules.{number_by, close_from, annex_by, first}
 use Rattle.aadl_lex.specs.proof.Spelled.{IsReal, IsString, IsUnread}
 use Rattle.aadl_lex.proofs.Closes.{unread_ends}
 use Rattle.aadl_lex.proofs.Scans.{more_by, decimal_cons}

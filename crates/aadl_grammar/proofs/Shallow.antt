@@ -2,7 +2,8 @@
 use Rattle.std.proofs.Common.{◌≡◌, ℕ, ◌≤◌, Bool, true, false, ap, subst, refl, List, [], ◌∷◌, ◌++◌, inl, inr, arith}
 use Rattle.aadl_tree.specs.declared.mark.Mark.TheVariants as k
 use Rattle.aadl_tree.specs.Terminals.{Kind, mark}
-use Rattle.aadl_tree.specs.Parts.{Part, token, may, feature_section, subcomponent_section, connection_section, property_section, Extra, empty_section, last_semicolon, extra_kinds, Spells, kept}
+use Rattle.aadl_tree.specs.Parts.{Part, token, may, feature_section, subcomponent_section, connection_section}
+use Rattle.aadl_tree.specs.Parts.{property_section, Extra, empty_section, last_semicolon, extra_kinds, Spells, kept}
 use Rattle.aadl_tree.specs.declared.limits.TheConstants.{GREATEST_NESTING}
 use Rattle.aadl_tree.specs.Grammar.{opened, is_end, nesting_from, IsShallow}
 

@@ -1,5 +1,6 @@
 -- What a symbol does at the first terminals, and the ends of the parts of a parser.
-use Rattle.std.proofs.Common.{◌≡◌, ℕ, ◌+◌, ◌<◌, ◌≤◌, Bool, true, false, cond, ◌∙◌, sym, ap, subst, refl, List, [], ◌∷◌, ◌++◌, ◌==◌, inl, inr}
+use Rattle.std.proofs.Common.{◌≡◌, ℕ, ◌+◌, ◌<◌, ◌≤◌, Bool, true, false, cond, ◌∙◌, sym, ap, subst, refl, List, [], ◌∷◌}
+use Rattle.std.proofs.Common.{◌++◌, ◌==◌, inl, inr}
 use Rattle.std.specs.Prelude.{Result, Ok, Err, IfOk}
 use Rattle.std.specs.Result.{IsErrAnd}
 use Rattle.std.proofs.lemmas.Bool.{or_cases, or_parts, false_from_ne_true}
@@ -12,10 +13,12 @@ use Rattle.aadl_tree.specs.Grammar.{place}
 use Rattle.aadl_grammar.specs.proof.Symbols.{the, Symbol, Row}
 use Rattle.aadl_grammar.specs.proof.Symbols as s
 use Rattle.aadl_grammar.specs.proof.Table.{on, behind, rows, can_omit}
-use Rattle.aadl_grammar.specs.proof.Machine.{Stack, Move, takes, omitted, refuses, kind_number, class_number, fits, move_by, move, depth, Fate, syntax_at, deep_at, fate}
+use Rattle.aadl_grammar.specs.proof.Machine.{Stack, Move, takes, omitted, refuses, kind_number, class_number, fits}
+use Rattle.aadl_grammar.specs.proof.Machine.{move_by, move, depth, Fate, syntax_at, deep_at, fate}
 use Rattle.aadl_grammar.proofs.Derived.Tails.{among, firsts}
 use Rattle.aadl_grammar.proofs.Derived.Derivations.{move_omits, move_refuses}
-use Rattle.aadl_grammar.proofs.Fates.Steps.{move_at, fate_by, fate_is, fate_takes, fate_deep, fate_omits, fate_refuses, fate_expands, fate_enters, fate_passes, NoneFits, none_own, fits_itself}
+use Rattle.aadl_grammar.proofs.Fates.Steps.{move_at, fate_by, fate_is, fate_takes, fate_deep, fate_omits, fate_refuses}
+use Rattle.aadl_grammar.proofs.Fates.Steps.{fate_expands, fate_enters, fate_passes, NoneFits, none_own, fits_itself}
 use Rattle.aadl_grammar.specs.declared.reader.Reader.{Reader}
 use Rattle.aadl_grammar.specs.declared.fault.ParseFault.{ParseFault}
 use Rattle.aadl_grammar.specs.declared.fault.ParseFault.TheVariants.{Memory, Syntax, TooDeep}

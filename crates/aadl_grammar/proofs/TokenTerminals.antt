@@ -1,5 +1,6 @@
 -- The terminals of a text's tokens are terminals that a text can have.
-use Rattle.std.proofs.Common.{◌≡◌, ℕ, ◌+◌, ◌-◌, ◌<◌, Bool, true, false, ◌∙◌, sym, ap, subst, refl, List, [], ◌∷◌, ◌++◌, append_assoc, length, length-append, take, drop, get_or, arith, Option, Some, None}
+use Rattle.std.proofs.Common.{◌≡◌, ℕ, ◌+◌, ◌-◌, ◌<◌, Bool, true, false, ◌∙◌, sym, ap, subst, refl, List, [], ◌∷◌, ◌++◌}
+use Rattle.std.proofs.Common.{append_assoc, length, length-append, take, drop, get_or, arith, Option, Some, None}
 use Rattle.std.specs.Prelude.{codes, is_some}
 use Rattle.std.specs.Str.{IsUtf8}
 use Rattle.std.proofs.Math.Seq.{take-append-add}
@@ -7,7 +8,8 @@ use Rattle.std.proofs.lemmas.List.{take-append-drop, get_or-drop}
 use Rattle.std.proofs.lemmas.Str.{IsUtf8-take, IsUtf8-drop, IsCharBoundary-before_ascii, IsCharBoundary-after_ascii}
 use Rattle.aadl_lex.specs.declared.token.Token.{Token}
 use Rattle.aadl_lex.specs.declared.token.TokenKind.{TokenKind}
-use Rattle.aadl_lex.specs.declared.token.TokenKind.TheVariants.{Word, Whole, Real, Quoted, Symbol, AnnexOpen, AnnexClose, Unread}
+use Rattle.aadl_lex.specs.declared.token.TokenKind.TheVariants.{Word, Whole, Real, Quoted, Symbol, AnnexOpen}
+use Rattle.aadl_lex.specs.declared.token.TokenKind.TheVariants.{AnnexClose, Unread}
 use Rattle.aadl_lex.specs.declared.rules.Reading.{Reading}
 use Rattle.aadl_lex.specs.declared.rules.Reading.TheVariants.{Outside, AfterName, Inside}
 use Rattle.aadl_lex.specs.Rules.{is_word, decimal, after}
@@ -19,10 +21,12 @@ use Rattle.aadl_lex.proofs.Spelled.{spelled_tokens}
 use Rattle.aadl_tree.specs.declared.mark.Mark.{Mark}
 use Rattle.aadl_tree.specs.declared.mark.Mark.TheVariants as k
 use Rattle.aadl_tree.specs.Marks.{keyword_of, symbol_of}
-use Rattle.aadl_tree.specs.Terminals.{mark, word_kind, symbol_kind, class_kind, inside_behind, spots_from, spots, kinds_of}
+use Rattle.aadl_tree.specs.Terminals.{mark, word_kind, symbol_kind, class_kind, inside_behind, spots_from, spots}
+use Rattle.aadl_tree.specs.Terminals.{kinds_of}
 use Rattle.aadl_tree.proofs.Symbols.{symbol_known}
 use Rattle.aadl_grammar.proofs.Literals.{at_seam}
-use Rattle.aadl_grammar.proofs.TextTerminals.{is_inside, Spoken, a_word, a_number, a_real, a_string, an_annex, a_keyword, a_symbol, opens, closes, behind, Said}
+use Rattle.aadl_grammar.proofs.TextTerminals.{is_inside, Spoken, a_word, a_number, a_real, a_string, an_annex}
+use Rattle.aadl_grammar.proofs.TextTerminals.{a_keyword, a_symbol, opens, closes, behind, Said}
 use Rattle.aadl_grammar.proofs.Tokens.{after_inside, word_then, whole_then, real_then, quoted_then}
 use Rattle.aadl_grammar.proofs.Keywords.{keyword_fixed, symbol_fixed, keyword_behind, symbol_behind}
 

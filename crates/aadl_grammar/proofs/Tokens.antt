@@ -1,5 +1,6 @@
 -- Each terminal, where nothing that follows goes on with it, is read as itself.
-use Rattle.std.proofs.Common.{◌≡◌, ℕ, ◌<◌, Bool, true, false, ◌&&◌, ◌||◌, ◌∙◌, sym, ap, refl, List, [], ◌∷◌, ◌++◌, length, length-append, get_or, arith, Some}
+use Rattle.std.proofs.Common.{◌≡◌, ℕ, ◌<◌, Bool, true, false, ◌&&◌, ◌||◌, ◌∙◌, sym, ap, refl, List, [], ◌∷◌, ◌++◌}
+use Rattle.std.proofs.Common.{length, length-append, get_or, arith, Some}
 use Rattle.std.specs.Prelude.{codes, pos, if◌then◌else◌}
 use Rattle.std.specs.Char.{is_ascii_digit}
 use Rattle.std.specs.Fmt as fmt
@@ -14,11 +15,13 @@ use Rattle.aadl_lex.specs.Rules.{is_in_word, is_word, first, after}
 use Rattle.aadl_tree.specs.declared.mark.Mark.{Mark}
 use Rattle.aadl_tree.specs.declared.mark.Mark.TheVariants as k
 use Rattle.aadl_tree.specs.Marks.{mark_text, keyword_of, symbol_of}
-use Rattle.aadl_tree.specs.Terminals.{Kind, word, whole, real, quoted, mark, word_kind, symbol_kind, class_kind, inside_behind}
+use Rattle.aadl_tree.specs.Terminals.{Kind, word, whole, real, quoted, mark, word_kind, symbol_kind, class_kind}
+use Rattle.aadl_tree.specs.Terminals.{inside_behind}
 use Rattle.aadl_tree.specs.Canon.{kind_text}
 use Rattle.aadl_grammar.proofs.FirstTokens.{stops, extends, word_first, symbol_first}
 use Rattle.aadl_grammar.proofs.Literals.{in_number, number_first, number_some, real_first, string_first, unread_first}
-use Rattle.aadl_grammar.proofs.TextTerminals.{is_inside, Spoken, a_word, a_number, a_real, a_string, an_annex, a_keyword, a_symbol, opens, closes, behind}
+use Rattle.aadl_grammar.proofs.TextTerminals.{is_inside, Spoken, a_word, a_number, a_real, a_string, an_annex}
+use Rattle.aadl_grammar.proofs.TextTerminals.{a_keyword, a_symbol, opens, closes, behind}
 
 -- bytes that would go on with a terminal
 abbrev pub goes_on : Kind → ℕ → Bool

@@ -1,5 +1,6 @@
 -- The canonical text of terminals that a text can have is UTF-8.
-use Rattle.std.proofs.Common.{◌≡◌, ℕ, suc, zero, Bool, true, ◌&&◌, ◌||◌, ◌==◌, ◌∙◌, ap, refl, List, [], ◌∷◌, ◌++◌, arith, inl, inr}
+use Rattle.std.proofs.Common.{◌≡◌, ℕ, suc, zero, Bool, true, ◌&&◌, ◌||◌, ◌==◌, ◌∙◌, ap, refl, List, [], ◌∷◌, ◌++◌}
+use Rattle.std.proofs.Common.{arith, inl, inr}
 use Rattle.std.specs.Prelude.{nat_lt, nat_le}
 use Rattle.std.specs.List.{list_all}
 use Rattle.std.specs.Char.{is_ascii_alphabetic, is_ascii_digit}
@@ -17,7 +18,8 @@ use Rattle.aadl_tree.specs.Terminals.{Kind}
 use Rattle.aadl_tree.specs.Canon.{kind_text, line_end, between, text_behind}
 use Rattle.aadl_lex.specs.proof.Spelled.{IsReal}
 use Rattle.aadl_grammar.proofs.Literals.{number_digits}
-use Rattle.aadl_grammar.proofs.TextTerminals.{Spoken, a_word, a_number, a_real, a_string, an_annex, a_keyword, a_symbol, opens, closes, behind, Said}
+use Rattle.aadl_grammar.proofs.TextTerminals.{Spoken, a_word, a_number, a_real, a_string, an_annex, a_keyword, a_symbol}
+use Rattle.aadl_grammar.proofs.TextTerminals.{opens, closes, behind, Said}
 use Rattle.aadl_grammar.proofs.Closes.{all_weaker, all_append}
 use Rattle.aadl_grammar.proofs.Pieces.{is_gap, gap_blank}
 

@@ -10,7 +10,8 @@ ghost use Rattle.aadl_tree.specs.Values.{sign_mark};
 ghost use Rattle.aadl_grammar.specs.proof.Symbols.{a_word, a_whole, a_real, a_quoted, an_unread, the};
 ghost use Rattle.aadl_grammar.specs.declared.fault.ParseFault.TheVariants.{Memory};
 ghost use Rattle.aadl_grammar.specs.proof.Terminals.{between, is_word_at};
-ghost use Rattle.aadl_grammar.specs.proof.Reading.{here, IsFirst, AtMark, AtWord, At, Misses, StartsWord, Expects, MissAll, IsMarked, Deepens};
+ghost use Rattle.aadl_grammar.specs.proof.Reading.{here, IsFirst, AtMark, AtWord, At, Misses, StartsWord, Expects};
+ghost use Rattle.aadl_grammar.specs.proof.Reading.{MissAll, IsMarked, Deepens};
 
 use crate::fault::ParseFault;
 use crate::reader::Reader;

@@ -1,6 +1,6 @@
 -- Ports that connections go out of and into are declared.
-use Rattle.std.proofs.Common.{◌≡◌, ℕ, ◌+◌, ◌<◌, Bool, true, false, cond, List, [], ◌∷◌, length, slice_get, Contains, Option, Some}
-use Rattle.std.proofs.Common.{None, option_map, refl, sym, ap, subst, ◌∙◌, arith}
+use Rattle.std.proofs.Common.{◌≡◌, ℕ, ◌+◌, ◌<◌, Bool, true, false, cond, List, [], ◌∷◌, length, slice_get, Contains}
+use Rattle.std.proofs.Common.{Option, Some, None, option_map, refl, sym, ap, subst, ◌∙◌, arith}
 use Rattle.std.specs.List.{position_from}
 use Rattle.std.specs.Option.{option_and_then}
 use Rattle.std.proofs.lemmas.Bool.{true≢false}
@@ -12,9 +12,8 @@ use Rattle.aadl_tree.specs.Declarations.{Feature, Subcomponent, ConnectionEnd, I
 use Rattle.aadl_names.specs.declared.site.PortPlace.{PortPlace}
 use Rattle.aadl_names.specs.declared.site.PortPlace.TheVariants.{Own, Inner}
 use Rattle.aadl_names.specs.PackageFaults.{goes_in}
-use Rattle.aadl_names.specs.Resolving.{implementation_at, referred, target_of, ports_at, ports_of, port_named, sub_named}
-use Rattle.aadl_names.specs.Resolving.{inner_ports, inner_site, site_by, site}
-use Rattle.aadl_names.specs.Resolving.{subcomponents_of}
+use Rattle.aadl_names.specs.Resolving.{implementation_at, referred, target_of, ports_at, ports_of, port_named}
+use Rattle.aadl_names.specs.Resolving.{sub_named, inner_ports, inner_site, site_by, site, subcomponents_of}
 use Rattle.aadl_uses.specs.Uses.{below, standing, component_at}
 use Rattle.aadl_chains.specs.Chains.{Port, Place, port_at, Goes, Leads}
 use Rattle.aadl_instance.specs.proof.Passed.{HasPort}

@@ -1,6 +1,6 @@
 -- The root of a package is a system, and no thread.
-use Rattle.std.proofs.Common.{◌≡◌, ℕ, ◌+◌, ◌<◌, ◌≤◌, Bool, true, false, ◌&&◌, cond, List, [], length}
-use Rattle.std.proofs.Common.{map, drop, get_or, add-one, drop-cons, slice_get, Option, Some, None, refl, sym, ap, ◌∙◌, arith}
+use Rattle.std.proofs.Common.{◌≡◌, ℕ, ◌+◌, ◌<◌, ◌≤◌, Bool, true, false, ◌&&◌, cond, List, [], length, map, drop, get_or}
+use Rattle.std.proofs.Common.{add-one, drop-cons, slice_get, Option, Some, None, refl, sym, ap, ◌∙◌, arith}
 use Rattle.std.proofs.lemmas.Bool.{true≢false, false≢true}
 use Rattle.std.specs.List.{position_from}
 use Rattle.std.proofs.lemmas.Grind.{common_steps}

@@ -1,14 +1,15 @@
 -- Ends of chains, as an instance shows them.
 use Rattle.std.proofs.Common.{◌≡◌, ◌⊎◌, inl, inr, ℕ, zero, suc, ◌+◌, ◌<◌, ◌≤◌, Bool, true, false, cond, ◌&&◌, ◌||◌}
-use Rattle.std.proofs.Common.{nat_eq, nat_lt, List, [], ◌∷◌, length, map, reverse, take}
-use Rattle.std.proofs.Common.{slice_get, get_or, AllPairs, Option, Some, None, count_by, Vec, Global, refl, sym, ap, subst, ◌∙◌, arith}
+use Rattle.std.proofs.Common.{nat_eq, nat_lt, List, [], ◌∷◌, length, map, reverse, take, slice_get, get_or, AllPairs}
+use Rattle.std.proofs.Common.{Option, Some, None, count_by, Vec, Global, refl, sym, ap, subst, ◌∙◌, arith}
 use Rattle.std.specs.List.{position_from}
 use Rattle.std.specs.Option.{option_and_then, option_map_or}
 use Rattle.std.proofs.lemmas.Bool.{true≢false, and_parts, cases_lt, false_from_ne_true}
 use Rattle.std.proofs.lemmas.Bool.Decides.{nat_tests}
 use Rattle.std.proofs.lemmas.List.{take-map}
 use Rattle.std.proofs.lemmas.List.Folds.{fold-map}
-use Rattle.std.proofs.lemmas.Option.{same_Some, none-some, slice_get-map, slice_get_read, slice_get_within, get_or_from_slice_get}
+use Rattle.std.proofs.lemmas.Option.{same_Some, none-some, slice_get-map, slice_get_read, slice_get_within}
+use Rattle.std.proofs.lemmas.Option.{get_or_from_slice_get}
 use Rattle.list_lemmas.proofs.Places.{Contains-from_slice_get}
 use Rattle.list_lemmas.proofs.Elements.{Contains-nil}
 use Rattle.pals_base.specs.declared.limits.TheConstants.{PORTS}
@@ -17,10 +18,9 @@ use Rattle.aadl_tree.specs.declared.declarations.Feature as source
 use Rattle.aadl_tree.specs.Declarations.{Feature, PackageTree}
 use Rattle.aadl_tree.specs.proof.Maps.{kept_place}
 use Rattle.aadl_tree.specs.proof.Views.{feature_view}
-use Rattle.aadl_uses.specs.Threads.{path_before}
+use Rattle.aadl_uses.specs.Threads.{path_before, IsThreadAt, PathBefore}
 use Rattle.aadl_names.specs.Resolving.{ports_at, ports_of, implementation_at}
 use Rattle.aadl_uses.specs.Uses.{standing, component_at}
-use Rattle.aadl_uses.specs.Threads.{IsThreadAt, PathBefore}
 use Rattle.aadl_uses.specs.ThreadPlaces.{ThreadWith}
 use Rattle.aadl_chains.specs.proof.Inside.{is_thread_at}
 use Rattle.aadl_chains.proofs.OnChains.{thread_from}

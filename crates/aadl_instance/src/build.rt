@@ -3,7 +3,8 @@ ghost use Rattle.std.specs.Prelude.{◌≡◌, ◌+◌, true, [], reverse, IfOk,
 ghost use Rattle.aadl_chains.specs.proof.Inside.{is_in_at};
 ghost use Rattle.aadl_chains.specs.Links.{IsLink, IsFeed, IsTap, TargetBefore, PortBefore};
 ghost use Rattle.aadl_instance.specs.proof.Passed as shown;
-ghost use Rattle.aadl_instance.specs.proof.Networks.{tree_of, paths_in, IsReady, IsNumbered, IsNode, Shows, ShowsInto, ShowsTaps};
+ghost use Rattle.aadl_instance.specs.proof.Networks.{tree_of, paths_in, IsReady, IsNumbered, IsNode, Shows, ShowsInto};
+ghost use Rattle.aadl_instance.specs.proof.Networks.{ShowsTaps};
 ghost use Rattle.aadl_instance.specs.proof.Passed.{HasPort, IsBegin};
 
 use crate::ends::{ChainMap, ThreadNode, begin_end, node_end, root_end};

@@ -1,7 +1,6 @@
 //! Ends of chains, as an instance shows them.
 ghost use Rattle.std.specs.Prelude.{◌≡◌, ◌≤◌, Some, [], length, reverse, slice_get, AllPairs, Contains, IfOk};
-ghost use Rattle.aadl_uses.specs.Threads.{path_before};
-ghost use Rattle.aadl_uses.specs.Threads.{IsThreadAt, PathBefore};
+ghost use Rattle.aadl_uses.specs.Threads.{path_before, IsThreadAt, PathBefore};
 ghost use Rattle.aadl_chains.specs.proof.Routes.{begin_port};
 ghost use Rattle.aadl_instance.specs.Instances.{end_in};
 ghost use Rattle.aadl_instance.specs.proof.Networks.{tree_of, paths_in, IsReady, IsNode};

@@ -1,5 +1,6 @@
 -- Where the first `**}` of some bytes is.
-use Rattle.std.proofs.Common.{◌≡◌, ℕ, zero, suc, ◌+◌, ◌≤◌, Bool, true, false, cond, ◌&&◌, ◌==◌, ◌∙◌, sym, ap, subst, refl, List, [], ◌∷◌, ◌++◌, length, take, drop, arith, Option, Some, None, nat_eq}
+use Rattle.std.proofs.Common.{◌≡◌, ℕ, zero, suc, ◌+◌, ◌≤◌, Bool, true, false, cond, ◌&&◌, ◌==◌, ◌∙◌, sym, ap, subst}
+use Rattle.std.proofs.Common.{refl, List, [], ◌∷◌, ◌++◌, length, take, drop, arith, Option, Some, None, nat_eq}
 use Rattle.std.specs.Prelude.{codes}
 use Rattle.std.specs.List.{starts_with}
 use Rattle.std.proofs.lemmas.Bool.{eqb-true}

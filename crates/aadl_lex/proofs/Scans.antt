@@ -1,5 +1,7 @@
 -- How far a piece reaches, byte by byte.
-use Rattle.std.proofs.Common.{◌≡◌, ℕ, suc, ◌+◌, ◌-◌, ◌*◌, ◌<◌, ◌≤◌, Bool, true, false, cond, ◌&&◌, ◌||◌, List, [], ◌∷◌, length, drop, get_or, arith, refl, drop-cons, add-one, Some, None, leb-true, nat_eq, nat_le}
+use Rattle.std.proofs.Common.{◌≡◌, ℕ, suc, ◌+◌, ◌-◌, ◌*◌, ◌<◌, ◌≤◌, Bool, true, false, cond, ◌&&◌, ◌||◌, List, [], ◌∷◌}
+use Rattle.std.proofs.Common.{length, drop, get_or, arith, refl, drop-cons, add-one, Some, None, leb-true, nat_eq}
+use Rattle.std.proofs.Common.{nat_le}
 use Rattle.std.specs.Prelude.{◌==◌, codes, pos, fold, filter}
 use Rattle.std.specs.List.{starts_with}
 use Rattle.std.specs.Char.{is_ascii_digit}

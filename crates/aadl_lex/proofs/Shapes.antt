@@ -1,5 +1,7 @@
 -- What stands at the front of a text is spelled as its class says.
-use Rattle.std.proofs.Common.{◌≡◌, ℕ, zero, suc, ◌+◌, ◌<◌, ◌≤◌, Bool, true, false, cond, ◌&&◌, ◌||◌, ◌==◌, ◌∙◌, sym, ap, ap₂, subst, refl, List, [], ◌∷◌, ◌++◌, length, map, take, drop, get_or, arith, Option, Some, None, nat_eq, nat_le}
+use Rattle.std.proofs.Common.{◌≡◌, ℕ, zero, suc, ◌+◌, ◌<◌, ◌≤◌, Bool, true, false, cond, ◌&&◌, ◌||◌, ◌==◌, ◌∙◌, sym, ap}
+use Rattle.std.proofs.Common.{ap₂, subst, refl, List, [], ◌∷◌, ◌++◌, length, map, take, drop, get_or, arith, Option}
+use Rattle.std.proofs.Common.{Some, None, nat_eq, nat_le}
 use Rattle.std.specs.Prelude.{codes, pos, nat_lt}
 use Rattle.std.specs.List.{list_all, list_any, starts_with}
 use Rattle.std.specs.Char.{is_ascii_alphabetic, is_ascii_digit}
@@ -13,12 +15,15 @@ use Rattle.std.specs.Cmp.{first_so, second_so}
 use Rattle.std.proofs.lemmas.Option.{same_Some}
 use Rattle.aadl_lex.specs.declared.token.TheConstants.{NAME_BYTES}
 use Rattle.aadl_lex.specs.declared.token.TokenKind.{TokenKind}
-use Rattle.aadl_lex.specs.declared.token.TokenKind.TheVariants.{Word, Whole, Real, Quoted, Symbol, AnnexOpen, AnnexClose, Unread}
+use Rattle.aadl_lex.specs.declared.token.TokenKind.TheVariants.{Word, Whole, Real, Quoted, Symbol, AnnexOpen}
+use Rattle.aadl_lex.specs.declared.token.TokenKind.TheVariants.{AnnexClose, Unread}
 use Rattle.aadl_lex.specs.declared.rules.First.{First}
 use Rattle.aadl_lex.specs.declared.rules.First.TheVariants.{Skipped, Taken, Body, Refused}
 use Rattle.aadl_lex.specs.declared.rules.Reading.{Reading}
 use Rattle.aadl_lex.specs.declared.rules.Reading.TheVariants.{Outside, AfterName, Inside}
-use Rattle.aadl_lex.specs.Rules.{is_blank, is_in_word, is_in_string, run, whole_len, decimal, most, real_len, number_by, body_len, close_from, annex_by, can_open, symbols_of_three, symbols_of_two, symbols_of_one, symbol_len, first, after}
+use Rattle.aadl_lex.specs.Rules.{is_blank, is_in_word, is_in_string, run, whole_len, decimal, most, real_len, number_by}
+use Rattle.aadl_lex.specs.Rules.{body_len, close_from, annex_by, can_open, symbols_of_three, symbols_of_two}
+use Rattle.aadl_lex.specs.Rules.{symbols_of_one, symbol_len, first, after}
 use Rattle.aadl_lex.specs.proof.Spelled.{IsWhole, IsReal, IsString, IsUnread, IsSymbol, IsSpelled, behind}
 use Rattle.aadl_lex.proofs.Closes.{none_take, starts_exact, closes_of, closes_size, closes_front, closes_cut, close_at}
 use Rattle.aadl_lex.proofs.Within.{whole_len_le, run_some}

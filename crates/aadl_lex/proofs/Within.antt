@@ -1,5 +1,7 @@
 -- What stands at the front of a text has a byte at least, and lies within the text.
-use Rattle.std.proofs.Common.{inl, inr, ◌≡◌, ℕ, ◌+◌, ◌<◌, ◌≤◌, Bool, true, false, cond, ◌&&◌, ◌||◌, List, [], ◌∷◌, length, drop, take, get_or, arith, refl, sym, ap, Option, Some, None, nat_eq, nat_le, nat_lt}
+use Rattle.std.proofs.Common.{inl, inr, ◌≡◌, ℕ, ◌+◌, ◌<◌, ◌≤◌, Bool, true, false, cond, ◌&&◌, ◌||◌, List, [], ◌∷◌}
+use Rattle.std.proofs.Common.{length, drop, take, get_or, arith, refl, sym, ap, Option, Some, None, nat_eq, nat_le}
+use Rattle.std.proofs.Common.{nat_lt}
 use Rattle.std.proofs.lemmas.Bool.{cases_Bool, or_cases}
 use Rattle.std.proofs.lemmas.Bool.Decides.{nat_tests}
 use Rattle.std.proofs.lemmas.List.{length-take, length-drop, get_or_past, length-take-le}
@@ -14,7 +16,10 @@ use Rattle.aadl_lex.specs.declared.rules.First.{First}
 use Rattle.aadl_lex.specs.declared.rules.Reading.{Reading}
 use Rattle.aadl_lex.specs.declared.rules.Reading.TheVariants.{Outside, AfterName, Inside}
 use Rattle.aadl_lex.specs.declared.token.TheConstants.{NAME_BYTES}
-use Rattle.aadl_lex.specs.Rules.{run, is_in_line, is_in_word, is_in_string, is_blank, word_first, whole_len, decimal, most, whole_first, real_len, number_by, number_first, string_first, close_from, body_len, annex_by, annex_first, can_open, symbols_of_three, symbols_of_two, symbols_of_one, symbol_len, symbol_first, first, IsWithin}
+use Rattle.aadl_lex.specs.Rules.{run, is_in_line, is_in_word, is_in_string, is_blank, word_first, whole_len, decimal}
+use Rattle.aadl_lex.specs.Rules.{most, whole_first, real_len, number_by, number_first, string_first, close_from}
+use Rattle.aadl_lex.specs.Rules.{body_len, annex_by, annex_first, can_open, symbols_of_three, symbols_of_two}
+use Rattle.aadl_lex.specs.Rules.{symbols_of_one, symbol_len, symbol_first, first, IsWithin}
 
 begins_le : (s needle : List ℕ) → starts_with nat_eq s needle ≡ true → length needle ≤ length s
 begins_le s needle h = let same = ap length (same_text needle (take (length needle) s) (sym h)) in

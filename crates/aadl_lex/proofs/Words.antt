@@ -1,5 +1,6 @@
 -- The longest run of a word's bytes, from a letter on, is a word.
-use Rattle.std.proofs.Common.{◌≡◌, ℕ, suc, ◌+◌, ◌<◌, Bool, true, false, cond, ◌&&◌, ◌∙◌, ap, ap₂, refl, List, [], ◌∷◌, length, take, get_or, arith, nat_le}
+use Rattle.std.proofs.Common.{◌≡◌, ℕ, suc, ◌+◌, ◌<◌, Bool, true, false, cond, ◌&&◌, ◌∙◌, ap, ap₂, refl, List, [], ◌∷◌}
+use Rattle.std.proofs.Common.{length, take, get_or, arith, nat_le}
 use Rattle.std.specs.Prelude.{take_while}
 use Rattle.std.specs.List.{list_all, prefix_len}
 use Rattle.std.specs.Char.{is_ascii_alphabetic}

@@ -1,5 +1,7 @@
 -- What stands at the front of a text: the classes of tokens, and the order of their rules.
-use Rattle.std.specs.Prelude.{ℕ, ◌+◌, ◌-◌, ◌*◌, ◌==◌, Bool, true, false, not, ◌&&◌, ◌||◌, nat_eq, nat_lt, nat_le, List, [], ◌∷◌, length, take, drop, take_while, filter, fold, slice_index, if◌then◌else◌, Option, Some, None, pos, codes, ◌<◌, ◌≤◌}
+use Rattle.std.specs.Prelude.{ℕ, ◌+◌, ◌-◌, ◌*◌, ◌==◌, Bool, true, false, not, ◌&&◌, ◌||◌, nat_eq, nat_lt, nat_le, List}
+use Rattle.std.specs.Prelude.{[], ◌∷◌, length, take, drop, take_while, filter, fold, slice_index, if◌then◌else◌, Option}
+use Rattle.std.specs.Prelude.{Some, None, pos, codes, ◌<◌, ◌≤◌}
 use Rattle.std.specs.List.{starts_with, list_any, list_all}
 use Rattle.std.specs.Char.{is_ascii_alphabetic, is_ascii_digit}
 use Rattle.std.specs.Str.{str_eq_ignore_ascii_case}

@@ -1,10 +1,12 @@
 //! How far the pieces at the front of a text reach.
 
-ghost use Rattle.std.specs.Prelude.{◌≡◌, ◌==◌, ◌+◌, ◌<◌, ◌≤◌, length, slice_index, nat_eq, Some, None, IfSome, if◌then◌else◌, nat_le, pos};
+ghost use Rattle.std.specs.Prelude.{◌≡◌, ◌==◌, ◌+◌, ◌<◌, ◌≤◌, length, slice_index, nat_eq, Some, None, IfSome};
+ghost use Rattle.std.specs.Prelude.{if◌then◌else◌, nat_le, pos};
 ghost use Rattle.std.specs.Char.{is_ascii_digit};
 ghost use Rattle.std.specs.List.{starts_with, list_any};
 ghost use Rattle.aadl_lex.specs.Rules as spec;
-ghost use Rattle.aadl_lex.specs.Rules.{run, is_in_line, is_in_word, is_in_string, decimal, most, symbols_of_three, symbols_of_two, symbols_of_one};
+ghost use Rattle.aadl_lex.specs.Rules.{run, is_in_line, is_in_word, is_in_string, decimal, most, symbols_of_three};
+ghost use Rattle.aadl_lex.specs.Rules.{symbols_of_two, symbols_of_one};
 
 /// How many bytes a line at the front has, without its LF.
 pub fn line_len(text: &[u8]) -> usize

@@ -1,7 +1,8 @@
 -- What is declared twice among the ports of a type and beside them: enough of it has the first of it.
-use Rattle.std.proofs.Common.{◌≡◌, ◌⊎◌, ℕ, ◌+◌, Bool, true, false, cond, ◌&&◌, ◌||◌, nat_eq, nat_lt, List, [], ◌∷◌, ◌++◌, Contains, Option, Some, None}
+use Rattle.std.proofs.Common.{◌≡◌, ◌⊎◌, ℕ, ◌+◌, Bool, true, false, cond, ◌&&◌, ◌||◌, nat_eq, nat_lt, List, [], ◌∷◌}
+use Rattle.std.proofs.Common.{◌++◌, Contains, Option, Some, None, refl, sym, ap, ◌∙◌, subst, inl, inr, suc, add-zero}
+use Rattle.std.proofs.Common.{arith}
 use Rattle.aadl_tree.specs.Names.{same_name}
-use Rattle.std.proofs.Common.{refl, sym, ap, ◌∙◌, subst, inl, inr, suc, add-zero, arith}
 use Rattle.std.specs.List.{list_any, flat_map}
 use Rattle.std.specs.Prelude.{slice_get}
 use Rattle.std.proofs.lemmas.Bool.{true≢false, and_from, or_left, or_right}

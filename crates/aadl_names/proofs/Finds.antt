@@ -1,5 +1,6 @@
 -- Findings one behind the other.
-use Rattle.std.proofs.Common.{◌≡◌, ◌<◌, ◌≤◌, ◌+◌, ℕ, ◌∙◌, sym, ap, refl, List, [], ◌∷◌, ◌++◌, Option, length, drop, get_or, arith, Result, Ok, Err}
+use Rattle.std.proofs.Common.{◌≡◌, ◌<◌, ◌≤◌, ◌+◌, ℕ, ◌∙◌, sym, ap, refl, List, [], ◌∷◌, ◌++◌, Option, length, drop}
+use Rattle.std.proofs.Common.{get_or, arith, Result, Ok, Err}
 use Rattle.std.proofs.lemmas.Grind.{common_steps}
 use Rattle.std.specs.Prelude.{OnOk}
 use Rattle.list_lemmas.proofs.Lists.{drop-next}

@@ -9,8 +9,8 @@ use Rattle.aadl_names.specs.proof.Found.{found}
 use Rattle.aadl_names.specs.Twice.{twice}
 use Rattle.aadl_names.specs.Resolving.{is_thread, ports_of}
 use Rattle.aadl_names.specs.Behaviours.{behaviours}
-use Rattle.aadl_names.specs.Spaces.{port_entries, variable_entries, state_entries, member_entries, type_entry, implementation_entry, twice_in_behaviour}
-use Rattle.aadl_names.specs.Spaces.{twice_in_first, twice_in, twice_names}
+use Rattle.aadl_names.specs.Spaces.{port_entries, variable_entries, state_entries, member_entries, type_entry}
+use Rattle.aadl_names.specs.Spaces.{implementation_entry, twice_in_behaviour, twice_in_first, twice_in, twice_names}
 use Rattle.aadl_names.specs.PackageFaults.{wrong_names, package_faults}
 use Rattle.aadl_names.specs.proof.DeclaredTwice.{beside, beside_in_behaviour, beside_in_first, beside_in, beside_names}
 use Rattle.aadl_names.proofs.Covers.{Covers, covers_itself, covers_append, covers_all, first_of_more, found_is_first}

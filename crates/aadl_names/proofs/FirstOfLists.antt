@@ -1,6 +1,7 @@
 -- The first of a list, with one more item.
-use Rattle.std.proofs.Common.{◌≡◌, ℕ, ◌+◌, ◌<◌, ◌≤◌, Bool, cond, List, [], ◌∷◌, ◌++◌, length, Option, Some, None, refl, sym, ap, ◌∙◌, arith}
-use Rattle.std.proofs.Common.{add-zero, map, take, get_or, zero, suc, length-append, Result, Ok, Err, IfOk}
+use Rattle.std.proofs.Common.{◌≡◌, ℕ, ◌+◌, ◌<◌, ◌≤◌, Bool, cond, List, [], ◌∷◌, ◌++◌, length, Option, Some, None, refl}
+use Rattle.std.proofs.Common.{sym, ap, ◌∙◌, arith, add-zero, map, take, get_or, zero, suc, length-append, Result, Ok}
+use Rattle.std.proofs.Common.{Err, IfOk}
 use Rattle.std.specs.Prelude.{slice_get}
 use Rattle.std.specs.List.{position_from}
 use Rattle.std.specs.Option.{option_or}

@@ -2,8 +2,11 @@
 use Rattle.std.specs.Prelude.{ℕ, Bool, true, false, List, [], ◌∷◌, ◌++◌, Option, Some, None, if◌then◌else◌}
 use Rattle.std.specs.Option.{option_or}
 use Rattle.aadl_tree.specs.Names.{Identifier, same_name}
-use Rattle.aadl_tree.specs.Expressions.{Primary, number, truth, named, group, Factor, absolute, negated, bare, Term, term, Factors, no_factors, factor, Sum, total, Terms, no_terms, add, Relation, single, compared, Expression, expression, Relations, no_relations, join}
-use Rattle.aadl_tree.specs.Actions.{Action, assign, send, choose, loop, Actions, actions, Mores, no_mores, more, Elsifs, no_elsifs, elsif, Otherwise, no_otherwise, otherwise, Block, no_block, block}
+use Rattle.aadl_tree.specs.Expressions.{Primary, number, truth, named, group, Factor, absolute, negated, bare, Term}
+use Rattle.aadl_tree.specs.Expressions.{term, Factors, no_factors, factor, Sum, total, Terms, no_terms, add, Relation}
+use Rattle.aadl_tree.specs.Expressions.{single, compared, Expression, expression, Relations, no_relations, join}
+use Rattle.aadl_tree.specs.Actions.{Action, assign, send, choose, loop, Actions, actions, Mores, no_mores, more, Elsifs}
+use Rattle.aadl_tree.specs.Actions.{no_elsifs, elsif, Otherwise, no_otherwise, otherwise, Block, no_block, block}
 use Rattle.aadl_names.specs.declared.fault.PackageFault.{PackageFault}
 use Rattle.aadl_names.specs.declared.fault.PackageFault.TheVariants.{Unknown, Twice, WrongKind}
 use Rattle.aadl_names.specs.declared.role.Role.{Role}

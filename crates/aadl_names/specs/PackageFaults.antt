@@ -1,18 +1,22 @@
 -- What is wrong with the names of a whole package, one list for each sentence of the rules. What is declared twice stands
 -- in a file of its own.
-use Rattle.std.specs.Prelude.{ℕ, Bool, true, false, not, ◌&&◌, nat_eq, nat_lt, List, [], ◌∷◌, ◌++◌, map, flat_map, Option, Some, None, slice_get, option_map, find, if◌then◌else◌}
+use Rattle.std.specs.Prelude.{ℕ, Bool, true, false, not, ◌&&◌, nat_eq, nat_lt, List, [], ◌∷◌, ◌++◌, map, flat_map}
+use Rattle.std.specs.Prelude.{Option, Some, None, slice_get, option_map, find, if◌then◌else◌}
 use Rattle.std.specs.List.{list_any, enumerate_from}
 use Rattle.aadl_tree.specs.declared.declarations.Category.{Category}
 use Rattle.aadl_tree.specs.declared.declarations.Direction.{Direction}
 use Rattle.aadl_tree.specs.Names.{Identifier, Reference, same_name, listed_in}
-use Rattle.aadl_tree.specs.Annexes.{VariableDeclaration, Guard, dispatch, otherwise, when, Transition, AnnexTree, foreign, behaviour, Annex}
-use Rattle.aadl_tree.specs.Declarations.{Feature, Subcomponent, ConnectionEnd, Connection, TypeDeclaration, Implementation, Declaration, type, implementation, PackageTree}
+use Rattle.aadl_tree.specs.Annexes.{VariableDeclaration, Guard, dispatch, otherwise, when, Transition, AnnexTree}
+use Rattle.aadl_tree.specs.Annexes.{foreign, behaviour, Annex}
+use Rattle.aadl_tree.specs.Declarations.{Feature, Subcomponent, ConnectionEnd, Connection, TypeDeclaration}
+use Rattle.aadl_tree.specs.Declarations.{Implementation, Declaration, type, implementation, PackageTree}
 use Rattle.aadl_tree.specs.Actions.{Block}
 use Rattle.aadl_names.specs.declared.fault.PackageFault.{PackageFault}
 use Rattle.aadl_names.specs.declared.fault.PackageFault.TheVariants.{Unknown, WrongKind}
 use Rattle.aadl_names.specs.Findings.{wrong_if}
 use Rattle.aadl_names.specs.Spelling.{spelled_name, spelled_reference, spelled_implementation, spelled_end}
-use Rattle.aadl_names.specs.Resolving.{type_number, is_system, is_process, is_thread, ports_of, type_of, target_of, implementation_in, site, with_direction}
+use Rattle.aadl_names.specs.Resolving.{type_number, is_system, is_process, is_thread, ports_of, type_of, target_of}
+use Rattle.aadl_names.specs.Resolving.{implementation_in, site, with_direction}
 use Rattle.aadl_names.specs.Properties.{list_faults}
 use Rattle.aadl_names.specs.Spaces.{twice_names}
 use Rattle.aadl_names.specs.Behaviours.{behaviours, variables_in, variables_of, states_of}

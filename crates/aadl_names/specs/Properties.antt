@@ -1,15 +1,20 @@
 -- The properties that mean something, where they do, and the shapes of their values.
-use Rattle.std.specs.Prelude.{ℕ, ◌*◌, ◌-◌, ◌==◌, pos, Bool, true, false, not, ◌&&◌, ◌||◌, nat_le, nat_eq, take, drop, List, [], ◌∷◌, ◌++◌, length, filter, map, flat_map, codes, Option, Some, None, if◌then◌else◌, find}
+use Rattle.std.specs.Prelude.{ℕ, ◌*◌, ◌-◌, ◌==◌, pos, Bool, true, false, not, ◌&&◌, ◌||◌, nat_le, nat_eq, take, drop}
+use Rattle.std.specs.Prelude.{List, [], ◌∷◌, ◌++◌, length, filter, map, flat_map, codes, Option, Some, None}
+use Rattle.std.specs.Prelude.{if◌then◌else◌, find}
 use Rattle.std.specs.Option.{is_some}
 use Rattle.std.specs.List.{list_any, starts_with}
 use Rattle.std.specs.Str.{bytes_eq}
 use Rattle.aadl_lex.specs.Rules.{whole_len, decimal, most}
 use Rattle.aadl_tree.specs.declared.declarations.Category.{Category}
 use Rattle.aadl_tree.specs.Names.{Path, Reference, Identifier, same_name}
-use Rattle.aadl_tree.specs.Values.{UnsignedNumber, whole_figure, real_figure, Quantity, Value, list, text, named, number, no_values, value, Association, association, Associations, no_associations, associate}
+use Rattle.aadl_tree.specs.Values.{UnsignedNumber, whole_figure, real_figure, Quantity, Value, list, text, named}
+use Rattle.aadl_tree.specs.Values.{number, no_values, value, Association, association, Associations, no_associations}
+use Rattle.aadl_tree.specs.Values.{associate}
 use Rattle.aadl_names.specs.declared.fault.PackageFault.{PackageFault}
 use Rattle.aadl_names.specs.declared.holder.PropertyName.{PropertyName}
-use Rattle.aadl_names.specs.declared.holder.PropertyName.TheVariants.{Period, Dispatch, Timing, Adaptor, Skew, Execution, Network, Initial}
+use Rattle.aadl_names.specs.declared.holder.PropertyName.TheVariants.{Period, Dispatch, Timing, Adaptor, Skew}
+use Rattle.aadl_names.specs.declared.holder.PropertyName.TheVariants.{Execution, Network, Initial}
 use Rattle.aadl_names.specs.declared.holder.PropertyHolder.{PropertyHolder}
 use Rattle.aadl_names.specs.declared.entry.SpelledName.{SpelledName}
 use Rattle.aadl_names.specs.Findings.{wrong_if}

@@ -1,12 +1,14 @@
 -- What a package declares, and what its references name. Declarations, subcomponents, connections and ports go by their
 -- numbers in the text's order; where a name is declared twice, a use means the first.
-use Rattle.std.specs.Prelude.{ℕ, Bool, true, false, ◌&&◌, ◌||◌, List, [], ◌∷◌, ◌++◌, Option, Some, None, slice_get, codes, if◌then◌else◌, option_map}
+use Rattle.std.specs.Prelude.{ℕ, Bool, true, false, ◌&&◌, ◌||◌, List, [], ◌∷◌, ◌++◌, Option, Some, None, slice_get}
+use Rattle.std.specs.Prelude.{codes, if◌then◌else◌, option_map}
 use Rattle.std.specs.List.{position_from}
 use Rattle.std.specs.Option.{option_and_then}
 use Rattle.aadl_tree.specs.declared.declarations.Category.{Category}
 use Rattle.aadl_tree.specs.declared.declarations.Direction.{Direction}
 use Rattle.aadl_tree.specs.Names.{Identifier, Reference, same_name}
-use Rattle.aadl_tree.specs.Declarations.{Feature, Subcomponent, ConnectionEnd, Connection, TypeDeclaration, Implementation, Declaration, type, implementation, PackageTree}
+use Rattle.aadl_tree.specs.Declarations.{Feature, Subcomponent, ConnectionEnd, Connection, TypeDeclaration}
+use Rattle.aadl_tree.specs.Declarations.{Implementation, Declaration, type, implementation, PackageTree}
 use Rattle.aadl_names.specs.declared.site.PortPlace.{PortPlace}
 use Rattle.aadl_names.specs.declared.site.PortPlace.TheVariants.{Own, Inner}
 use Rattle.aadl_names.specs.Spelling.{spelled_implementation}

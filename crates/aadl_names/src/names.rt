@@ -1,5 +1,6 @@
 //! What the names of a package name.
-ghost use Rattle.std.specs.Prelude.{◌≡◌, ℕ, List, [], IfOk, OnOk, map, Some, None, if◌then◌else◌, string_bytes, slice_index_or, slice_get};
+ghost use Rattle.std.specs.Prelude.{◌≡◌, ℕ, List, [], IfOk, OnOk, map, Some, None, if◌then◌else◌, string_bytes};
+ghost use Rattle.std.specs.Prelude.{slice_index_or, slice_get};
 ghost use Rattle.aadl_tree.specs.Names.{same_name};
 ghost use Rattle.std.proofs.Props.{props};
 ghost use Rattle.std.specs.Option.{option_or};

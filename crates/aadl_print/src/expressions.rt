@@ -2,8 +2,10 @@
 #![tactic(auto, using(crate::proofs::Appends::printed_append))]
 
 ghost use Rattle.std.specs.Prelude.{◌≡◌, OnOk};
-ghost use Rattle.aadl_tree.specs.Expressions.{multiply_mark, relation_mark, logic_parts, primary_parts, factor_parts, term_parts, sum_parts, relation_parts, expression_parts};
-ghost use Rattle.aadl_tree.specs.proof.ExpressionViews.{primary_view, factor_view, term_view, sum_view, relation_view, expression_view};
+ghost use Rattle.aadl_tree.specs.Expressions.{multiply_mark, relation_mark, logic_parts, primary_parts, factor_parts};
+ghost use Rattle.aadl_tree.specs.Expressions.{term_parts, sum_parts, relation_parts, expression_parts};
+ghost use Rattle.aadl_tree.specs.proof.ExpressionViews.{primary_view, factor_view, term_view, sum_view, relation_view};
+ghost use Rattle.aadl_tree.specs.proof.ExpressionViews.{expression_view};
 ghost use Rattle.aadl_tree.specs.proof.Maps.{no_place};
 ghost use Rattle.aadl_print.specs.proof.Printed.{printed};
 

@@ -3,7 +3,8 @@
 
 ghost use Rattle.std.specs.Prelude.{◌≡◌, map, OnOk};
 ghost use Rattle.aadl_tree.specs.declared.mark.Mark.TheVariants as k;
-ghost use Rattle.aadl_tree.specs.Values.{sign_mark, association_mark, applies_parts, value_parts, values_parts, association_parts, associations_parts, properties_parts};
+ghost use Rattle.aadl_tree.specs.Values.{sign_mark, association_mark, applies_parts, value_parts, values_parts};
+ghost use Rattle.aadl_tree.specs.Values.{association_parts, associations_parts, properties_parts};
 ghost use Rattle.aadl_tree.specs.proof.NameViews.{path_view};
 ghost use Rattle.aadl_tree.specs.proof.ValueViews.{value_view, values_view, association_view, associations_view};
 ghost use Rattle.aadl_tree.specs.proof.Maps.{no_place};
@@ -12,7 +13,7 @@ ghost use Rattle.aadl_print.specs.proof.Printed.{printed, under};
 use crate::items::{PrintItem, print_behind, print_chain, print_if, print_option};
 use crate::printer::Printer;
 use aadl_tree::{
-    Association, AssociationOperator, UnsignedNumber, Mark, Number, Path, Quantity, Sign, Value,
+    Association, AssociationOperator, Mark, Number, Path, Quantity, Sign, UnsignedNumber, Value,
 };
 use std::alloc::AllocError;
 

@@ -1,5 +1,6 @@
 -- The views of actions, level by level.
-use Rattle.std.proofs.Common.{◌≡◌, ℕ, List, [], ◌∷◌, map, Option, Some, None, Vec, Global, Box, refl, ap, sym, ◌∙◌, rules}
+use Rattle.std.proofs.Common.{◌≡◌, ℕ, List, [], ◌∷◌, map, Option, Some, None, Vec, Global, Box, refl, ap, sym, ◌∙◌}
+use Rattle.std.proofs.Common.{rules}
 use Rattle.std.specs.Prelude.{option_map}
 use Rattle.aadl_tree.specs.declared.names.Identifier.{Identifier}
 use Rattle.aadl_tree.specs.declared.names.Reference.{Reference}
@@ -17,7 +18,8 @@ use Rattle.aadl_tree.specs.Expressions as Plain
 use Rattle.aadl_tree.specs.Actions as Acts
 use Rattle.aadl_tree.specs.proof.NameViews.{identifier_view, reference_view}
 use Rattle.aadl_tree.specs.proof.ExpressionViews.{expression_view}
-use Rattle.aadl_tree.specs.proof.ActionViews.{action_view, actions_view, block_view, choice_view, loop_view, mores_view, elsif_view, elsifs_of, elsifs_view, otherwise_of, block_of}
+use Rattle.aadl_tree.specs.proof.ActionViews.{action_view, actions_view, block_view, choice_view, loop_view, mores_view}
+use Rattle.aadl_tree.specs.proof.ActionViews.{elsif_view, elsifs_of, elsifs_view, otherwise_of, block_of}
 
 pub view-Assign : {P : Type 0} (place : ℕ → P) (x : Identifier) (e : Expression)
     → action_view place (Assign x e) ≡ assign (identifier_view place x) (expression_view place e)

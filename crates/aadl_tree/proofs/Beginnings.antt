@@ -1,5 +1,6 @@
 -- A word is among the marks that begin as it does.
-use Rattle.std.proofs.Common.{◌≡◌, ◌==◌, ◌<◌, ℕ, Bool, true, false, cond, refl, ap, sym, List, [], ◌∷◌, length, Some, None, zero, suc, arith}
+use Rattle.std.proofs.Common.{◌≡◌, ◌==◌, ◌<◌, ℕ, Bool, true, false, cond, refl, ap, sym, List, [], ◌∷◌, length, Some}
+use Rattle.std.proofs.Common.{None, zero, suc, arith}
 use Rattle.std.specs.Prelude.{slice_index, ◌↔◌, IsTrue}
 use Rattle.std.specs.List.{find, filter}
 use Rattle.std.specs.Str.{bytes_eq, str_eq_ignore_ascii_case, str_to_ascii_lowercase}

@@ -13,10 +13,13 @@ use Rattle.aadl_tree.specs.declared.expressions.Expression.{Expression, roll-Exp
 use Rattle.aadl_tree.specs.declared.expressions.Relation.{Relation, roll-Relation}
 use Rattle.aadl_tree.specs.declared.expressions.Sum.{Sum, roll-Sum}
 use Rattle.aadl_tree.specs.declared.expressions.Term.{Term, roll-Term}
-use Rattle.aadl_tree.specs.declared.expressions.Factor.TheViews.{out-Expression, out-Sum, out-Relation, roll-out-Relation}
+use Rattle.aadl_tree.specs.declared.expressions.Factor.TheViews.{out-Expression, out-Sum, out-Relation}
+use Rattle.aadl_tree.specs.declared.expressions.Factor.TheViews.{roll-out-Relation}
 use Rattle.aadl_tree.specs.Expressions.{number, truth, named, group, absolute, negated, bare, term, total, expression}
 use Rattle.aadl_tree.specs.proof.NameViews.{identifier_view}
-use Rattle.aadl_tree.specs.proof.ExpressionViews.{leading_view, primary_view, factor_view, factors_view, term_view, terms_view, sum_view, relation_view, sides_view, relations_view, expression_view}
+use Rattle.aadl_tree.specs.proof.ExpressionViews.{leading_view, primary_view, factor_view, factors_view, term_view}
+use Rattle.aadl_tree.specs.proof.ExpressionViews.{terms_view, sum_view, relation_view, sides_view, relations_view}
+use Rattle.aadl_tree.specs.proof.ExpressionViews.{expression_view}
 
 pub view-Whole : {P : Type 0} (place : ℕ → P) (at : ℕ) (n : ℤ) → primary_view place (Whole at n) ≡ number (place at) n
 view-Whole place at n = search (rules, the_lemmas)

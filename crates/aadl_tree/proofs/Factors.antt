@@ -2,7 +2,8 @@
 use Rattle.std.proofs.Common.{◌≡◌, ◌∙◌, ℕ, ap, sym, Box, Global}
 use Rattle.aadl_tree.specs.declared.expressions.Factor.{Factor, Abs, Not, Plain}
 use Rattle.aadl_tree.specs.declared.expressions.Factor.TheOpen.{Factor-F}
-use Rattle.aadl_tree.specs.declared.expressions.Factor.TheViews.{out-Factor, roll-Factor, roll-out-Factor, rolls-Abs, rolls-Not, rolls-Plain}
+use Rattle.aadl_tree.specs.declared.expressions.Factor.TheViews.{out-Factor, roll-Factor, roll-out-Factor, rolls-Abs}
+use Rattle.aadl_tree.specs.declared.expressions.Factor.TheViews.{rolls-Not, rolls-Plain}
 use Rattle.aadl_tree.specs.declared.expressions.Primary.{Primary}
 use Rattle.aadl_tree.specs.declared.expressions.Expression.{Expression}
 use Rattle.aadl_tree.specs.declared.expressions.Relation.{Relation}

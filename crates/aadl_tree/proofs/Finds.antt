@@ -1,5 +1,6 @@
 -- Finding, one element at a time.
-use Rattle.std.proofs.Common.{◌≡◌, ℕ, ◌+◌, ◌<◌, Bool, cond, false, refl, ◌∙◌, List, length, get_or, drop, Some, add-one, drop-cons}
+use Rattle.std.proofs.Common.{◌≡◌, ℕ, ◌+◌, ◌<◌, Bool, cond, false, refl, ◌∙◌, List, length, get_or, drop, Some, add-one}
+use Rattle.std.proofs.Common.{drop-cons}
 use Rattle.std.specs.List.{find}
 
 pub find_step : {A : Type 0} (p : A → Bool) (xs : List A) (i : ℕ) (d : A) → i < length xs

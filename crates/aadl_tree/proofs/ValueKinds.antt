@@ -4,15 +4,19 @@ use Rattle.aadl_tree.specs.declared.names.Path.{Path}
 use Rattle.aadl_tree.specs.declared.names.Reference.{Reference}
 use Rattle.aadl_tree.specs.declared.values.Quantity.{Quantity}
 use Rattle.aadl_tree.specs.declared.values.Association.{Association}
-use Rattle.aadl_tree.specs.declared.values.Value.{Value, List as ListOf, Record, Text, Reference as ReferenceTo, Classifier, Named, Number}
+use Rattle.aadl_tree.specs.declared.values.Value.{Value, List as ListOf, Record, Text, Reference as ReferenceTo}
+use Rattle.aadl_tree.specs.declared.values.Value.{Classifier, Named, Number}
 use Rattle.aadl_tree.specs.declared.values.Value.TheOpen.{Value-F}
-use Rattle.aadl_tree.specs.declared.values.Value.TheViews.{out-Value, roll-Value, roll-out-Value, rolls-List, rolls-Record, rolls-Text, rolls-Reference, rolls-Classifier, rolls-Named, rolls-Number}
+use Rattle.aadl_tree.specs.declared.values.Value.TheViews.{out-Value, roll-Value, roll-out-Value, rolls-List}
+use Rattle.aadl_tree.specs.declared.values.Value.TheViews.{rolls-Record, rolls-Text, rolls-Reference, rolls-Classifier}
+use Rattle.aadl_tree.specs.declared.values.Value.TheViews.{rolls-Named, rolls-Number}
 use Rattle.aadl_tree.specs.Names as plain_names
 use Rattle.aadl_tree.specs.Values as plain
 use Rattle.aadl_tree.specs.Values.{list, fields, text, reference, classifier, named, number}
 use Rattle.aadl_tree.specs.proof.ValueViews.{value_view}
 use Rattle.aadl_tree.specs.proof.Maps.{no_place}
-use Rattle.aadl_tree.proofs.ValueViews.{view-List, view-Record, view-Text, view-Reference, view-Classifier, view-Named, view-Number}
+use Rattle.aadl_tree.proofs.ValueViews.{view-List, view-Record, view-Text, view-Reference, view-Classifier, view-Named}
+use Rattle.aadl_tree.proofs.ValueViews.{view-Number}
 
 abbrev Layer : Type 0
 Layer = Value-F Value Association

@@ -6,11 +6,13 @@ use Rattle.aadl_tree.specs.declared.names.Path.{Path}
 use Rattle.aadl_tree.specs.declared.names.Reference.{Reference}
 use Rattle.aadl_tree.specs.declared.values.AssociationOperator.{AssociationOperator}
 use Rattle.aadl_tree.specs.declared.values.Quantity.{Quantity}
-use Rattle.aadl_tree.specs.declared.values.Value.{Value, List as ListOf, Record, Text, Reference as ReferenceTo, Classifier, Named, Number, the_lemmas}
+use Rattle.aadl_tree.specs.declared.values.Value.{Value, List as ListOf, Record, Text, Reference as ReferenceTo}
+use Rattle.aadl_tree.specs.declared.values.Value.{Classifier, Named, Number, the_lemmas}
 use Rattle.aadl_tree.specs.declared.values.Association.{Association, roll-Association}
 use Rattle.aadl_tree.specs.Values.{list, fields, text, reference, classifier, named, number, association}
 use Rattle.aadl_tree.specs.proof.NameViews.{name_view, path_view, reference_view}
-use Rattle.aadl_tree.specs.proof.ValueViews.{quantity_view, value_view, association_view, values_view, associations_view}
+use Rattle.aadl_tree.specs.proof.ValueViews.{quantity_view, value_view, association_view, values_view}
+use Rattle.aadl_tree.specs.proof.ValueViews.{associations_view}
 
 pub view-List : {P : Type 0} (place : ℕ → P) (vs : Vec Value Global)
     → value_view place (ListOf vs) ≡ list (values_view place vs.items)

@@ -1,6 +1,8 @@
 -- Where the first token of an expression stands, or of a part of it.
 use Rattle.std.specs.Prelude.{Option, Some, None}
-use Rattle.aadl_tree.specs.Expressions.{LeadingSign, Primary, number, truth, named, group, Factor, absolute, negated, bare, Term, term, Sum, total, Relation, single, compared, Expression, expression}
+use Rattle.aadl_tree.specs.Expressions.{LeadingSign, Primary, number, truth, named, group, Factor, absolute, negated}
+use Rattle.aadl_tree.specs.Expressions.{bare, Term, term, Sum, total, Relation, single, compared, Expression}
+use Rattle.aadl_tree.specs.Expressions.{expression}
 
 abbrev pub primary_at : {P : Type 0} → Primary P → P
 primary_at (number at n) = at

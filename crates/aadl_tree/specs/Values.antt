@@ -5,7 +5,8 @@ use Rattle.aadl_tree.specs.declared.expressions.Sign.{Sign}
 use Rattle.aadl_tree.specs.declared.values.AssociationOperator.{AssociationOperator}
 use Rattle.aadl_tree.specs.Terminals.{whole, real, quoted}
 use Rattle.aadl_tree.specs.Parts.{Part, token, plain, marked_if, parts_if, behind, chained}
-use Rattle.aadl_tree.specs.Names.{Identifier, Name, Path, Reference, identifier_parts, name_parts, path_parts, reference_parts}
+use Rattle.aadl_tree.specs.Names.{Identifier, Name, Path, Reference, identifier_parts, name_parts, path_parts}
+use Rattle.aadl_tree.specs.Names.{reference_parts}
 use Rattle.aadl_tree.specs.declared.mark.Mark.TheVariants as k
 use Rattle.aadl_tree.specs.declared.expressions.Sign.TheVariants as signs
 use Rattle.aadl_tree.specs.declared.values.AssociationOperator.TheVariants as operators

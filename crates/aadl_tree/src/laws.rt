@@ -1,5 +1,6 @@
 //! Laws of the grammar's definitions. Each function does nothing; its contract is proved.
-ghost use Rattle.std.specs.Prelude.{◌≡◌, ◌↔◌, ℕ, List, [], ◌∷◌, ◌++◌, Some, None, codes, true, false, map, IsTrue, is_some};
+ghost use Rattle.std.specs.Prelude.{◌≡◌, ◌↔◌, ℕ, List, [], ◌∷◌, ◌++◌, Some, None, codes, true, false, map, IsTrue};
+ghost use Rattle.std.specs.Prelude.{is_some};
 ghost use Rattle.aadl_lex.specs.proof.Spelled.{IsSymbol};
 ghost use Rattle.aadl_lex.specs.Tokens.{AreTokensOf};
 ghost use Rattle.aadl_tree.specs.declared.mark.Mark.TheVariants as k;
@@ -13,7 +14,8 @@ ghost use Rattle.aadl_tree.specs.proof.PackageViews.{package_view, placed, meani
 ghost use Rattle.aadl_tree.specs.Grammar.{nesting};
 ghost use Rattle.aadl_tree.specs.Given.{IsTreeOf};
 ghost use Rattle.aadl_tree.specs.Canon.{canonical, canon};
-ghost use Rattle.aadl_tree.specs.proof.Example.{counting, counting_kinds, counting_text, annex_text, annex_tokens, choice_kinds};
+ghost use Rattle.aadl_tree.specs.proof.Example.{counting, counting_kinds, counting_text, annex_text, annex_tokens};
+ghost use Rattle.aadl_tree.specs.proof.Example.{choice_kinds};
 ghost use Rattle.aadl_tree.specs.proof.SmallPackage.{package_text, package_tokens, small_package, printed_text};
 
 /// Each keyword and each symbol is read as itself, where it is one, whatever the case of its letters.

@@ -40,4 +40,4 @@ pub use meaning::{Same, same};
 pub use names::{Identifier, Identifiers, Name, Path, Reference};
 pub use package::PackageTree;
 pub use short_lists::push_exact;
-pub use values::{Association, AssociationOperator, UnsignedNumber, Number, Quantity, Value};
+pub use values::{Association, AssociationOperator, Number, Quantity, UnsignedNumber, Value};

@@ -1,6 +1,7 @@
 //! Where expressions stand: the offset of their first token.
 ghost use Rattle.std.specs.Prelude.{◌≡◌};
-ghost use Rattle.aadl_tree.specs.proof.ExpressionViews.{primary_view, factor_view, term_view, sum_view, relation_view, expression_view};
+ghost use Rattle.aadl_tree.specs.proof.ExpressionViews.{primary_view, factor_view, term_view, sum_view, relation_view};
+ghost use Rattle.aadl_tree.specs.proof.ExpressionViews.{expression_view};
 ghost use Rattle.aadl_tree.specs.Offsets.{primary_at, factor_at, term_at, sum_at, relation_at, expression_at};
 ghost use Rattle.aadl_tree.specs.proof.Maps.{kept_place};
 

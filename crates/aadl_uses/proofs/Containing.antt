@@ -1,13 +1,15 @@
 -- The containment of a package by numbers is that of its subcomponents.
-use Rattle.std.proofs.Common.{◌≡◌, ◌↔◌, ℕ, zero, suc, ◌<◌, Bool, true, false, List, [], ◌∷◌, ◌++◌, map, Option, Some, None, option_map, length}
-use Rattle.std.proofs.Common.{get_or, slice_get, Contains, refl, sym, ap, subst, ◌∙◌, arith, if◌then◌else◌, codes, Result, Ok, Err, IfOk}
+use Rattle.std.proofs.Common.{◌≡◌, ◌↔◌, ℕ, zero, suc, ◌<◌, Bool, true, false, List, [], ◌∷◌, ◌++◌, map, Option, Some}
+use Rattle.std.proofs.Common.{None, option_map, length, get_or, slice_get, Contains, refl, sym, ap, subst, ◌∙◌, arith}
+use Rattle.std.proofs.Common.{if◌then◌else◌, codes, Result, Ok, Err, IfOk}
 use Rattle.std.specs.Option.{option_and_then}
 use Rattle.std.proofs.lemmas.List.{length-map}
 use Rattle.std.proofs.lemmas.Option.{slice_get-map, none-some, option_and_then_some}
 use Rattle.list_lemmas.proofs.Places.{position_from-within}
 use Rattle.aadl_tree.specs.Names.{Identifier, Reference}
 use Rattle.aadl_tree.specs.Declarations.{Declaration, PackageTree}
-use Rattle.aadl_names.specs.Resolving.{implementation_in, implementation_at, subcomponents_of, referred, named_by, is_of, first_number, is_implementation}
+use Rattle.aadl_names.specs.Resolving.{implementation_in, implementation_at, subcomponents_of, referred, named_by}
+use Rattle.aadl_names.specs.Resolving.{is_of, first_number, is_implementation}
 use Rattle.aadl_uses.specs.Uses.{sub_at, below, standing, IsInUse}
 use Rattle.aadl_uses.specs.proof.Uses.{targets_of, targets_in, containment}
 use Rattle.aadl_uses.specs.proof.Graphs.{below_in, reached_by, IsReached, IsWithin}

@@ -1,13 +1,15 @@
 -- The count of marked declarations is that of threads, and tells whether there are more than a limit.
-use Rattle.std.proofs.Common.{◌≡◌, ◌⊎◌, inl, inr, ◌↔◌, ℕ, zero, suc, ◌<◌, ◌≤◌, ◌+◌, Bool, true, false, ◌&&◌, ◌||◌, nat_eq, nat_lt, min, List, [], ◌∷◌}
-use Rattle.std.proofs.Common.{◌++◌, map, reverse, Option, Some, None, length, get_or, slice_get, AllPairs, Contains, refl, sym, ap, subst, ◌∙◌, arith}
-use Rattle.std.proofs.Common.{Result, Ok, Err, IfOk}
+use Rattle.std.proofs.Common.{◌≡◌, ◌⊎◌, inl, inr, ◌↔◌, ℕ, zero, suc, ◌<◌, ◌≤◌, ◌+◌, Bool, true, false, ◌&&◌, ◌||◌}
+use Rattle.std.proofs.Common.{nat_eq, nat_lt, min, List, [], ◌∷◌, ◌++◌, map, reverse, Option, Some, None, length}
+use Rattle.std.proofs.Common.{get_or, slice_get, AllPairs, Contains, refl, sym, ap, subst, ◌∙◌, arith, Result, Ok, Err}
+use Rattle.std.proofs.Common.{IfOk}
 use Rattle.std.specs.Option.{option_and_then}
 use Rattle.std.proofs.lemmas.Bool.{cases_order, true≢false, le-ltb}
 use Rattle.std.proofs.lemmas.Bool.Decides.{nat_tests}
 use Rattle.std.proofs.lemmas.List.{length-map, reverse-append, reverse-reverse}
-use Rattle.std.proofs.lemmas.List.Elements.{All-from_recursion, All-map, All-weaker, Contains-append_cases, Contains-append_left, Contains-append_right}
-use Rattle.std.proofs.lemmas.List.Elements.{Contains-push, Contains-push_cases}
+use Rattle.std.proofs.lemmas.List.Elements.{All-from_recursion, All-map, All-weaker, Contains-append_cases}
+use Rattle.std.proofs.lemmas.List.Elements.{Contains-append_left, Contains-append_right, Contains-push}
+use Rattle.std.proofs.lemmas.List.Elements.{Contains-push_cases}
 use Rattle.std.proofs.lemmas.List.Kept.{AllPairs-cons}
 use Rattle.std.proofs.lemmas.Option.{option_and_then_some}
 use Rattle.list_lemmas.proofs.Booleans.{or_and_right}
@@ -17,14 +19,13 @@ use Rattle.aadl_tree.specs.Declarations.{Implementation, Declaration, PackageTre
 use Rattle.aadl_names.specs.Resolving.{implementation_in, implementation_at, is_thread}
 use Rattle.aadl_uses.specs.Uses.{standing}
 use Rattle.aadl_uses.specs.proof.Uses.{targets_in, containment}
-use Rattle.aadl_uses.specs.Threads.{Lists, MoreThan, IsThreadAt, PathBefore}
+use Rattle.aadl_uses.specs.Threads.{Lists, MoreThan, IsThreadAt, PathBefore, path_before}
 use Rattle.aadl_uses.specs.proof.Threads.{is_thread_in, is_thread_declaration, thread_marks, AreCounted}
 use Rattle.aadl_uses.proofs.Containing.{standing-same, and_then_same}
 use Rattle.aadl_uses.proofs.Cycles.{kept_as_is, regrouped}
 use Rattle.aadl_uses.specs.proof.Graphs.{Graph, below_in, reached_by}
 use Rattle.aadl_uses.specs.proof.Orders.{IsOrder}
 use Rattle.aadl_uses.specs.proof.Counts.{stands_at, IsMarkedAt, Among, Ordered, AreListed, Counted}
-use Rattle.aadl_uses.specs.Threads.{path_before}
 
 -- ---- paths from outside and from inside
 stands_end : (g : Graph) (n s : ℕ) (p : List ℕ)

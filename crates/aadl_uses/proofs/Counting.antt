@@ -1,5 +1,7 @@
 -- What stands below a declaration stands below its first subcomponents, or below the next one.
-use Rattle.std.proofs.Common.{◌≡◌, ℕ, ◌+◌, ◌<◌, ◌≤◌, Bool, true, false, ◌&&◌, ◌||◌, nat_eq, nat_lt, min, List, [], ◌∷◌, ◌++◌, length, map, Option, Some, None, get_or, slice_get, refl, sym, ap, ◌∙◌, subst, arith, inl, inr, ◌⊎◌}
+use Rattle.std.proofs.Common.{◌≡◌, ℕ, ◌+◌, ◌<◌, ◌≤◌, Bool, true, false, ◌&&◌, ◌||◌, nat_eq, nat_lt, min, List, [], ◌∷◌}
+use Rattle.std.proofs.Common.{◌++◌, length, map, Option, Some, None, get_or, slice_get, refl, sym, ap, ◌∙◌, subst}
+use Rattle.std.proofs.Common.{arith, inl, inr, ◌⊎◌}
 use Rattle.std.specs.List.{AllByRecursion}
 use Rattle.std.specs.Option.{option_and_then}
 use Rattle.std.proofs.lemmas.List.{length-append, length-map}
@@ -9,7 +11,8 @@ use Rattle.std.proofs.lemmas.Option.{slice_get_within, slice_get-get_or, option_
 use Rattle.list_lemmas.proofs.Numbers.{nat_eq-self, min-add_capped}
 use Rattle.list_lemmas.proofs.Elements.{AllByRecursion-append, AllByRecursion-map, AllByRecursion-weaker}
 use Rattle.aadl_uses.specs.proof.Graphs.{Graph, targets_in, below_in}
-use Rattle.aadl_uses.specs.proof.Counts.{stands_at, IsMarkedAt, Among, Ordered, AreListed, Counted, own_count, own_paths, count_of}
+use Rattle.aadl_uses.specs.proof.Counts.{stands_at, IsMarkedAt, Among, Ordered, AreListed, Counted, own_count}
+use Rattle.aadl_uses.specs.proof.Counts.{own_paths, count_of}
 use Rattle.aadl_uses.specs.Threads.{path_before}
 
 -- ---- lists

@@ -1,14 +1,16 @@
 -- The port that an end names, by what was looked up before.
-use Rattle.std.proofs.Common.{◌≡◌, ℕ, List, Option, Some, None, Result, Ok, Err, IfOk, slice_get, option_map, sym, ap, ◌∙◌}
+use Rattle.std.proofs.Common.{◌≡◌, ℕ, List, Option, Some, None, Result, Ok, Err, IfOk, slice_get, option_map, sym, ap}
+use Rattle.std.proofs.Common.{◌∙◌}
 use Rattle.std.specs.Option.{option_and_then}
 use Rattle.std.proofs.lemmas.Option.{none-some, same_Some}
 use Rattle.list_lemmas.proofs.Options.{option_and_then_assoc}
 use Rattle.aadl_tree.specs.Names.{Identifier}
-use Rattle.aadl_tree.specs.Declarations.{Subcomponent, ConnectionEnd, Implementation, Declaration, type, implementation, PackageTree}
+use Rattle.aadl_tree.specs.Declarations.{Subcomponent, ConnectionEnd, Implementation, Declaration, type, implementation}
+use Rattle.aadl_tree.specs.Declarations.{PackageTree}
 use Rattle.aadl_names.specs.proof.Members.{member_of}
 use Rattle.aadl_names.specs.declared.site.PortPlace.TheVariants.{Own, Inner}
-use Rattle.aadl_names.specs.Resolving.{implementation_in, implementation_at, subcomponents_of, referred, target_of, port_named, sub_named}
-use Rattle.aadl_names.specs.Resolving.{ports_at, inner_site, site_by, site}
+use Rattle.aadl_names.specs.Resolving.{implementation_in, implementation_at, subcomponents_of, referred, target_of}
+use Rattle.aadl_names.specs.Resolving.{port_named, sub_named, ports_at, inner_site, site_by, site}
 use Rattle.aadl_uses.specs.Uses.{below}
 
 pub if_ok : {T E : Type 0} (P Q : T → Type 0) (r : Result T E) → ((x : T) → P x → Q x) → IfOk r P → IfOk r Q

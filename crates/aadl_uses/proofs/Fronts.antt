@@ -1,5 +1,6 @@
 -- What is known of declarations, one after the other, each behind those that it contains.
-use Rattle.std.proofs.Common.{◌≡◌, ℕ, ◌+◌, ◌<◌, ◌≤◌, List, length, Some, None, get_or, set, slice_get, sym, ap, ◌∙◌, subst, arith, inl, inr, ◌⊎◌, get_or-set_other, get_or-set_same}
+use Rattle.std.proofs.Common.{◌≡◌, ℕ, ◌+◌, ◌<◌, ◌≤◌, List, length, Some, None, get_or, set, slice_get, sym, ap, ◌∙◌}
+use Rattle.std.proofs.Common.{subst, arith, inl, inr, ◌⊎◌, get_or-set_other, get_or-set_same}
 use Rattle.std.proofs.lemmas.Bool.{cases_order, cases_lt}
 use Rattle.std.proofs.lemmas.List.{length-set}
 use Rattle.std.proofs.lemmas.Option.{none-some, same_Some}

@@ -1,11 +1,13 @@
 -- The heaviest of the paths that begin with the first subcomponents, and of all.
-use Rattle.std.proofs.Common.{◌≡◌, ℕ, ◌+◌, ◌<◌, ◌≤◌, max, min, Bool, true, false, List, [], ◌∷◌, length, Option, Some, None, option_map, get_or, refl, sym, ap, ◌∙◌, subst, arith, inl, inr, ◌⊎◌}
+use Rattle.std.proofs.Common.{◌≡◌, ℕ, ◌+◌, ◌<◌, ◌≤◌, max, min, Bool, true, false, List, [], ◌∷◌, length, Option, Some}
+use Rattle.std.proofs.Common.{None, option_map, get_or, refl, sym, ap, ◌∙◌, subst, arith, inl, inr, ◌⊎◌}
 use Rattle.std.specs.Option.{option_map_or}
 use Rattle.std.proofs.lemmas.Bool.{cases_order, cases_lt}
 use Rattle.aadl_uses.specs.proof.Graphs.{Graph, targets_in, below_in}
 use Rattle.aadl_uses.specs.proof.Counts.{IsMarkedAt}
 use Rattle.aadl_uses.proofs.Counting.{Begun, deeper, shallower, more_begun, fewer_begun, none_begun, all_begun}
-use Rattle.aadl_uses.specs.proof.Weights.{weight_of, path_weight, IsGreatest, IsGreatestOf, IsHeaviest, AreWeighed, own_weight, found_from, heavier}
+use Rattle.aadl_uses.specs.proof.Weights.{weight_of, path_weight, IsGreatest, IsGreatestOf, IsHeaviest, AreWeighed}
+use Rattle.aadl_uses.specs.proof.Weights.{own_weight, found_from, heavier}
 
 -- ---- of the same paths
 greatest_as : (P Q : List ℕ → Type 0) (w : List ℕ → ℕ) (limit : ℕ) → ((q : List ℕ) → P q → Q q)

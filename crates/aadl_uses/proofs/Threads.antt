@@ -1,16 +1,16 @@
 -- The paths to threads.
-use Rattle.std.proofs.Common.{◌≡◌, ◌↔◌, ℕ, ◌<◌, Bool, List, ◌∷◌, length, map, reverse, Some, Contains, Result, Ok, Err, IfOk, sym, ap, ◌∙◌, subst}
+use Rattle.std.proofs.Common.{◌≡◌, ◌↔◌, ℕ, ◌<◌, Bool, List, ◌∷◌, length, map, reverse, Some, Contains, Result, Ok, Err}
+use Rattle.std.proofs.Common.{IfOk, sym, ap, ◌∙◌, subst}
 use Rattle.std.specs.Option.{option_and_then}
 use Rattle.aadl_tree.specs.Declarations.{PackageTree}
 use Rattle.aadl_uses.specs.Uses.{below, IsInUse}
 use Rattle.aadl_uses.specs.proof.Uses.{containment}
-use Rattle.aadl_uses.specs.Threads.{Lists, IsThreadAt, PathBefore}
+use Rattle.aadl_uses.specs.Threads.{Lists, IsThreadAt, PathBefore, path_before}
 use Rattle.aadl_uses.specs.proof.Threads.{thread_marks}
 use Rattle.aadl_uses.proofs.Containing.{below-same}
 use Rattle.aadl_uses.proofs.Counted.{threads_listed}
 use Rattle.aadl_uses.specs.proof.Graphs.{Graph, below_in}
 use Rattle.aadl_uses.specs.proof.Counts.{AreListed, IsMarkedAt}
-use Rattle.aadl_uses.specs.Threads.{path_before}
 use Rattle.aadl_uses.specs.proof.Paths.{paths_from, IsClosed}
 
 -- ---- what is in use

@@ -1,5 +1,6 @@
 -- Threads below an implementation, each by the path of subcomponents that leads to it, and how many there are.
-use Rattle.std.specs.Prelude.{◌≡◌, ℕ, ◌<◌, true, List, length, reverse, Some, All, AllPairs, Contains, Bool, false, ◌&&◌, ◌||◌, nat_eq, nat_lt, [], ◌∷◌}
+use Rattle.std.specs.Prelude.{◌≡◌, ℕ, ◌<◌, true, List, length, reverse, Some, All, AllPairs, Contains, Bool, false}
+use Rattle.std.specs.Prelude.{◌&&◌, ◌||◌, nat_eq, nat_lt, [], ◌∷◌}
 use Rattle.aadl_tree.specs.Declarations.{Implementation, PackageTree}
 use Rattle.aadl_names.specs.Resolving.{is_thread}
 use Rattle.aadl_uses.specs.Uses.{component_at}

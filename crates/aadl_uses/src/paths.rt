@@ -1,5 +1,6 @@
 //! The paths to marked declarations below others.
-ghost use Rattle.std.specs.Prelude.{◌≡◌, ◌<◌, ◌++◌, ◌∷◌, [], ℕ, false, length, map, slice_index_or, slice_set, Contains, IfOk, OnOk};
+ghost use Rattle.std.specs.Prelude.{◌≡◌, ◌<◌, ◌++◌, ◌∷◌, [], ℕ, false, length, map, slice_index_or, slice_set};
+ghost use Rattle.std.specs.Prelude.{Contains, IfOk, OnOk};
 ghost use Rattle.aadl_uses.specs.proof.Counts.{AreListed, IsMarkedAt, own_paths};
 ghost use Rattle.aadl_uses.specs.Threads.{path_before};
 ghost use Rattle.aadl_uses.specs.proof.Orders.{IsOrder};

@@ -1,5 +1,6 @@
 -- Faults of replicas keep what their reader looks at.
-use Rattle.std.proofs.Common.{◌≡◌, ℕ, ◌≤◌, ◌+◌, true, not, ◌&&◌, List, [], ◌∷◌, ◌++◌, length, codes, decimal, Result, Ok, All, slice_get, sym, ap, ◌∙◌, subst, arith, length-append}
+use Rattle.std.proofs.Common.{◌≡◌, ℕ, ◌≤◌, ◌+◌, true, not, ◌&&◌, List, [], ◌∷◌, ◌++◌, length, codes, decimal, Result}
+use Rattle.std.proofs.Common.{Ok, All, slice_get, sym, ap, ◌∙◌, subst, arith, length-append}
 use Rattle.std.specs.Prelude.{nat_eq}
 use Rattle.std.specs.List.{list_any}
 use Rattle.std.proofs.lemmas.Bool.{eqb-true}
@@ -23,7 +24,9 @@ use Rattle.analysis_fields.specs.proof.AnalysisFacts.{IsFaultOf}
 use Rattle.analysis_fields.specs.declared.faults.FaultEnds.{FaultEnds}
 use Rattle.analysis_fields.specs.declared.faults.RoundFault.{RoundFault}
 use Rattle.analysis_fields.specs.declared.limits.TheConstants.{REPLICAS}
-use Rattle.analysis_fields.specs.Replicas.{is_among, source_in, copies_at, kind_at, with_fault_value, fault_values, replica_at, link_from, ends_of, fault_behind, fault_of, fault_from, fault_in, is_same_place, with_fault, faults_in}
+use Rattle.analysis_fields.specs.Replicas.{is_among, source_in, copies_at, kind_at, with_fault_value, fault_values}
+use Rattle.analysis_fields.specs.Replicas.{replica_at, link_from, ends_of, fault_behind, fault_of, fault_from, fault_in}
+use Rattle.analysis_fields.specs.Replicas.{is_same_place, with_fault, faults_in}
 
 -- ---- values: one for each element
 value_more : (kind : Kind) (place : List ℕ) (values : List PortValue) (d : Data) (more : List PortValue)

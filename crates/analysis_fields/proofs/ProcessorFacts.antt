@@ -1,5 +1,7 @@
 -- Processors keep what their reader looks at.
-use Rattle.std.proofs.Common.{◌≡◌, ℕ, zero, suc, ◌<◌, ◌≤◌, ◌+◌, Bool, true, false, ◌&&◌, cond, List, [], ◌∷◌, ◌++◌, length, map, get_or, codes, Result, Ok, Option, Some, None, All, replicate, refl, ap, ◌∙◌, subst, arith}
+use Rattle.std.proofs.Common.{◌≡◌, ℕ, zero, suc, ◌<◌, ◌≤◌, ◌+◌, Bool, true, false, ◌&&◌, cond, List, [], ◌∷◌, ◌++◌}
+use Rattle.std.proofs.Common.{length, map, get_or, codes, Result, Ok, Option, Some, None, All, replicate, refl, ap, ◌∙◌}
+use Rattle.std.proofs.Common.{subst, arith}
 use Rattle.std.specs.Prelude.{nat_eq, nat_lt, nat_le, filter, slice_set, slice_index, AllPairs}
 use Rattle.std.specs.List.{enumerate_from}
 use Rattle.std.proofs.lemmas.Bool.{eq-eqb}
@@ -26,7 +28,8 @@ use Rattle.scenario_values.proofs.Search.{within}
 use Rattle.analysis_fields.specs.proof.AnalysisFacts.{IsProcessorOf}
 use Rattle.analysis_fields.specs.declared.limits.TheConstants.{PROCESSORS}
 use Rattle.analysis_fields.specs.declared.processors.Processor.{Processor}
-use Rattle.analysis_fields.specs.Processors.{with_member, with_members, nodes_of, processor_parts, processor_in, with_processor, all_placed, nowhere, processors_in}
+use Rattle.analysis_fields.specs.Processors.{with_member, with_members, nodes_of, processor_parts, processor_in}
+use Rattle.analysis_fields.specs.Processors.{with_processor, all_placed, nowhere, processors_in}
 
 -- ---- the components of a number, by their places among the owners
 rising_places : (n : ℕ) (owners : List ℕ) → AllPairs (λ (a b : ℕ × ℕ). a.0 < b.0) (enumerate_from n owners)

@@ -1,5 +1,7 @@
 -- The properties of monitors.
-use Rattle.std.specs.Prelude.{ℕ, zero, suc, ◌+◌, nat_le, bytes_eq, codes, List, [], ◌∷◌, ◌++◌, length, sum_by, position, Bool, true, false, ◌&&◌, Option, Some, None, option_and_then, option_map, unwrap_or, slice_get, Result, Ok, Err, if◌then◌else◌}
+use Rattle.std.specs.Prelude.{ℕ, zero, suc, ◌+◌, nat_le, bytes_eq, codes, List, [], ◌∷◌, ◌++◌, length, sum_by, position}
+use Rattle.std.specs.Prelude.{Bool, true, false, ◌&&◌, Option, Some, None, option_and_then, option_map, unwrap_or}
+use Rattle.std.specs.Prelude.{slice_get, Result, Ok, Err, if◌then◌else◌}
 use Rattle.std.specs.List.{list_all}
 use Rattle.serde_json.specs.Data.{Data}
 use Rattle.serde_json.specs.Find.{as_str, as_array}

@@ -1,5 +1,6 @@
 -- Replicas, and their faults.
-use Rattle.std.specs.Prelude.{ℕ, nat_eq, codes, decimal, List, [], ◌∷◌, ◌++◌, length, Bool, not, ◌&&◌, Option, Some, None, slice_get, Result, Ok, Err, if◌then◌else◌}
+use Rattle.std.specs.Prelude.{ℕ, nat_eq, codes, decimal, List, [], ◌∷◌, ◌++◌, length, Bool, not, ◌&&◌, Option, Some}
+use Rattle.std.specs.Prelude.{None, slice_get, Result, Ok, Err, if◌then◌else◌}
 use Rattle.std.specs.List.{list_any}
 use Rattle.serde_json.specs.Data.{Data}
 use Rattle.pals_base.specs.declared.behaviour.Kind.{Kind}

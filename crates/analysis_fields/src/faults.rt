@@ -3,7 +3,9 @@ ghost use Rattle.std.specs.Prelude.{◌≡◌, ◌≤◌, ◌∷◌, ◌++◌, [
 ghost use Rattle.serde_json.specs.View.{view};
 ghost use Rattle.scenario_values.specs.Outcomes.{Answers, Shows};
 ghost use Rattle.scenario_values.specs.FaultPlaces.{place_text};
-ghost use Rattle.analysis_fields.specs.Replicas.{source_in, target_in, kind_in, replicas_of, fault_values, replica_at, link_from, ends_of, fault_behind, fault_of, copies_at, kind_at, place_of, fault_in, with_fault, faults_in};
+ghost use Rattle.analysis_fields.specs.Replicas.{source_in, target_in, kind_in, replicas_of, fault_values, replica_at};
+ghost use Rattle.analysis_fields.specs.Replicas.{link_from, ends_of, fault_behind, fault_of, copies_at, kind_at};
+ghost use Rattle.analysis_fields.specs.Replicas.{place_of, fault_in, with_fault, faults_in};
 
 use crate::limits::REPLICAS;
 use crate::replicas::is_among;

@@ -1,12 +1,16 @@
 //! The formulas of properties.
-ghost use Rattle.std.specs.Prelude.{◌≡◌, ◌-◌, ◌^◌, bytes_eq, position, option_copied, IfErr, IfOk, map, min, option_and_then};
+ghost use Rattle.std.specs.Prelude.{◌≡◌, ◌-◌, ◌^◌, bytes_eq, position, option_copied, IfErr, IfOk, map, min};
+ghost use Rattle.std.specs.Prelude.{option_and_then};
 ghost use Rattle.serde_json.specs.Find.{as_str};
 ghost use Rattle.serde_json.specs.View.{view};
 ghost use Rattle.pals_base.specs.declared.behaviour.VarDecl.{VarDecl};
 ghost use Rattle.pals_runs.specs.proof.FormulaOf.{formula_of};
 ghost use Rattle.scenario_values.specs.Outcomes.{Answers, Shows};
 ghost use Rattle.scenario_values.specs.FaultPlaces.{place_text};
-ghost use Rattle.analysis_fields.specs.Properties.{vars_in, role_of, compare_of, has_parts, role_in, rest_of, begins_parts, parts_among, parts_of, is_shallow, forms_in, is_small, variable_at, var_form, halted_form, of_one, of_two, one_part, two_parts, formula_in};
+ghost use Rattle.analysis_fields.specs.Properties.{vars_in, role_of, compare_of, has_parts, role_in, rest_of};
+ghost use Rattle.analysis_fields.specs.Properties.{begins_parts, parts_among, parts_of, is_shallow, forms_in, is_small};
+ghost use Rattle.analysis_fields.specs.Properties.{variable_at, var_form, halted_form, of_one, of_two, one_part};
+ghost use Rattle.analysis_fields.specs.Properties.{two_parts, formula_in};
 
 use crate::limits::{FORMS, LEVELS};
 use pals_base::NodeNo;

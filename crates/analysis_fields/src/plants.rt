@@ -5,7 +5,8 @@ ghost use Rattle.serde_json.specs.View.{view};
 ghost use Rattle.scenario_values.specs.Outcomes.{Answers};
 ghost use Rattle.scenario_values.specs.Values.{entry_of};
 ghost use Rattle.pals_model.specs.LinkNames.{node_named};
-ghost use Rattle.analysis_fields.specs.Plants.{controller_in, named_in, is_number, names_node, shares, is_between, are_equals, is_alone, is_sound, pair_in, plants_in};
+ghost use Rattle.analysis_fields.specs.Plants.{controller_in, named_in, is_number, names_node, shares, is_between};
+ghost use Rattle.analysis_fields.specs.Plants.{are_equals, is_alone, is_sound, pair_in, plants_in};
 
 use pals_base::{Items, NodeNo};
 use pals_model::{DesignParts, Link};

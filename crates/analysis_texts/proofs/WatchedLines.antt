@@ -1,5 +1,7 @@
 -- Properties of a scenario, watched round by round.
-use Rattle.std.proofs.Common.{Some, None, IfSome, subst, ◌≡◌, ◌∙◌, ℕ, ◌+◌, ◌<◌, Bool, true, false, Option, is_some, List, [], ◌∷◌, ◌++◌, length, map, take, codes, decimal, refl, sym, ap, append_assoc, ap₂, add-one}
+use Rattle.std.proofs.Common.{Some, None, IfSome, subst, ◌≡◌, ◌∙◌, ℕ, ◌+◌, ◌<◌, Bool, true, false, Option, is_some}
+use Rattle.std.proofs.Common.{List, [], ◌∷◌, ◌++◌, length, map, take, codes, decimal, refl, sym, ap, append_assoc, ap₂}
+use Rattle.std.proofs.Common.{add-one}
 use Rattle.std.specs.Prelude.{slice_index_or}
 use Rattle.std.proofs.lemmas.Option.{slice_get_within}
 use Rattle.std.proofs.lemmas.List.{length-map, get_or-map, take_more, map-append}
@@ -12,7 +14,8 @@ use Rattle.pals_runs.specs.Formula.{Formula}
 use Rattle.pals_runs.specs.Journal.{spaced}
 use Rattle.analysis_fields.specs.PropertyValues.{PropertyValue}
 use Rattle.run_monitor.specs.Monitors.{holds}
-use Rattle.run_monitor.specs.WatchText.{names_of, formulas_of, verdict_line, watched_lines, violation_text, last_line, watched_rows, watch_text}
+use Rattle.run_monitor.specs.WatchText.{names_of, formulas_of, verdict_line, watched_lines, violation_text, last_line}
+use Rattle.run_monitor.specs.WatchText.{watched_rows, watch_text}
 use Rattle.run_monitor.specs.Violations.{history, verdicts, violation, is_violated}
 use Rattle.run_monitor.specs.proof.MonitorStates.{MonitorsState, HasWatched}
 use Rattle.run_monitor.specs.declared.violation.FalseProperty.{FalseProperty}

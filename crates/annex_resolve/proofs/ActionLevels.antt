@@ -1,5 +1,6 @@
 -- One level of the text of actions after another.
-use Rattle.std.proofs.Common.{◌≡◌, ℕ, ◌+◌, ◌<◌, ℤ, not, Bool, Result, Ok, Err, List, [], ◌∷◌, ◌++◌, length, take, get_or, Option, Some, None, refl, sym, ap, ◌∙◌, append_assoc, Vec, Box, Global}
+use Rattle.std.proofs.Common.{◌≡◌, ℕ, ◌+◌, ◌<◌, ℤ, not, Bool, Result, Ok, Err, List, [], ◌∷◌, ◌++◌, length, take}
+use Rattle.std.proofs.Common.{get_or, Option, Some, None, refl, sym, ap, ◌∙◌, append_assoc, Vec, Box, Global}
 use Rattle.std.specs.Prelude.{option_map, IfOk}
 use Rattle.std.specs.declared.alloc.AllocError.{AllocError}
 use Rattle.std.proofs.lemmas.List.{append-nil}
@@ -18,15 +19,19 @@ use Rattle.aadl_tree.specs.Expressions.{Expression}
 use Rattle.aadl_tree.specs.Actions.{Action, assign, send, choose, loop, Actions, actions, Block}
 use Rattle.aadl_tree.specs.proof.Maps.{kept_place}
 use Rattle.aadl_tree.specs.proof.ExpressionViews.{expression_view}
-use Rattle.aadl_tree.specs.proof.ActionViews.{action_view, actions_view, mores_view, elsifs_view, otherwise_of as listed_otherwise, block_of as listed_block}
+use Rattle.aadl_tree.specs.proof.ActionViews.{action_view, actions_view, mores_view, elsifs_view}
+use Rattle.aadl_tree.specs.proof.ActionViews.{otherwise_of as listed_otherwise, block_of as listed_block}
 use Rattle.annex_resolve.specs.declared.scope.Scope.{Scope}
 use Rattle.annex_resolve.specs.declared.scope.DeclaredName.{DeclaredName}
 use Rattle.annex_resolve.specs.declared.violation.Violation.{Violation}
 use Rattle.annex_resolve.specs.declared.violation.TheConstants.{BAD_TYPE, LOOP_TOO_LONG}
 use Rattle.annex_resolve.specs.Scopes.{found_if, entry_named, kind_of, may_set, may_send, given_to, with_loop}
 use Rattle.annex_resolve.specs.Types.{whole_types, kind_named}
-use Rattle.annex_resolve.specs.Resolved.{signed, expression_of, action_of, actions_of, mores_of, elsifs_of, otherwise_of, block_of}
-use Rattle.annex_resolve.specs.Actions.{turns, together, is_too_long, is_integer, action_findings, actions_findings, mores_findings, branch_findings, elsifs_findings, otherwise_findings, block_findings}
+use Rattle.annex_resolve.specs.Resolved.{signed, expression_of, action_of, actions_of, mores_of, elsifs_of}
+use Rattle.annex_resolve.specs.Resolved.{otherwise_of, block_of}
+use Rattle.annex_resolve.specs.Actions.{turns, together, is_too_long, is_integer, action_findings, actions_findings}
+use Rattle.annex_resolve.specs.Actions.{mores_findings, branch_findings, elsifs_findings, otherwise_findings}
+use Rattle.annex_resolve.specs.Actions.{block_findings}
 use Rattle.annex_resolve.specs.proof.Reads.{ReadsAction, ReadsActions, ReadsBranch, ReadsBranches}
 use Rattle.annex_resolve.proofs.ReadingSums.{take_next}
 

@@ -1,5 +1,6 @@
 -- A chain of several operands.
-use Rattle.std.proofs.Common.{◌≡◌, Bool, true, false, ◌==◌, List, [], Option, Some, None, ◌∷◌, length, arith, vec_len, refl, sym, ap, ◌∙◌, Box, Vec, Global}
+use Rattle.std.proofs.Common.{◌≡◌, Bool, true, false, ◌==◌, List, [], Option, Some, None, ◌∷◌, length, arith, vec_len}
+use Rattle.std.proofs.Common.{refl, sym, ap, ◌∙◌, Box, Vec, Global}
 use Rattle.std.specs.Option.{is_some}
 use Rattle.std.proofs.lemmas.Bool.{true≢false, eqb-true}
 use Rattle.pals_base.specs.declared.behaviour.Expr.{Expr}

@@ -1,8 +1,9 @@
 -- What reaches is a way, and what a way leads to is reached.
-use Rattle.std.proofs.Common.{◌≡◌, ℕ, ◌<◌, zero, suc, Bool, true, false, not, ◌&&◌, nat_eq, List, [], ◌∷◌, length, refl, sym, ap, ◌∙◌, subst, arith, inl, inr, ◌⊎◌}
+use Rattle.std.proofs.Common.{◌≡◌, ℕ, ◌<◌, zero, suc, Bool, true, false, not, ◌&&◌, nat_eq, List, [], ◌∷◌, length, refl}
+use Rattle.std.proofs.Common.{sym, ap, ◌∙◌, subst, arith, inl, inr, ◌⊎◌}
 use Rattle.std.specs.List.{list_any, Contains}
-use Rattle.std.proofs.lemmas.Bool.{true≢false, or_cases, eqb-true, cases_lt}
-use Rattle.std.proofs.lemmas.Bool.{and_from, and_parts, or_left, or_right, not-true}
+use Rattle.std.proofs.lemmas.Bool.{true≢false, or_cases, eqb-true, cases_lt, and_from, and_parts, or_left, or_right}
+use Rattle.std.proofs.lemmas.Bool.{not-true}
 use Rattle.list_lemmas.proofs.Elements.{list_any_by_element}
 use Rattle.list_lemmas.proofs.Numbers.{nat_eq-self}
 use Rattle.pals_base.specs.declared.behaviour.BehaviourParts.{BehaviourParts}

@@ -1,5 +1,6 @@
 -- A list of one name.
-use Rattle.std.proofs.Common.{◌≡◌, ◌≤◌, ◌<◌, Bool, List, [], ◌∷◌, length, get_or, codes, map, string_bytes, ap, ◌∙◌, arith}
+use Rattle.std.proofs.Common.{◌≡◌, ◌≤◌, ◌<◌, Bool, List, [], ◌∷◌, length, get_or, codes, map, string_bytes, ap, ◌∙◌}
+use Rattle.std.proofs.Common.{arith}
 use Rattle.aadl_tree.specs.Names.{same_name}
 use Rattle.aadl_tree.specs.declared.names.Identifier as source
 use Rattle.aadl_tree.specs.proof.Maps.{kept_place}

@@ -1,5 +1,6 @@
 -- One level of an expression's text after another.
-use Rattle.std.proofs.Common.{◌≡◌, ℕ, ℤ, pos, not, Bool, Result, Ok, Err, ◌+◌, ◌<◌, List, [], ◌∷◌, ◌++◌, length, take, get_or, Option, Some, None, refl, sym, ap, ◌∙◌, append_assoc, arith, Box, Global}
+use Rattle.std.proofs.Common.{◌≡◌, ℕ, ℤ, pos, not, Bool, Result, Ok, Err, ◌+◌, ◌<◌, List, [], ◌∷◌, ◌++◌, length, take}
+use Rattle.std.proofs.Common.{get_or, Option, Some, None, refl, sym, ap, ◌∙◌, append_assoc, arith, Box, Global}
 use Rattle.std.specs.Option.{is_some}
 use Rattle.std.specs.Prelude.{option_map, IfOk}
 use Rattle.std.specs.declared.alloc.AllocError.{AllocError}
@@ -20,20 +21,28 @@ use Rattle.aadl_tree.specs.declared.expressions.Factor as source_factor
 use Rattle.aadl_tree.specs.declared.expressions.Term as source_term
 use Rattle.aadl_tree.specs.declared.expressions.Relation as source_relation
 use Rattle.aadl_tree.specs.Names.{Identifier}
-use Rattle.aadl_tree.specs.Expressions.{Primary, number, truth, named, group, absolute, negated, bare, Expression, Factor, Sum, Relation, compared, expression}
+use Rattle.aadl_tree.specs.Expressions.{Primary, number, truth, named, group, absolute, negated, bare, Expression}
+use Rattle.aadl_tree.specs.Expressions.{Factor, Sum, Relation, compared, expression}
 use Rattle.aadl_tree.specs.Offsets.{primary_at, factor_at, term_at, sum_at, relation_at}
 use Rattle.aadl_tree.specs.proof.Maps.{kept_place}
-use Rattle.aadl_tree.specs.proof.ExpressionViews.{factor_view, factors_view, term_view, terms_view, relation_view, relations_view}
+use Rattle.aadl_tree.specs.proof.ExpressionViews.{factor_view, factors_view, term_view, terms_view, relation_view}
+use Rattle.aadl_tree.specs.proof.ExpressionViews.{relations_view}
 use Rattle.annex_resolve.specs.declared.scope.Scope.{Scope}
 use Rattle.annex_resolve.specs.declared.scope.DeclaredName.{DeclaredName}
 use Rattle.annex_resolve.specs.declared.expressions.Typed.{Typed}
 use Rattle.annex_resolve.specs.declared.violation.Violation.{Violation}
-use Rattle.annex_resolve.specs.Types.{misfit, read_kind, primary_kind, primary_types, sides_misfit, factor_kind, factor_types, factors_types, term_kind, term_types, terms_types, total_kind, sum_types, relation_kind, relation_types, relations_types, expression_kind, expression_types}
-use Rattle.annex_resolve.specs.Resolved.{truth_of, primary_of, chained, multiply_op, sign_op, relation_op, logic_op, factor_of, factors_of, term_of, terms_of, sum_of, relation_of, relations_of, expression_of}
+use Rattle.annex_resolve.specs.Types.{misfit, read_kind, primary_kind, primary_types, sides_misfit, factor_kind}
+use Rattle.annex_resolve.specs.Types.{factor_types, factors_types, term_kind, term_types, terms_types, total_kind}
+use Rattle.annex_resolve.specs.Types.{sum_types, relation_kind, relation_types, relations_types, expression_kind}
+use Rattle.annex_resolve.specs.Types.{expression_types}
+use Rattle.annex_resolve.specs.Resolved.{truth_of, primary_of, chained, multiply_op, sign_op, relation_op, logic_op}
+use Rattle.annex_resolve.specs.Resolved.{factor_of, factors_of, term_of, terms_of, sum_of, relation_of, relations_of}
+use Rattle.annex_resolve.specs.Resolved.{expression_of}
 use Rattle.annex_resolve.specs.Scopes.{finding, found_if, entry_named, read_of, or_zero}
 use Rattle.annex_resolve.specs.declared.violation.TheConstants.{BAD_TYPE}
 use Rattle.annex_resolve.specs.proof.Reads.{Reads, ReadsOperands}
-use Rattle.annex_resolve.proofs.ReadingSums.{put_last, take_next, one_more, several, factors-push, factors_types-push, terms-push, terms_types-push, relation_both}
+use Rattle.annex_resolve.proofs.ReadingSums.{put_last, take_next, one_more, several, factors-push, factors_types-push}
+use Rattle.annex_resolve.proofs.ReadingSums.{terms-push, terms_types-push, relation_both}
 
 -- ---- relation
 pub relations-push : (scope : Scope) (xs : List (LogicOperator × source_relation.Relation))

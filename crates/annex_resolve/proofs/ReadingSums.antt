@@ -1,5 +1,6 @@
 -- Factors, terms, sums and comparisons of an expression's text, one level after another.
-use Rattle.std.proofs.Common.{◌≡◌, ℕ, ◌+◌, ◌<◌, List, [], ◌∷◌, ◌++◌, length, take, get_or, Option, Some, None, refl, sym, ap, ◌∙◌, append_assoc, arith}
+use Rattle.std.proofs.Common.{◌≡◌, ℕ, ◌+◌, ◌<◌, List, [], ◌∷◌, ◌++◌, length, take, get_or, Option, Some, None, refl}
+use Rattle.std.proofs.Common.{sym, ap, ◌∙◌, append_assoc, arith}
 use Rattle.std.specs.Prelude.{option_map}
 use Rattle.pals_base.specs.declared.behaviour.Expr.TheVariants as expr
 use Rattle.std.proofs.lemmas.List.{take_more, append-nil}
@@ -23,8 +24,10 @@ use Rattle.aadl_tree.specs.proof.ExpressionViews.{leading_view, factor_view, fac
 use Rattle.annex_resolve.specs.declared.scope.Scope.{Scope}
 use Rattle.annex_resolve.specs.declared.expressions.Typed.{Typed}
 use Rattle.annex_resolve.specs.declared.violation.Violation.{Violation}
-use Rattle.annex_resolve.specs.Types.{misfit, sides_misfit, factor_kind, factor_types, factors_types, term_kind, term_types, terms_types, total_kind, sum_types, relation_kind, relation_types}
-use Rattle.annex_resolve.specs.Resolved.{chained, signed_by, multiply_op, sign_op, relation_op, factor_of, factors_of, term_of, terms_of, sum_of, relation_of}
+use Rattle.annex_resolve.specs.Types.{misfit, sides_misfit, factor_kind, factor_types, factors_types, term_kind}
+use Rattle.annex_resolve.specs.Types.{term_types, terms_types, total_kind, sum_types, relation_kind, relation_types}
+use Rattle.annex_resolve.specs.Resolved.{chained, signed_by, multiply_op, sign_op, relation_op, factor_of, factors_of}
+use Rattle.annex_resolve.specs.Resolved.{term_of, terms_of, sum_of, relation_of}
 use Rattle.annex_resolve.specs.proof.Reads.{Reads, ReadsOperands}
 
 -- ---- lists of findings

@@ -1,5 +1,6 @@
 -- The behaviour of an annex, and what is wrong with it.
-use Rattle.std.specs.Prelude.{ℕ, ◌-◌, nat_eq, slice_get, position, take, Bool, true, false, not, ◌&&◌, ◌||◌, ◌==◌, List, [], ◌++◌, length, map, filter, flat_map, Option, Some, None, if◌then◌else◌}
+use Rattle.std.specs.Prelude.{ℕ, ◌-◌, nat_eq, slice_get, position, take, Bool, true, false, not, ◌&&◌, ◌||◌, ◌==◌, List}
+use Rattle.std.specs.Prelude.{[], ◌++◌, length, map, filter, flat_map, Option, Some, None, if◌then◌else◌}
 use Rattle.std.specs.List.{list_any, list_all, enumerate_from}
 use Rattle.std.specs.Option.{unwrap_or}
 use Rattle.pals_base.specs.declared.behaviour.StateDecl.{StateDecl}
@@ -18,7 +19,8 @@ use Rattle.annex_resolve.specs.declared.ways.Departure.{Departure}
 use Rattle.annex_resolve.specs.declared.ways.GuardKind.{GuardKind}
 use Rattle.annex_resolve.specs.declared.ways.GuardKind.TheVariants.{Dispatch, Otherwise, Always, Guarded}
 use Rattle.annex_resolve.specs.declared.violation.Violation.{Violation}
-use Rattle.annex_resolve.specs.declared.violation.TheConstants.{NO_INITIAL, DISPATCH_COUNT, NO_OTHERWISE, CYCLE_WITHOUT_COMPLETE}
+use Rattle.annex_resolve.specs.declared.violation.TheConstants.{NO_INITIAL, DISPATCH_COUNT, NO_OTHERWISE}
+use Rattle.annex_resolve.specs.declared.violation.TheConstants.{CYCLE_WITHOUT_COMPLETE}
 use Rattle.annex_resolve.specs.Scopes.{found_if}
 use Rattle.annex_resolve.specs.Types.{whole_types}
 use Rattle.annex_resolve.specs.Resolved.{expression_of, block_of}

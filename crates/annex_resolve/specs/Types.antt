@@ -1,11 +1,15 @@
 -- The types of expressions, and what is wrong with them. None is a type that is neither Integer nor Boolean; it fits every place.
-use Rattle.std.specs.Prelude.{ℕ, Bool, true, false, not, ◌&&◌, List, [], ◌∷◌, ◌++◌, codes, Option, Some, None, if◌then◌else◌}
+use Rattle.std.specs.Prelude.{ℕ, Bool, true, false, not, ◌&&◌, List, [], ◌∷◌, ◌++◌, codes, Option, Some, None}
+use Rattle.std.specs.Prelude.{if◌then◌else◌}
 use Rattle.std.specs.Option.{option_and_then, is_some}
 use Rattle.pals_base.specs.declared.behaviour.Kind.{Kind}
 use Rattle.pals_base.specs.declared.behaviour.Kind.TheVariants.{Integer, Boolean}
 use Rattle.aadl_tree.specs.declared.expressions.RelationOperator.{RelationOperator}
 use Rattle.aadl_tree.specs.Names.{Identifier, Reference, same_name}
-use Rattle.aadl_tree.specs.Expressions.{LeadingSign, Primary, number, truth, named, group, Factor, absolute, negated, bare, Term, term, Factors, no_factors, factor, Sum, total, Terms, no_terms, add, Relation, single, compared, Expression, expression, Relations, no_relations, join}
+use Rattle.aadl_tree.specs.Expressions.{LeadingSign, Primary, number, truth, named, group, Factor, absolute, negated}
+use Rattle.aadl_tree.specs.Expressions.{bare, Term, term, Factors, no_factors, factor, Sum, total, Terms, no_terms, add}
+use Rattle.aadl_tree.specs.Expressions.{Relation, single, compared, Expression, expression, Relations, no_relations}
+use Rattle.aadl_tree.specs.Expressions.{join}
 use Rattle.aadl_tree.specs.Offsets.{primary_at, factor_at, term_at, sum_at, relation_at, expression_at}
 use Rattle.annex_resolve.specs.declared.scope.Scope.{Scope}
 use Rattle.annex_resolve.specs.declared.scope.DeclaredName.{DeclaredName}

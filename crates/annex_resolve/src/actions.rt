@@ -5,11 +5,13 @@ ghost use Rattle.pals_base.specs.proof.Seen.{tree_of, action_of as act_tree};
 ghost use Rattle.pals_base.specs.declared.limits.TheConstants.{NESTED_TURNS};
 ghost use Rattle.aadl_tree.specs.proof.Maps.{kept_place};
 ghost use Rattle.aadl_tree.specs.proof.ExpressionViews.{expression_view};
-ghost use Rattle.aadl_tree.specs.proof.ActionViews.{action_view, actions_view, block_view, choice_view, loop_view, block_of as listed_block};
+ghost use Rattle.aadl_tree.specs.proof.ActionViews.{action_view, actions_view, block_view, choice_view, loop_view};
+ghost use Rattle.aadl_tree.specs.proof.ActionViews.{block_of as listed_block};
 ghost use Rattle.annex_resolve.specs.Scopes.{may_set, may_send, nothing, given_to, kind_of};
 ghost use Rattle.annex_resolve.specs.Types.{whole_types};
 ghost use Rattle.annex_resolve.specs.Resolved.{expression_of, action_of, actions_of, block_of};
-ghost use Rattle.annex_resolve.specs.Actions.{is_integer, action_findings, actions_findings, block_findings, branch_findings};
+ghost use Rattle.annex_resolve.specs.Actions.{is_integer, action_findings, actions_findings, block_findings};
+ghost use Rattle.annex_resolve.specs.Actions.{branch_findings};
 ghost use Rattle.annex_resolve.specs.proof.Reads.{ReadsAction, ReadsActions, ReadsBranch};
 
 use crate::expressions::{kind_of, resolve_whole};

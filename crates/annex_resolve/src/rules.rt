@@ -5,7 +5,8 @@ ghost use Rattle.std.specs.List.{enumerate_from};
 ghost use Rattle.aadl_tree.specs.proof.Maps.{kept_place};
 ghost use Rattle.aadl_tree.specs.proof.Views.{annex_tree_view, transition_view};
 ghost use Rattle.annex_resolve.specs.Scopes.{found_if};
-ghost use Rattle.annex_resolve.specs.Behaviours.{transitions_of, parts_by, state_rules, rule_findings, behaviour_of, annex_findings};
+ghost use Rattle.annex_resolve.specs.Behaviours.{transitions_of, parts_by, state_rules, rule_findings, behaviour_of};
+ghost use Rattle.annex_resolve.specs.Behaviours.{annex_findings};
 
 use crate::behaviour::DeclaredValues;
 use crate::cycles::cyclic_states;

@@ -3,7 +3,8 @@ use Rattle.std.proofs.Common.{◌≡◌, ◌∙◌, inl, inr, ℕ, true, false, 
 use Rattle.std.proofs.lemmas.Bool.{true≢false}
 use Rattle.pals_model.specs.declared.design.DesignParts.{DesignParts}
 use Rattle.pals_runs.specs.declared.commands.Command.{Command}
-use Rattle.pals_runs.specs.declared.commands.Command.TheVariants.{Print, Check, Sync, World, Run, Audit, Watch, Vote, Fuse, Budget}
+use Rattle.pals_runs.specs.declared.commands.Command.TheVariants.{Print, Check, Sync, World, Run, Audit, Watch, Vote}
+use Rattle.pals_runs.specs.declared.commands.Command.TheVariants.{Fuse, Budget}
 use Rattle.aadl_tree.specs.Declarations.{PackageTree}
 use Rattle.aadl_tree.specs.Canon.{canon}
 use Rattle.pals_report.specs.CheckReports.{IsCheckReport}
@@ -22,7 +23,8 @@ use Rattle.pals_top.specs.Executions.{command_of as execution_command, IsExecuti
 use Rattle.pals_top.specs.Answers.{IsCommandAnswer}
 use Rattle.pals_top.specs.proof.Code.{is_run}
 use Rattle.answer_laws.proofs.LowerLaws.{OneDesign, OneFault, AnalysisLaws, ExecutionLaws}
-use Rattle.answer_laws.proofs.Designs.{one_tree, read_or_refused, one_refused_text, one_accepted, accepted_or_refused, package_or_text, one_refused_package}
+use Rattle.answer_laws.proofs.Designs.{one_tree, read_or_refused, one_refused_text, one_accepted, accepted_or_refused}
+use Rattle.answer_laws.proofs.Designs.{package_or_text, one_refused_package}
 use Rattle.answer_laws.proofs.Meanings.{one_report}
 use Rattle.answer_laws.proofs.Scenarios.{one_meaning, one_scenario_fault, meant_or_refused}
 use Rattle.answer_laws.proofs.Made.{Agree, one_analysis}

@@ -4,7 +4,8 @@ use Rattle.std.specs.Prelude.{MatchBool}
 use Rattle.std.proofs.lemmas.Bool.{eqb-true}
 use Rattle.pals_top.specs.ExecutionKinds.{Execution, TimedWorld, LooseWorld, Run, Audit, Budget}
 use Rattle.pals_top.specs.Executions.{command_of, IsScenarioRefusedIn, IsExecuted, IsExecutionAnswer}
-use Rattle.answer_laws.specs.proof.Meanings.{HasTree, MeansDesign, MeansScenario, HasLongCode, LacksScenario, GivesStatus}
+use Rattle.answer_laws.specs.proof.Meanings.{HasTree, MeansDesign, MeansScenario, HasLongCode, LacksScenario}
+use Rattle.answer_laws.specs.proof.Meanings.{GivesStatus}
 use Rattle.pals_top.specs.proof.Code.{is_run}
 use Rattle.answer_laws.proofs.LowerLaws.{OneDesign, ExecutionLaws}
 use Rattle.answer_laws.proofs.AnswerStatuses.{no_tree, no_design, refused_tree, has_tree}

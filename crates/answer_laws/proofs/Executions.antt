@@ -9,7 +9,8 @@ use Rattle.design_codes.specs.Causes.{length_of, AreShort, IsFirstTooLong}
 use Rattle.scenario_json.specs.declared.scenario.Scenario.{Scenario}
 use Rattle.bundle_designs.specs.Accepted.{IsAccepted}
 use Rattle.pals_top.specs.ExecutionKinds.{Execution}
-use Rattle.pals_top.specs.Executions.{command_of, Makes, IsExecuted, IsScenarioRefusedIn, IsCodeTooLong, code_fault_line}
+use Rattle.pals_top.specs.Executions.{command_of, Makes, IsExecuted, IsScenarioRefusedIn, IsCodeTooLong}
+use Rattle.pals_top.specs.Executions.{code_fault_line}
 use Rattle.answer_laws.specs.proof.Meanings.{HasLongCode}
 use Rattle.pals_top.specs.proof.Code.{is_run}
 use Rattle.answer_laws.proofs.LowerLaws.{OneDesign, ExecutionLaws}

@@ -1,5 +1,6 @@
 -- There is a report of each design.
-use Rattle.std.proofs.Common.{◌≡◌, ◌⊎◌, inl, inr, ◌∙◌, sym, ℕ, zero, suc, ◌+◌, ◌<◌, ◌≤◌, Bool, true, false, nat_eq, List, [], ◌∷◌, length, get_or, Some, None, refl, arith}
+use Rattle.std.proofs.Common.{◌≡◌, ◌⊎◌, inl, inr, ◌∙◌, sym, ℕ, zero, suc, ◌+◌, ◌<◌, ◌≤◌, Bool, true, false, nat_eq}
+use Rattle.std.proofs.Common.{List, [], ◌∷◌, length, get_or, Some, None, refl, arith}
 use Rattle.std.specs.Prelude.{◌%◌, All}
 use Rattle.std.proofs.lemmas.Bool.{cases_lt, eqb-true, eq-eqb, true≢false}
 use Rattle.pals_base.specs.declared.values.Gamma.{Gamma}

@@ -10,7 +10,9 @@ use Rattle.kind_laws.proofs.Voting.{voted_fit, shown_fit}
 use Rattle.kind_laws.proofs.Fusing.{solutions_fit}
 use Rattle.kind_laws.proofs.Standing.{buses_fit}
 use Rattle.pals_top.specs.Loose.{run_of}
-use Rattle.answer_laws.specs.proof.Kinds.{ScenariosFit, StatesOfScenariosFit, MessagesOfScenariosFit, PartsOfScenariosFit, FaultsOfScenariosFit, VotesOfScenariosFit, ShownOfScenariosFit, FusedOfScenariosFit, BusesOfScenariosFit}
+use Rattle.answer_laws.specs.proof.Kinds.{ScenariosFit, StatesOfScenariosFit, MessagesOfScenariosFit}
+use Rattle.answer_laws.specs.proof.Kinds.{PartsOfScenariosFit, FaultsOfScenariosFit, VotesOfScenariosFit}
+use Rattle.answer_laws.specs.proof.Kinds.{ShownOfScenariosFit, FusedOfScenariosFit, BusesOfScenariosFit}
 use Rattle.answer_laws.proofs.GivenValues.{lists_to_env}
 use Rattle.answer_laws.proofs.GivenFaults.{each_round}
 use Rattle.answer_laws.proofs.GivenFields.{meant_by}

@@ -1,5 +1,6 @@
 -- For the law that Booleans of a scenario's runs are 0 or 1: the values that its faults give fit the kinds of their links.
-use Rattle.std.proofs.Common.{◌≡◌, ℕ, nat_eq, ◌&&◌, false, List, [], ◌∷◌, ◌++◌, length, slice_get, All, codes, decimal, Option, Some, None, Result, Ok, subst}
+use Rattle.std.proofs.Common.{◌≡◌, ℕ, nat_eq, ◌&&◌, false, List, [], ◌∷◌, ◌++◌, length, slice_get, All, codes, decimal}
+use Rattle.std.proofs.Common.{Option, Some, None, Result, Ok, subst}
 use Rattle.std.specs.Prelude.{filter, not}
 use Rattle.std.specs.List.{list_any}
 use Rattle.std.proofs.lemmas.List.Elements.{All-nil, All-cons, All-append, All-filter, All-map}
@@ -19,7 +20,9 @@ use Rattle.scenario_values.specs.Values.{elements, text, whole, is_whole, port_v
 use Rattle.scenario_values.proofs.PassedValues.{ok_same, ok_bind, ok_only_if, through_keeps}
 use Rattle.analysis_fields.specs.declared.faults.FaultEnds.{FaultEnds}
 use Rattle.analysis_fields.specs.declared.faults.RoundFault.{RoundFault}
-use Rattle.analysis_fields.specs.Replicas.{copies_at, kind_in, kind_at, with_fault_value, fault_values, ends_of, fault_behind, fault_of, fault_from, fault_in, is_same_place, with_fault, faults_in}
+use Rattle.analysis_fields.specs.Replicas.{copies_at, kind_in, kind_at, with_fault_value, fault_values, ends_of}
+use Rattle.analysis_fields.specs.Replicas.{fault_behind, fault_of, fault_from, fault_in, is_same_place, with_fault}
+use Rattle.analysis_fields.specs.Replicas.{faults_in}
 use Rattle.analysis_texts.specs.Voted.{faults_of}
 use Rattle.scenario_json.specs.Scenarios.{field}
 use Rattle.kind_laws.specs.proof.Votes.{FaultFits, FaultsFit}

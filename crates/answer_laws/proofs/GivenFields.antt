@@ -18,7 +18,9 @@ use Rattle.scenario_values.specs.Outcomes.{◌>>=◌}
 use Rattle.scenario_values.specs.Values.{entries}
 use Rattle.scenario_values.proofs.PassedValues.{ok_same, ok_bind}
 use Rattle.scenario_json.specs.declared.scenario.Scenario.{Scenario}
-use Rattle.scenario_json.specs.Scenarios.{is_field, only_known, rounds_in, inputs_field, events_field, clocks_field, delays_field, trace_field, properties_field, replicas_field, faults_field, plants_field, processors_field, fields_in, scen, Means}
+use Rattle.scenario_json.specs.Scenarios.{is_field, only_known, rounds_in, inputs_field, events_field, clocks_field}
+use Rattle.scenario_json.specs.Scenarios.{delays_field, trace_field, properties_field, replicas_field, faults_field}
+use Rattle.scenario_json.specs.Scenarios.{plants_field, processors_field, fields_in, scen, Means}
 use Rattle.answer_laws.proofs.GivenValues.{ListsFit, inputs_field_fit}
 use Rattle.answer_laws.proofs.GivenFaults.{RoundFaultFits, faults_field_fit}
 

@@ -1,5 +1,6 @@
 -- What `run` answers to a bundle that means a design and a scenario.
-use Rattle.std.proofs.Common.{◌≡◌, ◌≢◌, ◌∙◌, ◌⊎◌, ◌↔◌, inl, inr, ℕ, Bool, true, false, List, ◌++◌, None, Ok, refl, sym, ap, subst, arith}
+use Rattle.std.proofs.Common.{◌≡◌, ◌≢◌, ◌∙◌, ◌⊎◌, ◌↔◌, inl, inr, ℕ, Bool, true, false, List, ◌++◌, None, Ok, refl, sym}
+use Rattle.std.proofs.Common.{ap, subst, arith}
 use Rattle.pals_clock.specs.declared.clock.Clocks.{Clocks}
 use Rattle.pals_model.specs.declared.design.DesignParts.{DesignParts}
 use Rattle.pals_model.specs.RoundTexts.{report}
@@ -24,7 +25,9 @@ use Rattle.pals_top.specs.Loose.{run_of}
 use Rattle.pals_top.specs.Run.{IsRunAnswer}
 use Rattle.pals_top.specs.Scenarios.{HasScenario}
 use Rattle.answer_laws.specs.proof.Meanings.{MeansScenario, HasLongCode}
-use Rattle.answer_laws.specs.proof.Runs.{IsRunStatus, IsInTime, OneAnswerInTime, NoneIsStopped, IsSynchronous, DoneInTime, AnswersAsSync, DoneWithinBounds, DoneTracesAreSound, IsStoppedTrace, StoppedTracesAreSound}
+use Rattle.answer_laws.specs.proof.Runs.{IsRunStatus, IsInTime, OneAnswerInTime, NoneIsStopped, IsSynchronous}
+use Rattle.answer_laws.specs.proof.Runs.{DoneInTime, AnswersAsSync, DoneWithinBounds, DoneTracesAreSound}
+use Rattle.answer_laws.specs.proof.Runs.{IsStoppedTrace, StoppedTracesAreSound}
 use Rattle.answer_laws.proofs.LowerLaws.{OneDesign, KeepsRules}
 use Rattle.answer_laws.proofs.Designs.{accepted_or_refused}
 use Rattle.answer_laws.proofs.Scenarios.{one_meaning, meant_or_refused}

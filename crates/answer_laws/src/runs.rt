@@ -4,7 +4,8 @@ ghost use Rattle.pals_runs.specs.declared.commands.Command.TheVariants as comman
 ghost use Rattle.pals_top.specs.ExecutionKinds as execution;
 ghost use Rattle.pals_top.specs.Executions.{IsExecutionAnswer};
 ghost use Rattle.answer_laws.specs.proof.Meanings.{MeansScenario, HasLongCode};
-ghost use Rattle.answer_laws.specs.proof.Runs.{AnswersAsSync, DoneInTime, DoneTracesAreSound, DoneWithinBounds, IsRunStatus, NoneIsStopped, OneAnswerInTime, StoppedTracesAreSound};
+ghost use Rattle.answer_laws.specs.proof.Runs.{AnswersAsSync, DoneInTime, DoneTracesAreSound, DoneWithinBounds};
+ghost use Rattle.answer_laws.specs.proof.Runs.{IsRunStatus, NoneIsStopped, OneAnswerInTime, StoppedTracesAreSound};
 
 use crate::accepted::accepted_designs_keep_their_rules;
 use design_laws::packages::one_design;

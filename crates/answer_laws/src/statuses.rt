@@ -7,8 +7,8 @@ ghost use Rattle.pals_top.specs.AnalysisKinds.{Analysis};
 ghost use Rattle.pals_top.specs.ExecutionKinds.{Execution};
 ghost use Rattle.pals_top.specs.Analyses.{command_of, IsAnalysisAnswer};
 ghost use Rattle.pals_top.specs.Executions.{command_of as execution_command, IsExecutionAnswer};
-ghost use Rattle.answer_laws.specs.proof.Meanings.{HasTree, MeansDesign, MeansScenario};
-ghost use Rattle.answer_laws.specs.proof.Meanings.{HasLongCode, LacksScenario, GivesStatus};
+ghost use Rattle.answer_laws.specs.proof.Meanings.{HasTree, MeansDesign, MeansScenario, HasLongCode, LacksScenario};
+ghost use Rattle.answer_laws.specs.proof.Meanings.{GivesStatus};
 ghost use Rattle.pals_top.specs.proof.Code.{is_run};
 
 use design_laws::packages::one_design;

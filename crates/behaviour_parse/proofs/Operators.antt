@@ -1,5 +1,6 @@
 -- Operators, and operands behind them.
-use Rattle.std.proofs.Common.{◌≡◌, ℕ, ◌+◌, ◌<◌, ◌≤◌, ◌∙◌, sym, ap, refl, List, [], ◌∷◌, ◌++◌, length, append_assoc, arith}
+use Rattle.std.proofs.Common.{◌≡◌, ℕ, ◌+◌, ◌<◌, ◌≤◌, ◌∙◌, sym, ap, refl, List, [], ◌∷◌, ◌++◌, length, append_assoc}
+use Rattle.std.proofs.Common.{arith}
 use Rattle.std.proofs.lemmas.List.{append-nil}
 use Rattle.aadl_tree.specs.declared.mark.Mark.TheVariants as k
 use Rattle.aadl_tree.specs.declared.expressions.Sign.{Sign}
@@ -17,7 +18,8 @@ use Rattle.aadl_tree.specs.Terminals.{mark, Spot}
 use Rattle.aadl_tree.specs.Parts.{Part, plain}
 use Rattle.aadl_tree.specs.Values.{sign_mark}
 use Rattle.aadl_tree.specs.Expressions as e
-use Rattle.aadl_tree.specs.proof.ExpressionViews.{factor_view, factors_view, term_view, terms_view, relation_view, relations_view}
+use Rattle.aadl_tree.specs.proof.ExpressionViews.{factor_view, factors_view, term_view, terms_view, relation_view}
+use Rattle.aadl_tree.specs.proof.ExpressionViews.{relations_view}
 use Rattle.aadl_tree.specs.proof.Maps.{kept_place}
 use Rattle.aadl_tree.specs.declared.limits.TheConstants.{GREATEST_NESTING}
 use Rattle.aadl_grammar.specs.proof.Symbols as s

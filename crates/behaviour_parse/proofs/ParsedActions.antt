@@ -1,5 +1,6 @@
 -- Actions, one more of them, and what stands behind the last one.
-use Rattle.std.proofs.Common.{◌≡◌, ℕ, ℤ, Bool, true, false, ◌+◌, ◌≤◌, ◌∙◌, sym, ap, refl, arith, subst, Option, Vec, Box, Global, option_map, List, [], ◌∷◌, ◌++◌, append_assoc, inl, inr}
+use Rattle.std.proofs.Common.{◌≡◌, ℕ, ℤ, Bool, true, false, ◌+◌, ◌≤◌, ◌∙◌, sym, ap, refl, arith, subst, Option, Vec}
+use Rattle.std.proofs.Common.{Box, Global, option_map, List, [], ◌∷◌, ◌++◌, append_assoc, inl, inr}
 use Rattle.std.proofs.lemmas.List.{append-nil}
 use Rattle.aadl_tree.specs.declared.mark.Mark.TheVariants as k
 use Rattle.aadl_tree.specs.declared.expressions.Expression.{Expression}
@@ -19,7 +20,8 @@ use Rattle.aadl_tree.specs.Names.{identifier_parts, reference_parts}
 use Rattle.aadl_tree.specs.Actions as a
 use Rattle.aadl_tree.specs.proof.NameViews.{identifier_view, reference_view}
 use Rattle.aadl_tree.specs.proof.ExpressionViews.{expression_view}
-use Rattle.aadl_tree.specs.proof.ActionViews.{action_view, actions_view, mores_view, choice_view, elsifs_view, otherwise_of}
+use Rattle.aadl_tree.specs.proof.ActionViews.{action_view, actions_view, mores_view, choice_view, elsifs_view}
+use Rattle.aadl_tree.specs.proof.ActionViews.{otherwise_of}
 use Rattle.aadl_tree.specs.proof.Maps.{kept_place}
 use Rattle.aadl_tree.proofs.ActionViews.{view-out-choice}
 use Rattle.aadl_grammar.specs.proof.Symbols as s

@@ -1,5 +1,6 @@
 -- What the machine's fate of a behaviour says of its tokens.
-use Rattle.std.proofs.Common.{◌≡◌, sym, ℕ, ◌-◌, ◌<◌, ◌∙◌, ap, subst, refl, List, [], ◌∷◌, length, get_or, drop, arith, zero, suc}
+use Rattle.std.proofs.Common.{◌≡◌, sym, ℕ, ◌-◌, ◌<◌, ◌∙◌, ap, subst, refl, List, [], ◌∷◌, length, get_or, drop, arith}
+use Rattle.std.proofs.Common.{zero, suc}
 use Rattle.aadl_lex.specs.declared.token.Token.{Token}
 use Rattle.aadl_tree.proofs.Parts.{written_spells}
 use Rattle.aadl_tree.specs.Terminals.{Spot, spots_from, kinds_of}

@@ -1,10 +1,12 @@
 //! Actions.
 ghost use Rattle.std.specs.Prelude.{◌≡◌, [], ◌∷◌, ◌++◌, MatchBool, option_map};
 ghost use Rattle.aadl_tree.specs.declared.mark.Mark.TheVariants as k;
-ghost use Rattle.aadl_tree.specs.Actions.{loop, action_parts, actions_parts, elsifs_parts, otherwise_parts, block_parts, test_parts, bound_parts};
+ghost use Rattle.aadl_tree.specs.Actions.{loop, action_parts, actions_parts, elsifs_parts, otherwise_parts};
+ghost use Rattle.aadl_tree.specs.Actions.{block_parts, test_parts, bound_parts};
 ghost use Rattle.aadl_tree.specs.proof.NameViews.{identifier_view, reference_view};
 ghost use Rattle.aadl_tree.specs.proof.ExpressionViews.{expression_view};
-ghost use Rattle.aadl_tree.specs.proof.ActionViews.{action_view, actions_view, elsifs_view, otherwise_of, block_view, loop_view};
+ghost use Rattle.aadl_tree.specs.proof.ActionViews.{action_view, actions_view, elsifs_view, otherwise_of, block_view};
+ghost use Rattle.aadl_tree.specs.proof.ActionViews.{loop_view};
 ghost use Rattle.aadl_tree.specs.proof.Maps.{kept_place};
 ghost use Rattle.aadl_grammar.specs.proof.Symbols as s;
 ghost use Rattle.aadl_grammar.specs.proof.Table.{rows, on};

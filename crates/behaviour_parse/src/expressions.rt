@@ -1,7 +1,10 @@
 //! Expressions.
 ghost use Rattle.std.specs.Prelude.{[], ◌∷◌, ◌++◌, MatchOption};
-ghost use Rattle.aadl_tree.specs.Expressions.{primary_parts, factor_parts, term_parts, terms_parts, sum_parts, relation_parts, expression_parts, multiply_mark, relation_mark, fresh_parts};
-ghost use Rattle.aadl_tree.specs.proof.ExpressionViews.{primary_view, factor_view, term_view, terms_view, sum_view, relation_view, expression_view};
+ghost use Rattle.aadl_tree.specs.Expressions.{primary_parts, factor_parts, term_parts, terms_parts, sum_parts};
+ghost use Rattle.aadl_tree.specs.Expressions.{relation_parts, expression_parts, multiply_mark, relation_mark};
+ghost use Rattle.aadl_tree.specs.Expressions.{fresh_parts};
+ghost use Rattle.aadl_tree.specs.proof.ExpressionViews.{primary_view, factor_view, term_view, terms_view, sum_view};
+ghost use Rattle.aadl_tree.specs.proof.ExpressionViews.{relation_view, expression_view};
 ghost use Rattle.aadl_tree.specs.proof.Maps.{kept_place};
 ghost use Rattle.aadl_grammar.specs.proof.Symbols as s;
 ghost use Rattle.aadl_grammar.specs.proof.Table.{rows};

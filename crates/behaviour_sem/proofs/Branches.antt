@@ -1,5 +1,6 @@
 -- What the tree of an action means, by the lists of its parts, and the numbers of a loop.
-use Rattle.std.proofs.Common.{◌≡◌, ℕ, suc, ℤ, pos, negsuc, ◌+ℤ◌, ◌-ℤ◌, ◌≤ℤ◌, ◌<ℤ◌, List, [], ◌∷◌, ◌++◌, refl, sym, ap, ◌∙◌, arith}
+use Rattle.std.proofs.Common.{◌≡◌, ℕ, suc, ℤ, pos, negsuc, ◌+ℤ◌, ◌-ℤ◌, ◌≤ℤ◌, ◌<ℤ◌, List, [], ◌∷◌, ◌++◌, refl, sym, ap}
+use Rattle.std.proofs.Common.{◌∙◌, arith}
 use Rattle.std.specs.Prelude.{Bool, Result, Ok, Err}
 use Rattle.std.proofs.lemmas.Int.{ints}
 use Rattle.std.specs.declared.alloc.Global.{Global}
@@ -10,7 +11,8 @@ use Rattle.pals_base.specs.declared.values.PortValue.{PortValue}
 use Rattle.pals_base.specs.declared.behaviour.Act.{Act}
 use Rattle.pals_base.specs.declared.behaviour.Act.TheVariants as variants
 use Rattle.pals_base.specs.declared.behaviour.Branch.{Branch}
-use Rattle.pals_base.specs.Actions.{Effect, act, acts, act_first, for_each, numbers, counted_from, count_of, without_loop}
+use Rattle.pals_base.specs.Actions.{Effect, act, acts, act_first, for_each, numbers, counted_from, count_of}
+use Rattle.pals_base.specs.Actions.{without_loop}
 use Rattle.pals_base.specs.Tree.{Actions, For}
 use Rattle.pals_base.specs.Expressions.{on_value}
 use Rattle.pals_base.specs.proof.Seen.{action_of, actions_along, branches_along}

@@ -1,7 +1,9 @@
 -- Common divisors and multiples.
 use Rattle.std.proofs.Common.{◌≡◌, ℕ, ◌+◌, ◌-◌, ◌*◌, ◌/◌, ◌%◌, ◌<◌, subst, sym, ap, ◌∙◌, arith}
 use Rattle.std.specs.Int.{◌∣◌}
-use Rattle.std.proofs.Math.Nat.{mul_comm, dvd-mod_iff, dvd-sub, dvd-mul_left, dvd-mul_right, dvd-mul_right_of_dvd, dvd_refl, dvd-zero, mul-dvd-mul_left, mul-dvd-mul_right, dvd_of_mul-dvd-mul_right, pos_of_dvd_of_pos, div-mul_cancel, mul-div_cancel'}
+use Rattle.std.proofs.Math.Nat.{mul_comm, dvd-mod_iff, dvd-sub, dvd-mul_left, dvd-mul_right, dvd-mul_right_of_dvd}
+use Rattle.std.proofs.Math.Nat.{dvd_refl, dvd-zero, mul-dvd-mul_left, mul-dvd-mul_right, dvd_of_mul-dvd-mul_right}
+use Rattle.std.proofs.Math.Nat.{pos_of_dvd_of_pos, div-mul_cancel, mul-div_cancel'}
 use Rattle.bound_checker.specs.proof.Divisors.{IsGreatestDivisor, IsLeastCommon}
 
 -- ---- Euclid's steps

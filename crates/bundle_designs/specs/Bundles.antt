@@ -1,5 +1,6 @@
 -- Bundles: the text of a design, the line `%%%`, and a scenario.
-use Rattle.std.specs.Prelude.{ℕ, ◌-◌, ◌<◌, ◌≡◌, nat_eq, Bool, ◌||◌, if◌then◌else◌, codes, bytes_eq, List, [], ◌∷◌, length, take, drop, slice_index, Option, Some, None}
+use Rattle.std.specs.Prelude.{ℕ, ◌-◌, ◌<◌, ◌≡◌, nat_eq, Bool, ◌||◌, if◌then◌else◌, codes, bytes_eq, List, [], ◌∷◌}
+use Rattle.std.specs.Prelude.{length, take, drop, slice_index, Option, Some, None}
 
 -- what stands behind an LF
 abbrev pub behind_line_feed : List ℕ → Option (List ℕ)

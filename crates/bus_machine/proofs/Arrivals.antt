@@ -1,5 +1,7 @@
 -- Each event of a link keeps the agreement; and so does each step, and each journal.
-use Rattle.std.proofs.Common.{◌≡◌, inl, inr, ℕ, zero, suc, ◌+◌, ◌<◌, ◌≤◌, nat_eq, Bool, true, false, List, [], ◌∷◌, ◌++◌, length, map, slice_get, Option, Some, None, All, refl, sym, ap, ap₂, ◌∙◌, subst, arith}
+use Rattle.std.proofs.Common.{◌≡◌, inl, inr, ℕ, zero, suc, ◌+◌, ◌<◌, ◌≤◌, nat_eq, Bool, true, false, List, [], ◌∷◌}
+use Rattle.std.proofs.Common.{◌++◌, length, map, slice_get, Option, Some, None, All, refl, sym, ap, ap₂, ◌∙◌, subst}
+use Rattle.std.proofs.Common.{arith}
 use Rattle.std.specs.Prelude.{nat_le, ◌&&◌, is_some, is_none, slice_index_or, slice_set, if◌then◌else◌}
 use Rattle.std.proofs.lemmas.Bool.{cases_eq, cases_lt, cases_order, eqb-true, and_parts, false≢true}
 use Rattle.std.proofs.lemmas.Grind.{get_or-set_at}
@@ -29,9 +31,11 @@ use Rattle.bus_machine.specs.Plans.{input_of, component_at, no_component, plan_o
 use Rattle.bus_machine.specs.Nodes.{NodeState, opening_node}
 use Rattle.bus_machine.specs.NodeEvents.{slot_at, arrived, with_message, received}
 use Rattle.bus_machine.specs.LinkEvents.{is_in_flight, arriving, tuple_in, once_more, repeated}
-use Rattle.bus_machine.specs.States.{Run, BusState, opening, node_at, no_node, flight_at, link_at, no_link, with_node, with_flight}
+use Rattle.bus_machine.specs.States.{Run, BusState, opening, node_at, no_node, flight_at, link_at, no_link, with_node}
+use Rattle.bus_machine.specs.States.{with_flight}
 use Rattle.bus_machine.specs.Stops.{missing_link, sent_rounds, rounds_sent_on}
-use Rattle.bus_machine.specs.Machine.{BusEvent, Start, Step, Finish, Send, Arrive, Drop, Repeat, arrival, early_stop, after_arrive, after, is_allowed}
+use Rattle.bus_machine.specs.Machine.{BusEvent, Start, Step, Finish, Send, Arrive, Drop, Repeat, arrival, early_stop}
+use Rattle.bus_machine.specs.Machine.{after_arrive, after, is_allowed}
 use Rattle.bus_machine.specs.Replay.{opens, goes_on}
 use Rattle.bus_machine.specs.Agreement.{IsInRound, PhaseAgrees, NodeAgrees, SlotAgrees, IsCopy, Agrees}
 use Rattle.bus_machine.specs.proof.MachineLaws.{IsRunOf, OpeningAgrees, StepKeepsAgreement, ReplayAgrees}

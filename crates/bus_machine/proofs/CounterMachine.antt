@@ -8,7 +8,8 @@ use Rattle.pals_runs.specs.declared.journal.JournalEntry.{JournalEntry}
 use Rattle.bus_machine.specs.States.{Run, BusState, opening}
 use Rattle.bus_machine.specs.Machine.{BusEvent, is_allowed, after}
 use Rattle.bus_machine.specs.Replay.{Replays, opens, goes_on, entries}
-use Rattle.bus_machine.specs.proof.CounterMachine.{counters, early_arrival, early_lines, lost_message, lost_lines, journal_from, state_from, IsRun, Tells}
+use Rattle.bus_machine.specs.proof.CounterMachine.{counters, early_arrival, early_lines, lost_message, lost_lines}
+use Rattle.bus_machine.specs.proof.CounterMachine.{journal_from, state_from, IsRun, Tells}
 
 -- each event is allowed
 abbrev AreSteps : Run → BusState → List BusEvent → Type 0

@@ -1,10 +1,13 @@
 -- Each event of a node keeps its agreement.
-use Rattle.std.proofs.Common.{◌≡◌, inl, inr, ℕ, zero, suc, ◌+◌, ◌-◌, ◌<◌, ◌≤◌, nat_eq, Bool, true, false, List, [], ◌∷◌, ◌++◌, length, map, replicate, slice_get, Some, None, refl, sym, ap, ap₂, ◌∙◌, subst, arith, add-one, length-append}
+use Rattle.std.proofs.Common.{◌≡◌, inl, inr, ℕ, zero, suc, ◌+◌, ◌-◌, ◌<◌, ◌≤◌, nat_eq, Bool, true, false, List, [], ◌∷◌}
+use Rattle.std.proofs.Common.{◌++◌, length, map, replicate, slice_get, Some, None, refl, sym, ap, ap₂, ◌∙◌, subst}
+use Rattle.std.proofs.Common.{arith, add-one, length-append}
 use Rattle.std.specs.Prelude.{nat_lt, nat_le, not, slice_index_or, if◌then◌else◌}
 use Rattle.std.specs.Option.{option_map_or}
 use Rattle.std.proofs.lemmas.List.{length-map}
 use Rattle.std.proofs.lemmas.Simd.{map-map}
-use Rattle.std.proofs.lemmas.Bool.{eqb-true, eqb-false, ltb-true, ltb-false, leb-true, cases_lt, and_parts, not-true, false≢true}
+use Rattle.std.proofs.lemmas.Bool.{eqb-true, eqb-false, ltb-true, ltb-false, leb-true, cases_lt, and_parts, not-true}
+use Rattle.std.proofs.lemmas.Bool.{false≢true}
 use Rattle.std.proofs.lemmas.Option.{slice_get-get_or}
 use Rattle.pals_base.specs.declared.values.PortValue.{PortValue}
 use Rattle.pals_base.specs.declared.values.PortValue.TheVariants.{Absent}
@@ -18,9 +21,8 @@ use Rattle.pals_model.specs.declared.design.Link.{Link}
 use Rattle.pals_model.specs.declared.design.Tap.{Tap}
 use Rattle.pals_model.specs.declared.rounds.Part.{Part}
 use Rattle.pals_model.specs.Inputs.{values_at, feed}
-use Rattle.pals_model.specs.Composition.{comp, state, msg, part, taps_of}
+use Rattle.pals_model.specs.Composition.{comp, state, msg, part, taps_of, own_steps_so_far}
 use Rattle.pals_model.specs.proof.CompositionLaws.{own_steps}
-use Rattle.pals_model.specs.Composition.{own_steps_so_far}
 use Rattle.pals_model.specs.proof.CompositionLaws.Steps.{stepped_on}
 use Rattle.pals_model.specs.Rules.{IsDesign}
 use Rattle.pals_model.proofs.StepLaws.{round_begins, round_goes_on, round_ends}
@@ -31,9 +33,11 @@ use Rattle.pals_runs.specs.declared.journal.Phase.TheVariants.{Waiting, Running,
 use Rattle.bus_machine.specs.declared.plan.Plan.{Plan}
 use Rattle.bus_machine.specs.Plans.{plan_for}
 use Rattle.bus_machine.specs.Nodes.{NodeState, at_rest, finished_steps}
-use Rattle.bus_machine.specs.NodeEvents.{missing, started, stepped, fired, finished, part_left, after_round, may_send, sent_from, after_send, message_from}
+use Rattle.bus_machine.specs.NodeEvents.{missing, started, stepped, fired, finished, part_left, after_round, may_send}
+use Rattle.bus_machine.specs.NodeEvents.{sent_from, after_send, message_from}
 use Rattle.bus_machine.specs.States.{Run}
-use Rattle.bus_machine.specs.Agreement.{IsAtRest, IsUnderWay, IsInRound, IsHeld, PhaseAgrees, PartsAgree, NodeAgrees, reached}
+use Rattle.bus_machine.specs.Agreement.{IsAtRest, IsUnderWay, IsInRound, IsHeld, PhaseAgrees, PartsAgree, NodeAgrees}
+use Rattle.bus_machine.specs.Agreement.{reached}
 use Rattle.bus_machine.proofs.Lists.{cut_places}
 use Rattle.bus_machine.proofs.Vectors.{SlotsAgree, vectors_agree}
 

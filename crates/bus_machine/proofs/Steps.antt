@@ -1,5 +1,6 @@
 -- Each step of the machine keeps the agreement.
-use Rattle.std.proofs.Common.{◌≡◌, ℕ, zero, suc, ◌+◌, ◌-◌, ◌<◌, ◌≤◌, nat_eq, Bool, true, false, List, [], ◌∷◌, ◌++◌, length, map, slice_get, Option, Some, None, All, refl, sym, ap, ap₂, ◌∙◌, subst, arith}
+use Rattle.std.proofs.Common.{◌≡◌, ℕ, zero, suc, ◌+◌, ◌-◌, ◌<◌, ◌≤◌, nat_eq, Bool, true, false, List, [], ◌∷◌, ◌++◌}
+use Rattle.std.proofs.Common.{length, map, slice_get, Option, Some, None, All, refl, sym, ap, ap₂, ◌∙◌, subst, arith}
 use Rattle.std.specs.Prelude.{slice_index_or, if◌then◌else◌}
 use Rattle.std.specs.List.{enumerate_from}
 use Rattle.std.proofs.lemmas.Bool.{eqb-true, false≢true}
@@ -22,7 +23,8 @@ use Rattle.pals_runs.specs.declared.journal.Phase.{Phase}
 use Rattle.pals_runs.specs.declared.journal.Phase.TheVariants.{Waiting, Running, Between, Holding, Done}
 use Rattle.bus_machine.specs.Plans.{component_at, plan_of}
 use Rattle.bus_machine.specs.Nodes.{NodeState, round_of}
-use Rattle.bus_machine.specs.NodeEvents.{is_waiting, missing, started, next_step, stepped, running_step, finished, may_send, sent_from, message_from, slot_at}
+use Rattle.bus_machine.specs.NodeEvents.{is_waiting, missing, started, next_step, stepped, running_step, finished}
+use Rattle.bus_machine.specs.NodeEvents.{may_send, sent_from, message_from, slot_at}
 use Rattle.bus_machine.specs.LinkEvents.{sent_copy}
 use Rattle.bus_machine.specs.States.{Run, BusState, node_at, flight_at, link_at, no_link, with_node}
 use Rattle.bus_machine.specs.Stops.{missing_link, link_into, sent_rounds, rounds_sent_on}
@@ -31,8 +33,10 @@ use Rattle.bus_machine.specs.Agreement.{SlotAgrees, IsCopy, Agrees}
 use Rattle.bus_machine.specs.proof.MachineLaws.{IsRunOf}
 use Rattle.bus_machine.proofs.Lists.{numbered_at}
 use Rattle.bus_machine.proofs.Vectors.{SlotsAgree}
-use Rattle.bus_machine.proofs.Nodes.{starts, steps_on, finishes, finish_keeps, sends, MaySend, may_send_of, sends_message}
-use Rattle.bus_machine.proofs.States.{with_stop_agrees, with_flights_agrees, node_set, is_component, with_node_agrees, slots_of}
+use Rattle.bus_machine.proofs.Nodes.{starts, steps_on, finishes, finish_keeps, sends, MaySend, may_send_of}
+use Rattle.bus_machine.proofs.Nodes.{sends_message}
+use Rattle.bus_machine.proofs.States.{with_stop_agrees, with_flights_agrees, node_set, is_component, with_node_agrees}
+use Rattle.bus_machine.proofs.States.{slots_of}
 
 component_rate : (run : Run) (node : ℕ) (c : Component) → IsRunOf run → slice_get run.design.components node ≡ Some c
     → 1 ≤ c.rate

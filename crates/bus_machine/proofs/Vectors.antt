@@ -1,5 +1,6 @@
 -- What a round's start reads is what the composition feeds to the component.
-use Rattle.std.proofs.Common.{◌≡◌, ℕ, zero, suc, ◌+◌, ◌<◌, nat_eq, true, false, List, [], ◌∷◌, length, map, replicate, slice_get, Option, Some, None, refl, sym, ap, ap₂, ◌∙◌, subst, arith}
+use Rattle.std.proofs.Common.{◌≡◌, ℕ, zero, suc, ◌+◌, ◌<◌, nat_eq, true, false, List, [], ◌∷◌, length, map, replicate}
+use Rattle.std.proofs.Common.{slice_get, Option, Some, None, refl, sym, ap, ap₂, ◌∙◌, subst, arith}
 use Rattle.std.specs.Prelude.{position, zip, slice_index_or, if◌then◌else◌, option_map}
 use Rattle.std.proofs.lemmas.List.{length-map}
 use Rattle.std.proofs.lemmas.Bool.{and_parts, eqb-true, ne_eqb, false≢true}
@@ -16,7 +17,8 @@ use Rattle.pals_model.specs.declared.design.Feed.{Feed}
 use Rattle.pals_model.specs.declared.design.DesignParts.{DesignParts}
 use Rattle.pals_model.specs.declared.sources.PortSource.{PortSource}
 use Rattle.pals_model.specs.declared.sources.PortSource.TheVariants as source
-use Rattle.pals_model.specs.Inputs.{rate_of, values_at, feed, inputs_in, source_of, sources_of, from_feed, from_link, link_goes_to, feed_goes_to, reading, read_feed, read_link}
+use Rattle.pals_model.specs.Inputs.{rate_of, values_at, feed, inputs_in, source_of, sources_of, from_feed, from_link}
+use Rattle.pals_model.specs.Inputs.{link_goes_to, feed_goes_to, reading, read_feed, read_link}
 use Rattle.pals_model.specs.Composition.{comp, msg}
 use Rattle.pals_model.proofs.Lookups.{found_at}
 use Rattle.bus_machine.specs.declared.plan.Input.{Input}

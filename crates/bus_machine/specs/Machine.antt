@@ -1,5 +1,6 @@
 -- The bus as a machine: which events are allowed, and what each does.
-use Rattle.std.specs.Prelude.{◌≡◌, ℕ, nat_eq, Bool, true, if◌then◌else◌, List, [], ◌∷◌, ◌++◌, map, Option, Some, None, is_some}
+use Rattle.std.specs.Prelude.{◌≡◌, ℕ, nat_eq, Bool, true, if◌then◌else◌, List, [], ◌∷◌, ◌++◌, map, Option, Some, None}
+use Rattle.std.specs.Prelude.{is_some}
 use Rattle.std.specs.List.{enumerate_from}
 use Rattle.pals_base.specs.declared.values.NodeNo.{NodeNo}
 use Rattle.pals_base.specs.declared.values.LinkNo.{LinkNo}
@@ -13,7 +14,8 @@ use Rattle.pals_runs.specs.declared.journal.Arrived.TheVariants.{Kept, Ignored, 
 use Rattle.pals_runs.specs.declared.journal.Stop.{Stop}
 use Rattle.bus_machine.specs.Plans.{plan_of}
 use Rattle.bus_machine.specs.Nodes.{round_of}
-use Rattle.bus_machine.specs.NodeEvents.{is_waiting, started, next_step, stepped, running_step, finished, may_send, sent_from, message_from, arrived, received}
+use Rattle.bus_machine.specs.NodeEvents.{is_waiting, started, next_step, stepped, running_step, finished, may_send}
+use Rattle.bus_machine.specs.NodeEvents.{sent_from, message_from, arrived, received}
 use Rattle.bus_machine.specs.LinkEvents.{sent_copy, is_in_flight, arriving, repeated}
 use Rattle.bus_machine.specs.States.{Run, BusState, node_at, flight_at, link_at, with_node, with_flight}
 use Rattle.bus_machine.specs.Stops.{missing_link, cause_of}

@@ -1,5 +1,6 @@
 -- The text of a world: the rounds that its events finished, and the messages that they sent.
-use Rattle.std.specs.Prelude.{ℕ, ◌/◌, nat_eq, nat_lt, Bool, false, if◌then◌else◌, List, [], ◌∷◌, ◌++◌, codes, decimal, length, map, fold, max, flat_map, count_by, Option, Some, None, slice_get}
+use Rattle.std.specs.Prelude.{ℕ, ◌/◌, nat_eq, nat_lt, Bool, false, if◌then◌else◌, List, [], ◌∷◌, ◌++◌, codes, decimal}
+use Rattle.std.specs.Prelude.{length, map, fold, max, flat_map, count_by, Option, Some, None, slice_get}
 use Rattle.pals_base.specs.Steps.{upwards}
 use Rattle.pals_model.specs.declared.design.DesignParts.{DesignParts}
 use Rattle.pals_model.specs.declared.rounds.Env.{Env}

@@ -1,5 +1,6 @@
 -- Numbers read from their digits.
-use Rattle.std.proofs.Common.{◌≡◌, ℕ, suc, ◌+◌, ◌-◌, ◌*◌, ◌^◌, ◌<◌, ◌≤◌, nat_eq, nat_le, Bool, true, false, ℤ, pos, negsuc, List, [], ◌∷◌, length, fold, refl, ap, ◌∙◌, arith, ne_eqb}
+use Rattle.std.proofs.Common.{◌≡◌, ℕ, suc, ◌+◌, ◌-◌, ◌*◌, ◌^◌, ◌<◌, ◌≤◌, nat_eq, nat_le, Bool, true, false, ℤ, pos}
+use Rattle.std.proofs.Common.{negsuc, List, [], ◌∷◌, length, fold, refl, ap, ◌∙◌, arith, ne_eqb}
 use Rattle.std.specs.Prelude.{decimal, IsTrue}
 use Rattle.std.specs.Fmt.{signed_decimal}
 use Rattle.std.specs.Str.Parse.{AllDigits}

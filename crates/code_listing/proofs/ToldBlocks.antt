@@ -1,5 +1,6 @@
 -- The lines of components, one block behind the other, tell the components.
-use Rattle.std.proofs.Common.{◌≡◌, ℕ, true, ◌&&◌, List, [], ◌∷◌, ◌++◌, length, map, Option, Some, None, slice_get, All, refl, sym, ap, ap₂, ◌∙◌, arith, append_assoc}
+use Rattle.std.proofs.Common.{◌≡◌, ℕ, true, ◌&&◌, List, [], ◌∷◌, ◌++◌, length, map, Option, Some, None, slice_get, All}
+use Rattle.std.proofs.Common.{refl, sym, ap, ap₂, ◌∙◌, arith, append_assoc}
 use Rattle.std.specs.Prelude.{codes, zip, IsTrue}
 use Rattle.std.specs.List.{list_all, enumerate_from}
 use Rattle.std.proofs.lemmas.List.Elements.{All-head, All-tail}
@@ -22,12 +23,14 @@ use Rattle.pals_runs.specs.Journal.{spaced}
 use Rattle.step_code.specs.declared.instr.CodeParts.{CodeParts}
 use Rattle.step_code.specs.Paths.{weight_of}
 use Rattle.step_code.specs.Capped.{capped}
-use Rattle.code_listing.specs.Listings.{number_line, port_line, variable_line, state_line, state_lines, instr_line, instr_lines, initial_line, component_lines, lines_of_all}
+use Rattle.code_listing.specs.Listings.{number_line, port_line, variable_line, state_line, state_lines, instr_line}
+use Rattle.code_listing.specs.Listings.{instr_lines, initial_line, component_lines, lines_of_all}
 use Rattle.code_listing.specs.Numbers.{NumbersFit}
 use Rattle.code_listing.specs.proof.Told.{state_names, told_component, told_components, IsCodeOf}
 use Rattle.code_listing.proofs.LineWords.{is_plain, same_words, path_plain}
 use Rattle.code_listing.proofs.PlainNames.{HasPlainNames, names_are_plain, state_plain}
-use Rattle.code_listing.proofs.RunsOfLines.{begins, EndsAt, no_end, parted, all_begin, none_begins, run_parted, items_told, cons_told}
+use Rattle.code_listing.proofs.RunsOfLines.{begins, EndsAt, no_end, parted, all_begin, none_begins, run_parted}
+use Rattle.code_listing.proofs.RunsOfLines.{items_told, cons_told}
 use Rattle.code_listing.proofs.ToldComponents.{number_told, IsFit, port_told, variable_told, states_told}
 use Rattle.code_listing.proofs.ToldInstrs.{instrs_told}
 

@@ -1,5 +1,7 @@
 -- The lines of links, feeds and taps tell them.
-use Rattle.std.proofs.Common.{◌≡◌, ℕ, ◌/◌, ◌^◌, ◌<◌, ◌≤◌, nat_lt, nat_le, Bool, true, false, ◌&&◌, if◌then◌else◌, List, [], ◌∷◌, ◌++◌, map, Option, Some, None, slice_get, refl, sym, ap, ap₂, ◌∙◌, subst, arith, append_assoc}
+use Rattle.std.proofs.Common.{◌≡◌, ℕ, ◌/◌, ◌^◌, ◌<◌, ◌≤◌, nat_lt, nat_le, Bool, true, false, ◌&&◌, if◌then◌else◌, List}
+use Rattle.std.proofs.Common.{[], ◌∷◌, ◌++◌, map, Option, Some, None, slice_get, refl, sym, ap, ap₂, ◌∙◌, subst, arith}
+use Rattle.std.proofs.Common.{append_assoc}
 use Rattle.std.specs.Prelude.{codes, decimal, bytes_eq, slice_index_or, IsTrue}
 use Rattle.std.proofs.Math.Nat.{div-le_self}
 use Rattle.std.proofs.lemmas.Bool.{and_parts, leb-true}
@@ -19,10 +21,12 @@ use Rattle.pals_model.specs.LinkNames.{port_name, in_port_name, target_name, lin
 use Rattle.pals_model.specs.Rules.{IsDesign, IsComponent, IsSource, IsTarget, IsLink, IsFeed, IsTap}
 use Rattle.pals_model.proofs.Lookups.{at_element}
 use Rattle.pals_runs.specs.Journal.{spaced}
-use Rattle.pals_report.specs.CheckReports.{adaptor_text, and_adaptor, out_port_name, source_name, link_line, feed_line, tap_line}
+use Rattle.pals_report.specs.CheckReports.{adaptor_text, and_adaptor, out_port_name, source_name, link_line, feed_line}
+use Rattle.pals_report.specs.CheckReports.{tap_line}
 use Rattle.code_listing.proofs.LineWords.{is_plain, ArePlain, same_words, word_plain, path_plain, decimal_plain}
 use Rattle.code_listing.proofs.PlainNames.{names_are_plain, port_plain}
-use Rattle.code_listing.proofs.PortNames.{outs_of, ins_of, ported, full_name, source_named, target_named, outs_apart, ins_apart, IsThere, source_there, target_there, ports_told}
+use Rattle.code_listing.proofs.PortNames.{outs_of, ins_of, ported, full_name, source_named, target_named, outs_apart}
+use Rattle.code_listing.proofs.PortNames.{ins_apart, IsThere, source_there, target_there, ports_told}
 use Rattle.code_listing.proofs.Spelled.{spelled, spelled_is}
 
 -- ---- adaptors

@@ -1,5 +1,6 @@
 -- No line of a listing has a line feed inside.
-use Rattle.std.proofs.Common.{◌≡◌, ℕ, ◌+◌, List, [], ◌∷◌, ◌++◌, length, map, Option, Some, None, slice_get, All, true, refl, sym, ap, subst, append_assoc}
+use Rattle.std.proofs.Common.{◌≡◌, ℕ, ◌+◌, List, [], ◌∷◌, ◌++◌, length, map, Option, Some, None, slice_get, All, true}
+use Rattle.std.proofs.Common.{refl, sym, ap, subst, append_assoc}
 use Rattle.std.specs.Prelude.{codes, decimal}
 use Rattle.std.specs.Fmt.{signed_decimal}
 use Rattle.std.specs.List.{enumerate_from}
@@ -23,13 +24,17 @@ use Rattle.step_code.specs.declared.instr.CodeParts.{CodeParts}
 use Rattle.step_code.specs.Paths.{weight_of}
 use Rattle.step_code.specs.Capped.{capped}
 use Rattle.pals_report.specs.CheckReports.{link_line, feed_line, tap_line}
-use Rattle.code_listing.specs.Listings.{kind_word, number_line, port_line, variable_line, state_line, state_lines, mnemonic, operands, instr_line, instr_lines, initial_line, component_lines, lines_of_all, listing_lines, range_line, design_lines}
+use Rattle.code_listing.specs.Listings.{kind_word, number_line, port_line, variable_line, state_line, state_lines}
+use Rattle.code_listing.specs.Listings.{mnemonic, operands, instr_line, instr_lines, initial_line, component_lines}
+use Rattle.code_listing.specs.Listings.{lines_of_all, listing_lines, range_line, design_lines}
 use Rattle.code_listing.proofs.LineWords.{is_plain, is_one_line, path_plain, decimal_plain, signed_plain}
 use Rattle.code_listing.proofs.PlainNames.{HasPlainNames, names_are_plain, state_plain}
-use Rattle.code_listing.proofs.ToldBlocks.{behind_states, behind_vars, behind_outs, behind_ins, path_line, tail_lines, lines_are}
+use Rattle.code_listing.proofs.ToldBlocks.{behind_states, behind_vars, behind_outs, behind_ins, path_line, tail_lines}
+use Rattle.code_listing.proofs.ToldBlocks.{lines_are}
 use Rattle.code_listing.proofs.ToldComponents.{kind_plain}
 use Rattle.code_listing.proofs.ToldInstrs.{words_plain}
-use Rattle.code_listing.proofs.ToldLinks.{link_words, link_line-is, link_plain, feed_words, feed_line-is, feed_plain, tap_words, tap_line-is, tap_plain}
+use Rattle.code_listing.proofs.ToldLinks.{link_words, link_line-is, link_plain, feed_words, feed_line-is, feed_plain}
+use Rattle.code_listing.proofs.ToldLinks.{tap_words, tap_line-is, tap_plain}
 
 -- ---- a component
 a_number : (word : List ℕ) (n : ℕ) → is_plain word ≡ true → (rest : List (List ℕ)) → All IsLine rest

@@ -1,6 +1,7 @@
 -- The listing of a design's step code: a text of lines, each of words with one space between each two. A line on a component
 -- is indented by one space, and an instruction by two: such a line begins with one or two empty words.
-use Rattle.std.specs.Prelude.{ℕ, ◌-◌, codes, decimal, List, [], ◌∷◌, ◌++◌, length, map, flat_map, zip, Option, Some, None, slice_get}
+use Rattle.std.specs.Prelude.{ℕ, ◌-◌, codes, decimal, List, [], ◌∷◌, ◌++◌, length, map, flat_map, zip, Option, Some}
+use Rattle.std.specs.Prelude.{None, slice_get}
 use Rattle.std.specs.List.{enumerate_from}
 use Rattle.std.specs.Fmt.{signed_decimal}
 use Rattle.pals_base.specs.declared.behaviour.Kind.{Kind}

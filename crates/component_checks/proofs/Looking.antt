@@ -1,5 +1,6 @@
 -- Associations of a name, and properties in several lists.
-use Rattle.std.proofs.Common.{◌≡◌, ◌∙◌, ℕ, Bool, true, false, cond, ◌&&◌, ◌++◌, List, [], ◌∷◌, Option, Some, refl, sym, ap, map, rules, find}
+use Rattle.std.proofs.Common.{◌≡◌, ◌∙◌, ℕ, Bool, true, false, cond, ◌&&◌, ◌++◌, List, [], ◌∷◌, Option, Some, refl, sym}
+use Rattle.std.proofs.Common.{ap, map, rules, find}
 use Rattle.std.specs.Option.{option_or, option_and_then}
 use Rattle.std.proofs.lemmas.Bool.{false≢true}
 use Rattle.list_lemmas.proofs.Options.{option_or-none, option_or_assoc}

@@ -1,5 +1,6 @@
 -- What lists say of a component, one behind the other and by numbers.
-use Rattle.std.proofs.Common.{◌≡◌, ◌∙◌, ℕ, ◌+◌, ◌<◌, Bool, List, [], ◌∷◌, ◌++◌, length, take, get_or, reverse, append_assoc, Option, Some, None, refl, sym, ap, map}
+use Rattle.std.proofs.Common.{◌≡◌, ◌∙◌, ℕ, ◌+◌, ◌<◌, Bool, List, [], ◌∷◌, ◌++◌, length, take, get_or, reverse}
+use Rattle.std.proofs.Common.{append_assoc, Option, Some, None, refl, sym, ap, map}
 use Rattle.std.specs.Prelude.{flat_map, option_map, slice_get}
 use Rattle.std.specs.Option.{option_or, option_and_then}
 use Rattle.std.proofs.lemmas.List.{reverse-append}
@@ -7,16 +8,20 @@ use Rattle.std.proofs.lemmas.Option.{slice_get-map, get_or_from_slice_get, slice
 use Rattle.aadl_tree.specs.Values.{Associations}
 use Rattle.aadl_tree.specs.Declarations.{Subcomponent, Implementation, Declaration, PackageTree}
 use Rattle.aadl_names.specs.declared.holder.PropertyName.TheVariants.{Period, Dispatch}
-use Rattle.aadl_names.specs.Resolving.{type_in, implementation_in, implementation_at, subcomponents_of, connections_of, type_number, type_of, referred, target_of}
+use Rattle.aadl_names.specs.Resolving.{type_in, implementation_in, implementation_at, subcomponents_of, connections_of}
+use Rattle.aadl_names.specs.Resolving.{type_number, type_of, referred, target_of}
 use Rattle.aadl_uses.specs.declared.thread_places.SubAt.{SubAt}
 use Rattle.aadl_uses.specs.Uses.{sub_at, below}
 use Rattle.aadl_uses.specs.proof.Types.{type_number_at}
 use Rattle.annex_resolve.proofs.ReadingSums.{take_next}
 use Rattle.component_checks.specs.declared.timed.ComponentProperties.{ComponentProperties}
-use Rattle.component_checks.specs.PropertyLookup.{type_lists, own_lists, sub_lists, lists_at, lists_along, root_lists, first_in}
+use Rattle.component_checks.specs.PropertyLookup.{type_lists, own_lists, sub_lists, lists_at, lists_along, root_lists}
+use Rattle.component_checks.specs.PropertyLookup.{first_in}
 use Rattle.component_checks.specs.proof.ChainProperties as carried
 use Rattle.component_checks.specs.proof.ChainProperties.{carried_by, connections_carried}
-use Rattle.component_checks.specs.proof.ComponentProperties.{period_at, dispatch_at, timed_by, nearer, type_timed, own_timed, sub_timed, subs_timed, or_nothing, or_none, numbered, numbered_in}
+use Rattle.component_checks.specs.proof.ComponentProperties.{period_at, dispatch_at, timed_by, nearer, type_timed}
+use Rattle.component_checks.specs.proof.ComponentProperties.{own_timed, sub_timed, subs_timed, or_nothing, or_none}
+use Rattle.component_checks.specs.proof.ComponentProperties.{numbered, numbered_in}
 use Rattle.component_checks.proofs.Looking.{first-append}
 
 map_or : {A B : Type 0} (f : A → B) (a b : Option A)

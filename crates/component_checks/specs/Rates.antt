@@ -1,5 +1,6 @@
 -- What is wrong with periods, rates and adaptors.
-use Rattle.std.specs.Prelude.{ℕ, ◌+◌, ◌*◌, ◌-◌, ◌/◌, drop, Bool, true, false, not, ◌&&◌, nat_eq, nat_le, nat_lt, List, [], ◌∷◌, ◌++◌, codes, Option, Some, None, if◌then◌else◌}
+use Rattle.std.specs.Prelude.{ℕ, ◌+◌, ◌*◌, ◌-◌, ◌/◌, drop, Bool, true, false, not, ◌&&◌, nat_eq, nat_le, nat_lt, List}
+use Rattle.std.specs.Prelude.{[], ◌∷◌, ◌++◌, codes, Option, Some, None, if◌then◌else◌}
 use Rattle.std.specs.Option.{is_some}
 use Rattle.std.specs.List.{starts_with}
 use Rattle.std.specs.Str.{bytes_eq}
@@ -13,7 +14,9 @@ use Rattle.pals_base.specs.Bound.{least_period}
 use Rattle.pals_base.specs.Allowed.{divides_or_divided, is_allowed, suits_kind}
 use Rattle.annex_resolve.specs.declared.violation.Violation.{Violation}
 use Rattle.annex_resolve.specs.Scopes.{finding, found_if}
-use Rattle.annex_resolve.specs.declared.violation.TheConstants.{NOT_DIVISOR, RATE_TOO_HIGH, RATES_DONT_DIVIDE, NO_ADAPTOR, STRAY_ADAPTOR, ADAPTOR_OUT_OF_RANGE, PERIOD_TOO_SHORT}
+use Rattle.annex_resolve.specs.declared.violation.TheConstants.{NOT_DIVISOR, RATE_TOO_HIGH, RATES_DONT_DIVIDE}
+use Rattle.annex_resolve.specs.declared.violation.TheConstants.{NO_ADAPTOR, STRAY_ADAPTOR, ADAPTOR_OUT_OF_RANGE}
+use Rattle.annex_resolve.specs.declared.violation.TheConstants.{PERIOD_TOO_SHORT}
 use Rattle.component_checks.specs.Numbers.{divides}
 
 abbrev pub name_and_number : List ℕ → ℕ → List ℕ

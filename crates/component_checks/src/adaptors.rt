@@ -1,7 +1,8 @@
 //! What is wrong with adaptors.
 ghost use Rattle.std.specs.Prelude.{◌≡◌, ◌<◌, ◌++◌, OnOk, drop};
 ghost use Rattle.annex_resolve.specs.Scopes.{found_if};
-ghost use Rattle.component_checks.specs.Rates.{is_digit, is_first_digit, place_number, adaptor_named, kind_suits, is_right};
+ghost use Rattle.component_checks.specs.Rates.{is_digit, is_first_digit, place_number, adaptor_named, kind_suits};
+ghost use Rattle.component_checks.specs.Rates.{is_right};
 
 use crate::rates::name_and_number;
 use annex_resolve::Violation;

@@ -11,7 +11,11 @@ use pals_base::{Items, NoMemory};
 use std::alloc::Global;
 
 /// What stands at a number in the list of a number.
-pub fn carried_at(carried: &[Items<ChainProperties>], list: usize, number: usize) -> Option<ChainProperties>
+pub fn carried_at(
+    carried: &[Items<ChainProperties>],
+    list: usize,
+    number: usize,
+) -> Option<ChainProperties>
     ensures { result ≡ spec.carried_at carried.now list number }
 {
     match carried.get(list) {
@@ -21,7 +25,10 @@ pub fn carried_at(carried: &[Items<ChainProperties>], list: usize, number: usize
 }
 
 // What connections say, in order.
-fn connections_of(alloc: Global, connections: &[Connection]) -> Result<Items<ChainProperties>, NoMemory>
+fn connections_of(
+    alloc: Global,
+    connections: &[Connection],
+) -> Result<Items<ChainProperties>, NoMemory>
     ensures { IfOk result (λ carried. carried ≡ map (λ c. spec.carried_by c.properties) (map (connection_view kept_place) connections.now)) }
 {
     let mut carried = Items::new(alloc);
@@ -32,7 +39,10 @@ fn connections_of(alloc: Global, connections: &[Connection]) -> Result<Items<Cha
 }
 
 // What the connections of a declaration say.
-fn connections_in(alloc: Global, declaration: &Declaration) -> Result<Items<ChainProperties>, NoMemory>
+fn connections_in(
+    alloc: Global,
+    declaration: &Declaration,
+) -> Result<Items<ChainProperties>, NoMemory>
     ensures { IfOk result (λ carried. carried ≡ spec.connections_carried (declaration_view kept_place declaration.now)) }
 {
     match declaration {

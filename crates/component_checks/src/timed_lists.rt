@@ -28,7 +28,11 @@ pub fn numbered(timed: &[ComponentProperties], number: Option<usize>) -> Compone
 }
 
 /// What stands at a number in the list of a number, or nothing.
-pub fn numbered_in(timed: &[Items<ComponentProperties>], list: usize, number: usize) -> ComponentProperties
+pub fn numbered_in(
+    timed: &[Items<ComponentProperties>],
+    list: usize,
+    number: usize,
+) -> ComponentProperties
     ensures { result ≡ spec.numbered_in timed.now list number }
 {
     match timed.get(list) {
@@ -48,7 +52,10 @@ fn of_type(alloc: Global, declaration: &Declaration) -> Result<ComponentProperti
 }
 
 /// What the types of a package say, by their numbers.
-pub fn all_of_types(alloc: Global, tree: &PackageTree) -> Result<Items<ComponentProperties>, NoMemory>
+pub fn all_of_types(
+    alloc: Global,
+    tree: &PackageTree,
+) -> Result<Items<ComponentProperties>, NoMemory>
     ensures { IfOk result (λ types. types ≡ map spec.type_timed (placed tree.now).declarations) }
 {
     let mut types = Items::new(alloc);
@@ -59,7 +66,12 @@ pub fn all_of_types(alloc: Global, tree: &PackageTree) -> Result<Items<Component
 }
 
 // What the implementation of a number says, and its type.
-fn own_of(alloc: Global, uses: &Uses<'_>, types: &[ComponentProperties], number: usize) -> Result<ComponentProperties, NoMemory>
+fn own_of(
+    alloc: Global,
+    uses: &Uses<'_>,
+    types: &[ComponentProperties],
+    number: usize,
+) -> Result<ComponentProperties, NoMemory>
     requires { types.now ≡ map spec.type_timed (placed uses.now.names.tree.now).declarations }
     ensures { IfOk result (λ timed. timed ≡ timed_by (root_lists (placed uses.now.names.tree.now) number)) }
 {
@@ -71,7 +83,11 @@ fn own_of(alloc: Global, uses: &Uses<'_>, types: &[ComponentProperties], number:
 }
 
 /// What the implementations of a package say, and their types, by their numbers.
-pub fn all_own(alloc: Global, uses: &Uses<'_>, types: &[ComponentProperties]) -> Result<Items<ComponentProperties>, NoMemory>
+pub fn all_own(
+    alloc: Global,
+    uses: &Uses<'_>,
+    types: &[ComponentProperties],
+) -> Result<Items<ComponentProperties>, NoMemory>
     requires { types.now ≡ map spec.type_timed (placed uses.now.names.tree.now).declarations }
     ensures { IfOk result (λ own. own ≡ map (spec.own_timed (placed uses.now.names.tree.now)) (placed uses.now.names.tree.now).declarations) }
 {
@@ -83,7 +99,12 @@ pub fn all_own(alloc: Global, uses: &Uses<'_>, types: &[ComponentProperties]) ->
 }
 
 // What a subcomponent says, its implementation and that one's type.
-fn sub_of(alloc: Global, uses: &Uses<'_>, own: &[ComponentProperties], at: SubAt) -> Result<ComponentProperties, NoMemory>
+fn sub_of(
+    alloc: Global,
+    uses: &Uses<'_>,
+    own: &[ComponentProperties],
+    at: SubAt,
+) -> Result<ComponentProperties, NoMemory>
     requires { own.now ≡ map (spec.own_timed (placed uses.now.names.tree.now)) (placed uses.now.names.tree.now).declarations }
     ensures { IfOk result (λ timed. timed ≡ timed_by (lists_at (placed uses.now.names.tree.now) at)) }
 {

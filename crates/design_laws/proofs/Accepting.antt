@@ -26,7 +26,8 @@ use Rattle.design_laws.proofs.ThreadBehaviours.{ThreadLaw}
 use Rattle.design_laws.proofs.Rating.{root_time, root_bounds, bounds_keep, enough, some_time}
 use Rattle.design_laws.proofs.Matching.{Zipped, Made, zipped_weaker, made_twice}
 use Rattle.design_laws.proofs.Composing as composing
-use Rattle.design_laws.proofs.Composing.{components, is_small, thread_of, components_keep, components_few, components_differ, greatest_is}
+use Rattle.design_laws.proofs.Composing.{components, is_small, thread_of, components_keep, components_few}
+use Rattle.design_laws.proofs.Composing.{components_differ, greatest_is}
 use Rattle.design_laws.proofs.Ending.{Sits}
 use Rattle.design_laws.proofs.Joining.{links, feeds, taps, whole, links_keep, feeds_keep, taps_keep}
 use Rattle.design_laws.proofs.Showing.{of_shown, to_shown}

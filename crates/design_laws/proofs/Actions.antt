@@ -9,10 +9,11 @@ use Rattle.aadl_tree.specs.Actions as a
 use Rattle.aadl_names.specs.declared.fault.PackageFault.TheVariants.{Twice}
 use Rattle.aadl_names.specs.declared.role.Role.{Role}
 use Rattle.aadl_names.specs.declared.role.Usage.TheVariants.{Set, Send}
-use Rattle.aadl_names.specs.AnnexNames.{Known, expression_uses, again_as, loop_again, with_loop, action_uses, actions_uses, mores_uses}
-use Rattle.aadl_names.specs.AnnexNames.{elsifs_uses, otherwise_uses, block_uses}
+use Rattle.aadl_names.specs.AnnexNames.{Known, expression_uses, again_as, loop_again, with_loop, action_uses}
+use Rattle.aadl_names.specs.AnnexNames.{actions_uses, mores_uses, elsifs_uses, otherwise_uses, block_uses}
 use Rattle.aadl_names.proofs.Elements.{is_here}
-use Rattle.design_laws.proofs.Clear.{Clear, clear_none, clear_one, clear_front, clear_back, clear_tail, clear_append, clear_three, clear_four}
+use Rattle.design_laws.proofs.Clear.{Clear, clear_none, clear_one, clear_front, clear_back, clear_tail, clear_append}
+use Rattle.design_laws.proofs.Clear.{clear_three, clear_four}
 use Rattle.design_laws.proofs.Expressions.{use_clear, expression_clear}
 
 test_clear : (known : Known) (x : Expression ℕ) → Clear (a.test_parts x) (expression_uses known x)

@@ -8,23 +8,24 @@ use Rattle.list_lemmas.proofs.Elements.{Contains-nil}
 use Rattle.list_lemmas.proofs.Places.{Contains-from_slice_get}
 use Rattle.aadl_tree.specs.Names.{Identifier, identifiers, listed_in}
 use Rattle.aadl_tree.specs.Annexes.{VariableDeclaration, StateDeclaration, AnnexTree}
-use Rattle.aadl_tree.specs.Declarations.{Feature, Subcomponent, Connection, TypeDeclaration, Implementation, Declaration, type, implementation}
-use Rattle.aadl_tree.specs.Declarations.{PackageTree}
+use Rattle.aadl_tree.specs.Declarations.{Feature, Subcomponent, Connection, TypeDeclaration, Implementation}
+use Rattle.aadl_tree.specs.Declarations.{Declaration, type, implementation, PackageTree}
 use Rattle.aadl_names.specs.declared.fault.PackageFault.{PackageFault}
 use Rattle.aadl_names.specs.declared.fault.PackageFault.TheVariants.{Twice}
 use Rattle.aadl_names.specs.declared.entry.SpelledName.{SpelledName}
 use Rattle.aadl_names.specs.Spelling.{entry_of, spelled_implementation}
 use Rattle.aadl_names.specs.Behaviours.{behaviours, variables_of, states_of}
 use Rattle.aadl_names.specs.Resolving.{is_thread, type_in, type_numbered, type_number, features_of, ports_of}
-use Rattle.aadl_names.specs.Spaces.{port_entries, variable_entries, state_entries, twice_in_behaviour, twice_in_first, member_entries}
-use Rattle.aadl_names.specs.Spaces.{twice_in, type_entry, implementation_entry, twice_names}
+use Rattle.aadl_names.specs.Spaces.{port_entries, variable_entries, state_entries, twice_in_behaviour, twice_in_first}
+use Rattle.aadl_names.specs.Spaces.{member_entries, twice_in, type_entry, implementation_entry, twice_names}
 use Rattle.aadl_names.specs.PackageFaults.{behaviour_faults, unknown_reference, unknown_end}
 use Rattle.aadl_names.proofs.Elements.{is_here, among_all, from_all}
-use Rattle.design_laws.proofs.Covering.{Covered, covered_none, covered_append, covered_if, covered_each, Named, named_append, named_map}
-use Rattle.design_laws.proofs.Covering.{named_filter_map, covered_twice}
+use Rattle.design_laws.proofs.Covering.{Covered, covered_none, covered_append, covered_if, covered_each, Named}
+use Rattle.design_laws.proofs.Covering.{named_append, named_map, named_filter_map, covered_twice}
 use Rattle.design_laws.proofs.Found.{behaviour_has}
-use Rattle.design_laws.proofs.PossibleNameFaults.{of_identifier, of_identifiers, of_associations, of_variable, of_state, of_tree, of_annex, of_feature}
-use Rattle.design_laws.proofs.PossibleNameFaults.{of_subcomponent, of_connection, none_of, of_type, of_implementation, of_declaration, possible}
+use Rattle.design_laws.proofs.PossibleNameFaults.{of_identifier, of_identifiers, of_associations, of_variable, of_state}
+use Rattle.design_laws.proofs.PossibleNameFaults.{of_tree, of_annex, of_feature, of_subcomponent, of_connection}
+use Rattle.design_laws.proofs.PossibleNameFaults.{none_of, of_type, of_implementation, of_declaration, possible}
 
 abbrev pub again_of : Identifier ℕ → PackageFault
 again_of x = Twice x.spelling x.at

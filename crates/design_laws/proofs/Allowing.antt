@@ -1,5 +1,6 @@
 -- Adaptors on which nothing is found are allowed.
-use Rattle.std.proofs.Common.{◌≡◌, ℕ, nat_eq, Bool, true, false, cond, ◌||◌, List, [], ◌∷◌, Option, Some, None, refl, ap, subst}
+use Rattle.std.proofs.Common.{◌≡◌, ℕ, nat_eq, Bool, true, false, cond, ◌||◌, List, [], ◌∷◌, Option, Some, None, refl}
+use Rattle.std.proofs.Common.{ap, subst}
 use Rattle.std.specs.Prelude.{option_map}
 use Rattle.std.specs.Option.{option_and_then, is_some}
 use Rattle.std.proofs.Math.Nat.{mod_self}
@@ -9,7 +10,8 @@ use Rattle.pals_base.specs.declared.values.Adaptor.{Adaptor}
 use Rattle.pals_base.specs.Allowed.{divides_or_divided, is_allowed}
 use Rattle.annex_resolve.specs.Scopes.{finding, found_if}
 use Rattle.annex_resolve.specs.declared.violation.TheConstants.{RATES_DONT_DIVIDE, STRAY_ADAPTOR, ADAPTOR_OUT_OF_RANGE}
-use Rattle.component_checks.specs.Rates.{name_and_number, adaptor_named, kind_suits, is_right, adaptor_findings, pair_findings}
+use Rattle.component_checks.specs.Rates.{name_and_number, adaptor_named, kind_suits, is_right, adaptor_findings}
+use Rattle.component_checks.specs.Rates.{pair_findings}
 use Rattle.design_laws.proofs.Tests as tests
 
 -- the adaptor of a text fits two rates and a type

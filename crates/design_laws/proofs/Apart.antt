@@ -14,23 +14,26 @@ use Rattle.list_lemmas.proofs.Numbers.{ne_from_lt}
 use Rattle.aadl_tree.specs.Parts.{Part}
 use Rattle.aadl_tree.specs.Names.{Identifier}
 use Rattle.aadl_tree.specs.Annexes.{AnnexTree}
-use Rattle.aadl_tree.specs.Declarations.{Feature, Subcomponent, Connection, TypeDeclaration, Implementation, Declaration, type}
-use Rattle.aadl_tree.specs.Declarations.{implementation, PackageTree, declaration_parts, package_parts}
+use Rattle.aadl_tree.specs.Declarations.{Feature, Subcomponent, Connection, TypeDeclaration, Implementation}
+use Rattle.aadl_tree.specs.Declarations.{Declaration, type, implementation, PackageTree, declaration_parts}
+use Rattle.aadl_tree.specs.Declarations.{package_parts}
 use Rattle.aadl_tree.specs.proof.Given.{IsGiven}
 use Rattle.aadl_names.specs.declared.entry.SpelledName.{SpelledName}
 use Rattle.aadl_names.specs.Spelling.{entry_of}
 use Rattle.aadl_names.specs.Behaviours.{behaviours, variables_of, states_of}
 use Rattle.aadl_names.specs.Resolving.{is_thread, type_in, type_numbered, type_number, features_of, ports_of}
 use Rattle.aadl_names.specs.Twice.{twice}
-use Rattle.aadl_names.specs.Spaces.{port_entries, variable_entries, state_entries, twice_in_behaviour, twice_in_first, member_entries}
-use Rattle.aadl_names.specs.Spaces.{twice_in, type_entry, implementation_entry, twice_names}
+use Rattle.aadl_names.specs.Spaces.{port_entries, variable_entries, state_entries, twice_in_behaviour, twice_in_first}
+use Rattle.aadl_names.specs.Spaces.{member_entries, twice_in, type_entry, implementation_entry, twice_names}
 use Rattle.aadl_names.specs.PackageFaults.{wrong_names, package_faults}
 use Rattle.aadl_names.specs.proof.Orders.{places_of}
 use Rattle.aadl_names.proofs.Rising.{places_rise}
 use Rattle.design_laws.specs.proof.Named.{NamesDiffer}
-use Rattle.design_laws.proofs.Placed.{Pairs, pairs_append, pairs_weaker, Rise, rise_back, in_front, in_back, IsIn, Placed}
+use Rattle.design_laws.proofs.Placed.{Pairs, pairs_append, pairs_weaker, Rise, rise_back, in_front, in_back, IsIn}
+use Rattle.design_laws.proofs.Placed.{Placed}
 use Rattle.design_laws.proofs.Differing.{where_true, Apart, Differs, names_differ}
-use Rattle.design_laws.proofs.Declaring.{type_names, member_names, first_variables, first_states, rise_declarations, rise_one}
+use Rattle.design_laws.proofs.Declaring.{type_names, member_names, first_variables, first_states, rise_declarations}
+use Rattle.design_laws.proofs.Declaring.{rise_one}
 
 -- ---- pairs by their numbers
 pub pairs_all : {X : Type 0} (R : X → X → Type 0) (xs : List X) → Pairs R xs → AllPairs R xs

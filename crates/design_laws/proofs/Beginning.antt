@@ -1,5 +1,6 @@
 -- Where one state alone is initial, and is complete, a behaviour may begin there.
-use Rattle.std.proofs.Common.{◌≡◌, ℕ, ◌+◌, ◌<◌, suc, Bool, true, false, nat_lt, ◌==◌, cond, List, [], ◌∷◌, length, map, Some, None, refl, sym, ap, ◌∙◌, subst, arith}
+use Rattle.std.proofs.Common.{◌≡◌, ℕ, ◌+◌, ◌<◌, suc, Bool, true, false, nat_lt, ◌==◌, cond, List, [], ◌∷◌, length, map}
+use Rattle.std.proofs.Common.{Some, None, refl, sym, ap, ◌∙◌, subst, arith}
 use Rattle.std.specs.Prelude.{filter, slice_get, option_map}
 use Rattle.std.specs.List.{list_all, position_or_len}
 use Rattle.std.specs.Option.{unwrap_or}

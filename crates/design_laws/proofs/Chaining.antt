@@ -1,5 +1,6 @@
 -- The types of ports along a chain of connections on which nothing is found.
-use Rattle.std.proofs.Common.{◌≡◌, ◌∙◌, ℕ, ◌+◌, Bool, true, List, [], ◌∷◌, ◌++◌, Option, Some, None, refl, sym, ap, subst, arith}
+use Rattle.std.proofs.Common.{◌≡◌, ◌∙◌, ℕ, ◌+◌, Bool, true, List, [], ◌∷◌, ◌++◌, Option, Some, None, refl, sym, ap}
+use Rattle.std.proofs.Common.{subst, arith}
 use Rattle.std.specs.Prelude.{slice_get, option_map}
 use Rattle.std.specs.Option.{option_and_then, is_some}
 use Rattle.std.proofs.lemmas.Bool.{false≢true}
@@ -13,8 +14,8 @@ use Rattle.aadl_tree.specs.Names.{Identifier, same_name}
 use Rattle.aadl_tree.specs.Declarations.{Feature, Subcomponent, ConnectionEnd, Implementation, PackageTree}
 use Rattle.aadl_names.specs.declared.site.PortPlace.{PortPlace}
 use Rattle.aadl_names.specs.declared.site.PortPlace.TheVariants.{Own, Inner}
-use Rattle.aadl_names.specs.Resolving.{implementation_at, subcomponents_of, referred, target_of, ports_of, ports_at, port_named, sub_named}
-use Rattle.aadl_names.specs.Resolving.{inner_ports, inner_site, site_by, site}
+use Rattle.aadl_names.specs.Resolving.{implementation_at, subcomponents_of, referred, target_of, ports_of, ports_at}
+use Rattle.aadl_names.specs.Resolving.{port_named, sub_named, inner_ports, inner_site, site_by, site}
 use Rattle.aadl_uses.specs.Uses.{sub_at, below, standing, component_at}
 use Rattle.aadl_chains.specs.Chains.{Port, Place, port_at, Goes, Leads, port_of}
 use Rattle.aadl_instance.specs.Flat.{Parts, IsFlat}
@@ -23,7 +24,8 @@ use Rattle.annex_resolve.specs.Types.{kind_in, same_kind, fits}
 use Rattle.design_laws.proofs.Tests.{none_at, is_right}
 use Rattle.component_checks.specs.Types.{port_findings}
 use Rattle.model_violations.specs.Carriers.{carries}
-use Rattle.model_violations.specs.Connections.{site_port, site_kind, kind_at, ends_findings, delay_findings, connection_findings, connections_findings}
+use Rattle.model_violations.specs.Connections.{site_port, site_kind, kind_at, ends_findings, delay_findings}
+use Rattle.model_violations.specs.Connections.{connection_findings, connections_findings}
 use Rattle.model_violations.specs.Use.{IsUse}
 use Rattle.model_violations.specs.Declarations.{thread_findings}
 use Rattle.model_violations.specs.Violations.{shown_by, used_findings, carriers_of}

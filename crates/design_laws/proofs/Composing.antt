@@ -1,7 +1,7 @@
 -- The components of an instance in which nothing is found.
-use Rattle.std.proofs.Common.{◌≡◌, ◌≢◌, ◌∙◌, inl, inr, ℕ, ◌≤◌, max, Bool, List, [], ◌∷◌, map, length, fold, codes, Option, Some, None}
+use Rattle.std.proofs.Common.{◌≡◌, ◌≢◌, ◌∙◌, inl, inr, ℕ, ◌≤◌, max, Bool, List, [], ◌∷◌, map, length, fold, codes}
+use Rattle.std.proofs.Common.{Option, Some, None, AllPairs, refl, sym, ap, subst, arith, length-append}
 use Rattle.aadl_tree.specs.Names.{identifiers, listed_in}
-use Rattle.std.proofs.Common.{AllPairs, refl, sym, ap, subst, arith, length-append}
 use Rattle.std.specs.Prelude.{flat_map, slice_get, All, IsTrue}
 use Rattle.std.specs.List.{AllByRecursion}
 use Rattle.std.specs.Option.{option_and_then}
@@ -29,7 +29,8 @@ use Rattle.annex_resolve.specs.Types.{kind_named}
 use Rattle.annex_resolve.specs.Behaviours.{state_at, states_in, states_of, declared, behaviour_of}
 use Rattle.component_checks.specs.Roots.{root_findings}
 use Rattle.component_checks.specs.Threads.{thread_rate, thread_findings, greater_rate, greatest_rate}
-use Rattle.model_violations.specs.Values.{ins_in, outs_in, first_of, variable_of, variables_in, variables_of, named_of, var_of, values_of, scope_of}
+use Rattle.model_violations.specs.Values.{ins_in, outs_in, first_of, variable_of, variables_in, variables_of, named_of}
+use Rattle.model_violations.specs.Values.{var_of, values_of, scope_of}
 use Rattle.model_violations.specs.Threads.{first_annex, behaviour_by, behaviour_in}
 use Rattle.model_violations.proofs.OneMoreFinding.{ports_both}
 use Rattle.design_laws.specs.proof.Named.{AreNamed}
@@ -40,7 +41,8 @@ use Rattle.model_violations.specs.Use.{IsUse}
 use Rattle.model_violations.specs.Violations.{shown_by, used_findings}
 use Rattle.design_laws.specs.Designs.{component_by, component_in, thread_behaviour}
 use Rattle.design_laws.proofs.Clean.{names_clean, not_over, declared_at}
-use Rattle.design_laws.proofs.ThreadBehaviours.{ThreadLaw, ThreadIs, thread_is, root_no_thread, thread_behaves, seen_behaviour}
+use Rattle.design_laws.proofs.ThreadBehaviours.{ThreadLaw, ThreadIs, thread_is, root_no_thread, thread_behaves}
+use Rattle.design_laws.proofs.ThreadBehaviours.{seen_behaviour}
 use Rattle.design_laws.proofs.Rating.{root_time, rate_is}
 use Rattle.design_laws.proofs.Pathing.{path_is, paths_differ, before_other}
 use Rattle.design_laws.proofs.Matching.{Zipped, Made, all_made, zipped_length, all_zipped, pairs_zipped}

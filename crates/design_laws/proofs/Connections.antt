@@ -1,5 +1,6 @@
 -- The first connection that is on no chain, or is the second into a port.
-use Rattle.std.proofs.Common.{◌≡◌, ◌↔◌, ℕ, zero, suc, Bool, false, ◌&&◌, IsTrue, List, [], ◌∷◌, length, map, slice_get, Contains, Option, Some, None, refl, sym, subst, ◌∙◌}
+use Rattle.std.proofs.Common.{◌≡◌, ◌↔◌, ℕ, zero, suc, Bool, false, ◌&&◌, IsTrue, List, [], ◌∷◌, length, map, slice_get}
+use Rattle.std.proofs.Common.{Contains, Option, Some, None, refl, sym, subst, ◌∙◌}
 use Rattle.std.proofs.lemmas.Option.{none-some, same_Some, slice_get_within}
 use Rattle.list_lemmas.proofs.Elements.{Contains-nil}
 use Rattle.list_lemmas.proofs.Places.{slice_get-from_Contains, Contains-from_slice_get}
@@ -24,7 +25,8 @@ use Rattle.aadl_chains.specs.Chains.{IsEndFault}
 use Rattle.aadl_chains.specs.proof.Sound.{AreDeclared}
 use Rattle.aadl_chains.specs.proof.OnChains.{IsOnWay}
 use Rattle.aadl_chains.specs.proof.Findings.{IsFoundAt, IsFoundIn, dead_end, second}
-use Rattle.aadl_chains.proofs.EndFaults.{both_found, nothing_at, ways_tell, no_source, no_target, end_fault, found_fault}
+use Rattle.aadl_chains.proofs.EndFaults.{both_found, nothing_at, ways_tell, no_source, no_target, end_fault}
+use Rattle.aadl_chains.proofs.EndFaults.{found_fault}
 use Rattle.design_laws.proofs.Finding.{Finds, none_found, alike_found, Below, found_below, first_in}
 use Rattle.design_laws.proofs.Inside.{inside}
 use Rattle.design_laws.proofs.Outside.{is_used, outside}

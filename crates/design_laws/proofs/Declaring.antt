@@ -4,19 +4,22 @@ use Rattle.std.specs.Prelude.{flat_map, slice_get}
 use Rattle.std.proofs.lemmas.Option.{same_Some}
 use Rattle.aadl_tree.specs.declared.mark.Mark.TheVariants as k
 use Rattle.aadl_tree.specs.Terminals.{mark}
-use Rattle.aadl_tree.specs.Parts.{Part, token, plain, parts_if, feature_section, subcomponent_section, connection_section, property_section}
+use Rattle.aadl_tree.specs.Parts.{Part, token, plain, parts_if, feature_section, subcomponent_section}
+use Rattle.aadl_tree.specs.Parts.{connection_section, property_section}
 use Rattle.aadl_tree.specs.Names.{Identifier, identifier_parts, identifiers_parts, name_parts, identifiers, listed_in}
 use Rattle.aadl_tree.specs.Values.{associations_parts}
-use Rattle.aadl_tree.specs.Annexes.{VariableDeclaration, StateDeclaration, AnnexTree, AnnexContent, foreign, behaviour, Annex}
-use Rattle.aadl_tree.specs.Annexes.{variable_parts, state_parts, declared_parts, annex_tree_parts, content_parts, annex_parts}
-use Rattle.aadl_tree.specs.Declarations.{Feature, Subcomponent, Connection, TypeDeclaration, Implementation, Declaration, PackageTree}
-use Rattle.aadl_tree.specs.Declarations.{category_mark, section_parts, feature_parts, subcomponent_parts, connection_parts, ending_parts}
-use Rattle.aadl_tree.specs.Declarations.{type_parts, implementation_name_parts, implementation_parts, declaration_parts, with_parts}
+use Rattle.aadl_tree.specs.Annexes.{VariableDeclaration, StateDeclaration, AnnexTree, AnnexContent, foreign, behaviour}
+use Rattle.aadl_tree.specs.Annexes.{Annex, variable_parts, state_parts, declared_parts, annex_tree_parts, content_parts}
+use Rattle.aadl_tree.specs.Annexes.{annex_parts}
+use Rattle.aadl_tree.specs.Declarations.{Feature, Subcomponent, Connection, TypeDeclaration, Implementation}
+use Rattle.aadl_tree.specs.Declarations.{Declaration, PackageTree, category_mark, section_parts, feature_parts}
+use Rattle.aadl_tree.specs.Declarations.{subcomponent_parts, connection_parts, ending_parts, type_parts}
+use Rattle.aadl_tree.specs.Declarations.{implementation_name_parts, implementation_parts, declaration_parts, with_parts}
 use Rattle.aadl_tree.specs.Declarations.{package_parts}
 use Rattle.aadl_names.specs.Behaviours.{behaviours, variables_of, states_of}
-use Rattle.design_laws.proofs.Placed.{Rise, rise_front, rise_back, rise_tail, rise_section, Placed, placed_front, placed_back, placed_tail}
-use Rattle.design_laws.proofs.Placed.{placed_section, placed_append, placed_flat, placed_identifier, placed_identifiers, listed}
-use Rattle.design_laws.proofs.Placed.{placed_declared}
+use Rattle.design_laws.proofs.Placed.{Rise, rise_front, rise_back, rise_tail, rise_section, Placed, placed_front}
+use Rattle.design_laws.proofs.Placed.{placed_back, placed_tail, placed_section, placed_append, placed_flat}
+use Rattle.design_laws.proofs.Placed.{placed_identifier, placed_identifiers, listed, placed_declared}
 
 -- ---- the ports of a type
 feature_names : (f : Feature ℕ) → Placed (feature_parts f) (f.name ∷ [])

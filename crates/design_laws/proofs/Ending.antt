@@ -1,5 +1,6 @@
 -- The ports of threads at which chains end, as the design numbers them.
-use Rattle.std.proofs.Common.{◌≡◌, ◌∙◌, ℕ, ◌+◌, ◌≤◌, true, false, not, List, map, length, take, Option, Some, None, Contains, refl, sym, ap}
+use Rattle.std.proofs.Common.{◌≡◌, ◌∙◌, ℕ, ◌+◌, ◌≤◌, true, false, not, List, map, length, take, Option, Some, None}
+use Rattle.std.proofs.Common.{Contains, refl, sym, ap}
 use Rattle.std.specs.Prelude.{slice_get, filter, count_by, option_map}
 use Rattle.std.specs.Option.{option_and_then}
 use Rattle.std.proofs.lemmas.Bool.{false≢true, not_from_false}

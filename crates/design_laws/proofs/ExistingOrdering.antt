@@ -1,11 +1,13 @@
 -- Declarations are placed in rounds, each of which places one more.
-use Rattle.std.proofs.Common.{◌≡◌, ◌⊎◌, inl, inr, ℕ, zero, suc, ◌+◌, ◌<◌, ◌≤◌, Bool, true, false, nat_eq, List, [], length, refl, subst, arith}
+use Rattle.std.proofs.Common.{◌≡◌, ◌⊎◌, inl, inr, ℕ, zero, suc, ◌+◌, ◌<◌, ◌≤◌, Bool, true, false, nat_eq, List, []}
+use Rattle.std.proofs.Common.{length, refl, subst, arith}
 use Rattle.std.specs.List.{list_all}
 use Rattle.indexmap.specs.IndexSet.{insert_key}
 use Rattle.std.proofs.lemmas.Bool.{cases_lt}
 use Rattle.aadl_uses.specs.proof.Graphs.{Graph, targets_in, IsWithin}
 use Rattle.aadl_uses.specs.proof.Orders.{is_there, IsSequence, IsPlaced, ArePlaced}
-use Rattle.aadl_uses.proofs.Sequences.{misses_by, placed_not, placed_new, none_placed, placed_more, one_more, all_placed, no_sequence}
+use Rattle.aadl_uses.proofs.Sequences.{misses_by, placed_not, placed_new, none_placed, placed_more, one_more}
+use Rattle.aadl_uses.proofs.Sequences.{all_placed, no_sequence}
 use Rattle.design_laws.proofs.Containing.{IsAcyclic, HasOrder}
 use Rattle.design_laws.proofs.Distinct.{insert_distinct}
 

@@ -1,5 +1,6 @@
 -- Where no type is wrong, the resolved expression is well typed.
-use Rattle.std.proofs.Common.{◌≡◌, ℕ, ◌+◌, Bool, true, false, nat_lt, ◌||◌, cond, [], ◌++◌, length, Option, Some, None, refl, sym, subst}
+use Rattle.std.proofs.Common.{◌≡◌, ℕ, ◌+◌, Bool, true, false, nat_lt, ◌||◌, cond, [], ◌++◌, length, Option, Some, None}
+use Rattle.std.proofs.Common.{refl, sym, subst}
 use Rattle.std.specs.Option.{is_some}
 use Rattle.std.proofs.lemmas.Bool.{false≢true, lt-ltb, or_left, or_right, and_from}
 use Rattle.std.proofs.lemmas.Option.{slice_get_within, slice_get_past}
@@ -8,7 +9,8 @@ use Rattle.pals_base.specs.declared.behaviour.Kind.TheVariants.{Integer, Boolean
 use Rattle.pals_base.specs.declared.behaviour.BehaviourParts.{BehaviourParts}
 use Rattle.pals_base.specs.declared.kinds.Kinds.{Kinds}
 use Rattle.pals_base.specs.Tree as plain
-use Rattle.pals_base.specs.Kinds.{only, allows, port_kinds, declared_or, kinds_of, kinds_along, joined, numbers_at, truths_at}
+use Rattle.pals_base.specs.Kinds.{only, allows, port_kinds, declared_or, kinds_of, kinds_along, joined, numbers_at}
+use Rattle.pals_base.specs.Kinds.{truths_at}
 use Rattle.aadl_tree.specs.declared.expressions.Sign.{Sign}
 use Rattle.aadl_tree.specs.declared.expressions.Sign.TheVariants as signs
 use Rattle.aadl_tree.specs.declared.expressions.LogicOperator.{LogicOperator}
@@ -17,7 +19,9 @@ use Rattle.aadl_tree.specs.declared.expressions.RelationOperator.{RelationOperat
 use Rattle.aadl_tree.specs.declared.expressions.RelationOperator.TheVariants as compare
 use Rattle.aadl_tree.specs.declared.expressions.MultiplyOperator.{MultiplyOperator}
 use Rattle.aadl_tree.specs.declared.expressions.MultiplyOperator.TheVariants as multiply
-use Rattle.aadl_tree.specs.Expressions.{Primary, number, truth, named, group, Factor, absolute, negated, bare, Term, term, Factors, no_factors, factor, Sum, total, Terms, no_terms, add, Relation, single, compared, Expression, expression, Relations, no_relations, join}
+use Rattle.aadl_tree.specs.Expressions.{Primary, number, truth, named, group, Factor, absolute, negated, bare, Term}
+use Rattle.aadl_tree.specs.Expressions.{term, Factors, no_factors, factor, Sum, total, Terms, no_terms, add, Relation}
+use Rattle.aadl_tree.specs.Expressions.{single, compared, Expression, expression, Relations, no_relations, join}
 use Rattle.aadl_tree.specs.Offsets.{primary_at, factor_at, term_at, sum_at, relation_at}
 use Rattle.annex_resolve.specs.declared.scope.Scope.{Scope}
 use Rattle.annex_resolve.specs.declared.scope.DeclaredName.{DeclaredName}
@@ -25,8 +29,13 @@ use Rattle.annex_resolve.specs.declared.scope.Meaning.{Meaning}
 use Rattle.annex_resolve.specs.declared.scope.Meaning.TheVariants.{InPort, OutPort, Variable, LoopVariable}
 use Rattle.annex_resolve.specs.declared.violation.TheConstants.{BAD_TYPE}
 use Rattle.annex_resolve.specs.Scopes.{entry_named, read_of, value_of, freshness_of, or_zero}
-use Rattle.annex_resolve.specs.Types.{fits, misfit, is_equality, read_kind, primary_kind, factor_kind, term_kind, total_kind, relation_kind, expression_kind, primary_types, factor_types, term_types, factors_types, sum_types, terms_types, relation_types, expression_types, relations_types}
-use Rattle.annex_resolve.specs.Resolved.{multiply_op, sign_op, relation_op, logic_op, negated_by, truth_of, primary_of, factor_of, term_of, factors_of, sum_of, terms_of, relation_of, expression_of, relations_of}
+use Rattle.annex_resolve.specs.Types.{fits, misfit, is_equality, read_kind, primary_kind, factor_kind, term_kind}
+use Rattle.annex_resolve.specs.Types.{total_kind, relation_kind, expression_kind, primary_types, factor_types}
+use Rattle.annex_resolve.specs.Types.{term_types, factors_types, sum_types, terms_types, relation_types}
+use Rattle.annex_resolve.specs.Types.{expression_types, relations_types}
+use Rattle.annex_resolve.specs.Resolved.{multiply_op, sign_op, relation_op, logic_op, negated_by, truth_of, primary_of}
+use Rattle.annex_resolve.specs.Resolved.{factor_of, term_of, factors_of, sum_of, terms_of, relation_of, expression_of}
+use Rattle.annex_resolve.specs.Resolved.{relations_of}
 use Rattle.design_laws.specs.proof.Ready.{FitsMeaning, FitsScope}
 use Rattle.design_laws.proofs.Tests.{nothing_left, is_right}
 

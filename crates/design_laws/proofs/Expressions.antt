@@ -9,10 +9,12 @@ use Rattle.aadl_tree.specs.Expressions as e
 use Rattle.aadl_names.specs.declared.fault.PackageFault.TheVariants.{Unknown, WrongKind}
 use Rattle.aadl_names.specs.declared.role.Role.{Role}
 use Rattle.aadl_names.specs.declared.role.Usage.{Usage}
-use Rattle.aadl_names.specs.AnnexNames.{Known, allows, use_as, uses, reading, primary_uses, factor_uses, term_uses, factors_uses, sum_uses}
-use Rattle.aadl_names.specs.AnnexNames.{terms_uses, relation_uses, expression_uses, relations_uses}
+use Rattle.aadl_names.specs.AnnexNames.{Known, allows, use_as, uses, reading, primary_uses, factor_uses, term_uses}
+use Rattle.aadl_names.specs.AnnexNames.{factors_uses, sum_uses, terms_uses, relation_uses, expression_uses}
+use Rattle.aadl_names.specs.AnnexNames.{relations_uses}
 use Rattle.aadl_names.proofs.Elements.{is_here}
-use Rattle.design_laws.proofs.Clear.{Clear, clear_none, clear_one, clear_front, clear_back, clear_tail, clear_append, clear_unless}
+use Rattle.design_laws.proofs.Clear.{Clear, clear_none, clear_one, clear_front, clear_back, clear_tail, clear_append}
+use Rattle.design_laws.proofs.Clear.{clear_unless}
 
 by_role : (usage : Usage) (x : Identifier ℕ) (o : Option Role) → Clear (identifier_parts x) (use_as usage x o)
 by_role usage x None = clear_one (identifier_parts x) (Unknown x.spelling x.at) (is_here x.at)

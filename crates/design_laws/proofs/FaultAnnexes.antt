@@ -6,28 +6,30 @@ use Rattle.aadl_tree.specs.declared.mark.Mark.{Mark}
 use Rattle.aadl_tree.specs.declared.mark.Mark.TheVariants as k
 use Rattle.aadl_tree.specs.Terminals.{mark}
 use Rattle.aadl_tree.specs.Parts.{Part, token, plain, parts_if, behind}
-use Rattle.aadl_tree.specs.Names.{Identifier, Identifiers, identifier_parts, identifiers_parts, reference_parts, listed_in}
+use Rattle.aadl_tree.specs.Names.{Identifier, Identifiers, identifier_parts, identifiers_parts, reference_parts}
+use Rattle.aadl_tree.specs.Names.{listed_in}
 use Rattle.aadl_tree.specs.Values.{Association, association, Associations, no_associations, associate}
 use Rattle.aadl_tree.specs.Values.{association_parts, associations_parts, properties_parts}
-use Rattle.aadl_tree.specs.Actions.{Block}
-use Rattle.aadl_tree.specs.Annexes.{VariableDeclaration, StateDeclaration, Guard, dispatch, otherwise, when, Transition, AnnexTree, AnnexContent}
-use Rattle.aadl_tree.specs.Annexes.{foreign, behaviour, Annex, variable_parts, state_parts, guard_parts, label_parts, transition_parts}
-use Rattle.aadl_tree.specs.Annexes.{declared_parts, annex_tree_parts, content_parts, annex_parts}
-use Rattle.aadl_tree.specs.Actions.{block_parts}
+use Rattle.aadl_tree.specs.Actions.{Block, block_parts}
+use Rattle.aadl_tree.specs.Annexes.{VariableDeclaration, StateDeclaration, Guard, dispatch, otherwise, when, Transition}
+use Rattle.aadl_tree.specs.Annexes.{AnnexTree, AnnexContent, foreign, behaviour, Annex, variable_parts, state_parts}
+use Rattle.aadl_tree.specs.Annexes.{guard_parts, label_parts, transition_parts, declared_parts, annex_tree_parts}
+use Rattle.aadl_tree.specs.Annexes.{content_parts, annex_parts}
 use Rattle.aadl_tree.specs.Declarations.{Implementation, PackageTree}
 use Rattle.aadl_names.specs.declared.fault.PackageFault.{PackageFault}
 use Rattle.aadl_names.specs.declared.fault.PackageFault.TheVariants.{Unknown, Twice}
 use Rattle.aadl_names.specs.Spelling.{spelled_name}
 use Rattle.aadl_names.specs.Behaviours.{states_of}
 use Rattle.aadl_names.specs.AnnexNames.{Known}
-use Rattle.aadl_names.specs.PackageFaults.{is_among, known_in, state_uses, guard_uses, effect_uses, transition_uses, behaviour_faults}
+use Rattle.aadl_names.specs.PackageFaults.{is_among, known_in, state_uses, guard_uses, effect_uses, transition_uses}
+use Rattle.aadl_names.specs.PackageFaults.{behaviour_faults}
 use Rattle.aadl_names.proofs.Elements.{is_here}
-use Rattle.design_laws.proofs.Clear.{Clear, clear_none, clear_one, clear_front, clear_back, clear_tail, clear_append, clear_flat, clear_unless}
-use Rattle.design_laws.proofs.Clear.{clear_four, clear_turned}
+use Rattle.design_laws.proofs.Clear.{Clear, clear_none, clear_one, clear_front, clear_back, clear_tail, clear_append}
+use Rattle.design_laws.proofs.Clear.{clear_flat, clear_unless, clear_four, clear_turned}
 use Rattle.design_laws.proofs.Expressions.{expression_clear}
 use Rattle.design_laws.proofs.Actions.{block_clear}
-use Rattle.design_laws.proofs.PossibleNameFaults.{of_identifier, of_identifiers, of_association, of_associations, of_variable, of_state, of_tree, of_content}
-use Rattle.design_laws.proofs.PossibleNameFaults.{of_annex}
+use Rattle.design_laws.proofs.PossibleNameFaults.{of_identifier, of_identifiers, of_association, of_associations}
+use Rattle.design_laws.proofs.PossibleNameFaults.{of_variable, of_state, of_tree, of_content, of_annex}
 
 -- ---- names and properties
 pub identifier_clear : (x : Identifier ℕ) → Clear (identifier_parts x) (of_identifier x)

@@ -4,23 +4,27 @@ use Rattle.std.specs.Prelude.{flat_map}
 use Rattle.std.proofs.lemmas.List.Elements.{Contains-append_left}
 use Rattle.aadl_tree.specs.declared.mark.Mark.TheVariants as k
 use Rattle.aadl_tree.specs.Terminals.{mark, Kind}
-use Rattle.aadl_tree.specs.Parts.{Part, token, plain, parts_if, behind, feature_section, subcomponent_section, connection_section, property_section}
+use Rattle.aadl_tree.specs.Parts.{Part, token, plain, parts_if, behind, feature_section, subcomponent_section}
+use Rattle.aadl_tree.specs.Parts.{connection_section, property_section}
 use Rattle.aadl_tree.specs.Names.{Identifier, Reference, identifier_parts, qualifier_parts, name_parts, reference_parts}
 use Rattle.aadl_tree.specs.Values.{associations_parts}
 use Rattle.aadl_tree.specs.Annexes.{AnnexTree, annex_parts}
-use Rattle.aadl_tree.specs.Declarations.{Feature, Subcomponent, ConnectionEnd, Connection, TypeDeclaration, Implementation, Declaration, type}
-use Rattle.aadl_tree.specs.Declarations.{implementation, PackageTree, category_mark, direction_mark, feature_parts}
-use Rattle.aadl_tree.specs.Declarations.{subcomponent_parts, end_parts, connection_parts, ending_parts, type_parts, implementation_name_parts}
-use Rattle.aadl_tree.specs.Declarations.{implementation_parts, declaration_parts, with_parts, package_parts}
+use Rattle.aadl_tree.specs.Declarations.{Feature, Subcomponent, ConnectionEnd, Connection, TypeDeclaration}
+use Rattle.aadl_tree.specs.Declarations.{Implementation, Declaration, type, implementation, PackageTree, category_mark}
+use Rattle.aadl_tree.specs.Declarations.{direction_mark, feature_parts, subcomponent_parts, end_parts, connection_parts}
+use Rattle.aadl_tree.specs.Declarations.{ending_parts, type_parts, implementation_name_parts, implementation_parts}
+use Rattle.aadl_tree.specs.Declarations.{declaration_parts, with_parts, package_parts}
 use Rattle.aadl_names.specs.declared.fault.PackageFault.TheVariants.{Unknown, Twice}
 use Rattle.aadl_names.specs.Spelling.{spelled_reference, spelled_implementation, spelled_end}
 use Rattle.aadl_names.specs.PackageFaults.{behaviour_faults, reference_at, unknown_reference, unknown_end}
 use Rattle.aadl_names.proofs.Elements.{is_here}
 use Rattle.aadl_names.specs.proof.Orders.{places_of}
-use Rattle.design_laws.proofs.Clear.{Clear, clear_none, clear_one, clear_front, clear_back, clear_tail, clear_section, clear_append, clear_flat}
-use Rattle.design_laws.proofs.PossibleNameFaults.{of_feature, of_subcomponent, of_connection, of_annex, none_of, of_type, of_implementation, of_declaration}
-use Rattle.design_laws.proofs.PossibleNameFaults.{possible}
-use Rattle.design_laws.proofs.FaultAnnexes.{identifier_clear, associations_clear, properties_clear, transitions_of, behaviour_clear, annex_clear}
+use Rattle.design_laws.proofs.Clear.{Clear, clear_none, clear_one, clear_front, clear_back, clear_tail, clear_section}
+use Rattle.design_laws.proofs.Clear.{clear_append, clear_flat}
+use Rattle.design_laws.proofs.PossibleNameFaults.{of_feature, of_subcomponent, of_connection, of_annex, none_of}
+use Rattle.design_laws.proofs.PossibleNameFaults.{of_type, of_implementation, of_declaration, possible}
+use Rattle.design_laws.proofs.FaultAnnexes.{identifier_clear, associations_clear, properties_clear, transitions_of}
+use Rattle.design_laws.proofs.FaultAnnexes.{behaviour_clear, annex_clear}
 
 -- ---- what a subcomponent and a connection refer to
 -- a reference begins where its first word stands

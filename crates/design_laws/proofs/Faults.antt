@@ -1,11 +1,13 @@
 -- Two first faults of a package are equal.
-use Rattle.std.proofs.Common.{◌≡◌, ◌⊎◌, inl, inr, ◌∙◌, ℕ, ◌<◌, ◌≤◌, nat_eq, cond, List, Option, Some, None, Contains, refl, sym, ap, ap₂, subst, arith}
+use Rattle.std.proofs.Common.{◌≡◌, ◌⊎◌, inl, inr, ◌∙◌, ℕ, ◌<◌, ◌≤◌, nat_eq, cond, List, Option, Some, None, Contains}
+use Rattle.std.proofs.Common.{refl, sym, ap, ap₂, subst, arith}
 use Rattle.std.specs.Prelude.{slice_get, codes}
 use Rattle.std.proofs.lemmas.Bool.{cases_order}
 use Rattle.std.proofs.lemmas.Option.{same_Some}
 use Rattle.list_lemmas.proofs.Places.{Contains-from_slice_get}
 use Rattle.aadl_tree.specs.Names.{Identifier}
-use Rattle.aadl_tree.specs.Declarations.{Subcomponent, Connection, Declaration, type, implementation, PackageTree, package_parts}
+use Rattle.aadl_tree.specs.Declarations.{Subcomponent, Connection, Declaration, type, implementation, PackageTree}
+use Rattle.aadl_tree.specs.Declarations.{package_parts}
 use Rattle.aadl_names.specs.declared.fault.PackageFault.{PackageFault}
 use Rattle.aadl_names.specs.declared.fault.PackageFault.TheVariants.{Twice, Recursive, DeadEnd, TwoSources, TooMany}
 use Rattle.aadl_names.specs.Findings.{place_of, number_of, IsFirstByLine}

@@ -1,5 +1,6 @@
 -- What is wrong with the names of a package is possible, or of something of another kind.
-use Rattle.std.proofs.Common.{◌≡◌, ℕ, ◌+◌, Bool, not, ◌&&◌, List, [], ◌∷◌, ◌++◌, Option, Some, None, Contains, sym, subst}
+use Rattle.std.proofs.Common.{◌≡◌, ℕ, ◌+◌, Bool, not, ◌&&◌, List, [], ◌∷◌, ◌++◌, Option, Some, None, Contains, sym}
+use Rattle.std.proofs.Common.{subst}
 use Rattle.std.specs.Prelude.{flat_map}
 use Rattle.std.specs.List.{enumerate_from}
 use Rattle.std.proofs.lemmas.Option.{same_Some}
@@ -9,8 +10,8 @@ use Rattle.aadl_tree.specs.declared.declarations.Direction.{Direction}
 use Rattle.aadl_tree.specs.Names.{Identifier, listed_in}
 use Rattle.aadl_tree.specs.Values.{Associations}
 use Rattle.aadl_tree.specs.Annexes.{VariableDeclaration, AnnexTree, AnnexContent, foreign, behaviour, Annex}
-use Rattle.aadl_tree.specs.Declarations.{Feature, Subcomponent, ConnectionEnd, Connection, TypeDeclaration, Implementation, Declaration, type}
-use Rattle.aadl_tree.specs.Declarations.{implementation, PackageTree}
+use Rattle.aadl_tree.specs.Declarations.{Feature, Subcomponent, ConnectionEnd, Connection, TypeDeclaration}
+use Rattle.aadl_tree.specs.Declarations.{Implementation, Declaration, type, implementation, PackageTree}
 use Rattle.aadl_names.specs.declared.fault.PackageFault.{PackageFault}
 use Rattle.aadl_names.specs.declared.fault.PackageFault.TheVariants.{Twice}
 use Rattle.aadl_names.specs.declared.holder.PropertyHolder.{PropertyHolder}
@@ -18,16 +19,18 @@ use Rattle.aadl_names.specs.declared.holder.PropertyHolder.TheVariants as holder
 use Rattle.aadl_names.specs.declared.site.PortPlace.{PortPlace}
 use Rattle.aadl_names.specs.Behaviours.{behaviour_in, behaviours}
 use Rattle.aadl_names.specs.Resolving.{target_of, is_thread}
-use Rattle.aadl_names.specs.Properties.{listed, association_name, association_at, counts, counted, misshapen, association_entry, shape_fault}
-use Rattle.aadl_names.specs.Properties.{property_entries, list_faults}
+use Rattle.aadl_names.specs.Properties.{listed, association_name, association_at, counts, counted, misshapen}
+use Rattle.aadl_names.specs.Properties.{association_entry, shape_fault, property_entries, list_faults}
 use Rattle.aadl_names.specs.PackageFaults as p
 use Rattle.aadl_names.proofs.Elements.{is_here, among_all}
-use Rattle.design_laws.proofs.Covering.{from_filter, from_filter_map, Covered, covered_among, covered_none, covered_itself, covered_kind, covered_wrong}
-use Rattle.design_laws.proofs.Covering.{covered_kinds, covered_append, covered_front, covered_back, covered_if, covered_each}
-use Rattle.design_laws.proofs.Covering.{covered_flat, named_map, covered_twice}
-use Rattle.design_laws.proofs.PossibleNameFaults.{of_identifier, of_identifiers, of_association, of_associations, of_variable, of_state, of_tree, of_content}
-use Rattle.design_laws.proofs.PossibleNameFaults.{of_annex, of_feature, of_subcomponent, of_connection, none_of, of_type, of_implementation, of_declaration}
-use Rattle.design_laws.proofs.PossibleNameFaults.{possible}
+use Rattle.design_laws.proofs.Covering.{from_filter, from_filter_map, Covered, covered_among, covered_none}
+use Rattle.design_laws.proofs.Covering.{covered_itself, covered_kind, covered_wrong, covered_kinds, covered_append}
+use Rattle.design_laws.proofs.Covering.{covered_front, covered_back, covered_if, covered_each, covered_flat, named_map}
+use Rattle.design_laws.proofs.Covering.{covered_twice}
+use Rattle.design_laws.proofs.PossibleNameFaults.{of_identifier, of_identifiers, of_association, of_associations}
+use Rattle.design_laws.proofs.PossibleNameFaults.{of_variable, of_state, of_tree, of_content, of_annex, of_feature}
+use Rattle.design_laws.proofs.PossibleNameFaults.{of_subcomponent, of_connection, none_of, of_type, of_implementation}
+use Rattle.design_laws.proofs.PossibleNameFaults.{of_declaration, possible}
 
 -- ---- properties
 list_covered : (holder : PropertyHolder) (xs : Associations ℕ) → Covered (list_faults holder xs) (of_associations xs)

@@ -1,5 +1,6 @@
 -- All links and feeds, thread by thread and port by port.
-use Rattle.std.proofs.Common.{◌≡◌, ◌⊎◌, inl, inr, ℕ, zero, suc, ◌+◌, ◌≤◌, Bool, true, false, List, [], ◌∷◌, ◌++◌, length, slice_get, Some, refl, subst, arith}
+use Rattle.std.proofs.Common.{◌≡◌, ◌⊎◌, inl, inr, ℕ, zero, suc, ◌+◌, ◌≤◌, Bool, true, false, List, [], ◌∷◌, ◌++◌}
+use Rattle.std.proofs.Common.{length, slice_get, Some, refl, subst, arith}
 use Rattle.list_lemmas.proofs.Places.{slice_get-some}
 use Rattle.aadl_tree.specs.Declarations.{PackageTree}
 use Rattle.aadl_names.specs.Resolving.{implementation_at, ports_at}
@@ -14,7 +15,8 @@ use Rattle.aadl_chains.specs.proof.Walks.{OneEach}
 use Rattle.aadl_instance.specs.declared.build.Incoming.{Incoming}
 use Rattle.aadl_instance.specs.Instances.{chain_in}
 use Rattle.aadl_instance.specs.proof.Passed.{AreInto}
-use Rattle.aadl_instance.proofs.PortByPort.{into_start, into_thread, into_skip, into_link, into_feed, links_whole, feeds_whole, thread_listed}
+use Rattle.aadl_instance.proofs.PortByPort.{into_start, into_thread, into_skip, into_link, into_feed, links_whole}
+use Rattle.aadl_instance.proofs.PortByPort.{feeds_whole, thread_listed}
 use Rattle.aadl_instance.proofs.Adding.{out_added}
 use Rattle.aadl_instance.proofs.Shown.{stands}
 use Rattle.design_laws.proofs.Tracing.{Comes, NoneComes, comes}

@@ -1,5 +1,6 @@
 -- The ports that reach threads, in an order of declarations.
-use Rattle.std.proofs.Common.{◌≡◌, ℕ, zero, suc, ◌+◌, ◌<◌, ◌≤◌, Bool, true, false, List, [], length, slice_get, Option, Some, None, refl, subst, arith}
+use Rattle.std.proofs.Common.{◌≡◌, ℕ, zero, suc, ◌+◌, ◌<◌, ◌≤◌, Bool, true, false, List, [], length, slice_get, Option}
+use Rattle.std.proofs.Common.{Some, None, refl, subst, arith}
 use Rattle.list_lemmas.proofs.Places.{slice_get-some, Contains-from_slice_get}
 use Rattle.aadl_tree.specs.declared.declarations.Direction.{Direction}
 use Rattle.aadl_tree.specs.Declarations.{PackageTree}
@@ -9,8 +10,10 @@ use Rattle.aadl_uses.specs.Wiring.{wires_at}
 use Rattle.aadl_uses.specs.proof.Orders.{IsOrder}
 use Rattle.aadl_chains.specs.declared.ports.PortAt.{PortAt}
 use Rattle.aadl_chains.specs.proof.Ports.{with_port}
-use Rattle.aadl_chains.specs.proof.Inside.{is_thread_at, inner_end, outer_end, port_at, joined_by, AreJoined, IsJoined, IsInside}
-use Rattle.aadl_chains.proofs.Joining.{one_joined, none_joined, FrontJoined, none_yet, one_more, all_joined, thread_joined}
+use Rattle.aadl_chains.specs.proof.Inside.{is_thread_at, inner_end, outer_end, port_at, joined_by, AreJoined, IsJoined}
+use Rattle.aadl_chains.specs.proof.Inside.{IsInside}
+use Rattle.aadl_chains.proofs.Joining.{one_joined, none_joined, FrontJoined, none_yet, one_more, all_joined}
+use Rattle.aadl_chains.proofs.Joining.{thread_joined}
 use Rattle.aadl_chains.proofs.Ordered.{FrontInside, no_front, front_more, front_past, front_all}
 
 module _ (tree : PackageTree ℕ) (d : Direction) where

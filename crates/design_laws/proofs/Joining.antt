@@ -1,5 +1,6 @@
 -- The links, feeds and taps of the design, over its components.
-use Rattle.std.proofs.Common.{get_or, ◌≡◌, ◌≢◌, ◌∙◌, inl, inr, ℕ, ◌≤◌, Bool, List, [], ◌∷◌, map, length, codes, Some, refl, sym, ap, subst, arith}
+use Rattle.std.proofs.Common.{get_or, ◌≡◌, ◌≢◌, ◌∙◌, inl, inr, ℕ, ◌≤◌, Bool, List, [], ◌∷◌, map, length, codes, Some}
+use Rattle.std.proofs.Common.{refl, sym, ap, subst, arith}
 use Rattle.std.specs.Prelude.{flat_map, All}
 use Rattle.std.specs.List.{AllByRecursion}
 use Rattle.std.proofs.lemmas.List.Elements.{recursion_from_All}
@@ -34,8 +35,8 @@ use Rattle.design_laws.proofs.Clean.{names_clean, not_over, declared_at}
 use Rattle.design_laws.proofs.Rating.{root_there}
 use Rattle.design_laws.proofs.Matching.{Zipped, Made, all_made, zipped_length, all_zipped, pairs_zipped}
 use Rattle.design_laws.proofs.Ending.{Sits}
-use Rattle.design_laws.proofs.Linking.{not_root, end_goes_in, link_joins, feed_joins, tap_joins, link_of, feed_of, tap_of, link_is, feed_is}
-use Rattle.design_laws.proofs.Linking.{tap_is, in_kind_is}
+use Rattle.design_laws.proofs.Linking.{not_root, end_goes_in, link_joins, feed_joins, tap_joins, link_of, feed_of}
+use Rattle.design_laws.proofs.Linking.{tap_of, link_is, feed_is, tap_is, in_kind_is}
 use Rattle.design_laws.proofs.SoundLinks.{link_keeps, feed_keeps, tap_keeps}
 use Rattle.design_laws.proofs.Ordering.{InPort, other_target, targets_rise, one_port, other_name, one_named}
 use Rattle.design_laws.proofs.Sourcing.{one_start}

@@ -1,5 +1,7 @@
 -- The first limit that is passed, or that none is.
-use Rattle.std.proofs.Common.{◌≡◌, ◌⊎◌, inl, inr, ℕ, suc, ◌+◌, ◌<◌, ◌≤◌, min, Bool, true, false, ◌&&◌, ◌||◌, nat_eq, nat_lt, List, [], ◌∷◌, length, reverse, get_or, Contains, AllPairs, Option, Some, None, refl, sym, ap, subst, ◌∙◌, arith}
+use Rattle.std.proofs.Common.{◌≡◌, ◌⊎◌, inl, inr, ℕ, suc, ◌+◌, ◌<◌, ◌≤◌, min, Bool, true, false, ◌&&◌, ◌||◌, nat_eq}
+use Rattle.std.proofs.Common.{nat_lt, List, [], ◌∷◌, length, reverse, get_or, Contains, AllPairs, Option, Some, None}
+use Rattle.std.proofs.Common.{refl, sym, ap, subst, ◌∙◌, arith}
 use Rattle.std.specs.List.{AllByRecursion}
 use Rattle.std.proofs.lemmas.Bool.{true≢false, cases_lt}
 use Rattle.std.proofs.lemmas.Option.{none-some, same_Some}
@@ -12,9 +14,8 @@ use Rattle.list_lemmas.proofs.Elements.{Contains-nil, Contains-cons_cases}
 use Rattle.list_lemmas.proofs.Booleans.{or_and_right}
 use Rattle.list_lemmas.proofs.Numbers.{nat_lt-self}
 use Rattle.aadl_uses.specs.Uses.{component_at}
-use Rattle.aadl_uses.specs.Threads.{Lists, MoreThan, IsThreadOf, IsThreadAt, PathBefore}
+use Rattle.aadl_uses.specs.Threads.{Lists, MoreThan, IsThreadOf, IsThreadAt, PathBefore, path_before}
 use Rattle.aadl_uses.proofs.Counted.{more_threads}
-use Rattle.aadl_uses.specs.Threads.{path_before}
 use Rattle.aadl_uses.specs.proof.Counts.{Among}
 use Rattle.aadl_chains.specs.proof.Numbers.{Distinct}
 use Rattle.aadl_chains.specs.Links.{Ends, IsLink, same_path, TargetBefore, OtherTarget}

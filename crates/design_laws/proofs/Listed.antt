@@ -1,5 +1,6 @@
 -- There is one list of all that have a property, in an order that goes one way.
-use Rattle.std.proofs.Common.{◌≡◌, ◌⊎◌, inl, inr, ℕ, zero, suc, ◌<◌, List, [], ◌∷◌, length, get_or, AllPairs, All, Contains, sym, subst, arith}
+use Rattle.std.proofs.Common.{◌≡◌, ◌⊎◌, inl, inr, ℕ, zero, suc, ◌<◌, List, [], ◌∷◌, length, get_or, AllPairs, All}
+use Rattle.std.proofs.Common.{Contains, sym, subst, arith}
 use Rattle.list_lemmas.proofs.Elements.{Contains-nil}
 use Rattle.aadl_uses.specs.Threads.{Lists}
 

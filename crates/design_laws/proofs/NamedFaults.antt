@@ -7,14 +7,17 @@ use Rattle.aadl_tree.specs.declared.declarations.Category.{Category}
 use Rattle.aadl_tree.specs.declared.declarations.Direction.{Direction}
 use Rattle.aadl_tree.specs.Values.{Associations}
 use Rattle.aadl_tree.specs.Annexes.{AnnexTree, AnnexContent, foreign, behaviour, Annex}
-use Rattle.aadl_tree.specs.Declarations.{Feature, Subcomponent, ConnectionEnd, Connection, TypeDeclaration, Implementation, Declaration, type, implementation, PackageTree}
+use Rattle.aadl_tree.specs.Declarations.{Feature, Subcomponent, ConnectionEnd, Connection, TypeDeclaration}
+use Rattle.aadl_tree.specs.Declarations.{Implementation, Declaration, type, implementation, PackageTree}
 use Rattle.aadl_names.specs.declared.fault.PackageFault.{PackageFault}
-use Rattle.aadl_names.specs.declared.fault.PackageFault.TheVariants.{NoRoot, Recursive, DeadEnd, TwoSources, TooMany, Memory}
+use Rattle.aadl_names.specs.declared.fault.PackageFault.TheVariants.{NoRoot, Recursive, DeadEnd, TwoSources, TooMany}
+use Rattle.aadl_names.specs.declared.fault.PackageFault.TheVariants.{Memory}
 use Rattle.aadl_names.specs.declared.holder.PropertyHolder.{PropertyHolder}
 use Rattle.aadl_names.specs.declared.holder.PropertyHolder.TheVariants as holders
 use Rattle.aadl_names.specs.declared.site.PortPlace.{PortPlace}
 use Rattle.aadl_names.specs.Behaviours.{behaviours, variables_in}
-use Rattle.aadl_names.specs.Properties.{listed, association_at, counts, misshapen, shape_fault, property_entries, list_faults}
+use Rattle.aadl_names.specs.Properties.{listed, association_at, counts, misshapen, shape_fault, property_entries}
+use Rattle.aadl_names.specs.Properties.{list_faults}
 use Rattle.aadl_names.specs.Resolving.{is_thread, target_of, ports_of}
 use Rattle.aadl_names.specs.Spaces as s
 use Rattle.aadl_names.specs.PackageFaults as p

@@ -1,5 +1,6 @@
 -- Lists of findings, none of which is `Memory`.
-use Rattle.std.proofs.Common.{◌⊎◌, inl, inr, ◌∙◌, ℕ, Bool, true, false, cond, List, [], ◌∷◌, ◌++◌, map, flat_map, Contains}
+use Rattle.std.proofs.Common.{◌⊎◌, inl, inr, ◌∙◌, ℕ, Bool, true, false, cond, List, [], ◌∷◌, ◌++◌, map, flat_map}
+use Rattle.std.proofs.Common.{Contains}
 use Rattle.std.specs.Prelude.{◌≢◌}
 use Rattle.std.proofs.lemmas.List.Elements.{Contains-append_cases}
 use Rattle.list_lemmas.proofs.Elements.{Contains-nil}

@@ -1,5 +1,6 @@
 -- The names of a thread's ports, variables and states, as its behaviour has them.
-use Rattle.std.proofs.Common.{◌≡◌, ◌≢◌, ◌∙◌, ℕ, Bool, true, false, not, List, [], ◌∷◌, ◌++◌, map, AllPairs, Option, Some, None, refl, sym, ap, subst}
+use Rattle.std.proofs.Common.{◌≡◌, ◌≢◌, ◌∙◌, ℕ, Bool, true, false, not, List, [], ◌∷◌, ◌++◌, map, AllPairs, Option}
+use Rattle.std.proofs.Common.{Some, None, refl, sym, ap, subst}
 use Rattle.std.specs.Prelude.{flat_map, filter, IsTrue, All}
 use Rattle.std.specs.List.{AllByRecursion, list_all}
 use Rattle.std.proofs.lemmas.Bool.{false≢true}
@@ -27,8 +28,8 @@ use Rattle.design_laws.specs.proof.Named.{IsNamed, Differ}
 use Rattle.design_laws.proofs.Placed.{Pairs, pairs_append, pairs_weaker}
 use Rattle.design_laws.proofs.Differing.{same_turned, same_itself, Differs}
 use Rattle.design_laws.proofs.Apart.{pairs_all}
-use Rattle.design_laws.proofs.Partition.{pairs_from, all_unmapped, pairs_mapped, pairs_unmapped, pairs_first, pairs_second}
-use Rattle.design_laws.proofs.Partition.{pairs_across, all_kept, split, all_true}
+use Rattle.design_laws.proofs.Partition.{pairs_from, all_unmapped, pairs_mapped, pairs_unmapped, pairs_first}
+use Rattle.design_laws.proofs.Partition.{pairs_second, pairs_across, all_kept, split, all_true}
 
 -- ---- names that differ
 abbrev Apart : List ℕ → List ℕ → Type 0

@@ -1,7 +1,7 @@
 -- Links and feeds stand in the order of their targets; feeds of one name have one type, and taps have different names.
 use Rattle.std.proofs.Common.{◌≡◌, ◌≢◌, ◌∙◌, inl, inr, ◌⊎◌, ℕ, ◌+◌, ◌*◌, ◌<◌, nat_lt, true, false, List, [], ◌++◌}
-use Rattle.aadl_tree.specs.Names.{same_name}
 use Rattle.std.proofs.Common.{reverse, Some, sym, ap, subst, arith}
+use Rattle.aadl_tree.specs.Names.{same_name}
 use Rattle.std.specs.Prelude.{slice_get}
 use Rattle.std.proofs.lemmas.Bool.{cases_order, ltb-true}
 use Rattle.std.proofs.lemmas.Option.{same_Some, slice_get_within}
@@ -15,8 +15,7 @@ use Rattle.aadl_names.specs.Spelling.{entry_of}
 use Rattle.aadl_names.specs.Resolving.{implementation_at, ports_at, ports_of}
 use Rattle.aadl_names.specs.Spaces.{port_entries, member_entries}
 use Rattle.aadl_uses.specs.Uses.{component_at}
-use Rattle.aadl_uses.specs.Threads.{IsThreadAt}
-use Rattle.aadl_uses.specs.Threads.{path_before}
+use Rattle.aadl_uses.specs.Threads.{IsThreadAt, path_before}
 use Rattle.aadl_chains.specs.Chains.{Port, port_of, is_in}
 use Rattle.aadl_chains.specs.Links.{OtherTarget, Ends, same_path, TargetBefore}
 use Rattle.aadl_instance.specs.Flat.{Parts, IsFlat}

@@ -1,5 +1,6 @@
 -- The ports that lead out, in an order of declarations.
-use Rattle.std.proofs.Common.{◌≡◌, ◌⊎◌, ◌↔◌, inl, inr, ℕ, zero, suc, ◌+◌, ◌-◌, ◌≤◌, Bool, true, false, nat_eq, List, [], length, slice_get, Contains, Option, Some, None, refl, subst, arith}
+use Rattle.std.proofs.Common.{◌≡◌, ◌⊎◌, ◌↔◌, inl, inr, ℕ, zero, suc, ◌+◌, ◌-◌, ◌≤◌, Bool, true, false, nat_eq, List, []}
+use Rattle.std.proofs.Common.{length, slice_get, Contains, Option, Some, None, refl, subst, arith}
 use Rattle.std.specs.List.{list_any}
 use Rattle.list_lemmas.proofs.Places.{slice_get-some}
 use Rattle.aadl_tree.specs.declared.declarations.Direction.{Direction}

@@ -1,6 +1,6 @@
 -- Pairs of a list, of what is made of it, and of its two halves by a test.
-use Rattle.std.proofs.Common.{◌≡◌, ◌∙◌, ℕ, zero, suc, ◌+◌, ◌<◌, Bool, true, false, not, cond, List, [], ◌∷◌, ◌++◌, map, AllPairs, Option}
-use Rattle.std.proofs.Common.{Some, refl, sym, ap, subst, arith}
+use Rattle.std.proofs.Common.{◌≡◌, ◌∙◌, ℕ, zero, suc, ◌+◌, ◌<◌, Bool, true, false, not, cond, List, [], ◌∷◌, ◌++◌, map}
+use Rattle.std.proofs.Common.{AllPairs, Option, Some, refl, sym, ap, subst, arith}
 use Rattle.std.specs.Prelude.{filter, slice_get, find}
 use Rattle.std.specs.List.{AllByRecursion, list_all, enumerate_from}
 use Rattle.std.proofs.lemmas.List.Elements.{recursion_from_All}

@@ -1,7 +1,8 @@
 -- Paths of threads: words joined by dots, which differ.
-use Rattle.std.proofs.Common.{◌≡◌, ◌≢◌, ◌∙◌, inl, inr, ◌⊎◌, ℕ, ◌<◌, nat_eq, nat_le, nat_lt, Bool, true, false, cond, ◌&&◌, ◌||◌, List, []}
+use Rattle.std.proofs.Common.{◌≡◌, ◌≢◌, ◌∙◌, inl, inr, ◌⊎◌, ℕ, ◌<◌, nat_eq, nat_le, nat_lt, Bool, true, false, cond}
+use Rattle.std.proofs.Common.{◌&&◌, ◌||◌, List, [], ◌∷◌, ◌++◌, map, length, reverse, codes, Option, Some, None, refl}
+use Rattle.std.proofs.Common.{sym, ap, subst, arith, append_assoc}
 use Rattle.aadl_tree.specs.Names.{same_name}
-use Rattle.std.proofs.Common.{◌∷◌, ◌++◌, map, length, reverse, codes, Option, Some, None, refl, sym, ap, subst, arith, append_assoc}
 use Rattle.std.specs.Prelude.{slice_get, IsTrue}
 use Rattle.std.specs.List.{AllByRecursion, list_all, slice_split, onto_first}
 use Rattle.std.specs.Option.{option_and_then}
@@ -23,7 +24,8 @@ use Rattle.aadl_uses.specs.ThreadPlaces.{name_at, names_along, dotted_names, spe
 use Rattle.design_laws.specs.proof.Named.{IsNamed, HasWords, NamesDiffer}
 use Rattle.design_laws.proofs.Placed.{Pairs}
 use Rattle.design_laws.proofs.Differing.{one_name, Differs}
-use Rattle.design_laws.proofs.Partition.{pairs_at, pairs_from, pairs_first, pairs_second, pairs_unmapped, all_at, all_true}
+use Rattle.design_laws.proofs.Partition.{pairs_at, pairs_from, pairs_first, pairs_second, pairs_unmapped, all_at}
+use Rattle.design_laws.proofs.Partition.{all_true}
 use Rattle.design_laws.proofs.Clean.{declared_at}
 
 -- ---- words have no dots

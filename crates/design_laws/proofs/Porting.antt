@@ -1,6 +1,7 @@
 -- The numbers of ports among those that go as they do, and of threads.
-use Rattle.std.proofs.Common.{◌≡◌, ◌∙◌, inl, inr, ◌⊎◌, ℕ, zero, suc, ◌+◌, ◌<◌, nat_eq, nat_lt, Bool, true, false, cond, ◌&&◌, ◌||◌, List}
-use Rattle.std.proofs.Common.{[], ◌∷◌, length, reverse, take, Option, Some, AllPairs, Contains, refl, sym, ap, subst, arith}
+use Rattle.std.proofs.Common.{◌≡◌, ◌∙◌, inl, inr, ◌⊎◌, ℕ, zero, suc, ◌+◌, ◌<◌, nat_eq, nat_lt, Bool, true, false, cond}
+use Rattle.std.proofs.Common.{◌&&◌, ◌||◌, List, [], ◌∷◌, length, reverse, take, Option, Some, AllPairs, Contains, refl}
+use Rattle.std.proofs.Common.{sym, ap, subst, arith}
 use Rattle.std.specs.Prelude.{slice_get, filter, count_by}
 use Rattle.std.specs.List.{position_from}
 use Rattle.std.specs.Option.{option_map_or}
@@ -10,8 +11,7 @@ use Rattle.std.proofs.lemmas.List.Sums.{length-filter}
 use Rattle.std.proofs.lemmas.Option.{same_Some, slice_get-get_or}
 use Rattle.list_lemmas.proofs.Numbers.{nat_eq-self}
 use Rattle.list_lemmas.proofs.Pairs.{AllPairs-slice_get}
-use Rattle.aadl_uses.specs.Threads.{PathBefore}
-use Rattle.aadl_uses.specs.Threads.{path_before}
+use Rattle.aadl_uses.specs.Threads.{PathBefore, path_before}
 use Rattle.aadl_chains.specs.Links.{same_path}
 use Rattle.aadl_instance.specs.Instances.{node_at}
 use Rattle.design_laws.proofs.ThreadBehaviours.{first_is}

@@ -4,9 +4,10 @@ use Rattle.std.proofs.Common.{ℕ, List, [], ◌∷◌, ◌++◌}
 use Rattle.std.specs.Prelude.{flat_map}
 use Rattle.aadl_tree.specs.Names.{Identifier, Identifiers, identifiers, listed_in}
 use Rattle.aadl_tree.specs.Values.{Association, Associations}
-use Rattle.aadl_tree.specs.Annexes.{VariableDeclaration, StateDeclaration, AnnexTree, AnnexContent, foreign, behaviour, Annex}
-use Rattle.aadl_tree.specs.Declarations.{Feature, Subcomponent, Connection, TypeDeclaration, Implementation, Declaration, type, implementation}
-use Rattle.aadl_tree.specs.Declarations.{PackageTree}
+use Rattle.aadl_tree.specs.Annexes.{VariableDeclaration, StateDeclaration, AnnexTree, AnnexContent, foreign, behaviour}
+use Rattle.aadl_tree.specs.Annexes.{Annex}
+use Rattle.aadl_tree.specs.Declarations.{Feature, Subcomponent, Connection, TypeDeclaration, Implementation}
+use Rattle.aadl_tree.specs.Declarations.{Declaration, type, implementation, PackageTree}
 use Rattle.aadl_names.specs.declared.fault.PackageFault.{PackageFault}
 use Rattle.aadl_names.specs.declared.fault.PackageFault.TheVariants.{Twice}
 use Rattle.aadl_names.specs.Spelling.{spelled_implementation}

@@ -1,6 +1,6 @@
 -- The root's period and bounds, and the rates of threads, of an instance in which nothing is found.
-use Rattle.std.proofs.Common.{◌≡◌, ◌∙◌, ℕ, ◌/◌, ◌≤◌, nat_eq, nat_le, nat_lt, Bool, true, false, not, cond, List, [], ◌∷◌, ◌++◌, reverse}
-use Rattle.std.proofs.Common.{Option, Some, None, refl, sym, ap, subst, arith}
+use Rattle.std.proofs.Common.{◌≡◌, ◌∙◌, ℕ, ◌/◌, ◌≤◌, nat_eq, nat_le, nat_lt, Bool, true, false, not, cond, List, []}
+use Rattle.std.proofs.Common.{◌∷◌, ◌++◌, reverse, Option, Some, None, refl, sym, ap, subst, arith}
 use Rattle.std.specs.Prelude.{flat_map, slice_get}
 use Rattle.std.specs.List.{AllByRecursion}
 use Rattle.std.specs.Option.{option_and_then, is_some}
@@ -17,18 +17,19 @@ use Rattle.pals_base.specs.Bound.{least_period}
 use Rattle.pals_model.specs.Rules.{IsGamma}
 use Rattle.aadl_tree.specs.declared.declarations.Category.{Category}
 use Rattle.aadl_tree.specs.Values.{Association}
-use Rattle.aadl_tree.specs.Declarations.{Subcomponent, Declaration, type, TypeDeclaration, Implementation, implementation, PackageTree}
+use Rattle.aadl_tree.specs.Declarations.{Subcomponent, Declaration, type, TypeDeclaration, Implementation}
+use Rattle.aadl_tree.specs.Declarations.{implementation, PackageTree}
 use Rattle.aadl_names.specs.declared.holder.PropertyName.{PropertyName}
 use Rattle.aadl_names.specs.declared.holder.PropertyName.TheVariants.{Period, Skew, Execution, Network}
 use Rattle.aadl_names.specs.declared.holder.PropertyHolder.TheVariants as holders
 use Rattle.aadl_names.specs.Findings.{wrong_if}
 use Rattle.aadl_names.specs.Behaviours.{behaviours}
 use Rattle.aadl_names.specs.Properties.{recognised, list_faults}
-use Rattle.aadl_names.specs.Resolving.{implementation_in, implementation_at, subcomponents_of, type_in, type_numbered, type_number}
-use Rattle.aadl_names.specs.Resolving.{referred, target_of, is_root}
-use Rattle.aadl_names.specs.PackageFaults.{may_contain, names_faults, subcomponent_faults, connection_faults, heading_faults}
-use Rattle.aadl_names.specs.PackageFaults.{variables_faults, stray_faults, port_faults, outer_faults, annex_faults}
-use Rattle.aadl_names.specs.PackageFaults.{is_same_number, package_faults}
+use Rattle.aadl_names.specs.Resolving.{implementation_in, implementation_at, subcomponents_of, type_in, type_numbered}
+use Rattle.aadl_names.specs.Resolving.{type_number, referred, target_of, is_root}
+use Rattle.aadl_names.specs.PackageFaults.{may_contain, names_faults, subcomponent_faults, connection_faults}
+use Rattle.aadl_names.specs.PackageFaults.{heading_faults, variables_faults, stray_faults, port_faults, outer_faults}
+use Rattle.aadl_names.specs.PackageFaults.{annex_faults, is_same_number, package_faults}
 use Rattle.aadl_names.specs.PackageFaults as naming
 use Rattle.aadl_uses.specs.Uses.{sub_at, below, standing}
 use Rattle.aadl_uses.specs.declared.thread_places.SubAt.{SubAt}
@@ -41,12 +42,15 @@ use Rattle.component_checks.specs.Numbers as numbers
 use Rattle.component_checks.specs.Rates.{bound_findings, period_findings}
 use Rattle.design_laws.proofs.Counting.{gamma_counts, IsRateOf, rate_counts, leaves_time, least_is_some, rate_from}
 use Rattle.annex_resolve.specs.declared.violation.TheConstants.{NO_PERIOD, NOT_PERIODIC, GAMMA_MISSING, GAMMA_ORDER}
-use Rattle.component_checks.specs.PropertyLookup.{type_lists, own_lists, sub_lists, lists_at, root_lists, lists_along, first_in}
+use Rattle.component_checks.specs.PropertyLookup.{type_lists, own_lists, sub_lists, lists_at, root_lists, lists_along}
+use Rattle.component_checks.specs.PropertyLookup.{first_in}
 use Rattle.component_checks.specs.Times.{time_at, range_at, shown, list_big}
 use Rattle.component_checks.specs.Types.{port_findings}
-use Rattle.component_checks.specs.Threads.{root_period, own_period, is_periodic, thread_place, thread_rate, thread_findings}
-use Rattle.component_checks.specs.Roots.{at_root, root_skew, root_range, root_gamma, root_place, missing, missing_bound, missing_findings}
-use Rattle.component_checks.specs.Roots.{is_zero, is_reversed, place_of, zero_skew, reversed_range, order_findings, root_findings}
+use Rattle.component_checks.specs.Threads.{root_period, own_period, is_periodic, thread_place, thread_rate}
+use Rattle.component_checks.specs.Threads.{thread_findings}
+use Rattle.component_checks.specs.Roots.{at_root, root_skew, root_range, root_gamma, root_place, missing, missing_bound}
+use Rattle.component_checks.specs.Roots.{missing_findings, is_zero, is_reversed, place_of, zero_skew, reversed_range}
+use Rattle.component_checks.specs.Roots.{order_findings, root_findings}
 use Rattle.model_violations.specs.Ignored.{is_number, is_root_type}
 use Rattle.model_violations.specs.Carriers.{carries}
 use Rattle.model_violations.specs.Connections.{connections_findings}
@@ -56,8 +60,9 @@ use Rattle.model_violations.specs.Declarations as uses
 use Rattle.model_violations.specs.Violations.{shown_by, used_findings, carriers_of}
 use Rattle.design_laws.proofs.Clean.{names_clean, declared_at, implementation_clean, type_clean, is_used}
 use Rattle.design_laws.proofs.ThreadBehaviours.{first_is}
-use Rattle.design_laws.proofs.Timing.{Among, period_at_sub, period_at, skew_at, execution_at, network_at, IsGood, LooksGood, looks_good}
-use Rattle.design_laws.proofs.Timing.{first_good, first_behind, IsTime, period_good, skew_good, execution_good, network_good}
+use Rattle.design_laws.proofs.Timing.{Among, period_at_sub, period_at, skew_at, execution_at, network_at, IsGood}
+use Rattle.design_laws.proofs.Timing.{LooksGood, looks_good, first_good, first_behind, IsTime, period_good, skew_good}
+use Rattle.design_laws.proofs.Timing.{execution_good, network_good}
 use Rattle.design_laws.proofs.Stating.{declaration_clean}
 
 -- ---- numbers compare as equal both ways

@@ -1,12 +1,14 @@
 -- What a declaration reaches is found by looking at each that was found.
-use Rattle.std.proofs.Common.{◌≡◌, ◌⊎◌, ◌↔◌, inl, inr, ℕ, zero, suc, ◌+◌, ◌<◌, Bool, true, false, nat_eq, List, [], ◌∷◌, ◌++◌, length, Option, Some, None, slice_get, refl, sym, subst, ◌∙◌, arith, append_assoc}
+use Rattle.std.proofs.Common.{◌≡◌, ◌⊎◌, ◌↔◌, inl, inr, ℕ, zero, suc, ◌+◌, ◌<◌, Bool, true, false, nat_eq, List, [], ◌∷◌}
+use Rattle.std.proofs.Common.{◌++◌, length, Option, Some, None, slice_get, refl, sym, subst, ◌∙◌, arith, append_assoc}
 use Rattle.std.specs.List.{list_any, IsDistinct}
 use Rattle.std.proofs.lemmas.Bool.{true≢false}
 use Rattle.std.proofs.lemmas.List.{append-nil}
 use Rattle.std.proofs.lemmas.Option.{none-some}
 use Rattle.indexmap.specs.IndexSet.{insert_key}
 use Rattle.aadl_uses.specs.proof.Graphs.{Graph, targets_in, below_in, IsWithin, LeadsBack, AreAdded}
-use Rattle.aadl_uses.proofs.Searches.{added_none, added_skip, added_more, Searched, searched_first, searched_past, searched_more, searched_end}
+use Rattle.aadl_uses.proofs.Searches.{added_none, added_skip, added_more, Searched, searched_first, searched_past}
+use Rattle.aadl_uses.proofs.Searches.{searched_more, searched_end}
 use Rattle.aadl_uses.proofs.Suspected.{leads_by}
 use Rattle.design_laws.proofs.Containing.{HasReach}
 use Rattle.design_laws.proofs.Distinct.{insert_distinct, distinct_one}

@@ -34,9 +34,9 @@ use Rattle.model_violations.specs.Violations.{shown_by, used_findings, rates_of}
 use Rattle.design_laws.specs.Designs.{chain_adaptor}
 use Rattle.design_laws.proofs.Matching.{Zipped}
 use Rattle.design_laws.proofs.Ending.{Sits, in_seen, rate_at}
-use Rattle.design_laws.proofs.Linking.{rated_fits, thread_end, root_end, start_goes_out, end_goes_in, link_joins, feed_joins, tap_joins}
-use Rattle.design_laws.proofs.Linking.{connection_is, adaptor_is, node_of, link_of, feed_of, tap_of, is_target, in_kind_is, is_source}
-use Rattle.design_laws.proofs.Linking.{out_kind_is, rate_is}
+use Rattle.design_laws.proofs.Linking.{rated_fits, thread_end, root_end, start_goes_out, end_goes_in, link_joins}
+use Rattle.design_laws.proofs.Linking.{feed_joins, tap_joins, connection_is, adaptor_is, node_of, link_of, feed_of}
+use Rattle.design_laws.proofs.Linking.{tap_of, is_target, in_kind_is, is_source, out_kind_is, rate_is}
 
 module _ {tree : PackageTree ℕ} {name : List ℕ} {parts : Parts} (flat : IsFlat tree name parts) (used : ℕ → Bool)
     (is_use : IsUse tree parts.root used) (none : used_findings tree (shown_by tree parts) used ≡ [])

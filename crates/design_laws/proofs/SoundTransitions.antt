@@ -1,5 +1,6 @@
 -- Where nothing is found, transitions are sound, each state has its ways, and no cycle avoids the complete states.
-use Rattle.std.proofs.Common.{◌≡◌, ℕ, ◌+◌, ◌-◌, ◌<◌, Bool, true, false, nat_eq, nat_lt, ◌&&◌, cond, List, [], ◌∷◌, ◌++◌, length, map, take, Option, Some, None, refl, sym, ap, ◌∙◌, subst, arith}
+use Rattle.std.proofs.Common.{◌≡◌, ℕ, ◌+◌, ◌-◌, ◌<◌, Bool, true, false, nat_eq, nat_lt, ◌&&◌, cond, List, [], ◌∷◌, ◌++◌}
+use Rattle.std.proofs.Common.{length, map, take, Option, Some, None, refl, sym, ap, ◌∙◌, subst, arith}
 use Rattle.std.specs.Prelude.{flat_map, filter, fold, slice_get, option_map}
 use Rattle.std.specs.List.{list_all, list_any, enumerate_from}
 use Rattle.std.specs.Option.{unwrap_or}
@@ -11,7 +12,8 @@ use Rattle.pals_base.specs.declared.behaviour.BehaviourParts.{BehaviourParts}
 use Rattle.pals_base.specs.Tree as plain
 use Rattle.pals_base.specs.Kinds.{are_sound}
 use Rattle.pals_base.specs.Fire.{completes, is_complete, is_dispatch, leaving}
-use Rattle.pals_base.specs.Rules.{has_condition, is_edge, dispatch_count, is_always, ends_unguarded, has_ways, IsAcyclic}
+use Rattle.pals_base.specs.Rules.{has_condition, is_edge, dispatch_count, is_always, ends_unguarded, has_ways}
+use Rattle.pals_base.specs.Rules.{IsAcyclic}
 use Rattle.pals_base.specs.Steps.{upwards}
 use Rattle.pals_base.proofs.Ways.{incomplete_within}
 use Rattle.aadl_tree.specs.Annexes.{Guard, dispatch, otherwise, when, Transition}
@@ -23,7 +25,10 @@ use Rattle.annex_resolve.specs.declared.ways.GuardKind.{GuardKind}
 use Rattle.annex_resolve.specs.declared.violation.TheConstants.{DISPATCH_COUNT, NO_OTHERWISE, CYCLE_WITHOUT_COMPLETE}
 use Rattle.annex_resolve.specs.Scopes.{found_if}
 use Rattle.annex_resolve.specs.CycleRules.{is_on_cycle}
-use Rattle.annex_resolve.specs.Behaviours.{declared, state_number, trigger_of, effect_of, edge_of, guard_types, effect_findings, transition_findings, breaks_dispatch, way_of, leg_of, ways_from, is_otherwise, is_guarded, is_open, lacks_otherwise, state_rules, cycles_of}
+use Rattle.annex_resolve.specs.Behaviours.{declared, state_number, trigger_of, effect_of, edge_of, guard_types}
+use Rattle.annex_resolve.specs.Behaviours.{effect_findings, transition_findings, breaks_dispatch, way_of, leg_of}
+use Rattle.annex_resolve.specs.Behaviours.{ways_from, is_otherwise, is_guarded, is_open, lacks_otherwise, state_rules}
+use Rattle.annex_resolve.specs.Behaviours.{cycles_of}
 use Rattle.annex_resolve.proofs.Tables.{mapped_at}
 use Rattle.annex_resolve.proofs.CycleWays.{way_reaches}
 use Rattle.design_laws.specs.proof.Ready.{FitsScope, is_declared}

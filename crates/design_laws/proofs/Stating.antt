@@ -1,6 +1,6 @@
 -- The states that transitions name are declared.
-use Rattle.std.proofs.Common.{◌≡◌, ◌∙◌, ℕ, ◌+◌, ◌<◌, suc, Bool, true, false, nat_lt, cond, ◌||◌, List, [], ◌∷◌, ◌++◌, map, length}
-use Rattle.std.proofs.Common.{Some, None, refl, sym, ap, subst, arith}
+use Rattle.std.proofs.Common.{◌≡◌, ◌∙◌, ℕ, ◌+◌, ◌<◌, suc, Bool, true, false, nat_lt, cond, ◌||◌, List, [], ◌∷◌, ◌++◌}
+use Rattle.std.proofs.Common.{map, length, Some, None, refl, sym, ap, subst, arith}
 use Rattle.std.specs.Prelude.{flat_map, slice_get, IsTrue}
 use Rattle.std.specs.List.{list_any, list_all, position_or_len, enumerate_from}
 use Rattle.std.specs.Option.{unwrap_or}
@@ -17,8 +17,9 @@ use Rattle.aadl_names.specs.AnnexNames.{Known}
 use Rattle.aadl_names.specs.Behaviours as names
 use Rattle.aadl_names.specs.Resolving.{is_thread}
 use Rattle.aadl_names.specs.Spaces.{twice_names}
-use Rattle.aadl_names.specs.PackageFaults.{is_among, known_in, state_uses, guard_uses, effect_uses, transition_uses, behaviour_faults}
-use Rattle.aadl_names.specs.PackageFaults.{annex_faults, declaration_faults, wrong_names, package_faults}
+use Rattle.aadl_names.specs.PackageFaults.{is_among, known_in, state_uses, guard_uses, effect_uses, transition_uses}
+use Rattle.aadl_names.specs.PackageFaults.{behaviour_faults, annex_faults, declaration_faults, wrong_names}
+use Rattle.aadl_names.specs.PackageFaults.{package_faults}
 use Rattle.annex_resolve.specs.declared.states.StateAt.{StateAt}
 use Rattle.annex_resolve.specs.Behaviours.{states_of, first_number, state_number, transitions_of}
 use Rattle.design_laws.specs.proof.Ready.{is_declared}

@@ -1,7 +1,7 @@
 -- The behaviours of the threads of an instance in which nothing is found.
-use Rattle.std.proofs.Common.{◌≡◌, ◌∙◌, ℕ, suc, ◌+◌, Bool, true, false, cond, List, [], ◌∷◌, ◌++◌, map, reverse, Option, Some}
+use Rattle.std.proofs.Common.{◌≡◌, ◌∙◌, ℕ, suc, ◌+◌, Bool, true, false, cond, List, [], ◌∷◌, ◌++◌, map, reverse, Option}
+use Rattle.std.proofs.Common.{Some, None, refl, sym, ap, subst, arith}
 use Rattle.aadl_tree.specs.Names.{same_name}
-use Rattle.std.proofs.Common.{None, refl, sym, ap, subst, arith}
 use Rattle.std.specs.Prelude.{flat_map, slice_get, All}
 use Rattle.std.specs.List.{position_from}
 use Rattle.std.specs.Option.{option_and_then}
@@ -15,8 +15,8 @@ use Rattle.pals_base.specs.Rules.{IsBehaviour}
 use Rattle.aadl_tree.specs.declared.declarations.Category.{Category}
 use Rattle.aadl_tree.specs.declared.declarations.Category.TheVariants as categories
 use Rattle.aadl_tree.specs.Declarations.{Declaration, type, Implementation, implementation, Subcomponent, PackageTree}
-use Rattle.aadl_names.specs.Resolving.{is_thread, is_system, is_root, implementation_at, features_of, type_in, type_numbered, type_number}
-use Rattle.aadl_names.specs.Resolving.{ports_of, target_of, referred}
+use Rattle.aadl_names.specs.Resolving.{is_thread, is_system, is_root, implementation_at, features_of, type_in}
+use Rattle.aadl_names.specs.Resolving.{type_numbered, type_number, ports_of, target_of, referred}
 use Rattle.aadl_names.specs.PackageFaults.{package_faults}
 use Rattle.aadl_names.specs.Spelling.{spelled_implementation}
 use Rattle.aadl_uses.specs.Uses.{sub_at, below, standing, component_at}

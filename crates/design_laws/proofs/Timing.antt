@@ -1,6 +1,6 @@
 -- The times of properties on which nothing is found: each that is looked up has its shape, and is within the hour.
-use Rattle.std.proofs.Common.{◌≡◌, inl, inr, ◌⊎◌, ℕ, ◌≤◌, nat_le, nat_lt, Bool, true, false, not, cond, ◌&&◌, List, [], ◌∷◌, ◌++◌, Option}
-use Rattle.std.proofs.Common.{Some, None, refl, ap, subst, arith}
+use Rattle.std.proofs.Common.{◌≡◌, inl, inr, ◌⊎◌, ℕ, ◌≤◌, nat_le, nat_lt, Bool, true, false, not, cond, ◌&&◌, List, []}
+use Rattle.std.proofs.Common.{◌∷◌, ◌++◌, Option, Some, None, refl, ap, subst, arith}
 use Rattle.std.specs.Prelude.{flat_map, filter, find}
 use Rattle.std.specs.List.{AllByRecursion}
 use Rattle.std.specs.Option.{option_and_then, option_or, is_some}
@@ -16,16 +16,17 @@ use Rattle.aadl_names.specs.declared.holder.PropertyName.TheVariants.{Period, Di
 use Rattle.aadl_names.specs.declared.holder.PropertyHolder.{PropertyHolder}
 use Rattle.aadl_names.specs.declared.holder.PropertyHolder.TheVariants as holders
 use Rattle.aadl_names.specs.Findings.{wrong_if}
-use Rattle.aadl_names.specs.Properties.{association_at, association_value, listed, counts, is_named, association_named, name_of}
-use Rattle.aadl_names.specs.Properties.{recognised, time_of, range_of, has_shape, misshapen, shape_fault, property_entries}
-use Rattle.aadl_names.specs.Properties.{list_faults}
+use Rattle.aadl_names.specs.Properties.{association_at, association_value, listed, counts, is_named, association_named}
+use Rattle.aadl_names.specs.Properties.{name_of, recognised, time_of, range_of, has_shape, misshapen, shape_fault}
+use Rattle.aadl_names.specs.Properties.{property_entries, list_faults}
 use Rattle.aadl_names.specs.Resolving.{is_thread}
 use Rattle.aadl_names.specs.Twice.{twice}
 use Rattle.design_laws.proofs.Tests.{not_wrong}
 use Rattle.component_checks.specs.Numbers.{within_hour, range_within}
 use Rattle.annex_resolve.specs.declared.violation.TheConstants.{NUMBER_TOO_BIG}
 use Rattle.component_checks.specs.PropertyLookup.{first_in}
-use Rattle.component_checks.specs.Times.{time_at, range_at, is_above, has_above, is_too_big, shown, big_as, association_big, counted_big, list_big}
+use Rattle.component_checks.specs.Times.{time_at, range_at, is_above, has_above, is_too_big, shown, big_as}
+use Rattle.component_checks.specs.Times.{association_big, counted_big, list_big}
 use Rattle.design_laws.proofs.Differing.{where_true, all_none, all_false}
 
 -- ---- one of a list

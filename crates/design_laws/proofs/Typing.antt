@@ -1,6 +1,6 @@
 -- The types of ports and variables, and first values.
-use Rattle.std.proofs.Common.{◌≡◌, ◌∙◌, ℕ, Bool, true, false, not, cond, ◌||◌, List, [], ◌∷◌, ◌++◌, map, length, codes, Option, Some, None}
-use Rattle.std.proofs.Common.{pos, refl, ap, arith, inl, inr, ◌⊎◌}
+use Rattle.std.proofs.Common.{◌≡◌, ◌∙◌, ℕ, Bool, true, false, not, cond, ◌||◌, List, [], ◌∷◌, ◌++◌, map, length, codes}
+use Rattle.std.proofs.Common.{Option, Some, None, pos, refl, ap, arith, inl, inr, ◌⊎◌}
 use Rattle.std.specs.Prelude.{flat_map, filter, slice_get, IsTrue, option_map}
 use Rattle.std.specs.List.{AllByRecursion, list_all, enumerate_from}
 use Rattle.std.specs.Option.{option_and_then, is_some}
@@ -27,11 +27,12 @@ use Rattle.annex_resolve.specs.declared.scope.DeclaredName.{DeclaredName}
 use Rattle.annex_resolve.specs.Types.{kind_named, kind_in, fits}
 use Rattle.design_laws.specs.proof.Ready.{FitsMeaning, FitsScope}
 use Rattle.design_laws.proofs.Tests.{is_right}
-use Rattle.component_checks.specs.Types.{is_in, port_findings, name_findings, is_truth, text_kind, first_findings, variable_findings}
-use Rattle.component_checks.specs.Types.{variables_findings}
+use Rattle.component_checks.specs.Types.{is_in, port_findings, name_findings, is_truth, text_kind, first_findings}
+use Rattle.component_checks.specs.Types.{variable_findings, variables_findings}
 use Rattle.model_violations.specs.declared.declared.Declared.{Declared}
-use Rattle.model_violations.specs.Values.{port_of, ins_in, outs_in, value_of, value_in, first_of, variable_of, variables_in, variables_of}
-use Rattle.model_violations.specs.Values.{or_integer, named_of, var_of, in_entry, out_entry, variable_entry, scope_by}
+use Rattle.model_violations.specs.Values.{port_of, ins_in, outs_in, value_of, value_in, first_of, variable_of}
+use Rattle.model_violations.specs.Values.{variables_in, variables_of, or_integer, named_of, var_of, in_entry, out_entry}
+use Rattle.model_violations.specs.Values.{variable_entry, scope_by}
 use Rattle.design_laws.proofs.Differing.{all_none}
 use Rattle.design_laws.proofs.Partition.{all_kept, all_at, numbered, found_one, all_true}
 

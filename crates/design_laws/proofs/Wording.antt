@@ -1,6 +1,6 @@
 -- Identifiers are words, as the trees of a text keep them.
-use Rattle.std.proofs.Common.{◌≡◌, ◌∙◌, ℕ, Bool, true, false, ◌&&◌, List, [], ◌∷◌, map, length, nat_le, Option, Some, None, IsTrue, refl}
-use Rattle.std.proofs.Common.{sym, ap, subst, string_bytes}
+use Rattle.std.proofs.Common.{◌≡◌, ◌∙◌, ℕ, Bool, true, false, ◌&&◌, List, [], ◌∷◌, map, length, nat_le, Option, Some}
+use Rattle.std.proofs.Common.{None, IsTrue, refl, sym, ap, subst, string_bytes}
 use Rattle.std.specs.Prelude.{flat_map, slice_get, slice_index, option_map, All}
 use Rattle.std.specs.List.{list_all, AllByRecursion, cons_option}
 use Rattle.std.specs.Char.{is_ascii_alphabetic}
@@ -28,8 +28,9 @@ use Rattle.list_lemmas.proofs.Elements.{AllByRecursion-append}
 use Rattle.aadl_tree.specs.proof.Maps.{kept_place}
 use Rattle.aadl_tree.specs.Names.{Identifier, identifiers, listed_in}
 use Rattle.aadl_tree.specs.proof.NameViews.{identifier_view, identifiers_view}
-use Rattle.aadl_tree.specs.proof.Views.{variable_view, state_view, annex_tree_view, content_view, annex_view, feature_view, subcomponent_view}
-use Rattle.aadl_tree.specs.proof.Views.{type_view, implementation_view, declaration_view}
+use Rattle.aadl_tree.specs.proof.Views.{variable_view, state_view, annex_tree_view, content_view, annex_view}
+use Rattle.aadl_tree.specs.proof.Views.{feature_view, subcomponent_view, type_view, implementation_view}
+use Rattle.aadl_tree.specs.proof.Views.{declaration_view}
 use Rattle.aadl_tree.specs.Annexes.{AnnexTree, VariableDeclaration, StateDeclaration}
 use Rattle.aadl_tree.specs.Declarations.{Feature, Subcomponent, TypeDeclaration, Implementation, type, implementation}
 use Rattle.aadl_tree.specs.proof.PackageViews.{placed}

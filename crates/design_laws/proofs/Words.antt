@@ -1,5 +1,6 @@
 -- The names of the package of a text are words: each part of the tree is written at a token of the text.
-use Rattle.std.proofs.Common.{◌≡◌, inl, inr, ℕ, zero, suc, Bool, false, List, [], ◌∷◌, ◌++◌, Option, Some, None, All, IsTrue, refl, ap, subst}
+use Rattle.std.proofs.Common.{◌≡◌, inl, inr, ℕ, zero, suc, Bool, false, List, [], ◌∷◌, ◌++◌, Option, Some, None, All}
+use Rattle.std.proofs.Common.{IsTrue, refl, ap, subst}
 use Rattle.std.specs.Prelude.{flat_map, slice_get}
 use Rattle.std.specs.List.{AllByRecursion}
 use Rattle.std.proofs.lemmas.List.Elements.{All-from_recursion, recursion_from_All}
@@ -15,18 +16,20 @@ use Rattle.aadl_lex.proofs.Spelled.{words_of}
 use Rattle.aadl_tree.specs.declared.mark.Mark.{Mark}
 use Rattle.aadl_tree.specs.declared.mark.Mark.TheVariants as k
 use Rattle.aadl_tree.specs.Marks.{keyword_of, symbol_of}
-use Rattle.aadl_tree.specs.Terminals.{Kind, word, whole, real, quoted, unread, mark, other, word_kind, symbol_kind, class_kind, Spot, spots_from, spots}
-use Rattle.aadl_tree.specs.Terminals.{inside_behind}
-use Rattle.aadl_tree.specs.Parts.{Section, feature_section, subcomponent_section, connection_section, property_section, extra_kinds}
-use Rattle.aadl_tree.specs.Parts.{Part, token, may, plain, parts_if, behind, HaveKinds, Written}
-use Rattle.aadl_tree.specs.Names.{Identifier, Identifiers, identifier_parts, identifiers_parts, name_parts, identifiers, listed_in}
+use Rattle.aadl_tree.specs.Terminals.{Kind, word, whole, real, quoted, unread, mark, other, word_kind, symbol_kind}
+use Rattle.aadl_tree.specs.Terminals.{class_kind, Spot, spots_from, spots, inside_behind}
+use Rattle.aadl_tree.specs.Parts.{Section, feature_section, subcomponent_section, connection_section, property_section}
+use Rattle.aadl_tree.specs.Parts.{extra_kinds, Part, token, may, plain, parts_if, behind, HaveKinds, Written}
+use Rattle.aadl_tree.specs.Names.{Identifier, Identifiers, identifier_parts, identifiers_parts, name_parts, identifiers}
+use Rattle.aadl_tree.specs.Names.{listed_in}
 use Rattle.aadl_tree.specs.Values.{associations_parts}
-use Rattle.aadl_tree.specs.Annexes.{VariableDeclaration, StateDeclaration, AnnexTree, AnnexContent, foreign, behaviour, Annex, variable_parts}
-use Rattle.aadl_tree.specs.Annexes.{state_parts, declared_parts, annex_tree_parts, content_parts, annex_parts}
-use Rattle.aadl_tree.specs.Declarations.{Feature, Subcomponent, TypeDeclaration, Implementation, Declaration, type, implementation}
-use Rattle.aadl_tree.specs.Declarations.{PackageTree, section_parts, feature_parts, subcomponent_parts, connection_parts, type_parts}
-use Rattle.aadl_tree.specs.Declarations.{ending_parts, implementation_name_parts, implementation_parts, declaration_parts, with_parts}
-use Rattle.aadl_tree.specs.Declarations.{package_parts}
+use Rattle.aadl_tree.specs.Annexes.{VariableDeclaration, StateDeclaration, AnnexTree, AnnexContent, foreign, behaviour}
+use Rattle.aadl_tree.specs.Annexes.{Annex, variable_parts, state_parts, declared_parts, annex_tree_parts, content_parts}
+use Rattle.aadl_tree.specs.Annexes.{annex_parts}
+use Rattle.aadl_tree.specs.Declarations.{Feature, Subcomponent, TypeDeclaration, Implementation, Declaration, type}
+use Rattle.aadl_tree.specs.Declarations.{implementation, PackageTree, section_parts, feature_parts, subcomponent_parts}
+use Rattle.aadl_tree.specs.Declarations.{connection_parts, type_parts, ending_parts, implementation_name_parts}
+use Rattle.aadl_tree.specs.Declarations.{implementation_parts, declaration_parts, with_parts, package_parts}
 use Rattle.aadl_tree.specs.Given.{IsTreeOf}
 use Rattle.aadl_names.specs.Behaviours.{behaviours, variables_of, states_of}
 use Rattle.design_laws.specs.proof.Named.{IsNamed, HasWords}

@@ -8,7 +8,8 @@ ghost use Rattle.pals_base.specs.Allowed.{divides_or_divided, is_allowed};
 ghost use Rattle.pals_base.specs.Bound.{least_period};
 ghost use Rattle.pals_model.specs.Rules.{IsGamma};
 ghost use Rattle.component_checks.specs.Numbers.{skew_of, range_of, rate_of, gamma_by};
-ghost use Rattle.component_checks.specs.Rates.{adaptor_named, period_findings, pair_findings, bound_findings, kind_suits};
+ghost use Rattle.component_checks.specs.Rates.{adaptor_named, period_findings, pair_findings, bound_findings};
+ghost use Rattle.component_checks.specs.Rates.{kind_suits};
 
 /// Bounds that count are those of a design: a clock may be off, no range is reversed, and no number is
 /// above one hour.

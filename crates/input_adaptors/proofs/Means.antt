@@ -1,5 +1,6 @@
 -- A mean lies between the least and the greatest of its numbers.
-use Rattle.std.proofs.Common.{◌≡◌, sym, subst, refl, ℕ, suc, ◌+◌, ℤ, pos, negsuc, ◌+ℤ◌, ◌*ℤ◌, ◌≤ℤ◌, List, [], ◌∷◌, length, fold, arith}
+use Rattle.std.proofs.Common.{◌≡◌, sym, subst, refl, ℕ, suc, ◌+◌, ℤ, pos, negsuc, ◌+ℤ◌, ◌*ℤ◌, ◌≤ℤ◌, List, [], ◌∷◌}
+use Rattle.std.proofs.Common.{length, fold, arith}
 use Rattle.std.specs.Prelude.{All, Contains}
 use Rattle.std.proofs.lemmas.Int.{ints}
 use Rattle.std.proofs.lemmas.List.Elements.{All-head, All-tail}
@@ -9,7 +10,8 @@ use Rattle.pals_base.specs.declared.values.Adaptor.TheVariants.{Average}
 use Rattle.pals_base.specs.Adaptors.{present, joined, of_present, average_of, least_of, greatest_of}
 use Rattle.input_adaptors.specs.proof.Places.{IsAboveSome, IsBelowSome}
 use Rattle.input_adaptors.proofs.Quotient.{quotient_above, quotient_below}
-use Rattle.input_adaptors.proofs.Extremes.{Contains-from_present, Contains-least, Contains-greatest, All-above_least, All-below_greatest}
+use Rattle.input_adaptors.proofs.Extremes.{Contains-from_present, Contains-least, Contains-greatest, All-above_least}
+use Rattle.input_adaptors.proofs.Extremes.{All-below_greatest}
 
 -- ---- sums
 mul-suc : (z : ℤ) (n : ℕ) → z *ℤ pos (suc n) ≡ z *ℤ pos n +ℤ z

@@ -1,9 +1,12 @@
 -- How many places an adaptor gives, and the groups that they are made of.
-use Rattle.std.proofs.Common.{◌≡◌, ◌∙◌, ap, sym, refl, ℕ, zero, suc, ◌+◌, ◌-◌, ◌*◌, ◌/◌, ◌<◌, ◌≤◌, inl, inr, ◌⊎◌, ◌%◌, ◌||◌, Bool, true, false, if◌then◌else◌, List, [], ◌∷◌, ◌++◌, length, take, drop, map, Option, Some, None, arith}
+use Rattle.std.proofs.Common.{◌≡◌, ◌∙◌, ap, sym, refl, ℕ, zero, suc, ◌+◌, ◌-◌, ◌*◌, ◌/◌, ◌<◌, ◌≤◌, inl, inr, ◌⊎◌, ◌%◌}
+use Rattle.std.proofs.Common.{◌||◌, Bool, true, false, if◌then◌else◌, List, [], ◌∷◌, ◌++◌, length, take, drop, map}
+use Rattle.std.proofs.Common.{Option, Some, None, arith}
 use Rattle.std.specs.Prelude.{IsTrue, nat_eq, slice_get, slice_index_or, replicate, flat_map, All}
 use Rattle.std.proofs.lemmas.Option.{slice_get_within, get_or_from_slice_get}
 use Rattle.std.proofs.lemmas.Bool.{lt-ltb, le-ltb, eqb-true, cases_lt}
-use Rattle.std.proofs.lemmas.List.{length-append, length-map, length-set, length-replicate, length-take-le, length-drop, drop-drop, take-append-drop}
+use Rattle.std.proofs.lemmas.List.{length-append, length-map, length-set, length-replicate, length-take-le, length-drop}
+use Rattle.std.proofs.lemmas.List.{drop-drop, take-append-drop}
 use Rattle.std.proofs.lemmas.List.Elements.{All-nil, All-cons}
 use Rattle.std.proofs.Math.Nat.{div-add-mod, mod-eq_of_lt}
 use Rattle.pals_base.specs.declared.values.PortValue.{PortValue}

@@ -1,9 +1,11 @@
 -- Where the present numbers that an adaptor gives come from.
-use Rattle.std.proofs.Common.{◌≡◌, ◌≢◌, ◌∙◌, ap, sym, subst, refl, ℕ, zero, suc, ◌-◌, ◌/◌, inl, inr, ℤ, List, [], ◌∷◌, length, take, drop, map, Option, Some, None}
+use Rattle.std.proofs.Common.{◌≡◌, ◌≢◌, ◌∙◌, ap, sym, subst, refl, ℕ, zero, suc, ◌-◌, ◌/◌, inl, inr, ℤ, List, [], ◌∷◌}
+use Rattle.std.proofs.Common.{length, take, drop, map, Option, Some, None}
 use Rattle.std.specs.Prelude.{flat_map, slice_index_or, slice_set, replicate, All, Contains}
 use Rattle.std.proofs.lemmas.Bool.{cases_lt}
 use Rattle.std.proofs.lemmas.List.{get_or_past, get_or_default}
-use Rattle.std.proofs.lemmas.List.Elements.{All-nil, All-cons, All-append, All-map, All-set, All-replicate, All-take, All-drop, All-weaker, All-contains, All-contains_itself}
+use Rattle.std.proofs.lemmas.List.Elements.{All-nil, All-cons, All-append, All-map, All-set, All-replicate, All-take}
+use Rattle.std.proofs.lemmas.List.Elements.{All-drop, All-weaker, All-contains, All-contains_itself}
 use Rattle.list_lemmas.proofs.Elements.{Contains-head}
 use Rattle.pals_base.specs.declared.values.PortValue.{PortValue}
 use Rattle.pals_base.specs.declared.values.PortValue.TheVariants.{Absent, Present}

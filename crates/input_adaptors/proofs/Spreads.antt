@@ -1,10 +1,13 @@
 -- Where spread values stand.
-use Rattle.std.proofs.Common.{◌≡◌, ◌≢◌, ◌∙◌, ap, sym, refl, ℕ, zero, suc, ◌+◌, ◌-◌, ◌*◌, ◌/◌, ◌%◌, ◌<◌, ◌≤◌, subst, List, [], ◌∷◌, length, Some, arith}
-use Rattle.std.specs.Prelude.{IsTrue, Bool, true, false, ◌&&◌, if◌then◌else◌, nat_le, nat_lt, flat_map, slice_get, slice_index_or, slice_set, replicate}
+use Rattle.std.proofs.Common.{◌≡◌, ◌≢◌, ◌∙◌, ap, sym, refl, ℕ, zero, suc, ◌+◌, ◌-◌, ◌*◌, ◌/◌, ◌%◌, ◌<◌, ◌≤◌, subst}
+use Rattle.std.proofs.Common.{List, [], ◌∷◌, length, Some, arith}
+use Rattle.std.specs.Prelude.{IsTrue, Bool, true, false, ◌&&◌, if◌then◌else◌, nat_le, nat_lt, flat_map, slice_get}
+use Rattle.std.specs.Prelude.{slice_index_or, slice_set, replicate}
 use Rattle.std.proofs.lemmas.Nat.{mul-add-lt}
 use Rattle.std.proofs.lemmas.Bool.{lt-ltb, leb-true}
 use Rattle.std.proofs.lemmas.Option.{slice_get-get_or}
-use Rattle.std.proofs.lemmas.List.{length-replicate, get_or-replicate, get_or-set_same, get_or-set_other, get_or_append_left, get_or-append_right, get_or_past}
+use Rattle.std.proofs.lemmas.List.{length-replicate, get_or-replicate, get_or-set_same, get_or-set_other}
+use Rattle.std.proofs.lemmas.List.{get_or_append_left, get_or-append_right, get_or_past}
 use Rattle.std.proofs.Math.Nat.{div-add-mod, mod-lt}
 use Rattle.pals_base.specs.declared.values.PortValue.{PortValue}
 use Rattle.pals_base.specs.declared.values.PortValue.TheVariants.{Absent}

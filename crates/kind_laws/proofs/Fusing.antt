@@ -1,5 +1,7 @@
 -- The law of the kinds of values in fused composition, by the ranks of steps: what a step reads was left by steps of lower rank.
-use Rattle.std.proofs.Common.{◌≡◌, ◌∙◌, ℕ, zero, suc, ◌+◌, ◌*◌, ◌/◌, ◌%◌, ◌<◌, ◌≤◌, Bool, true, false, if◌then◌else◌, List, [], length, map, take, slice_get, All, Option, Some, None, refl, sym, ap, subst, arith}
+use Rattle.std.proofs.Common.{◌≡◌, ◌∙◌, ℕ, zero, suc, ◌+◌, ◌*◌, ◌/◌, ◌%◌, ◌<◌, ◌≤◌, Bool, true, false, if◌then◌else◌}
+use Rattle.std.proofs.Common.{List, [], length, map, take, slice_get, All, Option, Some, None, refl, sym, ap, subst}
+use Rattle.std.proofs.Common.{arith}
 use Rattle.std.specs.Option.{option_map}
 use Rattle.std.specs.Prelude.{position, slice_index_or, replicate}
 use Rattle.std.proofs.lemmas.List.Elements.{All-take}
@@ -18,7 +20,8 @@ use Rattle.pals_model.specs.declared.design.DesignParts.{DesignParts}
 use Rattle.pals_model.specs.declared.rounds.Env.{Env}
 use Rattle.pals_model.specs.declared.sources.PortSource.{PortSource}
 use Rattle.pals_model.specs.declared.sources.PortSource.TheVariants as source
-use Rattle.pals_model.specs.Inputs.{rate_of, rate_in, link_goes_to, feed_goes_to, from_feed, from_link, source_of, sources_of, values_at, reading}
+use Rattle.pals_model.specs.Inputs.{rate_of, rate_in, link_goes_to, feed_goes_to, from_feed, from_link, source_of}
+use Rattle.pals_model.specs.Inputs.{sources_of, values_at, reading}
 use Rattle.pals_model.specs.Ports.{out_kind}
 use Rattle.pals_model.specs.Composition.{taps_of}
 use Rattle.pals_model.specs.Rules.{IsDesign}
@@ -29,10 +32,13 @@ use Rattle.pals_model.proofs.KindLists.{index_fits}
 use Rattle.pals_model.proofs.KindsOfSteps.{frames_fit, initial_fits}
 use Rattle.pals_model.proofs.KindsOfAdaptors.{absent_fits}
 use Rattle.pals_runs.specs.declared.pairs.Pair.{Pair}
-use Rattle.plant_fuse.specs.Fused.{ArePairs, is_back, is_forth, Inputs, inputs_to, outputs_in, left_by, left_before, round_tuple, message_on, messages_before, from_round, value_on, value_read, vector_of, frame_before, IsFused}
+use Rattle.plant_fuse.specs.Fused.{ArePairs, is_back, is_forth, Inputs, inputs_to, outputs_in, left_by, left_before}
+use Rattle.plant_fuse.specs.Fused.{round_tuple, message_on, messages_before, from_round, value_on, value_read}
+use Rattle.plant_fuse.specs.Fused.{vector_of, frame_before, IsFused}
 use Rattle.plant_fuse.specs.FusedText.{fused_part}
 use Rattle.plant_fuse.proofs.Numbered.{map_map}
-use Rattle.plant_fuse.proofs.Ranks.{is_controller, rank, rank_upto, rank_before, rank_beside, rank_in_round, rank_from_round}
+use Rattle.plant_fuse.proofs.Ranks.{is_controller, rank, rank_upto, rank_before, rank_beside, rank_in_round}
+use Rattle.plant_fuse.proofs.Ranks.{rank_from_round}
 use Rattle.plant_fuse.proofs.Inside.{back_rates, forth_is, read_from_target}
 use Rattle.plant_fuse.proofs.Causes.{read_at}
 use Rattle.triple_vote.proofs.Tables.{table-at}

@@ -1,5 +1,6 @@
 -- What in ports read fits their kinds, where messages and the values of the root in ports do.
-use Rattle.std.proofs.Common.{◌≡◌, ◌∙◌, ℕ, nat_eq, List, [], ◌∷◌, length, map, slice_get, All, Option, Some, None, refl, sym, ap, ap₂, subst, IsTrue}
+use Rattle.std.proofs.Common.{◌≡◌, ◌∙◌, ℕ, nat_eq, List, [], ◌∷◌, length, map, slice_get, All, Option, Some, None, refl}
+use Rattle.std.proofs.Common.{sym, ap, ap₂, subst, IsTrue}
 use Rattle.std.specs.Prelude.{position, slice_index_or}
 use Rattle.std.proofs.lemmas.Bool.{and_parts, eqb-true}
 use Rattle.std.proofs.lemmas.List.Elements.{All-nil, All-cons}
@@ -14,7 +15,8 @@ use Rattle.pals_model.specs.declared.design.Link.{Link}
 use Rattle.pals_model.specs.declared.design.DesignParts.{DesignParts}
 use Rattle.pals_model.specs.declared.rounds.Env.{Env}
 use Rattle.pals_model.specs.declared.sources.PortSource.{PortSource}
-use Rattle.pals_model.specs.Inputs.{rate_of, root_of, values_at, link_goes_to, feed_goes_to, from_feed, from_link, source_of, sources_of, read_feed, read_link, reading, inputs_of}
+use Rattle.pals_model.specs.Inputs.{rate_of, root_of, values_at, link_goes_to, feed_goes_to, from_feed, from_link}
+use Rattle.pals_model.specs.Inputs.{source_of, sources_of, read_feed, read_link, reading, inputs_of}
 use Rattle.pals_model.specs.Ports.{kind_of, in_kind, root_kind}
 use Rattle.pals_model.specs.Rules.{IsDesign, IsLink, IsFeed}
 use Rattle.pals_model.specs.proof.FittingValues.{PortFits, TupleFits, PortsFit, link_kind, EnvFits}

@@ -1,5 +1,7 @@
 -- The law of the kinds of values in rounds that are voted on.
-use Rattle.std.proofs.Common.{◌≡◌, ◌∙◌, ℕ, zero, suc, ◌<◌, nat_eq, ◌&&◌, ◌||◌, Bool, true, false, if◌then◌else◌, List, [], ◌∷◌, length, map, find, slice_get, All, Option, Some, None, refl, sym, ap, subst, arith}
+use Rattle.std.proofs.Common.{◌≡◌, ◌∙◌, ℕ, zero, suc, ◌<◌, nat_eq, ◌&&◌, ◌||◌, Bool, true, false, if◌then◌else◌, List}
+use Rattle.std.proofs.Common.{[], ◌∷◌, length, map, find, slice_get, All, Option, Some, None, refl, sym, ap, subst}
+use Rattle.std.proofs.Common.{arith}
 use Rattle.std.specs.Prelude.{slice_index_or}
 use Rattle.std.proofs.lemmas.Bool.{and_parts, eqb-true}
 use Rattle.std.proofs.lemmas.List.{length-map}
@@ -31,7 +33,9 @@ use Rattle.pals_model.proofs.KindsOfSteps.{frames_fit, initial_fits}
 use Rattle.pals_model.proofs.KindsOfAdaptors.{absent_fits}
 use Rattle.pals_runs.specs.declared.pairs.VoteFault.{VoteFault}
 use Rattle.triple_vote.specs.Votes.{same_port, vote, votes}
-use Rattle.triple_vote.specs.Replicas.{is_replicated, copies_of, receivers_in, Voted, frame_at, heard_by, first_frame, first_tuple, vopening, steps_in, replica_steps, tuple_at, is_fault, fault_or, own_message, sent_to, vote_of, receives_on, vnext, vcomp, vshown_by, vshown}
+use Rattle.triple_vote.specs.Replicas.{is_replicated, copies_of, receivers_in, Voted, frame_at, heard_by, first_frame}
+use Rattle.triple_vote.specs.Replicas.{first_tuple, vopening, steps_in, replica_steps, tuple_at, is_fault, fault_or}
+use Rattle.triple_vote.specs.Replicas.{own_message, sent_to, vote_of, receives_on, vnext, vcomp, vshown_by, vshown}
 use Rattle.triple_vote.proofs.Tables.{length-upwards, table-at, found}
 use Rattle.triple_vote.proofs.ReplicasFollow.{has_first, has_three}
 use Rattle.kind_laws.specs.proof.Votes.{FaultFits, FaultsFit, VotesFit, ShownFit}

@@ -1,15 +1,18 @@
 -- Where entries stand in their order.
-use Rattle.std.proofs.Common.{◌≡◌, ◌≢◌, ℕ, ◌<◌, ◌≤◌, true, false, not, List, length, get_or, take, drop, insert, remove, filter, Some, slice_get, Contains, ⊎_elim, refl, sym, ap, ◌∙◌, subst, arith}
+use Rattle.std.proofs.Common.{◌≡◌, ◌≢◌, ℕ, ◌<◌, ◌≤◌, true, false, not, List, length, get_or, take, drop, insert, remove}
+use Rattle.std.proofs.Common.{filter, Some, slice_get, Contains, ⊎_elim, refl, sym, ap, ◌∙◌, subst, arith}
 use Rattle.std.specs.List.Sorted.{IsPartitionPoint, IsPartitionedBy}
 use Rattle.std.proofs.lemmas.Grind.{common_steps}
 use Rattle.std.proofs.lemmas.Bool.{cases_lt, false_from_ne_true}
 use Rattle.std.proofs.lemmas.Bool.Decides.{nat_tests}
 use Rattle.std.proofs.lemmas.Option.{slice_get-get_or, slice_get_within, get_or_from_slice_get}
 use Rattle.link_buffers.specs.declared.queue.DueEntry.{DueEntry}
-use Rattle.link_buffers.specs.proof.Queues.{comes_before, is_entry, is_due_at, IsRising, with_entry, without_entry, queue_of}
+use Rattle.link_buffers.specs.proof.Queues.{comes_before, is_entry, is_due_at, IsRising, with_entry, without_entry}
+use Rattle.link_buffers.specs.proof.Queues.{queue_of}
 use Rattle.link_buffers.proofs.FirstItems.{without_at, without_any}
 use Rattle.link_buffers.proofs.Splits.{filter_front, filter_rest, all_pairs_insert}
-use Rattle.link_buffers.proofs.Order.{not_before_itself, rises_on, before_on, due_rises, before_is_not_after, before_is_other, entry_is_itself, entry_from_test, same_from_neither}
+use Rattle.link_buffers.proofs.Order.{not_before_itself, rises_on, before_on, due_rises, before_is_not_after}
+use Rattle.link_buffers.proofs.Order.{before_is_other, entry_is_itself, entry_from_test, same_from_neither}
 
 -- an entry never comes before one at its own place or an earlier one
 rising : (xs : List DueEntry) (i j : ℕ) (d : DueEntry) → IsRising xs → i ≤ j → j < length xs

@@ -1,5 +1,6 @@
 //! A node's messages in the order in which they become due.
-ghost use Rattle.std.specs.Prelude.{◌≡◌, ◌+◌, ◌-◌, ◌≤◌, ◌↔◌, [], max, take, filter, count_by, Contains, IsTrue, IfOk, OnOk, OnErr, slice_get, if◌then◌else◌};
+ghost use Rattle.std.specs.Prelude.{◌≡◌, ◌+◌, ◌-◌, ◌≤◌, ◌↔◌, [], max, take, filter, count_by, Contains, IsTrue, IfOk};
+ghost use Rattle.std.specs.Prelude.{OnOk, OnErr, slice_get, if◌then◌else◌};
 ghost use Rattle.std.specs.Bool.{OnFalse};
 
 use crate::halving::partition_point;

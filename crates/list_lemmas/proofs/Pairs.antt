@@ -1,6 +1,6 @@
 -- What holds of each two elements of a list.
-use Rattle.std.proofs.Common.{◌≡◌, ◌≢◌, ◌∙◌, inl, inr, ℕ, ◌<◌, false, List, [], ◌∷◌, slice_get, Some, AllPairs}
-use Rattle.std.proofs.Common.{sym, subst₂, arith}
+use Rattle.std.proofs.Common.{◌≡◌, ◌≢◌, ◌∙◌, inl, inr, ℕ, ◌<◌, false, List, [], ◌∷◌, slice_get, Some, AllPairs, sym}
+use Rattle.std.proofs.Common.{subst₂, arith}
 use Rattle.std.specs.Prelude.{bytes_eq}
 use Rattle.std.proofs.lemmas.Bool.{true≢false, cases_lt}
 use Rattle.std.proofs.lemmas.List.Elements.{All-nil, All-cons}

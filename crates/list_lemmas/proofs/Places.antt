@@ -4,7 +4,8 @@ use Rattle.std.proofs.Common.{length, slice_get, Contains, Option, Some, None, r
 use Rattle.std.specs.Prelude.{flat_map, zip, option_map}
 use Rattle.std.specs.List.{position_from}
 use Rattle.std.proofs.lemmas.List.{length_push}
-use Rattle.std.proofs.lemmas.Option.{slice_get_within, slice_get-get_or, slice_get-map, get_or_from_slice_get, same_Some, none-some}
+use Rattle.std.proofs.lemmas.Option.{slice_get_within, slice_get-get_or, slice_get-map, get_or_from_slice_get}
+use Rattle.std.proofs.lemmas.Option.{same_Some, none-some}
 use Rattle.list_lemmas.proofs.Lists.{append_is_nil_left, append_is_nil_right}
 
 -- ---- a place in range has an element

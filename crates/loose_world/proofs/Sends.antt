@@ -1,11 +1,13 @@
 -- What is in flight directly behind a send.
-use Rattle.std.proofs.Common.{◌≡◌, ℕ, suc, ◌+◌, ◌-◌, ◌<◌, nat_eq, Bool, true, false, cond, List, [], ◌∷◌, ◌++◌, length, map, slice_get, Option, Some, None, All, refl, sym, ap, ap₂, ◌∙◌, subst, arith}
+use Rattle.std.proofs.Common.{◌≡◌, ℕ, suc, ◌+◌, ◌-◌, ◌<◌, nat_eq, Bool, true, false, cond, List, [], ◌∷◌, ◌++◌, length}
+use Rattle.std.proofs.Common.{map, slice_get, Option, Some, None, All, refl, sym, ap, ap₂, ◌∙◌, subst, arith}
 use Rattle.std.specs.Prelude.{filter, find, flat_map, Contains, slice_index_or, if◌then◌else◌}
 use Rattle.std.specs.List.{enumerate_from}
 use Rattle.std.specs.Option.{option_or}
 use Rattle.std.proofs.lemmas.Bool.{eqb-true, eq-eqb, false≢true}
 use Rattle.std.proofs.lemmas.List.Folds.{find-append}
-use Rattle.std.proofs.lemmas.List.Elements.{All-nil, All-cons, All-head, All-tail, All-map, All-weaker, All-contains, Contains-get_or}
+use Rattle.std.proofs.lemmas.List.Elements.{All-nil, All-cons, All-head, All-tail, All-map, All-weaker, All-contains}
+use Rattle.std.proofs.lemmas.List.Elements.{Contains-get_or}
 use Rattle.pals_base.specs.declared.values.NodeNo.{NodeNo}
 use Rattle.pals_model.specs.declared.design.Link.{Link}
 use Rattle.pals_model.specs.declared.design.DesignParts.{DesignParts}
@@ -33,8 +35,7 @@ use Rattle.bus_machine.proofs.States.{node_set}
 use Rattle.pals_report.specs.SentLines.{sent_line as line}
 use Rattle.pals_bus.specs.Values.{BusValue, Happens}
 use Rattle.pals_bus.specs.proof.Values.{opening_bus}
-use Rattle.loose_world.specs.Sent.{message_lines, copy_lines}
-use Rattle.loose_world.specs.Sent.{sent_lines as shown_lines}
+use Rattle.loose_world.specs.Sent.{message_lines, copy_lines, sent_lines as shown_lines}
 use Rattle.loose_world.specs.Worlds.{InTurn, told_by}
 use Rattle.loose_world.specs.proof.Histories.{Undergoes, IsLeftBy, IsReplayed}
 use Rattle.loose_world.specs.proof.Senders.{senders, HasSent}

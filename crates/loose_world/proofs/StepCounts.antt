@@ -1,5 +1,6 @@
 -- Each step of the machine counts at each node.
-use Rattle.std.proofs.Common.{◌≡◌, ℕ, ◌+◌, ◌-◌, ◌*◌, ◌<◌, ◌≤◌, nat_eq, Bool, true, false, List, length, Option, Some, None, refl, sym, ap, ap₂, ◌∙◌, subst, arith, length-append}
+use Rattle.std.proofs.Common.{◌≡◌, ℕ, ◌+◌, ◌-◌, ◌*◌, ◌<◌, ◌≤◌, nat_eq, Bool, true, false, List, length, Option, Some}
+use Rattle.std.proofs.Common.{None, refl, sym, ap, ap₂, ◌∙◌, subst, arith, length-append}
 use Rattle.std.specs.Prelude.{nat_lt, is_some, if◌then◌else◌}
 use Rattle.std.proofs.lemmas.Bool.{ltb-false, false≢true}
 use Rattle.std.proofs.lemmas.Option.{slice_get_within}
@@ -18,12 +19,13 @@ use Rattle.pals_runs.specs.declared.events.Event.TheVariants as event
 use Rattle.bus_machine.specs.declared.plan.Plan.{Plan}
 use Rattle.bus_machine.specs.Plans.{component_at, plan_of}
 use Rattle.bus_machine.specs.Nodes.{NodeState, at_rest}
-use Rattle.bus_machine.specs.NodeEvents.{is_waiting, started, next_step, stepped, running_step, finished, may_send, sent_from, with_message, arrived, received}
+use Rattle.bus_machine.specs.NodeEvents.{is_waiting, started, next_step, stepped, running_step, finished, may_send}
+use Rattle.bus_machine.specs.NodeEvents.{sent_from, with_message, arrived, received, after_send as phase_after_send}
 use Rattle.bus_machine.specs.LinkEvents.{arriving}
-use Rattle.bus_machine.specs.NodeEvents.{after_send as phase_after_send}
 use Rattle.bus_machine.specs.States.{Run, BusState, node_at, flight_at, link_at, with_node}
 use Rattle.bus_machine.specs.Stops.{missing_link, sent_rounds}
-use Rattle.bus_machine.specs.Machine.{BusEvent, Start, Step, Finish, Send, Arrive, Drop, Repeat, IsStep, after, after_start, after_send, after_arrive, on_step, is_allowed}
+use Rattle.bus_machine.specs.Machine.{BusEvent, Start, Step, Finish, Send, Arrive, Drop, Repeat, IsStep, after}
+use Rattle.bus_machine.specs.Machine.{after_start, after_send, after_arrive, on_step, is_allowed}
 use Rattle.bus_machine.specs.Agreement.{PhaseAgrees, Agrees}
 use Rattle.bus_machine.specs.proof.MachineLaws.{IsRunOf}
 use Rattle.bus_machine.proofs.Nodes.{finish_keeps, MaySend, may_send_of}

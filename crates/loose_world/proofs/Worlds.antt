@@ -1,5 +1,6 @@
 -- Lists of events that go on.
-use Rattle.std.proofs.Common.{◌≡◌, ◌∙◌, Result, Ok, Err, OnErr, ℕ, ◌+◌, ◌<◌, List, [], ◌++◌, length, take, None, refl, sym, ap, append-nil}
+use Rattle.std.proofs.Common.{◌≡◌, ◌∙◌, Result, Ok, Err, OnErr, ℕ, ◌+◌, ◌<◌, List, [], ◌++◌, length, take, None, refl}
+use Rattle.std.proofs.Common.{sym, ap, append-nil}
 use Rattle.std.specs.Prelude.{slice_index_or}
 use Rattle.pals_model.specs.RoundTexts.{text_of}
 use Rattle.pals_runs.specs.declared.events.Event.{Event}

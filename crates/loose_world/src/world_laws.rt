@@ -1,8 +1,8 @@
 //! Laws of lists of events, with readings or without, and of loose worlds. The functions do nothing: their
 //! contracts are the laws.
-ghost use Rattle.loose_world.specs.proof.WorldLaws.{StepCounts, EventsReplay, RoundsAreFinished, RoundsAreSent, FinishedRows};
-ghost use Rattle.loose_world.specs.proof.WorldLaws.{CommonRows, RoundsWithoutNodes, SendsAreInFlight, LinesAreTold};
-ghost use Rattle.loose_world.specs.proof.WorldLaws.{WorldIsTold, TextIsTold, StopIsTold};
+ghost use Rattle.loose_world.specs.proof.WorldLaws.{StepCounts, EventsReplay, RoundsAreFinished, RoundsAreSent};
+ghost use Rattle.loose_world.specs.proof.WorldLaws.{FinishedRows, CommonRows, RoundsWithoutNodes, SendsAreInFlight};
+ghost use Rattle.loose_world.specs.proof.WorldLaws.{LinesAreTold, WorldIsTold, TextIsTold, StopIsTold};
 ghost use Rattle.loose_world.specs.proof.Journals.{JournalReplays};
 ghost use Rattle.loose_world.specs.proof.Reports.{WorldIsReported, WorldTextIsReported};
 ghost use Rattle.loose_world.specs.proof.Steps.{EventsAreSteps};

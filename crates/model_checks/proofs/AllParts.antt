@@ -1,5 +1,6 @@
 -- All of a list of parts, some of which may be missing.
-use Rattle.std.proofs.Common.{◌≡◌, ◌∙◌, ℕ, ◌+◌, ◌<◌, List, [], ◌∷◌, ◌++◌, length, map, take, drop, get_or, Option, Some, None, refl, sym, ap}
+use Rattle.std.proofs.Common.{◌≡◌, ◌∙◌, ℕ, ◌+◌, ◌<◌, List, [], ◌∷◌, ◌++◌, length, map, take, drop, get_or, Option, Some}
+use Rattle.std.proofs.Common.{None, refl, sym, ap}
 use Rattle.std.proofs.lemmas.List.{map-append, take-append-drop}
 use Rattle.annex_resolve.proofs.Listing.{map_next}
 use Rattle.design_laws.specs.Designs.{put_first, all_of}

@@ -5,7 +5,8 @@ use Rattle.std.proofs.lemmas.Option.{same_Some, slice_get-map}
 use Rattle.list_lemmas.proofs.Options.{option_and_then_assoc}
 use Rattle.aadl_tree.specs.Declarations.{Subcomponent, Connection, Implementation, PackageTree}
 use Rattle.aadl_names.specs.declared.site.PortPlace.TheVariants.{Own, Inner}
-use Rattle.aadl_names.specs.Resolving.{features_of, implementation_at, subcomponents_of, referred, target_of, type_number, type_numbered}
+use Rattle.aadl_names.specs.Resolving.{features_of, implementation_at, subcomponents_of, referred, target_of}
+use Rattle.aadl_names.specs.Resolving.{type_number, type_numbered}
 use Rattle.aadl_uses.specs.declared.connections.Wire.{Wire}
 use Rattle.aadl_uses.specs.Uses.{below}
 use Rattle.aadl_uses.specs.Wiring.{wire_of, wires_of, wires_at}

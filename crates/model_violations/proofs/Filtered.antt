@@ -1,5 +1,6 @@
 -- The number that a thing has among those of its kind that are left, one thing further on.
-use Rattle.std.proofs.Common.{◌≡◌, ◌∙◌, ℕ, ◌+◌, ◌<◌, ◌≤◌, Bool, true, false, cond, List, ◌∷◌, length, map, filter, drop, get_or, Some, None, ap, add-one}
+use Rattle.std.proofs.Common.{◌≡◌, ◌∙◌, ℕ, ◌+◌, ◌<◌, ◌≤◌, Bool, true, false, cond, List, ◌∷◌, length, map, filter, drop}
+use Rattle.std.proofs.Common.{get_or, Some, None, ap, add-one}
 use Rattle.std.specs.Prelude.{slice_get}
 use Rattle.list_lemmas.proofs.Lists.{drop-next}
 use Rattle.aadl_names.proofs.Finds.{none_left}

@@ -1,5 +1,6 @@
 -- Rates that are not refused are 1 to 64.
-use Rattle.std.proofs.Common.{◌≡◌, ◌∙◌, ℕ, ◌<◌, ◌≤◌, ◌/◌, nat_le, Bool, true, false, cond, ◌&&◌, List, [], ◌∷◌, map, fold, Option, Some, None, refl, sym, ap, arith}
+use Rattle.std.proofs.Common.{◌≡◌, ◌∙◌, ℕ, ◌<◌, ◌≤◌, ◌/◌, nat_le, Bool, true, false, cond, ◌&&◌, List, [], ◌∷◌, map}
+use Rattle.std.proofs.Common.{fold, Option, Some, None, refl, sym, ap, arith}
 use Rattle.std.specs.Prelude.{option_map, slice_get}
 use Rattle.std.proofs.lemmas.Bool.{false≢true}
 use Rattle.std.proofs.lemmas.Bool.Decides.{nat_tests}

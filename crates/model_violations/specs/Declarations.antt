@@ -1,7 +1,8 @@
 -- What is wrong with the declarations that are in use, each looked at once.
 use Rattle.std.specs.Prelude.{◌≡◌, ℕ, nat_eq, Bool, true, List, [], ◌++◌, flat_map, Some, if◌then◌else◌}
 use Rattle.std.specs.List.{enumerate_from}
-use Rattle.aadl_tree.specs.Declarations.{Subcomponent, TypeDeclaration, Implementation, Declaration, type, implementation, PackageTree}
+use Rattle.aadl_tree.specs.Declarations.{Subcomponent, TypeDeclaration, Implementation, Declaration, type}
+use Rattle.aadl_tree.specs.Declarations.{implementation, PackageTree}
 use Rattle.aadl_names.specs.Resolving.{is_thread, implementation_at}
 use Rattle.annex_resolve.specs.declared.violation.Violation.{Violation}
 use Rattle.component_checks.specs.Times.{list_big}

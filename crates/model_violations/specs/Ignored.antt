@@ -1,11 +1,13 @@
 -- The names of properties that mean nothing where they stand, over the whole package.
-use Rattle.std.specs.Prelude.{ℕ, nat_eq, Bool, false, not, ◌&&◌, List, [], ◌∷◌, ◌++◌, flat_map, Option, Some, None, if◌then◌else◌}
+use Rattle.std.specs.Prelude.{ℕ, nat_eq, Bool, false, not, ◌&&◌, List, [], ◌∷◌, ◌++◌, flat_map, Option, Some, None}
+use Rattle.std.specs.Prelude.{if◌then◌else◌}
 use Rattle.aadl_tree.specs.Names.{same_name}
 use Rattle.std.specs.List.{list_any, enumerate_from}
 use Rattle.std.specs.Option.{option_and_then}
 use Rattle.aadl_tree.specs.Values.{Association, Associations}
 use Rattle.aadl_tree.specs.Annexes.{VariableDeclaration, Annex}
-use Rattle.aadl_tree.specs.Declarations.{Feature, Subcomponent, Connection, TypeDeclaration, Implementation, Declaration, type, implementation, PackageTree}
+use Rattle.aadl_tree.specs.Declarations.{Feature, Subcomponent, Connection, TypeDeclaration, Implementation}
+use Rattle.aadl_tree.specs.Declarations.{Declaration, type, implementation, PackageTree}
 use Rattle.aadl_names.specs.declared.holder.PropertyHolder.{PropertyHolder}
 use Rattle.aadl_names.specs.Behaviours.{variables_in}
 use Rattle.aadl_names.specs.Properties.{listed, counts, is_named, name_of, recognised, association_name}

@@ -13,7 +13,7 @@ use aadl_tree::Connection;
 use annex_resolve::Violation;
 use annex_resolve::violation::{NOT_DELAYED, STRAY_ADAPTOR};
 use component_checks::threads::add_named;
-use component_checks::{ChainProperties, Carrier, Properties};
+use component_checks::{Carrier, ChainProperties, Properties};
 use pals_base::{Adaptor, Items, NoMemory};
 use std::alloc::Global;
 

@@ -1,7 +1,8 @@
 //! The properties of a declaration that mean nothing where they stand.
 ghost use Rattle.std.specs.Prelude.{◌≡◌, ◌++◌, OnOk, map, flat_map};
 ghost use Rattle.aadl_tree.specs.proof.Maps.{kept_place};
-ghost use Rattle.aadl_tree.specs.proof.Views.{connection_view, declaration_view, feature_view, implementation_view, subcomponent_view, type_view};
+ghost use Rattle.aadl_tree.specs.proof.Views.{connection_view, declaration_view, feature_view, implementation_view};
+ghost use Rattle.aadl_tree.specs.proof.Views.{subcomponent_view, type_view};
 ghost use Rattle.model_violations.specs.Ignored as spec;
 
 use crate::ignored_properties::{add_annexes, add_list};

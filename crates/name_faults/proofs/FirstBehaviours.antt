@@ -8,9 +8,8 @@ use Rattle.aadl_tree.specs.Annexes as plain
 use Rattle.aadl_tree.specs.proof.Views.{annex_view, content_view}
 use Rattle.aadl_tree.specs.proof.NameViews.{identifier_view}
 use Rattle.aadl_tree.specs.proof.Maps.{kept_place}
-use Rattle.aadl_names.specs.Behaviours.{behaviours}
+use Rattle.aadl_names.specs.Behaviours.{behaviours, first_behaviour}
 use Rattle.aadl_names.proofs.Finds.{none_left}
-use Rattle.aadl_names.specs.Behaviours.{first_behaviour}
 
 -- an annex of some content, and others behind it
 abbrev first_with : Annex → AnnexContent ℕ → List (plain.Annex ℕ) → Option (AnnexTree ℕ)

@@ -1,7 +1,7 @@
 -- The names of the ports of types, one type after the other.
-use Rattle.std.proofs.Common.{◌≡◌, ℕ, ◌+◌, ◌<◌, Bool, true, false, cond, List, [], ◌∷◌, ◌++◌, length, take, get_or, map, Option, Some, None, refl, sym, ap}
+use Rattle.std.proofs.Common.{◌≡◌, ℕ, ◌+◌, ◌<◌, Bool, true, false, cond, List, [], ◌∷◌, ◌++◌, length, take, get_or, map}
+use Rattle.std.proofs.Common.{Option, Some, None, refl, sym, ap, ◌∙◌, subst, zero, suc}
 use Rattle.aadl_tree.specs.Names.{same_name}
-use Rattle.std.proofs.Common.{◌∙◌, subst, zero, suc}
 use Rattle.std.specs.Prelude.{slice_get, slice_index_or, find, option_map}
 use Rattle.std.specs.Option.{option_or}
 use Rattle.std.proofs.lemmas.List.{map_more}

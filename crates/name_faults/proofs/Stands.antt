@@ -7,8 +7,9 @@ use Rattle.aadl_tree.specs.declared.declarations.Direction.{Direction}
 use Rattle.aadl_names.specs.declared.fault.PackageFault.{PackageFault}
 use Rattle.aadl_names.specs.declared.site.PortPlace.{PortPlace}
 use Rattle.aadl_names.specs.declared.site.PortPlace.TheVariants.{Own, Inner}
-use Rattle.aadl_names.specs.Resolving.{implementation_in, implementation_at, subcomponents_of, type_number, type_numbered, referred, target_of}
-use Rattle.aadl_names.specs.Resolving.{features_of, direction_in, direction_of, with_direction}
+use Rattle.aadl_names.specs.Resolving.{implementation_in, implementation_at, subcomponents_of, type_number}
+use Rattle.aadl_names.specs.Resolving.{type_numbered, referred, target_of, features_of, direction_in, direction_of}
+use Rattle.aadl_names.specs.Resolving.{with_direction}
 use Rattle.aadl_names.specs.proof.Found.{found}
 use Rattle.aadl_names.specs.PackageFaults.{root_type, sited, joined_faults, connection_faults}
 use Rattle.aadl_uses.specs.declared.connections.Wire.{Wire}

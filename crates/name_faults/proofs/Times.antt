@@ -1,5 +1,6 @@
 -- The shapes of values.
-use Rattle.std.proofs.Common.{◌≡◌, ℕ, Bool, true, false, not, ◌&&◌, Option, Some, None, refl, cond, List, [], ◌∷◌, length, ◌≤◌, arith}
+use Rattle.std.proofs.Common.{◌≡◌, ℕ, Bool, true, false, not, ◌&&◌, Option, Some, None, refl, cond, List, [], ◌∷◌}
+use Rattle.std.proofs.Common.{length, ◌≤◌, arith}
 use Rattle.std.specs.Option.{is_some}
 use Rattle.aadl_tree.specs.Values.{Value, list}
 use Rattle.aadl_tree.specs.proof.ValueViews.{values_of}

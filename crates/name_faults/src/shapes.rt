@@ -11,7 +11,7 @@ ghost use Rattle.aadl_names.specs.Properties as spec;
 use crate::digits::is_number;
 use aadl_names::PropertyName;
 use aadl_names::units::unit_of;
-use aadl_tree::{UnsignedNumber, Identifier, Quantity, Sign, Value};
+use aadl_tree::{Identifier, Quantity, Sign, UnsignedNumber, Value};
 
 // Whether it is a unit of time.
 fn is_unit(unit: &Option<Identifier>) -> bool

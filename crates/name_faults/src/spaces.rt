@@ -6,10 +6,9 @@ ghost use Rattle.aadl_tree.specs.proof.PackageViews.{placed};
 ghost use Rattle.aadl_tree.specs.proof.Views.{annex_tree_view, annex_view, implementation_view, declaration_view};
 ghost use Rattle.aadl_tree.specs.proof.Maps.{kept_place};
 ghost use Rattle.aadl_names.specs.proof.Found.{found};
-ghost use Rattle.aadl_names.specs.Behaviours.{behaviours};
+ghost use Rattle.aadl_names.specs.Behaviours.{behaviours, first_behaviour};
 ghost use Rattle.aadl_names.specs.Resolving.{type_number};
 ghost use Rattle.aadl_names.specs.proof.DeclaredTwice as spec;
-ghost use Rattle.aadl_names.specs.Behaviours.{first_behaviour};
 ghost use Rattle.name_faults.specs.proof.PortNames.{AreAllNamesOf};
 
 use crate::categories::is_thread;

@@ -1,5 +1,6 @@
 -- What a node's clock shows for its next action.
-use Rattle.std.proofs.Common.{◌≡◌, inl, inr, ℕ, ◌<◌, ◌≤◌, nat_lt, Bool, true, false, cond, List, [], ◌∷◌, length, slice_get, All, Option, Some, None, refl, sym, ap, ◌∙◌, subst, arith}
+use Rattle.std.proofs.Common.{◌≡◌, inl, inr, ℕ, ◌<◌, ◌≤◌, nat_lt, Bool, true, false, cond, List, [], ◌∷◌, length}
+use Rattle.std.proofs.Common.{slice_get, All, Option, Some, None, refl, sym, ap, ◌∙◌, subst, arith}
 use Rattle.std.specs.Prelude.{slice_index_or, slice_set, Result, Ok, Err, IfOk, OnOk, OnErr, IsErr, ◌↔◌}
 use Rattle.std.specs.Option.{option_map}
 use Rattle.std.proofs.lemmas.Grind.{common_steps, get_or-set_at}
@@ -27,7 +28,8 @@ use Rattle.run_laws.specs.NodeActions.{upcoming}
 use Rattle.run_laws.specs.Runs.{clock_at, no_clock, Shows, Does}
 use Rattle.run_laws.proofs.Picking.{runs_agree}
 use Rattle.node_threads.specs.declared.ends.NodeNote.{NodeNote}
-use Rattle.node_threads.specs.proof.Courses.{CourseValue, clocks_of, course_of, EndsAt, IsCourse, IsOpen, IsNext, IsReady}
+use Rattle.node_threads.specs.proof.Courses.{CourseValue, clocks_of, course_of, EndsAt, IsCourse, IsOpen, IsNext}
+use Rattle.node_threads.specs.proof.Courses.{IsReady}
 use Rattle.node_threads.proofs.Ranges.{target_fits}
 use Rattle.node_threads.proofs.Steps.{Goes, pick_goes}
 

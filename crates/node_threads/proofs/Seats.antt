@@ -1,5 +1,6 @@
 -- Seats, and what holds of nodes so far.
-use Rattle.std.proofs.Common.{◌≡◌, inl, inr, ℕ, zero, suc, ◌+◌, ◌<◌, List, [], ◌∷◌, slice_get, None, refl, sym, subst, arith}
+use Rattle.std.proofs.Common.{◌≡◌, inl, inr, ℕ, zero, suc, ◌+◌, ◌<◌, List, [], ◌∷◌, slice_get, None, refl, sym, subst}
+use Rattle.std.proofs.Common.{arith}
 use Rattle.std.proofs.lemmas.Bool.{cases_eq}
 use Rattle.node_threads.specs.declared.sleepers.ThreadSlot.{ThreadSlot}
 use Rattle.node_threads.specs.proof.Sleepers.{seat_at, free_seat}

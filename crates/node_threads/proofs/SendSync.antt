@@ -23,7 +23,8 @@ use Rattle.pals_model.proofs.rounds.Env.TheSendSync.{the_field_send as env_send}
 use Rattle.pals_model.proofs.rounds.Delays.TheSendSync.{the_field_send as delays_send}
 use Rattle.pals_base.proofs.behaviour.Op.TheSendSync.{the_field_send as op_send, the_field_sync as op_sync}
 use Rattle.pals_base.proofs.behaviour.PortDecl.TheSendSync.{the_field_send as named_send, the_field_sync as named_sync}
-use Rattle.pals_base.proofs.behaviour.VarDecl.TheSendSync.{the_field_send as variable_send, the_field_sync as variable_sync}
+use Rattle.pals_base.proofs.behaviour.VarDecl.TheSendSync.{the_field_send as variable_send}
+use Rattle.pals_base.proofs.behaviour.VarDecl.TheSendSync.{the_field_sync as variable_sync}
 use Rattle.pals_base.proofs.behaviour.StateDecl.TheSendSync.{the_field_send as state_send, the_field_sync as state_sync}
 use Rattle.pals_base.proofs.values.Gamma.TheSendSync.{the_field_send as gamma_send, the_field_sync as gamma_sync}
 use Rattle.pals_base.proofs.values.Frame.TheSendSync.{the_field_send as frame_send}
@@ -43,8 +44,7 @@ use Rattle.pals_model.specs.contracts.design.DesignParts.{the_field as design_pa
 use Rattle.pals_model.specs.contracts.design.Design.{the_field as design}
 use Rattle.bus_machine.specs.contracts.plan.Plan.{the_field as plan}
 use Rattle.pals_node.specs.contracts.plan.NodePlan.{the_field as node_plan}
-use Rattle.pals_node.specs.contracts.fields.Fields.{the_field as node_fields}
-use Rattle.pals_node.specs.contracts.fields.Fields.{the_type as node_fields_type}
+use Rattle.pals_node.specs.contracts.fields.Fields.{the_field as node_fields, the_type as node_fields_type}
 use Rattle.pals_node.specs.contracts.node.Node.{the_field as node}
 use Rattle.pals_bus.specs.contracts.node_list.NodeList.{the_field as node_list}
 use Rattle.pals_bus.specs.contracts.node_list.NodeList.TheInside.{the_type as node_list_inside}

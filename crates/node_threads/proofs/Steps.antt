@@ -1,5 +1,6 @@
 -- Each kind of locked step keeps a course, its run and its lists.
-use Rattle.std.proofs.Common.{◌≡◌, ◌≢◌, inl, inr, ℕ, ◌<◌, true, false, List, length, Some, refl, sym, ap, ◌∙◌, subst, arith}
+use Rattle.std.proofs.Common.{◌≡◌, ◌≢◌, inl, inr, ℕ, ◌<◌, true, false, List, length, Some, refl, sym, ap, ◌∙◌, subst}
+use Rattle.std.proofs.Common.{arith}
 use Rattle.std.specs.Prelude.{slice_set}
 use Rattle.std.proofs.Math.Seq.{map-set_same}
 use Rattle.std.proofs.lemmas.Bool.{cases_eq}
@@ -21,7 +22,8 @@ use Rattle.run_laws.specs.Runs.{clock_at, no_clock, left_for, KeepsTo, Runs, pic
 use Rattle.run_laws.proofs.Ended.{stays_ended, waits_for}
 use Rattle.node_threads.specs.declared.ends.NodeNote.{NodeNote}
 use Rattle.node_threads.specs.declared.ends.NodeNote.TheVariants as note
-use Rattle.node_threads.specs.proof.Courses.{CourseValue, course_of, clocks_of, note_at, EndsAt, IsCourse, Stays, IsOpen, Allows}
+use Rattle.node_threads.specs.proof.Courses.{CourseValue, course_of, clocks_of, note_at, EndsAt, IsCourse, Stays}
+use Rattle.node_threads.specs.proof.Courses.{IsOpen, Allows}
 
 pub record Goes (old new : CourseValue) : Type 0 where
   pub course : IsCourse new

@@ -1,5 +1,6 @@
 -- When a node need not wait for its sources.
-use Rattle.std.proofs.Common.{◌≡◌, inl, inr, ℕ, ◌+◌, ◌-◌, ◌<◌, ◌≤◌, Bool, true, false, cond, List, length, sym, ap, ◌∙◌, subst, arith}
+use Rattle.std.proofs.Common.{◌≡◌, inl, inr, ℕ, ◌+◌, ◌-◌, ◌<◌, ◌≤◌, Bool, true, false, cond, List, length, sym, ap, ◌∙◌}
+use Rattle.std.proofs.Common.{subst, arith}
 use Rattle.std.proofs.lemmas.Bool.{cases_eq}
 use Rattle.std.proofs.lemmas.Option.{slice_get_within}
 use Rattle.pals_clock.specs.Clock.{ClockState}
@@ -14,7 +15,8 @@ use Rattle.run_laws.specs.Runs.{IsAwaited}
 use Rattle.run_laws.proofs.Clauses.{link_is}
 use Rattle.node_threads.specs.declared.ends.NodeNote.{NodeNote}
 use Rattle.node_threads.specs.declared.ends.NodeNote.TheVariants as note
-use Rattle.node_threads.specs.proof.Courses.{CourseValue, clocks_of, course_of, note_at, EndsAt, IsCourse, HasSent, IsSentOn, IsAwaitedIn}
+use Rattle.node_threads.specs.proof.Courses.{CourseValue, clocks_of, course_of, note_at, EndsAt, IsCourse, HasSent}
+use Rattle.node_threads.specs.proof.Courses.{IsSentOn, IsAwaitedIn}
 
 -- ---- one source
 ended_sent : (b : BusValue) (clocks : Clocks) (node rounds goal : ℕ) → EndsAt b clocks node goal

@@ -3,7 +3,8 @@ ghost use Rattle.std.specs.Prelude.{◌≡◌, ◌<◌, ◌≤◌, ℕ, length, 
 ghost use Rattle.run_laws.specs.Runs.{IsLeast};
 ghost use Rattle.node_threads.specs.proof.Courses.{IsOpen, IsDone};
 ghost use Rattle.node_threads.specs.declared.bell.Sleeper.{Sleeper};
-ghost use Rattle.node_threads.specs.proof.Sleepers.{no_wakes, is_to_ring, without_bell, free_seat, seat_at, with_seat, IsAbove, IsHourOver, Waits, Rouses};
+ghost use Rattle.node_threads.specs.proof.Sleepers.{no_wakes, is_to_ring, without_bell, free_seat, seat_at, with_seat};
+ghost use Rattle.node_threads.specs.proof.Sleepers.{IsAbove, IsHourOver, Waits, Rouses};
 
 use crate::bell::Sleeper;
 use crate::course::SharedRun;

@@ -1,5 +1,7 @@
 -- Each step of a behaviour comes to its end.
-use Rattle.std.proofs.Common.{◌≡◌, cond, ◌∙◌, ℕ, ◌<◌, zero, suc, nat_eq, nat_lt, ℤ, pos, Bool, true, false, ◌&&◌, ◌||◌, if◌then◌else◌, List, [], ◌∷◌, length, map, Option, Some, None, refl, sym, ap, subst, arith, Ok, Err}
+use Rattle.std.proofs.Common.{◌≡◌, cond, ◌∙◌, ℕ, ◌<◌, zero, suc, nat_eq, nat_lt, ℤ, pos, Bool, true, false, ◌&&◌, ◌||◌}
+use Rattle.std.proofs.Common.{if◌then◌else◌, List, [], ◌∷◌, length, map, Option, Some, None, refl, sym, ap, subst}
+use Rattle.std.proofs.Common.{arith, Ok, Err}
 use Rattle.std.specs.Prelude.{Result, IfOk, slice_get, find, fold}
 use Rattle.std.specs.List.{list_all}
 use Rattle.std.specs.Option.{unwrap_or, is_some}
@@ -17,9 +19,12 @@ use Rattle.pals_base.specs.declared.behaviour.BehaviourParts.{BehaviourParts}
 use Rattle.pals_base.specs.Tree.{Edge, Trigger, Dispatch, Always, When}
 use Rattle.pals_base.specs.Expressions.{on_value}
 use Rattle.pals_base.specs.Actions.{acts}
-use Rattle.pals_base.specs.Fire.{Fired, HasShape, holding, is_present, silence, completes, may_begin, is_complete, leaving, is_dispatch, opens, first_open, along, settled, dispatched, reaction, outcome, unless_halted, fire, initial}
+use Rattle.pals_base.specs.Fire.{Fired, HasShape, holding, is_present, silence, completes, may_begin, is_complete}
+use Rattle.pals_base.specs.Fire.{leaving, is_dispatch, opens, first_open, along, settled, dispatched, reaction, outcome}
+use Rattle.pals_base.specs.Fire.{unless_halted, fire, initial}
 use Rattle.pals_base.specs.Kinds.{are_sound}
-use Rattle.pals_base.specs.Rules.{has_condition, is_edge, dispatch_count, is_always, ends_unguarded, has_ways, IsWay, IsBehaviour}
+use Rattle.pals_base.specs.Rules.{has_condition, is_edge, dispatch_count, is_always, ends_unguarded, has_ways, IsWay}
+use Rattle.pals_base.specs.Rules.{IsBehaviour}
 use Rattle.pals_base.specs.proof.Settling.{settles}
 use Rattle.pals_base.proofs.Settling.{rule_at}
 use Rattle.pals_base.proofs.Ways.{incomplete_within, settled_unless_cycle, way_is_short}

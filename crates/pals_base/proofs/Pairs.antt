@@ -1,5 +1,7 @@
 -- Lists in which each element is related to all behind it.
-use Rattle.std.proofs.Common.{◌≡◌, ℕ, zero, suc, ◌+◌, ◌-◌, ◌<◌, inl, inr, Bool, true, false, IsTrue, ◌↔◌, nat_lt, List, [], ◌∷◌, length, get_or, take, drop, All, AllPairs, refl, sym, ap, ◌∙◌, subst, arith, get_or-take, get_or-drop, length-drop, length-take-le, add-one}
+use Rattle.std.proofs.Common.{◌≡◌, ℕ, zero, suc, ◌+◌, ◌-◌, ◌<◌, inl, inr, Bool, true, false, IsTrue, ◌↔◌, nat_lt, List}
+use Rattle.std.proofs.Common.{[], ◌∷◌, length, get_or, take, drop, All, AllPairs, refl, sym, ap, ◌∙◌, subst, arith}
+use Rattle.std.proofs.Common.{get_or-take, get_or-drop, length-drop, length-take-le, add-one}
 use Rattle.std.specs.List.{AllAdjacentBelow, IsAllAdjacentAnswer}
 use Rattle.std.proofs.lemmas.List.{get_or_read}
 use Rattle.std.proofs.lemmas.Bool.{false≢true, cases_lt}

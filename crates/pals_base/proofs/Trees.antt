@@ -3,16 +3,21 @@ use Rattle.std.proofs.Common.{◌≡◌, ℤ, refl, sym, ap, ◌∙◌}
 use Rattle.std.specs.declared.alloc.Global.{Global}
 use Rattle.std.specs.declared.boxed.Box.{Box}
 use Rattle.std.specs.declared.vec.Vec.{Vec}
-use Rattle.pals_base.specs.declared.behaviour.Expr.{Expr, Row_of-Operand, end_of-Operand, more_of-Operand, items-the_row-Operand}
+use Rattle.pals_base.specs.declared.behaviour.Expr.{Expr, Row_of-Operand, end_of-Operand, more_of-Operand}
+use Rattle.pals_base.specs.declared.behaviour.Expr.{items-the_row-Operand}
 use Rattle.pals_base.specs.declared.behaviour.Expr.TheBlock.{hidden-the_row-Operand-0, items_hidden-the_row-Operand-0}
 use Rattle.pals_base.specs.declared.behaviour.Expr.TheVariants as expr
 use Rattle.pals_base.specs.declared.behaviour.Operand.{Operand}
-use Rattle.pals_base.specs.declared.behaviour.Act.{Act, Row_of-Act, end_of-Act, more_of-Act, items-the_row-Act, Row_of-Branch, end_of-Branch, more_of-Branch, items-the_row-Branch}
-use Rattle.pals_base.specs.declared.behaviour.Act.TheBlock.{hidden-the_row-Act-0, items_hidden-the_row-Act-0, items_shown-the_row-Act-0, hidden-the_row-Branch-1, items_hidden-the_row-Branch-1}
+use Rattle.pals_base.specs.declared.behaviour.Act.{Act, Row_of-Act, end_of-Act, more_of-Act, items-the_row-Act}
+use Rattle.pals_base.specs.declared.behaviour.Act.{Row_of-Branch, end_of-Branch, more_of-Branch, items-the_row-Branch}
+use Rattle.pals_base.specs.declared.behaviour.Act.TheBlock.{hidden-the_row-Act-0, items_hidden-the_row-Act-0}
+use Rattle.pals_base.specs.declared.behaviour.Act.TheBlock.{items_shown-the_row-Act-0, hidden-the_row-Branch-1}
+use Rattle.pals_base.specs.declared.behaviour.Act.TheBlock.{items_hidden-the_row-Branch-1}
 use Rattle.pals_base.specs.declared.behaviour.Act.TheVariants as act
 use Rattle.pals_base.specs.declared.behaviour.Branch.{Branch}
 use Rattle.pals_base.specs.Tree.{Chain, Then, Do, If, For, Where}
-use Rattle.pals_base.specs.proof.Seen.{tree_of, operands_of, operands_along, action_of, actions_of, actions_along, branches_of, branches_along}
+use Rattle.pals_base.specs.proof.Seen.{tree_of, operands_of, operands_along, action_of, actions_of, actions_along}
+use Rattle.pals_base.specs.proof.Seen.{branches_of, branches_along}
 
 operands_of-along : {n : _} (row : Row_of-Operand n) → operands_of row ≡ operands_along (items-the_row-Operand n row)
 operands_of-along end_of-Operand = refl

@@ -1,5 +1,6 @@
 -- Counting up.
-use Rattle.std.proofs.Common.{◌≡◌, ℕ, ◌+◌, ◌-◌, ◌<◌, zero, suc, [], ◌∷◌, ◌++◌, map, ap, ◌∙◌, sym, arith, add-one, zero-add}
+use Rattle.std.proofs.Common.{◌≡◌, ℕ, ◌+◌, ◌-◌, ◌<◌, zero, suc, [], ◌∷◌, ◌++◌, map, ap, ◌∙◌, sym, arith, add-one}
+use Rattle.std.proofs.Common.{zero-add}
 use Rattle.std.proofs.lemmas.List.{map-append}
 use Rattle.pals_base.specs.Steps.{upwards}
 

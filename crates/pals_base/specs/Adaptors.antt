@@ -1,5 +1,7 @@
 -- How a tuple of a source of rate p is read by a target of rate q.
-use Rattle.std.specs.Prelude.{ℕ, ◌-◌, ◌/◌, zero, suc, nat_lt, ℤ, pos, ◌+ℤ◌, int_div, if◌then◌else◌, List, [], ◌∷◌, length, take, drop, map, fold, flat_map, replicate, Option, Some, None, slice_index_or, slice_set}
+use Rattle.std.specs.Prelude.{ℕ, ◌-◌, ◌/◌, zero, suc, nat_lt, ℤ, pos, ◌+ℤ◌, int_div, if◌then◌else◌, List, [], ◌∷◌}
+use Rattle.std.specs.Prelude.{length, take, drop, map, fold, flat_map, replicate, Option, Some, None, slice_index_or}
+use Rattle.std.specs.Prelude.{slice_set}
 use Rattle.std.specs.Int.{int_min, int_max}
 use Rattle.pals_base.specs.declared.values.PortValue.{PortValue}
 use Rattle.pals_base.specs.declared.values.PortValue.TheVariants.{Absent, Present}

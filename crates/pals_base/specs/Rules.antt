@@ -1,5 +1,6 @@
 -- What each behaviour keeps.
-use Rattle.std.specs.Prelude.{◌≡◌, ◌≢◌, ◌++◌, map, AllPairs, ℕ, zero, suc, nat_eq, nat_lt, Bool, true, false, ◌&&◌, if◌then◌else◌, List, length, fold, filter, IsTrue, slice_get}
+use Rattle.std.specs.Prelude.{◌≡◌, ◌≢◌, ◌++◌, map, AllPairs, ℕ, zero, suc, nat_eq, nat_lt, Bool, true, false, ◌&&◌}
+use Rattle.std.specs.Prelude.{if◌then◌else◌, List, length, fold, filter, IsTrue, slice_get}
 use Rattle.std.specs.List.{list_all, Contains}
 use Rattle.pals_base.specs.declared.behaviour.BehaviourParts.{BehaviourParts}
 use Rattle.pals_base.specs.declared.behaviour.StateDecl.{StateDecl}

@@ -1,6 +1,7 @@
 //! Arithmetic on signed numbers of 64 bits: the exact result, or a trap.
 ghost use Rattle.std.specs.Prelude.{◌≡◌};
-ghost use Rattle.pals_base.specs.Arithmetic.{sum_of, difference_of, product_of, quotient_of, remainder_of, modulus_of, negation_of, magnitude_of};
+ghost use Rattle.pals_base.specs.Arithmetic.{sum_of, difference_of, product_of, quotient_of, remainder_of, modulus_of};
+ghost use Rattle.pals_base.specs.Arithmetic.{negation_of, magnitude_of};
 
 use crate::values::Trap;
 

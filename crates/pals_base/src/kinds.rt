@@ -1,7 +1,8 @@
 //! The types of expressions, and whether actions are well typed.
 ghost use Rattle.std.specs.Prelude.{◌≡◌, option_copied};
 ghost use Rattle.pals_base.specs.proof.Seen.{tree_of, operands_along};
-ghost use Rattle.pals_base.specs.Kinds.{may_be, only, allows, literal_kinds, port_kinds, variable_kinds, joined, kinds_of, kinds_along};
+ghost use Rattle.pals_base.specs.Kinds.{may_be, only, allows, literal_kinds, port_kinds, variable_kinds, joined};
+ghost use Rattle.pals_base.specs.Kinds.{kinds_of, kinds_along};
 
 use crate::behaviour::{BehaviourParts, Expr, Kind, Op, Operand, PortDecl};
 

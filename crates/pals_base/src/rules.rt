@@ -4,7 +4,8 @@ ghost use Rattle.std.specs.List.{list_all};
 ghost use Rattle.pals_base.specs.proof.Seen.{trigger_of};
 ghost use Rattle.pals_base.specs.Steps.{upwards};
 ghost use Rattle.pals_base.specs.Fire.{may_begin};
-ghost use Rattle.pals_base.specs.Rules.{HasNames, value_names, has_first, has_condition, is_edge, has_ways, IsAcyclic, IsBehaviour};
+ghost use Rattle.pals_base.specs.Rules.{HasNames, value_names, has_first, has_condition, is_edge, has_ways, IsAcyclic};
+ghost use Rattle.pals_base.specs.Rules.{IsBehaviour};
 
 mod actions;
 mod states;

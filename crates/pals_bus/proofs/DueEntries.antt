@@ -1,10 +1,12 @@
 -- The entries of messages that are due, and their copies in flight.
-use Rattle.std.proofs.Common.{◌≡◌, ◌↔◌, ◌∙◌, inl, inr, ◌⊎◌, ℕ, zero, suc, ◌+◌, ◌*◌, ◌^◌, ◌<◌, ◌≤◌, nat_eq, nat_lt, nat_le, Bool, true, false, cond, List, [], ◌∷◌, length, find, Option, Some, None, is_some, All, refl, sym, ap, arith}
+use Rattle.std.proofs.Common.{◌≡◌, ◌↔◌, ◌∙◌, inl, inr, ◌⊎◌, ℕ, zero, suc, ◌+◌, ◌*◌, ◌^◌, ◌<◌, ◌≤◌, nat_eq, nat_lt}
+use Rattle.std.proofs.Common.{nat_le, Bool, true, false, cond, List, [], ◌∷◌, length, find, Option, Some, None, is_some}
+use Rattle.std.proofs.Common.{All, refl, sym, ap, arith}
 use Rattle.std.specs.Prelude.{count_by, filter, slice_index_or, slice_get, ◌&&◌, if◌then◌else◌}
 use Rattle.std.specs.Option.{option_map_or}
 use Rattle.std.specs.List.Sorted.{IsNonDecreasingBy}
-use Rattle.std.proofs.lemmas.Bool.{cases_eq, cases_lt, eqb-true, and_parts, false≢true}
-use Rattle.std.proofs.lemmas.Bool.{lt-ltb, or_left, or_right, or_from, and_left, le-ltb, ne_eqb, cases_Bool, and_from, eq-eqb}
+use Rattle.std.proofs.lemmas.Bool.{cases_eq, cases_lt, eqb-true, and_parts, false≢true, lt-ltb, or_left, or_right}
+use Rattle.std.proofs.lemmas.Bool.{or_from, and_left, le-ltb, ne_eqb, cases_Bool, and_from, eq-eqb}
 use Rattle.std.proofs.lemmas.List.{get_or_past}
 use Rattle.std.proofs.lemmas.List.Sorted.{sum_by-IsPermutation}
 use Rattle.std.proofs.lemmas.Grind.{common_steps}

@@ -1,5 +1,6 @@
 -- Messages that are due arrive one after the other.
-use Rattle.std.proofs.Common.{◌≡◌, ◌∙◌, inl, inr, ◌⊎◌, ℕ, zero, suc, ◌+◌, ◌<◌, ◌≤◌, nat_eq, Bool, true, false, cond, List, [], ◌∷◌, length, Option, Some, None, is_some, refl, sym, ap, ap₂, arith}
+use Rattle.std.proofs.Common.{◌≡◌, ◌∙◌, inl, inr, ◌⊎◌, ℕ, zero, suc, ◌+◌, ◌<◌, ◌≤◌, nat_eq, Bool, true, false, cond}
+use Rattle.std.proofs.Common.{List, [], ◌∷◌, length, Option, Some, None, is_some, refl, sym, ap, ap₂, arith}
 use Rattle.std.specs.Prelude.{count_by, slice_index_or, slice_set, if◌then◌else◌}
 use Rattle.std.specs.List.{position_or_len}
 use Rattle.std.proofs.lemmas.Bool.{cases_eq}
@@ -23,7 +24,8 @@ use Rattle.pals_bus.specs.proof.Due.{IsDueTo, IsNextDue, TakesDue, takes_none, t
 use Rattle.pals_bus.proofs.QueueMessages.{contains_counted, copy_counts, counts, counts_elsewhere, count_oldest}
 use Rattle.pals_bus.proofs.SameDues.{SameDue, due_of}
 use Rattle.pals_bus.proofs.Taken.{oldest_round}
-use Rattle.pals_bus.proofs.DueEntries.{if_some, copy_there, copy_parts, flies, due_of_entry, IsEntryOf, entry_of_due, not_first}
+use Rattle.pals_bus.proofs.DueEntries.{if_some, copy_there, copy_parts, flies, due_of_entry, IsEntryOf, entry_of_due}
+use Rattle.pals_bus.proofs.DueEntries.{not_first}
 
 -- ---- the first entry that is left
 -- it is due, and its copy is in flight

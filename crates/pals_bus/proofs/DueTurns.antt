@@ -1,5 +1,6 @@
 -- A bus while messages that are due arrive.
-use Rattle.std.proofs.Common.{◌≡◌, ◌∙◌, ℕ, ◌+◌, ◌-◌, ◌<◌, ◌≤◌, Bool, true, false, List, ◌∷◌, length, drop, Option, Some, None, is_some, refl, sym, ap, ap₂, subst, arith, add-one, drop-cons, length-append}
+use Rattle.std.proofs.Common.{◌≡◌, ◌∙◌, ℕ, ◌+◌, ◌-◌, ◌<◌, ◌≤◌, Bool, true, false, List, ◌∷◌, length, drop, Option, Some}
+use Rattle.std.proofs.Common.{None, is_some, refl, sym, ap, ap₂, subst, arith, add-one, drop-cons, length-append}
 use Rattle.std.specs.Prelude.{sum_by, slice_index_or, count_by, vec_capacity, IfSome, IfNone, nat_eq}
 use Rattle.std.specs.Arc.{arc_value}
 use Rattle.std.proofs.lemmas.Bool.{false≢true}

@@ -1,5 +1,6 @@
 -- An event of a bus, and what the bus keeps after it.
-use Rattle.std.proofs.Common.{◌≡◌, ◌∙◌, ℕ, ◌+◌, ◌<◌, ◌≤◌, true, List, ◌++◌, length, Option, None, refl, sym, ap, ap₂, subst, arith}
+use Rattle.std.proofs.Common.{◌≡◌, ◌∙◌, ℕ, ◌+◌, ◌<◌, ◌≤◌, true, List, ◌++◌, length, Option, None, refl, sym, ap, ap₂}
+use Rattle.std.proofs.Common.{subst, arith}
 use Rattle.std.specs.Prelude.{sum_by, slice_set, vec_capacity}
 use Rattle.std.specs.Arc.{arc_value}
 use Rattle.pals_model.specs.declared.flight.FlightCopy.{FlightCopy}

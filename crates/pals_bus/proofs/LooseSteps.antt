@@ -7,14 +7,13 @@ use Rattle.pals_base.specs.declared.values.LinkNo.{LinkNo}
 use Rattle.pals_runs.specs.declared.journal.Phase.{Phase}
 use Rattle.pals_runs.specs.declared.journal.Phase.TheVariants.{Waiting, Running, Between, Holding, Done}
 use Rattle.bus_machine.specs.NodeEvents.{is_waiting, next_step, running_step}
-use Rattle.bus_machine.specs.States.{BusState, node_at}
+use Rattle.bus_machine.specs.States.{BusState, node_at, flight_at}
 use Rattle.bus_machine.specs.Machine.{BusEvent, Start, Step, Finish, Send, Drop, Repeat, is_allowed, on_step}
 use Rattle.pals_node.specs.proof.Values.{JobValue}
 use Rattle.pals_node.specs.proof.Answers.{is_busy}
 use Rattle.pals_runs.specs.declared.events.Event.{Event}
 use Rattle.pals_runs.specs.declared.events.Event.TheVariants as event
 use Rattle.bus_machine.specs.LinkEvents.{is_in_flight}
-use Rattle.bus_machine.specs.States.{flight_at}
 use Rattle.pals_node.specs.declared.answers.StartEnd.{StartEnd}
 use Rattle.pals_node.specs.declared.answers.StartEnd.TheVariants as start
 use Rattle.pals_node.specs.declared.answers.StepEnd.{StepEnd}

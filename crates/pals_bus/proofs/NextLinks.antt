@@ -1,5 +1,6 @@
 -- The links from a node one after the other, with those of other nodes between them.
-use Rattle.std.proofs.Common.{◌≡◌, ◌∙◌, ℕ, zero, suc, ◌+◌, ◌<◌, ◌≤◌, Bool, true, false, cond, List, [], ◌∷◌, length, map, drop, refl, sym, ap, ap₂, subst, arith, length-drop}
+use Rattle.std.proofs.Common.{◌≡◌, ◌∙◌, ℕ, zero, suc, ◌+◌, ◌<◌, ◌≤◌, Bool, true, false, cond, List, [], ◌∷◌, length}
+use Rattle.std.proofs.Common.{map, drop, refl, sym, ap, ap₂, subst, arith, length-drop}
 use Rattle.std.specs.Prelude.{filter, slice_index_or}
 use Rattle.std.specs.List.{enumerate_from}
 use Rattle.std.proofs.lemmas.List.{get_or-drop, drop_all, drop_more, drop-drop}

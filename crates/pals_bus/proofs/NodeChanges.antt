@@ -1,5 +1,6 @@
 -- What a bus shows of its nodes, and what is left where one of them changes.
-use Rattle.std.proofs.Common.{◌≡◌, ◌∙◌, inl, inr, ℕ, ◌+◌, ◌*◌, ◌<◌, ◌≤◌, nat_eq, nat_lt, Bool, true, false, List, [], ◌∷◌, ◌++◌, length, map, Option, None, refl, sym, ap, ap₂, subst, arith}
+use Rattle.std.proofs.Common.{◌≡◌, ◌∙◌, inl, inr, ℕ, ◌+◌, ◌*◌, ◌<◌, ◌≤◌, nat_eq, nat_lt, Bool, true, false, List, []}
+use Rattle.std.proofs.Common.{◌∷◌, ◌++◌, length, map, Option, None, refl, sym, ap, ap₂, subst, arith}
 use Rattle.std.specs.Prelude.{sum_by, slice_set, slice_index_or, is_some, not, if◌then◌else◌}
 use Rattle.std.specs.Arc.{arc_value}
 use Rattle.std.proofs.Math.Seq.{map-set_same}
@@ -16,7 +17,8 @@ use Rattle.pals_runs.specs.declared.journal.Phase.{Phase}
 use Rattle.pals_runs.specs.declared.journal.Phase.TheVariants.{Waiting, Running, Between, Holding, Done}
 use Rattle.bus_machine.specs.declared.plan.Plan.{Plan}
 use Rattle.bus_machine.specs.Nodes.{NodeState, at_rest}
-use Rattle.bus_machine.specs.NodeEvents.{running_step, finished, fired, after_send, after_round, part_left, may_send, sent_from}
+use Rattle.bus_machine.specs.NodeEvents.{running_step, finished, fired, after_send, after_round, part_left, may_send}
+use Rattle.bus_machine.specs.NodeEvents.{sent_from}
 use Rattle.bus_machine.specs.Plans.{component_at}
 use Rattle.bus_machine.specs.States.{no_node}
 use Rattle.bus_machine.proofs.Nodes.{finish_keeps}

@@ -1,5 +1,6 @@
 -- What a call of a node leaves of a bus.
-use Rattle.std.proofs.Common.{◌≡◌, ◌∙◌, ℕ, ◌+◌, ◌<◌, ◌≤◌, List, [], ◌∷◌, ◌++◌, length, Option, Some, None, sym, ap, subst, arith}
+use Rattle.std.proofs.Common.{◌≡◌, ◌∙◌, ℕ, ◌+◌, ◌<◌, ◌≤◌, List, [], ◌∷◌, ◌++◌, length, Option, Some, None, sym, ap}
+use Rattle.std.proofs.Common.{subst, arith}
 use Rattle.std.specs.Prelude.{sum_by, slice_set, vec_capacity}
 use Rattle.std.specs.Arc.{arc_value}
 use Rattle.pals_base.specs.declared.values.PortValue.{PortValue}
@@ -26,7 +27,8 @@ use Rattle.pals_bus.specs.proof.Sending.{HasRoomFor, AreSent}
 use Rattle.pals_bus.specs.proof.NodeLists.{node_of}
 use Rattle.pals_bus.specs.proof.Queues.{AreQueues, AreQueuesAmid, HasQueueRoomFor}
 use Rattle.pals_bus.proofs.NodeTurns.{Turned, turn_shown, turn_told}
-use Rattle.pals_bus.proofs.NodeSteps.{start_happens, start_keeps, start_misses, miss_keeps, step_happens, step_keeps, finish_happens, finish_room, finish_keeps_bus}
+use Rattle.pals_bus.proofs.NodeSteps.{start_happens, start_keeps, start_misses, miss_keeps, step_happens, step_keeps}
+use Rattle.pals_bus.proofs.NodeSteps.{finish_happens, finish_room, finish_keeps_bus}
 use Rattle.pals_bus.proofs.Sends.{send_owes, send_happens, send_keeps_bus, send_queues}
 
 -- what an event leaves: fields that keep the bus, and what is said of them

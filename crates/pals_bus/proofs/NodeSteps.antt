@@ -1,5 +1,6 @@
 -- The events of a node that leave the messages in flight as they are: a start, a step, a finish.
-use Rattle.std.proofs.Common.{◌≡◌, ◌∙◌, ℕ, ◌+◌, ◌<◌, ◌≤◌, true, false, List, [], ◌∷◌, ◌++◌, length, Option, Some, None, refl, sym, ap, subst, arith, length-append}
+use Rattle.std.proofs.Common.{◌≡◌, ◌∙◌, ℕ, ◌+◌, ◌<◌, ◌≤◌, true, false, List, [], ◌∷◌, ◌++◌, length, Option, Some, None}
+use Rattle.std.proofs.Common.{refl, sym, ap, subst, arith, length-append}
 use Rattle.std.specs.Prelude.{sum_by, slice_set, slice_index_or, vec_capacity}
 use Rattle.std.specs.Option.{unwrap_or}
 use Rattle.std.specs.Arc.{arc_value}
@@ -32,7 +33,8 @@ use Rattle.pals_bus.proofs.NodeChanges.{nodes-set, node_is, same_node, owed_more
 use Rattle.pals_bus.proofs.Rooms.{rooms-set}
 use Rattle.pals_bus.proofs.QueueRooms.{few_into, queues_started, queues-set}
 use Rattle.pals_bus.proofs.Events.{node_happens}
-use Rattle.pals_bus.proofs.AfterEvents.{start_after, start_told, missed_told, missed_after, start_allowed, step_allowed, step_after, finish_allowed, finish_after}
+use Rattle.pals_bus.proofs.AfterEvents.{start_after, start_told, missed_told, missed_after, start_allowed, step_allowed}
+use Rattle.pals_bus.proofs.AfterEvents.{step_after, finish_allowed, finish_after}
 use Rattle.pals_bus.proofs.NodeTurns.{turn_shown}
 
 -- ---- any of them

@@ -1,9 +1,10 @@
 -- What the queues of due messages keep where queues, flights or nodes change.
-use Rattle.std.proofs.Common.{◌≡◌, ◌≢◌, ◌∙◌, inl, inr, ◌⊎◌, ℕ, zero, suc, ◌+◌, ◌*◌, ◌<◌, ◌≤◌, nat_eq, Bool, true, false, cond, List, [], ◌∷◌, length, Option, Some, None, refl, sym, ap, subst, arith}
+use Rattle.std.proofs.Common.{◌≡◌, ◌≢◌, ◌∙◌, inl, inr, ◌⊎◌, ℕ, zero, suc, ◌+◌, ◌*◌, ◌<◌, ◌≤◌, nat_eq, Bool, true, false}
+use Rattle.std.proofs.Common.{cond, List, [], ◌∷◌, length, Option, Some, None, refl, sym, ap, subst, arith}
 use Rattle.std.specs.Prelude.{count_by, slice_set, slice_index_or, slice_get, not, ◌&&◌, if◌then◌else◌}
 use Rattle.std.proofs.Math.Seq.{map-set_same}
-use Rattle.std.proofs.lemmas.Bool.{cases_eq, cases_lt, eqb-true, and_parts, false≢true}
-use Rattle.std.proofs.lemmas.Bool.{cases_Bool, and_from, eq-eqb, not-true, and_right}
+use Rattle.std.proofs.lemmas.Bool.{cases_eq, cases_lt, eqb-true, and_parts, false≢true, cases_Bool, and_from, eq-eqb}
+use Rattle.std.proofs.lemmas.Bool.{not-true, and_right}
 use Rattle.std.proofs.lemmas.List.{length-map, length-set, get_or-map, get_or-set_other, get_or_past}
 use Rattle.std.proofs.lemmas.List.Sums.{sum_by-cons, sum_by-drop_more}
 use Rattle.std.proofs.lemmas.Grind.{get_or-set_at}
@@ -21,7 +22,8 @@ use Rattle.bus_machine.specs.States.{no_link}
 use Rattle.pals_node.specs.proof.Values.{NodeValue}
 use Rattle.pals_bus.specs.proof.Absent.{no_node_value, no_queue, no_link_no}
 use Rattle.pals_bus.specs.proof.BusInvariant.{copies_in}
-use Rattle.pals_bus.specs.proof.Queues.{AreQueues, AreQueuesAmid, HasQueueRoomFor, NoLessQueueRoom, entries_in, is_awaited, is_copy_of, is_between}
+use Rattle.pals_bus.specs.proof.Queues.{AreQueues, AreQueuesAmid, HasQueueRoomFor, NoLessQueueRoom, entries_in}
+use Rattle.pals_bus.specs.proof.Queues.{is_awaited, is_copy_of, is_between}
 use Rattle.pals_bus.proofs.Rooms.{flight_is}
 
 -- ---- counts

@@ -1,5 +1,6 @@
 -- The queues of due messages before the first event, and where a message is sent.
-use Rattle.std.proofs.Common.{◌≡◌, ◌∙◌, inl, inr, ℕ, zero, suc, ◌+◌, ◌<◌, ◌≤◌, nat_eq, Bool, true, false, cond, List, [], ◌∷◌, ◌++◌, length, map, Option, Some, None, refl, sym, ap, arith}
+use Rattle.std.proofs.Common.{◌≡◌, ◌∙◌, inl, inr, ℕ, zero, suc, ◌+◌, ◌<◌, ◌≤◌, nat_eq, Bool, true, false, cond, List}
+use Rattle.std.proofs.Common.{[], ◌∷◌, ◌++◌, length, map, Option, Some, None, refl, sym, ap, arith}
 use Rattle.std.specs.Prelude.{count_by, slice_set, slice_index_or, not, if◌then◌else◌}
 use Rattle.std.proofs.lemmas.Bool.{cases_eq, and_from, eq-eqb, and_right}
 use Rattle.std.proofs.lemmas.List.{length-map, length-set, get_or-set_other}

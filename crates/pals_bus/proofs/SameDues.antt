@@ -1,5 +1,6 @@
 -- All copies of one round of a link are due at one reading, in each state that a journal leads to.
-use Rattle.std.proofs.Common.{◌≡◌, ◌∙◌, inl, inr, ℕ, zero, suc, ◌<◌, nat_eq, Bool, true, false, List, [], ◌∷◌, ◌++◌, length, map, Option, Some, None, AllPairs, refl, sym, ap, subst, arith}
+use Rattle.std.proofs.Common.{◌≡◌, ◌∙◌, inl, inr, ℕ, zero, suc, ◌<◌, nat_eq, Bool, true, false, List, [], ◌∷◌, ◌++◌}
+use Rattle.std.proofs.Common.{length, map, Option, Some, None, AllPairs, refl, sym, ap, subst, arith}
 use Rattle.std.specs.Prelude.{slice_index_or, slice_set, slice_get, if◌then◌else◌}
 use Rattle.std.specs.List.{enumerate_from, position, position_or_len}
 use Rattle.std.proofs.lemmas.Bool.{cases_eq, cases_lt, eqb-true}
@@ -22,7 +23,8 @@ use Rattle.bus_machine.specs.NodeEvents.{next_step, running_step, stepped, finis
 use Rattle.bus_machine.specs.LinkEvents.{repeated, once_more, sent_copy}
 use Rattle.bus_machine.specs.States.{Run, BusState, node_at, flight_at, link_at, no_link, with_node}
 use Rattle.bus_machine.specs.Stops.{missing_link, sent_rounds}
-use Rattle.bus_machine.specs.Machine.{BusEvent, Start, Step, Finish, Send, Arrive, Drop, Repeat, is_allowed, after, after_start, on_step, flight_after_send}
+use Rattle.bus_machine.specs.Machine.{BusEvent, Start, Step, Finish, Send, Arrive, Drop, Repeat, is_allowed, after}
+use Rattle.bus_machine.specs.Machine.{after_start, on_step, flight_after_send}
 use Rattle.bus_machine.specs.Agreement.{Agrees}
 use Rattle.bus_machine.specs.proof.MachineLaws.{IsRunOf}
 use Rattle.bus_machine.specs.Replay.{Replays, opens, goes_on}

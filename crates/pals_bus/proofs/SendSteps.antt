@@ -1,5 +1,6 @@
 -- A bus while the messages of a round are sent.
-use Rattle.std.proofs.Common.{◌≡◌, ◌∙◌, ℕ, suc, ◌+◌, ◌<◌, ◌≤◌, true, false, cond, List, [], ◌∷◌, length, drop, Option, sym, ap, subst, arith, drop-cons, length-drop}
+use Rattle.std.proofs.Common.{◌≡◌, ◌∙◌, ℕ, suc, ◌+◌, ◌<◌, ◌≤◌, true, false, cond, List, [], ◌∷◌, length, drop, Option}
+use Rattle.std.proofs.Common.{sym, ap, subst, arith, drop-cons, length-drop}
 use Rattle.std.specs.Prelude.{◌-◌, filter, min, slice_set, slice_index_or}
 use Rattle.std.specs.Arc.{arc_value}
 use Rattle.std.proofs.lemmas.Bool.{eqb-true, false≢true, eq-eqb}

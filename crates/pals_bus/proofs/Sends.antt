@@ -1,5 +1,6 @@
 -- The send of a node's round.
-use Rattle.std.proofs.Common.{◌≡◌, ◌∙◌, ℕ, ◌+◌, ◌<◌, true, false, List, [], ◌∷◌, ◌++◌, length, map, Option, None, refl, sym, ap, subst, arith}
+use Rattle.std.proofs.Common.{◌≡◌, ◌∙◌, ℕ, ◌+◌, ◌<◌, true, false, List, [], ◌∷◌, ◌++◌, length, map, Option, None, refl}
+use Rattle.std.proofs.Common.{sym, ap, subst, arith}
 use Rattle.std.specs.Prelude.{filter, sum_by, slice_set, slice_index_or, vec_capacity}
 use Rattle.std.specs.List.{enumerate_from}
 use Rattle.std.specs.Arc.{arc_value}

@@ -1,5 +1,6 @@
 //! The arrival of a message.
-ghost use Rattle.std.specs.Prelude.{◌≡◌, ◌+◌, ◌<◌, ◌≤◌, ◌++◌, length, sum_by, IfSome, IfNone, None, false, slice_index_or, vec_capacity};
+ghost use Rattle.std.specs.Prelude.{◌≡◌, ◌+◌, ◌<◌, ◌≤◌, ◌++◌, length, sum_by, IfSome, IfNone, None, false};
+ghost use Rattle.std.specs.Prelude.{slice_index_or, vec_capacity};
 ghost use Rattle.std.specs.Arc.{arc_value};
 ghost use Rattle.bus_machine.specs.Machine.{Arrive, arrival, early_stop};
 ghost use Rattle.bus_machine.specs.Replay.{stop_entry};

@@ -1,7 +1,8 @@
 //! The nodes of a run, with their targets.
 ghost use Rattle.std.specs.Prelude.{◌≡◌, ◌<◌, length, map, OnOk, OnErr, IfOk, IfErr, slice_index_or, slice_set};
 ghost use Rattle.bus_machine.specs.NodeEvents.{arrived, received};
-ghost use Rattle.pals_node.specs.proof.Answers.{Starts, StartEnds, Steps, StepEnds, FinishesWith, FinishesHere, NoneRuns, Sends, SendEnds};
+ghost use Rattle.pals_node.specs.proof.Answers.{Starts, StartEnds, Steps, StepEnds, FinishesWith, FinishesHere};
+ghost use Rattle.pals_node.specs.proof.Answers.{NoneRuns, Sends, SendEnds};
 ghost use Rattle.pals_node.specs.proof.Values.{with_state};
 ghost use Rattle.pals_bus.specs.proof.NodeLists.{node_of, target_of_node};
 

@@ -4,7 +4,8 @@ ghost use Rattle.pals_base.specs.declared.limits.TheConstants.{READING};
 ghost use Rattle.bus_machine.specs.Machine.{Finish};
 ghost use Rattle.pals_bus.specs.proof.Meeting.{GoesAt};
 ghost use Rattle.pals_bus.specs.Values.{Happens};
-ghost use Rattle.pals_bus.specs.proof.Answers.{StartsRound, BusStartEnds, StepsOn, BusStepEnds, FinishesStep, BusFinishEnds, SendsRound, BusSendEnds};
+ghost use Rattle.pals_bus.specs.proof.Answers.{StartsRound, BusStartEnds, StepsOn, BusStepEnds, FinishesStep};
+ghost use Rattle.pals_bus.specs.proof.Answers.{BusFinishEnds, SendsRound, BusSendEnds};
 
 use crate::bus::Bus;
 use crate::refusals::{BusError, BusFinishEnd, BusSendEnd, BusStartEnd, BusStepEnd};

@@ -1,5 +1,6 @@
 -- What is left of some readings at a target.
-use Rattle.std.proofs.Common.{◌≡◌, ℕ, zero, suc, ◌<◌, ◌≤◌, List, [], ◌∷◌, ◌++◌, length, get_or, drop, fold, Option, Some, None, MatchOption, All, filter, nat_le, refl, ap, arith}
+use Rattle.std.proofs.Common.{◌≡◌, ℕ, zero, suc, ◌<◌, ◌≤◌, List, [], ◌∷◌, ◌++◌, length, get_or, drop, fold, Option}
+use Rattle.std.proofs.Common.{Some, None, MatchOption, All, filter, nat_le, refl, ap, arith}
 use Rattle.std.specs.List.{AllWithin, HoldsAt}
 use Rattle.std.specs.List.Sorted.{IsNonDecreasing}
 use Rattle.std.proofs.lemmas.Grind.{common_steps}

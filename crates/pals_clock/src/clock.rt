@@ -1,5 +1,6 @@
 //! A clock that is a list of readings, and the clocks of a run.
-ghost use Rattle.std.specs.Prelude.{◌≡◌, ◌-◌, ◌<◌, ◌≤◌, ◌↔◌, length, drop, All, IsTrue, IsErr, IfOk, OnOk, OnErr, MatchOption, slice_get, slice_index};
+ghost use Rattle.std.specs.Prelude.{◌≡◌, ◌-◌, ◌<◌, ◌≤◌, ◌↔◌, length, drop, All, IsTrue, IsErr, IfOk, OnOk, OnErr};
+ghost use Rattle.std.specs.Prelude.{MatchOption, slice_get, slice_index};
 ghost use Rattle.std.specs.List.Sorted.{IsNonDecreasing};
 ghost use Rattle.pals_base.specs.Picks.{reached};
 ghost use Rattle.pals_base.specs.declared.limits.TheConstants.{READING};

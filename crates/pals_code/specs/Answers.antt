@@ -1,5 +1,6 @@
 -- What the program answers: a status and a text, to its words and to what its source had.
-use Rattle.std.specs.Prelude.{◌≡◌, ◌≤◌, ℕ, nat_eq, Bool, true, not, if◌then◌else◌, List, [], ◌∷◌, length, Option, Some, None, ◌⊎◌}
+use Rattle.std.specs.Prelude.{◌≡◌, ◌≤◌, ℕ, nat_eq, Bool, true, not, if◌then◌else◌, List, [], ◌∷◌, length, Option, Some}
+use Rattle.std.specs.Prelude.{None, ◌⊎◌}
 use Rattle.pals_base.specs.declared.limits.TheConstants.{BUNDLE_BYTES}
 use Rattle.pals_io.specs.Stream.{SourceView, GivesAll, GivesTooMany, FailsWithin}
 use Rattle.pals_code.specs.declared.status.TheConstants.{USAGE, READ_FAULT, TOO_LONG}

@@ -1,9 +1,11 @@
 -- What a source gave and what a sink took in several calls.
-use Rattle.std.proofs.Common.{◌≡◌, ◌↔◌, ℕ, ◌+◌, ◌<◌, ◌≤◌, List, [], ◌++◌, length, take, drop, Option, Some, None, refl, sym, ap, ◌∙◌, subst, append_assoc, arith, length-append, length-drop}
+use Rattle.std.proofs.Common.{◌≡◌, ◌↔◌, ℕ, ◌+◌, ◌<◌, ◌≤◌, List, [], ◌++◌, length, take, drop, Option, Some, None, refl}
+use Rattle.std.proofs.Common.{sym, ap, ◌∙◌, subst, append_assoc, arith, length-append, length-drop}
 use Rattle.std.specs.Prelude.{IfSome, option_map}
 use Rattle.std.proofs.Math.Seq.{take-add}
 use Rattle.std.proofs.lemmas.List.{length-take-le, take-append-le, drop-drop, take_all}
-use Rattle.pals_io.specs.Stream.{SourceView, SinkView, after_giving, after_read_fault, Gives, GivesAll, GivesTooMany, GivesWithin, FailsWithin, after_taking}
+use Rattle.pals_io.specs.Stream.{SourceView, SinkView, after_giving, after_read_fault, Gives, GivesAll, GivesTooMany}
+use Rattle.pals_io.specs.Stream.{GivesWithin, FailsWithin, after_taking}
 
 -- ---- sources
 after_giving-nil : (source : SourceView) → source ≡ after_giving source 0

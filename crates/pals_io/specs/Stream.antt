@@ -1,5 +1,6 @@
 -- What a source and a sink of bytes show, and what calls make of it. Where no failed call is named, none failed.
-use Rattle.std.specs.Prelude.{◌≡◌, ◌↔◌, ℕ, ◌+◌, ◌-◌, ◌^◌, ◌<◌, ◌≤◌, min, List, [], ◌++◌, length, take, drop, Option, IfSome, option_map}
+use Rattle.std.specs.Prelude.{◌≡◌, ◌↔◌, ℕ, ◌+◌, ◌-◌, ◌^◌, ◌<◌, ◌≤◌, min, List, [], ◌++◌, length, take, drop, Option}
+use Rattle.std.specs.Prelude.{IfSome, option_map}
 
 -- what a source shows: the bytes that are left, where it tells them, and how many calls failed, up to 2^64 - 1
 pub record SourceView : Type 0 where

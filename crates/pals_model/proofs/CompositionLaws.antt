@@ -1,6 +1,8 @@
 -- Why the laws of the composition hold.
 use Rattle.std.specs.Prelude.{position}
-use Rattle.std.proofs.Common.{◌≡◌, ◌≢◌, ℕ, zero, suc, ◌+◌, ◌&&◌, false, nat_eq, cond, List, [], ◌∷◌, ◌++◌, length, map, ap₂, Option, flat_map, replicate, All, Some, None, slice_get, slice_index_or, refl, sym, ap, ◌∙◌, arith, append-nil}
+use Rattle.std.proofs.Common.{◌≡◌, ◌≢◌, ℕ, zero, suc, ◌+◌, ◌&&◌, false, nat_eq, cond, List, [], ◌∷◌, ◌++◌, length, map}
+use Rattle.std.proofs.Common.{ap₂, Option, flat_map, replicate, All, Some, None, slice_get, slice_index_or, refl, sym}
+use Rattle.std.proofs.Common.{ap, ◌∙◌, arith, append-nil}
 use Rattle.std.proofs.lemmas.Bool.{ne_eqb}
 use Rattle.std.proofs.lemmas.List.{length-map}
 use Rattle.std.proofs.lemmas.List.Elements.{All-map, All-replicate, All-head, All-tail}
@@ -23,9 +25,13 @@ use Rattle.pals_model.specs.declared.design.Tap.{Tap}
 use Rattle.pals_model.specs.declared.rounds.Part.{Part}
 use Rattle.pals_model.specs.declared.design.DesignParts.{DesignParts}
 use Rattle.pals_model.specs.declared.rounds.Env.{Env}
-use Rattle.pals_model.specs.Inputs.{rate_of, rate_in, values_at, feed, inputs_of, inputs_in, source_of, from_link, from_feed, link_goes_to, feed_goes_to, reading}
-use Rattle.pals_model.specs.Composition.{comp, next, state, msg, no_frame, steps_from, steps_of_round, message_of, tuple_in, part, taps_of}
-use Rattle.pals_model.specs.proof.CompositionLaws.{own_steps, OneFrameEach, OneMessageEach, StateBegins, LinksBeginAbsent, StateGoesOn, MessageFromSource, PartFromSteps, RunsAlone, DependsOnPast}
+use Rattle.pals_model.specs.Inputs.{rate_of, rate_in, values_at, feed, inputs_of, inputs_in, source_of, from_link}
+use Rattle.pals_model.specs.Inputs.{from_feed, link_goes_to, feed_goes_to, reading}
+use Rattle.pals_model.specs.Composition.{comp, next, state, msg, no_frame, steps_from, steps_of_round, message_of}
+use Rattle.pals_model.specs.Composition.{tuple_in, part, taps_of}
+use Rattle.pals_model.specs.proof.CompositionLaws.{own_steps, OneFrameEach, OneMessageEach, StateBegins}
+use Rattle.pals_model.specs.proof.CompositionLaws.{LinksBeginAbsent, StateGoesOn, MessageFromSource, PartFromSteps}
+use Rattle.pals_model.specs.proof.CompositionLaws.{RunsAlone, DependsOnPast}
 
 -- ---- lengths
 length-steps_from : (design : DesignParts) (values : List PortValue) (messages : List (List PortValue)) (node : ℕ)

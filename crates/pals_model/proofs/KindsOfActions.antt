@@ -1,5 +1,6 @@
 -- For the law that steps keep kinds: actions keep the kinds of variables and of out ports.
-use Rattle.std.proofs.Common.{◌≡◌, ℕ, ◌+◌, ◌*◌, ◌≤◌, ℤ, pos, Bool, true, List, [], ◌∷◌, ◌++◌, length, take, slice_get, Option, Some, sym, ap, ◌∙◌, subst, arith, length-append, length-take}
+use Rattle.std.proofs.Common.{◌≡◌, ℕ, ◌+◌, ◌*◌, ◌≤◌, ℤ, pos, Bool, true, List, [], ◌∷◌, ◌++◌, length, take, slice_get}
+use Rattle.std.proofs.Common.{Option, Some, sym, ap, ◌∙◌, subst, arith, length-append, length-take}
 use Rattle.std.specs.Prelude.{Result, Ok, Err, IfOk, slice_index_or, slice_set}
 use Rattle.std.proofs.lemmas.Bool.{and_parts}
 use Rattle.std.proofs.lemmas.List.{length-set, get_or_append_left, get_or-take}
@@ -15,7 +16,8 @@ use Rattle.pals_base.specs.declared.behaviour.BehaviourParts.{BehaviourParts}
 use Rattle.pals_base.specs.declared.kinds.Kinds.{Kinds}
 use Rattle.pals_base.specs.Actions.{Effect, act, acts, act_first, for_each, numbers, with_vars, without_loop}
 use Rattle.pals_base.specs.Expressions.{is_true, eval}
-use Rattle.pals_base.specs.Kinds.{suits_variable, suits_port, kinds_of, turns, is_short, is_sound, are_sound, branches_are_sound}
+use Rattle.pals_base.specs.Kinds.{suits_variable, suits_port, kinds_of, turns, is_short, is_sound, are_sound}
+use Rattle.pals_base.specs.Kinds.{branches_are_sound}
 use Rattle.pals_base.specs.Tree.{Action, Assign, Emit, If, For, Actions, Nothing, Do, Branches, NoBranch, Where}
 use Rattle.pals_model.specs.proof.FittingValues.{Fits, PortFits, VarsFit, HeldFit, PortsFit}
 use Rattle.pals_model.proofs.KindLists.{set_keeps, then_ok, on_ok, if_ok}

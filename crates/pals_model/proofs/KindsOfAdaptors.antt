@@ -1,5 +1,6 @@
 -- For the law that rounds keep kinds: an adaptor that suits a kind keeps it.
-use Rattle.std.proofs.Common.{ℕ, zero, suc, ◌-◌, ◌/◌, nat_lt, ℤ, Bool, true, false, cond, List, [], ◌∷◌, length, map, take, drop, replicate, All, Option, Some, None, IsTrue}
+use Rattle.std.proofs.Common.{ℕ, zero, suc, ◌-◌, ◌/◌, nat_lt, ℤ, Bool, true, false, cond, List, [], ◌∷◌, length, map}
+use Rattle.std.proofs.Common.{take, drop, replicate, All, Option, Some, None, IsTrue}
 use Rattle.std.specs.Prelude.{flat_map}
 use Rattle.std.proofs.lemmas.Bool.{false≢true}
 use Rattle.std.proofs.lemmas.List.Elements.{All-nil, All-cons, All-head, All-tail, All-take, All-replicate, All-drop}

@@ -1,11 +1,13 @@
 -- For the law that steps keep kinds: what an expression is worth fits each kind that it may have.
-use Rattle.std.proofs.Common.{◌≡◌, ◌⊎◌, inl, inr, ℕ, ◌+◌, nat_le, nat_lt, ℤ, pos, negsuc, Bool, true, false, not, ◌&&◌, ◌||◌, cond, List, length, Option, Some, None, refl, ap, arith}
+use Rattle.std.proofs.Common.{◌≡◌, ◌⊎◌, inl, inr, ℕ, ◌+◌, nat_le, nat_lt, ℤ, pos, negsuc, Bool, true, false, not, ◌&&◌}
+use Rattle.std.proofs.Common.{◌||◌, cond, List, length, Option, Some, None, refl, ap, arith}
 use Rattle.std.specs.Prelude.{Result, Ok, IfOk, slice_get, slice_index_or, int_le, int_lt}
 use Rattle.std.proofs.lemmas.Bool.{and_parts, leb-true, false≢true, or_cases}
 use Rattle.pals_base.specs.declared.values.Trap.{Trap}
 use Rattle.pals_base.specs.declared.values.Frame.{Frame}
 use Rattle.pals_base.specs.declared.behaviour.Op.{Op}
-use Rattle.pals_base.specs.declared.behaviour.Op.TheVariants.{Add, Sub, Mul, Quot, Mod, Rem, Eq, Ne, Lt, Le, Gt, Ge, And, Or, Xor, AndThen, OrElse}
+use Rattle.pals_base.specs.declared.behaviour.Op.TheVariants.{Add, Sub, Mul, Quot, Mod, Rem, Eq, Ne, Lt, Le, Gt, Ge}
+use Rattle.pals_base.specs.declared.behaviour.Op.TheVariants.{And, Or, Xor, AndThen, OrElse}
 use Rattle.pals_base.specs.declared.behaviour.Kind.{Kind}
 use Rattle.pals_base.specs.declared.behaviour.Kind.TheVariants.{Integer, Boolean}
 use Rattle.pals_base.specs.declared.behaviour.PortDecl.{PortDecl}
@@ -15,7 +17,8 @@ use Rattle.pals_base.specs.declared.kinds.Kinds.{Kinds}
 use Rattle.pals_base.specs.Arithmetic.{negation_of, magnitude_of}
 use Rattle.pals_base.specs.Expressions.{on_value, is_true, truth, same_number, applied, combined, eval, eval_rest}
 use Rattle.pals_base.specs.Kinds.{only, allows, literal_kinds, declared_or, port_kinds, joined, kinds_of, kinds_along}
-use Rattle.pals_base.specs.Tree.{Expression, Literal, Variable, PortRead, Fresh, Neg, Abs, Not, Chain, Operands, NoMore, Then}
+use Rattle.pals_base.specs.Tree.{Expression, Literal, Variable, PortRead, Fresh, Neg, Abs, Not, Chain, Operands, NoMore}
+use Rattle.pals_base.specs.Tree.{Then}
 use Rattle.pals_model.specs.proof.FittingValues.{Fits, VarsFit, HeldFit}
 use Rattle.pals_model.proofs.KindLists.{any_ok, then_ok, on_ok, if_ok, weaker_ok}
 

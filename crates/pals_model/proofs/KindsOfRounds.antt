@@ -1,9 +1,12 @@
 -- The law that rounds keep kinds: frames and messages, round by round.
-use Rattle.std.proofs.Common.{◌≡◌, ℕ, zero, suc, ◌+◌, ◌-◌, ◌<◌, nat_eq, true, List, [], ◌∷◌, length, map, take, replicate, slice_get, All, Option, Some, None, refl, sym, ap, ap₂, ◌∙◌, subst, arith, IsTrue}
+use Rattle.std.proofs.Common.{◌≡◌, ℕ, zero, suc, ◌+◌, ◌-◌, ◌<◌, nat_eq, true, List, [], ◌∷◌, length, map, take}
+use Rattle.std.proofs.Common.{replicate, slice_get, All, Option, Some, None, refl, sym, ap, ap₂, ◌∙◌, subst, arith}
+use Rattle.std.proofs.Common.{IsTrue}
 use Rattle.std.specs.Prelude.{position, slice_index_or}
 use Rattle.std.specs.Option.{option_map}
 use Rattle.std.proofs.lemmas.Bool.{and_parts, eqb-true}
-use Rattle.std.proofs.lemmas.List.Elements.{All-nil, All-cons, All-append, All-take, All-filter, All-weaker, filter_passes}
+use Rattle.std.proofs.lemmas.List.Elements.{All-nil, All-cons, All-append, All-take, All-filter, All-weaker}
+use Rattle.std.proofs.lemmas.List.Elements.{filter_passes}
 use Rattle.std.proofs.lemmas.Option.{slice_get-map, slice_get_within, get_or_from_slice_get}
 use Rattle.list_lemmas.proofs.Places.{slice_get-some}
 use Rattle.pals_base.specs.declared.values.PortValue.{PortValue}
@@ -18,12 +21,14 @@ use Rattle.pals_model.specs.declared.design.Link.{Link}
 use Rattle.pals_model.specs.declared.design.Tap.{Tap}
 use Rattle.pals_model.specs.declared.design.DesignParts.{DesignParts}
 use Rattle.pals_model.specs.declared.rounds.Env.{Env}
-use Rattle.pals_model.specs.Inputs.{rate_of, root_of, values_at, link_goes_to, feed_goes_to, from_feed, from_link, source_of, sources_of, read_feed, read_link, reading, inputs_of, inputs_in, feed}
+use Rattle.pals_model.specs.Inputs.{rate_of, root_of, values_at, link_goes_to, feed_goes_to, from_feed, from_link}
+use Rattle.pals_model.specs.Inputs.{source_of, sources_of, read_feed, read_link, reading, inputs_of, inputs_in, feed}
 use Rattle.pals_model.specs.Ports.{kind_of, in_kind, out_kind, outs_in, root_kind}
 use Rattle.pals_model.specs.Composition.{comp, state, msg, taps_of}
 use Rattle.pals_model.specs.Rules.{IsDesign, IsLink, IsFeed, IsTap}
 use Rattle.pals_model.specs.proof.CompositionLaws.{own_steps}
-use Rattle.pals_model.proofs.CompositionLaws.{state_begins, state_goes_on, message_from_source, part_from_steps, links_begin_absent}
+use Rattle.pals_model.proofs.CompositionLaws.{state_begins, state_goes_on, message_from_source, part_from_steps}
+use Rattle.pals_model.proofs.CompositionLaws.{links_begin_absent}
 use Rattle.pals_model.proofs.RootInputLaws.{feed_has_root, feeds_have_root_kind}
 use Rattle.pals_model.proofs.ShapeLaws.{state_has_shape, is_behaviour, component_at}
 use Rattle.pals_model.proofs.Lookups.{found_at, at_element}

@@ -1,5 +1,7 @@
 -- The law that steps keep kinds: a step, from its held inputs to its outputs.
-use Rattle.std.proofs.Common.{◌≡◌, inl, ℕ, zero, suc, ◌≤◌, nat_eq, nat_lt, ℤ, pos, Bool, true, false, ◌&&◌, if◌then◌else◌, List, [], ◌∷◌, length, map, replicate, slice_get, All, Option, Some, None, refl, sym, subst, arith}
+use Rattle.std.proofs.Common.{◌≡◌, inl, ℕ, zero, suc, ◌≤◌, nat_eq, nat_lt, ℤ, pos, Bool, true, false, ◌&&◌}
+use Rattle.std.proofs.Common.{if◌then◌else◌, List, [], ◌∷◌, length, map, replicate, slice_get, All, Option, Some, None}
+use Rattle.std.proofs.Common.{refl, sym, subst, arith}
 use Rattle.std.specs.Prelude.{Result, Ok, Err, IfOk, slice_index_or}
 use Rattle.std.proofs.lemmas.List.Elements.{All-head, All-tail, All-filter, All-nil, All-cons}
 use Rattle.pals_model.proofs.Lookups.{at_element}
@@ -13,7 +15,9 @@ use Rattle.pals_base.specs.declared.behaviour.VarDecl.{VarDecl}
 use Rattle.pals_base.specs.declared.behaviour.BehaviourParts.{BehaviourParts}
 use Rattle.pals_base.specs.Actions.{acts}
 use Rattle.pals_base.specs.Expressions.{on_value}
-use Rattle.pals_base.specs.Fire.{Fired, HasShape, held_of, holding, is_present, silence, is_complete, leaving, is_dispatch, opens, first_open, along, settled, dispatched, reaction, outcome, unless_halted, fire, initial}
+use Rattle.pals_base.specs.Fire.{Fired, HasShape, held_of, holding, is_present, silence, is_complete, leaving}
+use Rattle.pals_base.specs.Fire.{is_dispatch, opens, first_open, along, settled, dispatched, reaction, outcome}
+use Rattle.pals_base.specs.Fire.{unless_halted, fire, initial}
 use Rattle.pals_base.specs.Kinds.{literal_kinds, are_sound}
 use Rattle.pals_base.specs.Rules.{has_first, has_condition, is_edge, IsBehaviour}
 use Rattle.pals_base.specs.Steps.{frame_after, outputs}

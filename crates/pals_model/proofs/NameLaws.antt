@@ -1,5 +1,6 @@
 -- Why the laws of names hold.
-use Rattle.std.proofs.Common.{◌≡◌, ◌≢◌, append_assoc, ℕ, ◌<◌, true, List, [], ◌∷◌, ◌++◌, length, map, Some, slice_get, IsSomeAnd, refl, sym, ap, ap₂, ◌∙◌, subst, arith, inl, inr, ne_of_lt}
+use Rattle.std.proofs.Common.{◌≡◌, ◌≢◌, append_assoc, ℕ, ◌<◌, true, List, [], ◌∷◌, ◌++◌, length, map, Some, slice_get}
+use Rattle.std.proofs.Common.{IsSomeAnd, refl, sym, ap, ap₂, ◌∙◌, subst, arith, inl, inr, ne_of_lt}
 use Rattle.std.specs.Prelude.{bytes_eq, codes}
 use Rattle.std.specs.Option.{option_map}
 use Rattle.std.proofs.lemmas.Slice.Eq.{bytes_eq-Decides}
@@ -17,7 +18,8 @@ use Rattle.pals_model.specs.declared.design.DesignParts.{DesignParts}
 use Rattle.pals_model.specs.LinkNames.{port_name, in_port_name, target_name, link_name}
 use Rattle.pals_model.specs.Ports.{ins_in}
 use Rattle.pals_model.specs.Rules.{IsDesign, IsTarget, IsLink, LinkPrecedes, port_place}
-use Rattle.pals_model.specs.proof.CompositionLaws.Names.{NodeIsFound, FoundNodeHasPath, TargetNamesDiffer, LinkIsFound, FoundLinkHasName}
+use Rattle.pals_model.specs.proof.CompositionLaws.Names.{NodeIsFound, FoundNodeHasPath, TargetNamesDiffer, LinkIsFound}
+use Rattle.pals_model.specs.proof.CompositionLaws.Names.{FoundLinkHasName}
 use Rattle.pals_model.proofs.Lookups.{at_element, first_at, found_at}
 use Rattle.pals_model.proofs.ShapeLaws.{component_at, is_behaviour}
 use Rattle.pals_model.proofs.Words.{IsWithout, all_pass, word_without, same_bytes, other_bytes, splits_at_last}

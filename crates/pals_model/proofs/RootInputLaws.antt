@@ -1,11 +1,14 @@
 -- Why the laws of root in ports hold.
-use Rattle.std.proofs.Common.{◌≡◌, ℕ, zero, suc, ◌+◌, ◌<◌, ◌≤◌, Bool, true, false, not, ◌||◌, cond, List, [], ◌∷◌, ◌++◌, length, get_or, slice_get, slice_index_or, Some, None, All, AllPairs, if◌then◌else◌, inl, inr, refl, sym, ap, ◌∙◌, subst, arith, append_assoc, ne_of_lt}
+use Rattle.std.proofs.Common.{◌≡◌, ℕ, zero, suc, ◌+◌, ◌<◌, ◌≤◌, Bool, true, false, not, ◌||◌, cond, List, [], ◌∷◌, ◌++◌}
+use Rattle.std.proofs.Common.{length, get_or, slice_get, slice_index_or, Some, None, All, AllPairs, if◌then◌else◌, inl}
+use Rattle.std.proofs.Common.{inr, refl, sym, ap, ◌∙◌, subst, arith, append_assoc, ne_of_lt}
 use Rattle.std.specs.Prelude.{bytes_eq, find}
 use Rattle.std.specs.Option.{option_map, unwrap_or}
 use Rattle.std.specs.List.{list_any, Contains, position_or_len}
 use Rattle.std.proofs.lemmas.Bool.{cases_lt, lt-ltb, or_parts, or_left, or_right}
 use Rattle.std.proofs.lemmas.Slice.Eq.{bytes_eq-Decides}
-use Rattle.std.proofs.lemmas.List.Elements.{All-nil, All-cons, All-weaker, All-contains, Contains-append_left, Contains-append_right}
+use Rattle.std.proofs.lemmas.List.Elements.{All-nil, All-cons, All-weaker, All-contains, Contains-append_left}
+use Rattle.std.proofs.lemmas.List.Elements.{Contains-append_right}
 use Rattle.std.proofs.lemmas.List.Kept.{AllPairs-cons}
 use Rattle.std.proofs.lemmas.List.Folds.{list_any-append}
 use Rattle.std.proofs.lemmas.Option.{slice_get-map, slice_get_within, get_or_from_slice_get}
@@ -14,7 +17,8 @@ use Rattle.pals_model.specs.declared.design.Feed.{Feed}
 use Rattle.pals_model.specs.Inputs.{new_names, feed_names, root_inputs, place_of}
 use Rattle.pals_model.specs.Ports.{first_kind, feed_kind}
 use Rattle.pals_model.specs.Rules.{AgreeInKind}
-use Rattle.pals_model.specs.proof.CompositionLaws.RootInputs.{RootInputsDiffer, RootInputsAreFeeds, RootInputsInOrder, FeedHasRoot, FeedsHaveRootKind}
+use Rattle.pals_model.specs.proof.CompositionLaws.RootInputs.{RootInputsDiffer, RootInputsAreFeeds, RootInputsInOrder}
+use Rattle.pals_model.specs.proof.CompositionLaws.RootInputs.{FeedHasRoot, FeedsHaveRootKind}
 use Rattle.pals_model.proofs.Words.{same_bytes, other_bytes}
 
 abbrev is_in : List ℕ → List (List ℕ) → Bool

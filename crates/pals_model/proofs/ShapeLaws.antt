@@ -1,5 +1,6 @@
 -- Why the laws of shapes hold.
-use Rattle.std.proofs.Common.{◌≡◌, ℕ, zero, suc, ◌<◌, nat_eq, List, [], ◌∷◌, length, map, get_or, replicate, Some, slice_get, slice_index_or, All, inl, inr, refl, sym, ap, ◌∙◌, subst, arith}
+use Rattle.std.proofs.Common.{◌≡◌, ℕ, zero, suc, ◌<◌, nat_eq, List, [], ◌∷◌, length, map, get_or, replicate, Some}
+use Rattle.std.proofs.Common.{slice_get, slice_index_or, All, inl, inr, refl, sym, ap, ◌∙◌, subst, arith}
 use Rattle.std.proofs.lemmas.Bool.{eqb-true}
 use Rattle.std.proofs.lemmas.Grind.{common_steps}
 use Rattle.std.proofs.lemmas.List.{length-map, length-replicate}
@@ -20,12 +21,15 @@ use Rattle.pals_model.specs.declared.design.Link.{Link}
 use Rattle.pals_model.specs.declared.design.Tap.{Tap}
 use Rattle.pals_model.specs.declared.design.DesignParts.{DesignParts}
 use Rattle.pals_model.specs.declared.rounds.Env.{Env}
-use Rattle.pals_model.specs.Inputs.{rate_of, rate_in, values_at, feed, inputs_of, inputs_in, sources_of, source_of, reading}
+use Rattle.pals_model.specs.Inputs.{rate_of, rate_in, values_at, feed, inputs_of, inputs_in, sources_of, source_of}
+use Rattle.pals_model.specs.Inputs.{reading}
 use Rattle.pals_model.specs.Ports.{outs_in}
 use Rattle.pals_model.specs.Composition.{comp, state, msg, taps_of}
 use Rattle.pals_model.specs.Rules.{IsDesign, IsComponent, IsLink, IsTap}
 use Rattle.pals_model.specs.proof.CompositionLaws.{own_steps}
-use Rattle.pals_model.specs.proof.CompositionLaws.Shapes.{AreVectors, AreTuples, IsPart, FeedHasVectors, StateHasShape, StepsGiveTuples, MessageHasRate, WaitingMessageHasRate, PartHasShape}
+use Rattle.pals_model.specs.proof.CompositionLaws.Shapes.{AreVectors, AreTuples, IsPart, FeedHasVectors, StateHasShape}
+use Rattle.pals_model.specs.proof.CompositionLaws.Shapes.{StepsGiveTuples, MessageHasRate, WaitingMessageHasRate}
+use Rattle.pals_model.specs.proof.CompositionLaws.Shapes.{PartHasShape}
 use Rattle.pals_model.proofs.CompositionLaws.{state_begins, state_goes_on, message_from_source, part_from_steps}
 use Rattle.pals_model.proofs.Lookups.{at_element}
 

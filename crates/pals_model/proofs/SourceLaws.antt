@@ -1,8 +1,8 @@
 -- Why the laws of what in ports read hold.
-use Rattle.std.proofs.Common.{◌≡◌, ◌≢◌, ℕ, true, false, ◌&&◌, nat_eq, Some, All, refl, sym, ap, ap₂, ◌∙◌}
+use Rattle.std.proofs.Common.{◌≡◌, ◌≢◌, ℕ, true, false, ◌&&◌, nat_eq, Some, All, refl, sym, ap, ap₂, ◌∙◌, get_or}
+use Rattle.std.proofs.Common.{ne_of_lt}
 use Rattle.std.specs.Prelude.{position}
 use Rattle.std.proofs.lemmas.Bool.{eq-eqb, eqb-true, and_parts, false_from_ne_true}
-use Rattle.std.proofs.Common.{get_or, ne_of_lt}
 use Rattle.list_lemmas.proofs.Pairs.{AllPairs-slice_get}
 use Rattle.pals_model.specs.Inputs.{link_goes_to, feed_goes_to, from_link, from_feed}
 use Rattle.pals_model.specs.Rules.{port_place, LinkPrecedes, FeedPrecedes, IsApart}

@@ -1,7 +1,8 @@
 -- Why the laws of a round that is under way hold.
-use Rattle.std.proofs.Common.{◌≡◌, ℕ, zero, suc, ◌<◌, Bool, true, false, List, [], ◌∷◌, ◌++◌, length, map, take, set, replicate, slice_get, Some, None, if◌then◌else◌, refl, sym, ap, ap₂, ◌∙◌, arith, IfOk, Ok, Err}
+use Rattle.std.proofs.Common.{◌≡◌, ℕ, zero, suc, ◌<◌, Bool, true, false, List, [], ◌∷◌, ◌++◌, length, map, take, set}
+use Rattle.std.proofs.Common.{replicate, slice_get, Some, None, if◌then◌else◌, refl, sym, ap, ap₂, ◌∙◌, arith, IfOk, Ok}
+use Rattle.std.proofs.Common.{Err, length-take-le, take_all}
 use Rattle.std.specs.Prelude.{Option, Result}
-use Rattle.std.proofs.Common.{length-take-le, take_all}
 use Rattle.std.proofs.lemmas.Option.{slice_get_within}
 use Rattle.pals_base.specs.declared.values.Trap.{Trap}
 use Rattle.pals_base.specs.declared.values.Frame.{Frame}
@@ -11,17 +12,19 @@ use Rattle.pals_base.specs.declared.behaviour.BehaviourParts.{BehaviourParts}
 use Rattle.pals_base.specs.Tree.{Edge}
 use Rattle.pals_base.specs.Expressions.{on_value}
 use Rattle.pals_base.specs.Actions.{acts}
-use Rattle.pals_base.specs.Fire.{Fired, HasShape, fire, holding, silence, is_present, is_complete, leaving, first_open, along, settled, dispatched, reaction, outcome, unless_halted}
+use Rattle.pals_base.specs.Fire.{Fired, HasShape, fire, holding, silence, is_present, is_complete, leaving, first_open}
+use Rattle.pals_base.specs.Fire.{along, settled, dispatched, reaction, outcome, unless_halted}
 use Rattle.pals_base.specs.Rules.{IsBehaviour}
 use Rattle.pals_base.specs.Steps.{Stepped, steps, frame_after, outputs, so_far, with_places}
 use Rattle.pals_base.proofs.Ending.{fires_well}
 use Rattle.pals_base.proofs.Steps.{frame_after-append, outputs-append}
 use Rattle.pals_base.proofs.RoundUnderWay.{so_far-none, so_far-one_more, so_far-all}
 use Rattle.pals_model.specs.Inputs.{feed}
-use Rattle.pals_model.specs.Composition.{comp, state}
-use Rattle.pals_model.specs.Composition.{under_way}
-use Rattle.pals_model.specs.proof.CompositionLaws.Steps.{stepped_on, RoundBegins, RoundGoesOn, RoundEnds, PlacesStay, TrapIsSilent}
-use Rattle.pals_model.proofs.ShapeLaws.{is_behaviour, state_has_shape, feed_has_vectors, length-outputs, steps_keep_shape}
+use Rattle.pals_model.specs.Composition.{comp, state, under_way}
+use Rattle.pals_model.specs.proof.CompositionLaws.Steps.{stepped_on, RoundBegins, RoundGoesOn, RoundEnds, PlacesStay}
+use Rattle.pals_model.specs.proof.CompositionLaws.Steps.{TrapIsSilent}
+use Rattle.pals_model.proofs.ShapeLaws.{is_behaviour, state_has_shape, feed_has_vectors, length-outputs}
+use Rattle.pals_model.proofs.ShapeLaws.{steps_keep_shape}
 
 abbrev as_stepped : Frame → List (List PortValue) → Stepped
 as_stepped frame tuples = record { frame = frame; tuples = tuples }

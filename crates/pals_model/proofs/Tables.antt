@@ -1,5 +1,7 @@
 -- The table of sources, one in port at a time.
-use Rattle.std.proofs.Common.{◌≡◌, ◌≢◌, ℕ, zero, suc, ◌+◌, ◌-◌, ◌<◌, ◌≤◌, Bool, true, false, ◌&&◌, nat_eq, cond, List, [], ◌∷◌, ◌++◌, length, map, drop, replicate, Some, refl, sym, ap, ap₂, ◌∙◌, arith, zero-add, append_assoc}
+use Rattle.std.proofs.Common.{◌≡◌, ◌≢◌, ℕ, zero, suc, ◌+◌, ◌-◌, ◌<◌, ◌≤◌, Bool, true, false, ◌&&◌, nat_eq, cond, List}
+use Rattle.std.proofs.Common.{[], ◌∷◌, ◌++◌, length, map, drop, replicate, Some, refl, sym, ap, ap₂, ◌∙◌, arith}
+use Rattle.std.proofs.Common.{zero-add, append_assoc}
 use Rattle.std.specs.Prelude.{Option, slice_set, slice_index_or}
 use Rattle.std.specs.List.{enumerate_from, position_from}
 use Rattle.std.proofs.lemmas.Bool.{ne_eqb, eq-eqb}
@@ -12,7 +14,8 @@ use Rattle.pals_model.specs.declared.design.Feed.{Feed}
 use Rattle.pals_model.specs.declared.design.DesignParts.{DesignParts}
 use Rattle.pals_model.specs.declared.sources.PortSource.{PortSource}
 use Rattle.pals_model.specs.declared.sources.PortSource.TheVariants as source
-use Rattle.pals_model.specs.Inputs.{from_feed, from_link, link_goes_to, feed_goes_to, place_of, root_inputs, root_of, all_sources}
+use Rattle.pals_model.specs.Inputs.{from_feed, from_link, link_goes_to, feed_goes_to, place_of, root_inputs, root_of}
+use Rattle.pals_model.specs.Inputs.{all_sources}
 use Rattle.pals_model.specs.proof.SourceTables.{table_of, nothing, fed_from, linked_from, with_source}
 
 -- another source for one in port

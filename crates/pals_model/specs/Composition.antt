@@ -1,6 +1,7 @@
 -- The multirate synchronous composition: all components make their steps of a round at once, and the messages of
 -- a round are read in the next one. It has no clock, no buffer, no thread and no code.
-use Rattle.std.specs.Prelude.{ℕ, suc, zero, nat_eq, List, [], ◌∷◌, map, filter, replicate, Option, Some, None, slice_get, slice_index_or, length, take}
+use Rattle.std.specs.Prelude.{ℕ, suc, zero, nat_eq, List, [], ◌∷◌, map, filter, replicate, Option, Some, None}
+use Rattle.std.specs.Prelude.{slice_get, slice_index_or, length, take}
 use Rattle.pals_base.specs.declared.values.PortValue.{PortValue}
 use Rattle.pals_base.specs.declared.values.PortValue.TheVariants.{Absent}
 use Rattle.pals_base.specs.declared.values.Frame.{Frame}

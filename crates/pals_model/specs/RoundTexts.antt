@@ -1,5 +1,6 @@
 -- The texts of values and of rounds. A text is a list of lines, each with its line end.
-use Rattle.std.specs.Prelude.{ℕ, nat_eq, ℤ, codes, decimal, List, [], ◌∷◌, ◌++◌, length, map, filter, flat_map, zip, take, Option, Some, None, slice_get, slice_index_or, if◌then◌else◌, Bool}
+use Rattle.std.specs.Prelude.{ℕ, nat_eq, ℤ, codes, decimal, List, [], ◌∷◌, ◌++◌, length, map, filter, flat_map, zip}
+use Rattle.std.specs.Prelude.{take, Option, Some, None, slice_get, slice_index_or, if◌then◌else◌, Bool}
 use Rattle.std.specs.List.{enumerate_from}
 use Rattle.std.specs.Fmt.{signed_decimal}
 use Rattle.pals_base.specs.declared.values.PortValue.{PortValue}

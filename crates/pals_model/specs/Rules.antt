@@ -1,12 +1,14 @@
 -- What each design keeps.
-use Rattle.std.specs.Prelude.{◌≡◌, ◌≢◌, ℕ, ◌+◌, ◌*◌, ◌%◌, ◌<◌, ◌≤◌, max, List, length, fold, All, AllPairs, IsTrue, slice_get}
+use Rattle.std.specs.Prelude.{◌≡◌, ◌≢◌, ℕ, ◌+◌, ◌*◌, ◌%◌, ◌<◌, ◌≤◌, max, List, length, fold, All, AllPairs, IsTrue}
+use Rattle.std.specs.Prelude.{slice_get}
 use Rattle.pals_base.specs.declared.values.Gamma.{Gamma}
 use Rattle.pals_base.specs.declared.behaviour.BehaviourParts.{BehaviourParts}
 use Rattle.pals_base.specs.Allowed.{divides_or_divided, is_allowed, suits_kind}
 use Rattle.pals_base.specs.Bound.{least_period}
 use Rattle.pals_base.specs.Names.{is_word, is_path}
 use Rattle.pals_base.specs.Rules.{IsBehaviour}
-use Rattle.pals_base.specs.declared.limits.TheConstants.{HOUR, RATE, PORTS, VARIABLES, STATES, COMPONENTS, LINKS, PATH_BYTES}
+use Rattle.pals_base.specs.declared.limits.TheConstants.{HOUR, RATE, PORTS, VARIABLES, STATES, COMPONENTS, LINKS}
+use Rattle.pals_base.specs.declared.limits.TheConstants.{PATH_BYTES}
 use Rattle.pals_model.specs.declared.design.Component.{Component}
 use Rattle.pals_model.specs.declared.design.Link.{Link}
 use Rattle.pals_model.specs.declared.design.Feed.{Feed}

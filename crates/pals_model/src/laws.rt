@@ -1,6 +1,8 @@
 //! Laws of the composition. The functions do nothing: their contracts hold at every design and
 //! environment, and say what the composition means without its definition.
-ghost use Rattle.pals_model.specs.proof.CompositionLaws.{OneFrameEach, OneMessageEach, StateBegins, LinksBeginAbsent, StateGoesOn, MessageFromSource, PartFromSteps, RunsAlone, DependsOnPast};
+ghost use Rattle.pals_model.specs.proof.CompositionLaws.{OneFrameEach, OneMessageEach, StateBegins, LinksBeginAbsent};
+ghost use Rattle.pals_model.specs.proof.CompositionLaws.{StateGoesOn, MessageFromSource, PartFromSteps, RunsAlone};
+ghost use Rattle.pals_model.specs.proof.CompositionLaws.{DependsOnPast};
 ghost use Rattle.pals_model.specs.proof.Counters.{CountersCount};
 
 mod kinds;

@@ -1,5 +1,6 @@
 -- The end of a step, and what a node then keeps.
-use Rattle.std.proofs.Common.{◌≡◌, ◌∙◌, inl, inr, ℕ, ◌-◌, ◌≤◌, nat_eq, Bool, true, false, List, [], length, slice_index_or, refl, sym, ap, ap₂, subst, arith}
+use Rattle.std.proofs.Common.{◌≡◌, ◌∙◌, inl, inr, ℕ, ◌-◌, ◌≤◌, nat_eq, Bool, true, false, List, [], length}
+use Rattle.std.proofs.Common.{slice_index_or, refl, sym, ap, ap₂, subst, arith}
 use Rattle.std.specs.Prelude.{if◌then◌else◌}
 use Rattle.std.specs.Arc.{arc_value}
 use Rattle.std.proofs.lemmas.Bool.{eqb-true, eqb-false, cases_lt}
@@ -14,7 +15,8 @@ use Rattle.bus_machine.specs.NodeEvents.{fired, finished, finished_with}
 use Rattle.pals_node.specs.declared.fields.Fields.{Fields}
 use Rattle.std.proofs.lemmas.Option.{slice_get-get_or, get_or_from_slice_get}
 use Rattle.pals_node.specs.proof.Values.{Program, job_value, job_at}
-use Rattle.pals_node.specs.proof.NodeInvariants.{IsProgram, AreTuples, HasRound, IsOpen, PhaseKeeps, HasMessageRoom, Keeps, state_of, value_of}
+use Rattle.pals_node.specs.proof.NodeInvariants.{IsProgram, AreTuples, HasRound, IsOpen, PhaseKeeps, HasMessageRoom}
+use Rattle.pals_node.specs.proof.NodeInvariants.{Keeps, state_of, value_of}
 use Rattle.pals_node.specs.proof.Memories.{HasMemory}
 use Rattle.pals_base.specs.declared.limits.TheConstants.{ROUNDS}
 use Rattle.step_code.specs.proof.Exec.{exec, Leaves}

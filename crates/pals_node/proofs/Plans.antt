@@ -1,5 +1,6 @@
 -- The plan of a design's node keeps what plans keep.
-use Rattle.std.proofs.Common.{◌≡◌, ◌∙◌, ℕ, ◌+◌, ◌-◌, ◌*◌, ◌/◌, ◌<◌, ◌≤◌, nat_eq, length, All, slice_get, slice_index_or, ap, subst, arith}
+use Rattle.std.proofs.Common.{◌≡◌, ◌∙◌, ℕ, ◌+◌, ◌-◌, ◌*◌, ◌/◌, ◌<◌, ◌≤◌, nat_eq, length, All, slice_get, slice_index_or}
+use Rattle.std.proofs.Common.{ap, subst, arith}
 use Rattle.std.specs.Prelude.{max}
 use Rattle.std.proofs.Math.Nat.{div-le_self, mul-le-mul_right, mul-div-le, max-le, le-max_left, min-le_left, le-min}
 use Rattle.std.proofs.lemmas.Bool.{eqb-true}

@@ -1,5 +1,6 @@
 //! The fields of a node, and what each event does with them.
-ghost use Rattle.std.specs.Prelude.{◌≡◌, ◌+◌, ◌<◌, ◌≤◌, ◌++◌, ◌∷◌, IfOk, OnOk, OnErr, length, replicate, vec_len, vec_capacity, if◌then◌else◌, Some, None, nat_eq, true, false, [], All, Option};
+ghost use Rattle.std.specs.Prelude.{◌≡◌, ◌+◌, ◌<◌, ◌≤◌, ◌++◌, ◌∷◌, IfOk, OnOk, OnErr, length, replicate, vec_len};
+ghost use Rattle.std.specs.Prelude.{vec_capacity, if◌then◌else◌, Some, None, nat_eq, true, false, [], All, Option};
 ghost use Rattle.std.specs.Arc.{arc_value};
 ghost use Rattle.pals_base.specs.declared.limits.TheConstants.{ROUNDS};
 ghost use Rattle.pals_base.specs.declared.values.PortValue.{PortValue};
@@ -11,7 +12,9 @@ ghost use Rattle.pals_node.specs.proof.Values.{job_at, opening_value, with_state
 ghost use Rattle.pals_node.specs.proof.Memories.{HasMemory};
 ghost use Rattle.pals_node.specs.proof.Rounds.{empty_part, IsBegun, first_job_of, begun_with};
 ghost use Rattle.bus_machine.specs.Nodes.{at_rest, vectors_of};
-ghost use Rattle.pals_node.specs.proof.NodeInvariants.{Keeps, IsProgram, PhaseKeeps, HasRound, HasPartRoom, IsPartRoom, AreTuples, IsStepMade, value_of, state_of, finished_value, ended_at};
+ghost use Rattle.pals_node.specs.proof.NodeInvariants.{Keeps, IsProgram, PhaseKeeps, HasRound, HasPartRoom, IsPartRoom};
+ghost use Rattle.pals_node.specs.proof.NodeInvariants.{AreTuples, IsStepMade, value_of, state_of, finished_value};
+ghost use Rattle.pals_node.specs.proof.NodeInvariants.{ended_at};
 
 use crate::buffers::{absent_tuples, write_places, write_ports};
 use crate::inputs::{empty_all, empty_slots, round_vectors};

@@ -1,5 +1,7 @@
 //! A node, event by event.
-ghost use Rattle.std.specs.Prelude.{◌≡◌, ◌<◌, ◌≤◌, ◌-◌, ◌&&◌, not, false, nat_eq, nat_le, IfOk, IfErr, OnErr, OnOk, length, option_copied, option_map, slice_get, slice_index_or, position, zip, None, if◌then◌else◌};
+ghost use Rattle.std.specs.Prelude.{◌≡◌, ◌<◌, ◌≤◌, ◌-◌, ◌&&◌, not, false, nat_eq, nat_le, IfOk, IfErr, OnErr, OnOk};
+ghost use Rattle.std.specs.Prelude.{length, option_copied, option_map, slice_get, slice_index_or, position, zip, None};
+ghost use Rattle.std.specs.Prelude.{if◌then◌else◌};
 ghost use Rattle.std.specs.Option.{option_map_or};
 ghost use Rattle.std.specs.Arc.{arc_value};
 ghost use Rattle.pals_base.specs.declared.limits.TheConstants.{ROUNDS, PORTS};
@@ -7,7 +9,8 @@ ghost use Rattle.bus_machine.specs.Nodes.{finished_steps};
 ghost use Rattle.bus_machine.specs.NodeEvents.{arrived, received, lacks};
 ghost use Rattle.bus_machine.specs.Targets.{target, action_of, next_of};
 ghost use Rattle.pals_node.specs.proof.Values.{opening_value, with_state};
-ghost use Rattle.pals_node.specs.proof.Answers.{is_early, Starts, StartEnds, Steps, StepEnds, FinishesWith, FinishesHere, NoneRuns, Sends, SendEnds};
+ghost use Rattle.pals_node.specs.proof.Answers.{is_early, Starts, StartEnds, Steps, StepEnds, FinishesWith};
+ghost use Rattle.pals_node.specs.proof.Answers.{FinishesHere, NoneRuns, Sends, SendEnds};
 
 use crate::answers::{FinishEnd, Finished, SendEnd, StartEnd, StepEnd};
 use crate::fields::Fields;

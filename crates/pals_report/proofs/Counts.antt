@@ -1,5 +1,7 @@
 -- The taps of each source, counted one tap at a time.
-use Rattle.std.proofs.Common.{◌≡◌, ◌≢◌, ℕ, suc, ◌<◌, ◌≤◌, ◌+◌, inl, inr, Bool, true, false, nat_eq, cond, List, [], ◌∷◌, ◌++◌, length, map, filter, take, get_or, set, sym, ap, ◌∙◌, arith, zero-add, append_assoc, get_or-set_same, get_or-set_other}
+use Rattle.std.proofs.Common.{◌≡◌, ◌≢◌, ℕ, suc, ◌<◌, ◌≤◌, ◌+◌, inl, inr, Bool, true, false, nat_eq, cond, List, [], ◌∷◌}
+use Rattle.std.proofs.Common.{◌++◌, length, map, filter, take, get_or, set, sym, ap, ◌∙◌, arith, zero-add, append_assoc}
+use Rattle.std.proofs.Common.{get_or-set_same, get_or-set_other}
 use Rattle.std.specs.List.{enumerate_from}
 use Rattle.std.proofs.lemmas.Bool.{cases_eq, eq-eqb, ne_eqb}
 use Rattle.std.proofs.lemmas.List.{length-take, length-map, get_or-map}

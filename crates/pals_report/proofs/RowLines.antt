@@ -1,5 +1,6 @@
 -- Rows, line by line, and the parts that they are made of.
-use Rattle.std.proofs.Common.{◌≡◌, ℕ, suc, ◌<◌, ◌+◌, List, [], ◌∷◌, ◌++◌, length, All, Option, Some, None, refl, sym, ap, ap₂, ◌∙◌, arith, append_assoc}
+use Rattle.std.proofs.Common.{◌≡◌, ℕ, suc, ◌<◌, ◌+◌, List, [], ◌∷◌, ◌++◌, length, All, Option, Some, None, refl, sym}
+use Rattle.std.proofs.Common.{ap, ap₂, ◌∙◌, arith, append_assoc}
 use Rattle.std.proofs.lemmas.Grind.{flat_map-append}
 use Rattle.pals_model.specs.declared.design.Component.{Component}
 use Rattle.pals_model.specs.declared.design.Tap.{Tap}
@@ -8,7 +9,8 @@ use Rattle.pals_model.specs.declared.rounds.Env.{Env}
 use Rattle.pals_model.specs.declared.rounds.Part.{Part}
 use Rattle.pals_model.specs.Composition.{part}
 use Rattle.pals_model.specs.Rules.{IsTap}
-use Rattle.pals_model.specs.RoundTexts.{text_of, line_end, round_line, part_lines, tap_lines, taps_before, row_lines, composed_lines}
+use Rattle.pals_model.specs.RoundTexts.{text_of, line_end, round_line, part_lines, tap_lines, taps_before, row_lines}
+use Rattle.pals_model.specs.RoundTexts.{composed_lines}
 use Rattle.pals_report.specs.proof.RowLines.{lines_at_place, components_from, taps_from, ArePartsOf}
 
 text_of-append : (first rest : List (List ℕ)) → text_of (first ++ rest) ≡ text_of first ++ text_of rest

@@ -2,7 +2,9 @@
 use Rattle.std.specs.Prelude.{ℕ, codes, decimal, List, [], ◌∷◌, ◌++◌}
 use Rattle.pals_model.specs.declared.design.DesignParts.{DesignParts}
 use Rattle.pals_runs.specs.declared.events.EventFault.{EventFault}
-use Rattle.pals_runs.specs.declared.events.EventFault.TheVariants.{BadName, LossOrRepeat, TimeBack, ClockBack, ClockApart, PastDeadline, WrongPhase, NoSuchMessage, NotDue, TooSoon, Memory}
+use Rattle.pals_runs.specs.declared.events.EventFault.TheVariants.{BadName, LossOrRepeat, TimeBack, ClockBack}
+use Rattle.pals_runs.specs.declared.events.EventFault.TheVariants.{ClockApart, PastDeadline, WrongPhase, NoSuchMessage}
+use Rattle.pals_runs.specs.declared.events.EventFault.TheVariants.{NotDue, TooSoon, Memory}
 use Rattle.pals_runs.specs.declared.events.EventSubject.{EventSubject}
 use Rattle.pals_runs.specs.declared.events.EventSubject.TheVariants.{Node, Message}
 use Rattle.pals_runs.specs.Journal.{node_word, link_word, spaced}

@@ -2,7 +2,8 @@
 use Rattle.std.specs.Prelude.{ℕ, codes, decimal, List, [], ◌∷◌}
 use Rattle.pals_runs.specs.Journal.{spaced}
 use Rattle.scenario_values.specs.declared.fault.ScenarioFault.{ScenarioFault}
-use Rattle.scenario_values.specs.declared.fault.ScenarioFault.TheVariants.{NotJson, Field, WrongKind, Unknown, OutOfRange, TooBig, Memory}
+use Rattle.scenario_values.specs.declared.fault.ScenarioFault.TheVariants.{NotJson, Field, WrongKind, Unknown}
+use Rattle.scenario_values.specs.declared.fault.ScenarioFault.TheVariants.{OutOfRange, TooBig, Memory}
 
 -- that there is not enough memory is no fault of a scenario
 abbrev pub scenario_fault_words : ScenarioFault → List (List ℕ)

@@ -2,7 +2,8 @@
 ghost use Rattle.std.specs.Prelude.{◌≡◌, ◌++◌, Some, OnOk, OnErr, option_copied};
 ghost use Rattle.pals_base.specs.declared.values.Frame.{Frame};
 ghost use Rattle.pals_base.specs.declared.behaviour.BehaviourParts.{BehaviourParts};
-ghost use Rattle.pals_model.specs.RoundTexts.{text_of, line_end, state_text, variable_text, vars_text, component_line, part_lines};
+ghost use Rattle.pals_model.specs.RoundTexts.{text_of, line_end, state_text, variable_text, vars_text, component_line};
+ghost use Rattle.pals_model.specs.RoundTexts.{part_lines};
 ghost use Rattle.pals_report.specs.proof.Appended.{BeginsWith};
 
 use crate::value::add_value;

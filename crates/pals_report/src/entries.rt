@@ -1,7 +1,8 @@
 //! The lines of a journal.
 ghost use Rattle.std.specs.Prelude.{◌≡◌, [], ◌∷◌, ◌++◌, decimal, OnOk, OnErr};
 ghost use Rattle.pals_model.specs.RoundTexts.{line_end};
-ghost use Rattle.pals_runs.specs.Journal.{node_word, link_word, reading_word, arrived_word, cause_word, stop_words, spaced, entry_line};
+ghost use Rattle.pals_runs.specs.Journal.{node_word, link_word, reading_word, arrived_word, cause_word, stop_words};
+ghost use Rattle.pals_runs.specs.Journal.{spaced, entry_line};
 
 use crate::words::{LineWord, add_line, link_word, node_word, reading_word};
 use pals_base::{LinkNo, Nanos, NoMemory, NodeNo};

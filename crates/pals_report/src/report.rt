@@ -3,7 +3,8 @@
 ghost use Rattle.std.specs.Prelude.{◌≡◌, ◌<◌, ◌++◌, Some, length, slice_get, OnOk, OnErr};
 ghost use Rattle.pals_model.specs.declared.design.Tap.{Tap};
 ghost use Rattle.pals_model.specs.declared.rounds.Env.{Env};
-ghost use Rattle.pals_model.specs.RoundTexts.{text_of, line_end, round_line, component_line, part_lines, tap_line, tap_lines, row_lines, row};
+ghost use Rattle.pals_model.specs.RoundTexts.{text_of, line_end, round_line, component_line, part_lines, tap_line};
+ghost use Rattle.pals_model.specs.RoundTexts.{tap_lines, row_lines, row};
 ghost use Rattle.pals_report.specs.proof.TapPlaces.{tap_places};
 ghost use Rattle.pals_report.specs.proof.RowLines.{ArePartsOf};
 

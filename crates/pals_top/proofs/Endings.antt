@@ -5,7 +5,9 @@ use Rattle.pals_base.specs.declared.limits.TheConstants.{BUNDLE_BYTES}
 use Rattle.pals_io.specs.Stream.{SinkView, after_taking, TakesPart, GivesWithin}
 use Rattle.pals_runs.specs.declared.commands.Command.{Command}
 use Rattle.pals_top.specs.declared.answer.Answer.{Answer}
-use Rattle.pals_top.specs.declared.answer.Answer.TheVariants.{Done, NotSo, Usage, TextRefused, DesignRefused, ScenarioRefused, Stopped, ClockEnded, CodeTooLong, ReadFault, TooLong}
+use Rattle.pals_top.specs.declared.answer.Answer.TheVariants.{Done, NotSo, Usage, TextRefused, DesignRefused}
+use Rattle.pals_top.specs.declared.answer.Answer.TheVariants.{ScenarioRefused, Stopped, ClockEnded, CodeTooLong}
+use Rattle.pals_top.specs.declared.answer.Answer.TheVariants.{ReadFault, TooLong}
 use Rattle.pals_top.specs.declared.status.TheConstants.{WRITE_FAULT, NO_MEMORY}
 use Rattle.pals_top.specs.Answers.{IsAnswer, IsFormAnswer}
 use Rattle.pals_top.specs.Outside.{Reading}

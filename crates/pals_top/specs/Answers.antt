@@ -1,7 +1,8 @@
 -- What the program answers: a status and a text, to its words and to what its source had.
 use Rattle.std.specs.Prelude.{◌≡◌, ℕ, Bool, true, false, List, Option, Some, None, ◌⊎◌}
 use Rattle.pals_runs.specs.declared.commands.Command.{Command}
-use Rattle.pals_runs.specs.declared.commands.Command.TheVariants.{Print, Check, Sync, World, Run, Audit, Ring, Watch, Vote, Fuse, Budget}
+use Rattle.pals_runs.specs.declared.commands.Command.TheVariants.{Print, Check, Sync, World, Run, Audit, Ring, Watch}
+use Rattle.pals_runs.specs.declared.commands.Command.TheVariants.{Vote, Fuse, Budget}
 use Rattle.pals_top.specs.declared.status.TheConstants.{USAGE}
 use Rattle.pals_top.specs.Outside.{Reading, HasRead, IsReadFault}
 use Rattle.pals_top.specs.AnswerTexts.{usage_line}

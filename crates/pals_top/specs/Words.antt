@@ -1,8 +1,11 @@
 -- What the words of a command line are.
 use Rattle.std.specs.List.{list_all}
-use Rattle.std.specs.Prelude.{ℕ, ◌+◌, ◌-◌, ◌*◌, nat_eq, nat_le, Bool, true, false, not, if◌then◌else◌, ◌&&◌, ◌||◌, codes, bytes_eq, List, [], ◌∷◌, length, filter, fold, Option, Some, None, Result, Ok, Err, ◌≡◌, ◌≤◌, IsSome}
+use Rattle.std.specs.Prelude.{ℕ, ◌+◌, ◌-◌, ◌*◌, nat_eq, nat_le, Bool, true, false, not, if◌then◌else◌, ◌&&◌, ◌||◌}
+use Rattle.std.specs.Prelude.{codes, bytes_eq, List, [], ◌∷◌, length, filter, fold, Option, Some, None, Result, Ok, Err}
+use Rattle.std.specs.Prelude.{◌≡◌, ◌≤◌, IsSome}
 use Rattle.pals_runs.specs.declared.commands.Command.{Command}
-use Rattle.pals_runs.specs.declared.commands.Command.TheVariants.{Print, Check, Sync, World, Run, Audit, Ring, Watch, Vote, Fuse, Budget}
+use Rattle.pals_runs.specs.declared.commands.Command.TheVariants.{Print, Check, Sync, World, Run, Audit, Ring, Watch}
+use Rattle.pals_runs.specs.declared.commands.Command.TheVariants.{Vote, Fuse, Budget}
 use Rattle.pals_top.specs.declared.words.TheConstants.{RING_NODES, RING_ROUNDS}
 use Rattle.pals_top.specs.declared.words.WordsEnd.{WordsEnd}
 use Rattle.pals_top.specs.declared.words.WordsEnd.TheVariants.{Usage, Memory}

@@ -1,5 +1,6 @@
 -- Without pairs the equations are those of the composition.
-use Rattle.std.proofs.Common.{◌≡◌, ◌∙◌, ℕ, zero, suc, ◌+◌, ◌-◌, ◌*◌, ◌/◌, ◌%◌, ◌<◌, ◌≤◌, List, [], ◌∷◌, ◌++◌, length, map, Option, Some, None, slice_get, slice_index_or, refl, sym, ap, ap₂, subst, arith}
+use Rattle.std.proofs.Common.{◌≡◌, ◌∙◌, ℕ, zero, suc, ◌+◌, ◌-◌, ◌*◌, ◌/◌, ◌%◌, ◌<◌, ◌≤◌, List, [], ◌∷◌, ◌++◌, length}
+use Rattle.std.proofs.Common.{map, Option, Some, None, slice_get, slice_index_or, refl, sym, ap, ap₂, subst, arith}
 use Rattle.std.proofs.lemmas.Nat.{mul-le, div-mul-add, mod-mul-add}
 use Rattle.std.proofs.lemmas.List.{map-append}
 use Rattle.std.proofs.lemmas.List.Elements.{All-nil}
@@ -25,7 +26,8 @@ use Rattle.pals_model.specs.Ports.{outs_in}
 use Rattle.pals_model.proofs.CompositionLaws.{one_frame_each, state_begins, state_goes_on, steps_of_round-at}
 use Rattle.pals_model.proofs.ShapeLaws.{component_at, length-outputs}
 use Rattle.pals_model.proofs.Lookups.{at_element}
-use Rattle.plant_fuse.specs.Fused.{IsPair, ArePairs, Inputs, inputs_to, outputs_in, left_by, round_tuple, message_on, messages_before, from_round, value_on, value_read, vector_of, IsFused}
+use Rattle.plant_fuse.specs.Fused.{IsPair, ArePairs, Inputs, inputs_to, outputs_in, left_by, round_tuple, message_on}
+use Rattle.plant_fuse.specs.Fused.{messages_before, from_round, value_on, value_read, vector_of, IsFused}
 use Rattle.plant_fuse.specs.proof.Fused.{frame_of, fused}
 use Rattle.plant_fuse.specs.proof.FusedLaws.{WithoutPairs}
 use Rattle.plant_fuse.proofs.Numbered.{length_map_upwards, table}

@@ -1,5 +1,7 @@
 -- Without pairs the report is that of the composition.
-use Rattle.std.proofs.Common.{◌≡◌, ◌∙◌, ◌++◌, ℕ, suc, ◌+◌, ◌*◌, ◌<◌, ◌≤◌, Bool, true, false, nat_eq, List, [], ◌∷◌, length, map, take, Option, Some, slice_get, slice_index_or, All, refl, sym, ap, ap₂, subst, arith}
+use Rattle.std.proofs.Common.{◌≡◌, ◌∙◌, ◌++◌, ℕ, suc, ◌+◌, ◌*◌, ◌<◌, ◌≤◌, Bool, true, false, nat_eq, List, [], ◌∷◌}
+use Rattle.std.proofs.Common.{length, map, take, Option, Some, slice_get, slice_index_or, All, refl, sym, ap, ap₂}
+use Rattle.std.proofs.Common.{subst, arith}
 use Rattle.std.specs.Prelude.{filter, flat_map, if◌then◌else◌}
 use Rattle.std.specs.List.{enumerate_from}
 use Rattle.std.proofs.lemmas.Bool.{eqb-true}

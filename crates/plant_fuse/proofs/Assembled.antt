@@ -1,5 +1,7 @@
 -- Where a fused product stands after a round.
-use Rattle.std.proofs.Common.{◌≡◌, ◌∙◌, inl, inr, ℕ, zero, suc, ◌-◌, ◌<◌, ◌≤◌, Bool, true, false, nat_eq, List, [], ◌∷◌, length, map, Option, Some, None, slice_get, slice_index_or, refl, sym, ap, ap₂, subst, arith}
+use Rattle.std.proofs.Common.{◌≡◌, ◌∙◌, inl, inr, ℕ, zero, suc, ◌-◌, ◌<◌, ◌≤◌, Bool, true, false, nat_eq, List, [], ◌∷◌}
+use Rattle.std.proofs.Common.{length, map, Option, Some, None, slice_get, slice_index_or, refl, sym, ap, ap₂, subst}
+use Rattle.std.proofs.Common.{arith}
 use Rattle.std.specs.Prelude.{if◌then◌else◌}
 use Rattle.std.proofs.lemmas.Bool.{eqb-true}
 use Rattle.std.proofs.lemmas.List.{length-map}
@@ -25,12 +27,15 @@ use Rattle.sync_product.specs.proof.Rounds.{brought, vectors}
 use Rattle.plant_fuse.specs.Fused.{is_back, is_forth, ArePairs, Inputs, inputs_to}
 use Rattle.plant_fuse.specs.proof.Partners.{partner_of}
 use Rattle.plant_fuse.specs.proof.Rounds as rounds
-use Rattle.plant_fuse.specs.proof.Rounds.{Left, frame_at, outputs_from, place_at, left_in, left_before_by, link_by, read_by, vector_by, round_vector, IsFusedRound}
-use Rattle.plant_fuse.specs.proof.Sides.{Work, from_partner, from_link, side_value, row_at, row_before, plant_vector, controller_vector}
+use Rattle.plant_fuse.specs.proof.Rounds.{Left, frame_at, outputs_from, place_at, left_in, left_before_by, link_by}
+use Rattle.plant_fuse.specs.proof.Rounds.{read_by, vector_by, round_vector, IsFusedRound}
+use Rattle.plant_fuse.specs.proof.Sides.{Work, from_partner, from_link, side_value, row_at, row_before, plant_vector}
+use Rattle.plant_fuse.specs.proof.Sides.{controller_vector}
 use Rattle.plant_fuse.specs.proof.Runs.{seat, rows_of, HasWork, IsRun, AreRun}
 use Rattle.plant_fuse.proofs.Numbered.{map_map, map_upwards_same, table, table_at, table_same}
 use Rattle.plant_fuse.proofs.Inside.{read_from_target}
-use Rattle.plant_fuse.proofs.Partnering.{some_stands, pair_at, to_plant_forth, to_plant_back, to_controller_back, to_controller_forth, to_alone_back, to_alone_forth}
+use Rattle.plant_fuse.proofs.Partnering.{some_stands, pair_at, to_plant_forth, to_plant_back, to_controller_back}
+use Rattle.plant_fuse.proofs.Partnering.{to_controller_forth, to_alone_back, to_alone_forth}
 
 -- ---- reads hang on what is left alone
 module _ (design : DesignParts) (pairs : List Pair) (values : List PortValue) (before : Configuration)

@@ -1,5 +1,6 @@
 -- One step more of a plant and its controller.
-use Rattle.std.proofs.Common.{◌≡◌, ◌∙◌, ℕ, zero, suc, ◌+◌, ◌≤◌, List, [], ◌∷◌, ◌++◌, length, map, take, Option, Some, refl, sym, ap, ap₂, subst, arith}
+use Rattle.std.proofs.Common.{◌≡◌, ◌∙◌, ℕ, zero, suc, ◌+◌, ◌≤◌, List, [], ◌∷◌, ◌++◌, length, map, take, Option, Some}
+use Rattle.std.proofs.Common.{refl, sym, ap, ap₂, subst, arith}
 use Rattle.std.proofs.lemmas.List.{get_or_append_left, get_or_push, get_or-take}
 use Rattle.pals_base.specs.declared.values.PortValue.{PortValue}
 use Rattle.pals_base.specs.declared.values.Frame.{Frame}
@@ -9,7 +10,8 @@ use Rattle.pals_base.specs.Steps.{outputs, upwards}
 use Rattle.pals_base.proofs.Upwards.{map_upwards_more}
 use Rattle.pals_base.proofs.Steps.{frame_after-append, outputs-append}
 use Rattle.sync_product.specs.declared.reads.RoundInputs.{RoundInputs}
-use Rattle.plant_fuse.specs.proof.Sides.{Seat, Work, side_vector, row_before, plant_vector, controller_vector, IsMade, work, AreMade}
+use Rattle.plant_fuse.specs.proof.Sides.{Seat, Work, side_vector, row_before, plant_vector, controller_vector, IsMade}
+use Rattle.plant_fuse.specs.proof.Sides.{work, AreMade}
 use Rattle.plant_fuse.proofs.Numbered.{map_upwards_same}
 
 -- ---- rows so far

@@ -1,5 +1,7 @@
 -- What a step reads hangs on steps of lower rank alone.
-use Rattle.std.proofs.Common.{◌≡◌, ◌∙◌, ℕ, zero, suc, ◌+◌, ◌*◌, ◌/◌, ◌%◌, ◌<◌, ◌≤◌, Bool, true, false, List, [], ◌∷◌, length, map, Option, Some, None, slice_get, slice_index_or, refl, sym, ap, ap₂, subst, arith}
+use Rattle.std.proofs.Common.{◌≡◌, ◌∙◌, ℕ, zero, suc, ◌+◌, ◌*◌, ◌/◌, ◌%◌, ◌<◌, ◌≤◌, Bool, true, false, List, [], ◌∷◌}
+use Rattle.std.proofs.Common.{length, map, Option, Some, None, slice_get, slice_index_or, refl, sym, ap, ap₂, subst}
+use Rattle.std.proofs.Common.{arith}
 use Rattle.std.specs.Prelude.{if◌then◌else◌}
 use Rattle.std.proofs.lemmas.Option.{same_Some}
 use Rattle.pals_base.proofs.Settling.{map-same}
@@ -19,9 +21,12 @@ use Rattle.pals_model.specs.declared.sources.PortSource.TheVariants as source
 use Rattle.pals_model.specs.Inputs.{rate_of, rate_in, source_of, reading, values_at}
 use Rattle.pals_model.specs.Rules.{IsDesign}
 use Rattle.pals_runs.specs.declared.pairs.Pair.{Pair}
-use Rattle.plant_fuse.specs.Fused.{ArePairs, is_back, is_forth, Inputs, inputs_to, outputs_in, left_by, left_before, round_tuple, message_on, messages_before, from_round, value_on, value_read, vector_of, reads}
+use Rattle.plant_fuse.specs.Fused.{ArePairs, is_back, is_forth, Inputs, inputs_to, outputs_in, left_by, left_before}
+use Rattle.plant_fuse.specs.Fused.{round_tuple, message_on, messages_before, from_round, value_on, value_read}
+use Rattle.plant_fuse.specs.Fused.{vector_of, reads}
 use Rattle.plant_fuse.proofs.Numbered.{map_upwards_same, get_upwards_same, table_at, table_past, table_same}
-use Rattle.plant_fuse.proofs.Ranks.{is_controller, rank, rank_upto, rank_before, rank_beside, rank_in_round, rank_from_round, rank_of_rounds}
+use Rattle.plant_fuse.proofs.Ranks.{is_controller, rank, rank_upto, rank_before, rank_beside, rank_in_round}
+use Rattle.plant_fuse.proofs.Ranks.{rank_from_round, rank_of_rounds}
 use Rattle.plant_fuse.proofs.Inside.{back_rates, forth_is, read_from_target}
 
 -- ---- outputs

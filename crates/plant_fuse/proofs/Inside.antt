@@ -1,5 +1,6 @@
 -- What is known of a link inside a pair, and of the link that an in port reads.
-use Rattle.std.proofs.Common.{◌≡◌, ◌≢◌, ◌∙◌, inl, inr, ℕ, ◌<◌, true, false, List, length, Option, Some, None, slice_get, slice_index_or, refl, sym, ap, subst}
+use Rattle.std.proofs.Common.{◌≡◌, ◌≢◌, ◌∙◌, inl, inr, ℕ, ◌<◌, true, false, List, length, Option, Some, None, slice_get}
+use Rattle.std.proofs.Common.{slice_index_or, refl, sym, ap, subst}
 use Rattle.std.specs.Prelude.{nat_eq, position}
 use Rattle.std.proofs.lemmas.Bool.{eqb-true, eq-eqb, ne_eqb, and_parts, cases_order}
 use Rattle.std.proofs.lemmas.List.Folds.{Any-from_list_any, list_any_at, list_any_none}

@@ -1,5 +1,6 @@
 -- The equations of one round have one solution.
-use Rattle.std.proofs.Common.{◌≡◌, ◌∙◌, ℕ, zero, suc, ◌+◌, ◌*◌, ◌<◌, ◌≤◌, Bool, true, false, List, [], ◌∷◌, length, map, Option, Some, None, slice_get, slice_index_or, refl, sym, ap, ap₂, arith}
+use Rattle.std.proofs.Common.{◌≡◌, ◌∙◌, ℕ, zero, suc, ◌+◌, ◌*◌, ◌<◌, ◌≤◌, Bool, true, false, List, [], ◌∷◌, length, map}
+use Rattle.std.proofs.Common.{Option, Some, None, slice_get, slice_index_or, refl, sym, ap, ap₂, arith}
 use Rattle.std.specs.Prelude.{if◌then◌else◌}
 use Rattle.pals_base.specs.declared.values.PortValue.{PortValue}
 use Rattle.pals_base.specs.declared.values.PortValue.TheVariants.{Absent}
@@ -14,7 +15,8 @@ use Rattle.pals_model.specs.Inputs.{source_of}
 use Rattle.pals_model.specs.Composition.{Configuration}
 use Rattle.pals_runs.specs.declared.pairs.Pair.{Pair}
 use Rattle.plant_fuse.specs.Fused.{ArePairs, is_back, is_forth, Inputs, inputs_to}
-use Rattle.plant_fuse.specs.proof.Rounds.{frame_at, outputs_from, left_in, left_before_by, brought, link_by, read_by, round_vector, IsFusedRound}
+use Rattle.plant_fuse.specs.proof.Rounds.{frame_at, outputs_from, left_in, left_before_by, brought, link_by, read_by}
+use Rattle.plant_fuse.specs.proof.Rounds.{round_vector, IsFusedRound}
 use Rattle.plant_fuse.specs.proof.FusedLaws.{RoundIsOne}
 use Rattle.plant_fuse.proofs.Numbered.{map_upwards_same, get_upwards_same, table_at, table_past, table_same}
 use Rattle.plant_fuse.proofs.Ranks.{is_controller, bump}

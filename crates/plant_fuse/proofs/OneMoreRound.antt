@@ -1,5 +1,7 @@
 -- One round more.
-use Rattle.std.proofs.Common.{◌≡◌, ◌∙◌, ℕ, zero, suc, ◌+◌, ◌-◌, ◌*◌, ◌/◌, ◌%◌, ◌<◌, Bool, true, false, List, [], ◌∷◌, length, map, take, drop, replicate, Option, Some, None, slice_get, slice_index_or, refl, sym, ap, ap₂, subst, arith}
+use Rattle.std.proofs.Common.{◌≡◌, ◌∙◌, ℕ, zero, suc, ◌+◌, ◌-◌, ◌*◌, ◌/◌, ◌%◌, ◌<◌, Bool, true, false, List, [], ◌∷◌}
+use Rattle.std.proofs.Common.{length, map, take, drop, replicate, Option, Some, None, slice_get, slice_index_or, refl}
+use Rattle.std.proofs.Common.{sym, ap, ap₂, subst, arith}
 use Rattle.std.specs.Prelude.{if◌then◌else◌}
 use Rattle.std.proofs.lemmas.Nat.{div-mul-add, mod-mul-add}
 use Rattle.std.proofs.lemmas.List.{take-append-drop, length-take-le}
@@ -24,9 +26,12 @@ use Rattle.pals_model.specs.Composition.{Configuration, no_frame}
 use Rattle.pals_model.specs.Rules.{IsDesign}
 use Rattle.pals_model.proofs.ShapeLaws.{length-outputs}
 use Rattle.pals_runs.specs.declared.pairs.Pair.{Pair}
-use Rattle.plant_fuse.specs.Fused.{ArePairs, is_back, is_forth, Inputs, inputs_to, outputs_in, left_by, left_before, round_tuple, message_on, messages_before, from_round, value_on, value_read, vector_of, IsFused}
+use Rattle.plant_fuse.specs.Fused.{ArePairs, is_back, is_forth, Inputs, inputs_to, outputs_in, left_by, left_before}
+use Rattle.plant_fuse.specs.Fused.{round_tuple, message_on, messages_before, from_round, value_on, value_read}
+use Rattle.plant_fuse.specs.Fused.{vector_of, IsFused}
 use Rattle.plant_fuse.specs.proof.Fused.{first_rounds, frame_of, fused}
-use Rattle.plant_fuse.specs.proof.Rounds.{frame_at, outputs_from, left_in, left_before_by, brought, link_by, read_by, round_vector, IsFusedRound, tuple_from, message_in, after_round, last_round}
+use Rattle.plant_fuse.specs.proof.Rounds.{frame_at, outputs_from, left_in, left_before_by, brought, link_by, read_by}
+use Rattle.plant_fuse.specs.proof.Rounds.{round_vector, IsFusedRound, tuple_from, message_in, after_round, last_round}
 use Rattle.plant_fuse.specs.proof.FusedLaws.{RoundsGoOn}
 use Rattle.plant_fuse.proofs.Numbered.{map_upwards_same, length_map_upwards, table, table_at, table_same}
 use Rattle.plant_fuse.proofs.Ranks.{IsSmall, small_rate}

@@ -1,5 +1,6 @@
 -- The run of a pair, from what its two sides leave.
-use Rattle.std.proofs.Common.{◌≡◌, ◌≢◌, ◌∙◌, ℕ, ◌<◌, List, length, map, set, Option, Some, slice_get, slice_index_or, sym, ap, ap₂, subst}
+use Rattle.std.proofs.Common.{◌≡◌, ◌≢◌, ◌∙◌, ℕ, ◌<◌, List, length, map, set, Option, Some, slice_get, slice_index_or}
+use Rattle.std.proofs.Common.{sym, ap, ap₂, subst}
 use Rattle.std.specs.Option.{option_map}
 use Rattle.std.proofs.lemmas.Option.{slice_get-map}
 use Rattle.pals_base.specs.declared.values.PortValue.{PortValue}

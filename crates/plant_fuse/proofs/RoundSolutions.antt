@@ -1,5 +1,6 @@
 -- What stands behind a round is what its equations leave.
-use Rattle.std.proofs.Common.{◌≡◌, ◌∙◌, ◌⊎◌, inl, inr, ℕ, ◌+◌, Bool, true, false, List, [], ◌∷◌, length, map, Some, slice_get, slice_index_or, All, refl, sym, ap, ap₂, arith}
+use Rattle.std.proofs.Common.{◌≡◌, ◌∙◌, ◌⊎◌, inl, inr, ℕ, ◌+◌, Bool, true, false, List, [], ◌∷◌, length, map, Some}
+use Rattle.std.proofs.Common.{slice_get, slice_index_or, All, refl, sym, ap, ap₂, arith}
 use Rattle.std.specs.Prelude.{if◌then◌else◌}
 use Rattle.std.specs.List.{enumerate_from}
 use Rattle.std.proofs.lemmas.Bool.{cases_Bool}
@@ -40,7 +41,8 @@ use Rattle.plant_fuse.proofs.Numbered.{map_map, length_map_upwards}
 use Rattle.plant_fuse.proofs.Alone.{by_place}
 use Rattle.sync_product.proofs.Fitting.{count_of_stages}
 use Rattle.plant_fuse.proofs.Partnering.{inside_goes, outside_back, outside_forth}
-use Rattle.plant_fuse.proofs.Assembled.{before, all_read, inputs_at, reads_round, rows_at_node, left_at_node, part_at_node}
+use Rattle.plant_fuse.proofs.Assembled.{before, all_read, inputs_at, reads_round, rows_at_node, left_at_node}
+use Rattle.plant_fuse.proofs.Assembled.{part_at_node}
 
 either_same : (t u : List PortValue) (b f : Bool) → (b ≡ true) ⊎ (f ≡ true) → (if b then t else if f then t else u) ≡ t
 either_same t u true f either = refl

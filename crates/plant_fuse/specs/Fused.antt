@@ -2,7 +2,9 @@
 -- step reads what the plant's step of the same number left, and the plant's step what the controller's step
 -- before it left. All else is as in the composition. These are equations over whole lists, of the steps of
 -- any number of rounds.
-use Rattle.std.specs.Prelude.{◌≡◌, ◌≢◌, ℕ, zero, suc, ◌+◌, ◌*◌, ◌/◌, ◌%◌, ◌<◌, nat_eq, Bool, ◌&&◌, if◌then◌else◌, List, [], map, replicate, length, take, All, AllPairs, Option, Some, None, slice_get, slice_index_or}
+use Rattle.std.specs.Prelude.{◌≡◌, ◌≢◌, ℕ, zero, suc, ◌+◌, ◌*◌, ◌/◌, ◌%◌, ◌<◌, nat_eq, Bool, ◌&&◌, if◌then◌else◌, List}
+use Rattle.std.specs.Prelude.{[], map, replicate, length, take, All, AllPairs, Option, Some, None, slice_get}
+use Rattle.std.specs.Prelude.{slice_index_or}
 use Rattle.std.specs.List.{list_any, enumerate_from}
 use Rattle.pals_base.specs.declared.values.PortValue.{PortValue}
 use Rattle.pals_base.specs.declared.values.PortValue.TheVariants.{Absent}

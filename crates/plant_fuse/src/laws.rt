@@ -1,5 +1,7 @@
 //! Laws of fused composition. Each is the contract of a function that does nothing.
-ghost use Rattle.plant_fuse.specs.proof.FusedLaws.{SolutionExists, SolutionIsOne, SolutionGoesOn, StepsAreMade, RoundsGoOn, RoundIsOne, RoundsFollow, StatesFollow, WithoutPairs, ReportExists, ReportIsOne, ReportWithoutPairs};
+ghost use Rattle.plant_fuse.specs.proof.FusedLaws.{SolutionExists, SolutionIsOne, SolutionGoesOn, StepsAreMade};
+ghost use Rattle.plant_fuse.specs.proof.FusedLaws.{RoundsGoOn, RoundIsOne, RoundsFollow, StatesFollow, WithoutPairs};
+ghost use Rattle.plant_fuse.specs.proof.FusedLaws.{ReportExists, ReportIsOne, ReportWithoutPairs};
 ghost use Rattle.plant_fuse.specs.proof.CounterPlant.{CountersArePairs, CountersFuse, FusedCountersCount};
 
 /// The equations of a design with pairs have exactly one solution for each number of

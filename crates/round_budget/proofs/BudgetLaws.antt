@@ -1,5 +1,6 @@
 -- Why the laws of round budgets hold.
-use Rattle.std.proofs.Common.{◌≡◌, ◌⊎◌, inl, inr, ℕ, suc, ◌+◌, ◌-◌, ◌*◌, ◌^◌, ◌<◌, ◌≤◌, List, [], ◌∷◌, Option, Some, None, slice_get, All, AllPairs, IsTrue, Contains, sym, ap, ◌∙◌, subst, arith}
+use Rattle.std.proofs.Common.{◌≡◌, ◌⊎◌, inl, inr, ℕ, suc, ◌+◌, ◌-◌, ◌*◌, ◌^◌, ◌<◌, ◌≤◌, List, [], ◌∷◌, Option, Some}
+use Rattle.std.proofs.Common.{None, slice_get, All, AllPairs, IsTrue, Contains, sym, ap, ◌∙◌, subst, arith}
 use Rattle.std.specs.List.{sum_by, AllByRecursion as Every}
 use Rattle.std.proofs.lemmas.Nat.{mul-le}
 use Rattle.std.proofs.lemmas.List.Sums.{sum_by-cons}
@@ -19,12 +20,17 @@ use Rattle.pals_model.specs.declared.rounds.Env.{Env}
 use Rattle.pals_model.specs.Rules.{IsDesign}
 use Rattle.round_budget.specs.Budgets.{Release, Served, releases, in_order, precedes, serve, most_of, most_in, by_most}
 use Rattle.round_budget.specs.Responses.{response, AreAtMost, made_in, frame_before, inputs_at, by_exec}
-use Rattle.round_budget.specs.proof.BudgetLaws.{AreMembers, IsWithinBudget, EachIsServed, ServedOnce, ServedInOrder, NoneBeginsEarly, OneAtATime, ResponsesFit, MostResponsesFit, ExecResponsesFit, RoundsAreApart}
-use Rattle.round_budget.proofs.Elements.{every_both, Pairs, pairs_weaker, pairs_both, all_pairs_from, Member, member_of, contains_of}
-use Rattle.round_budget.proofs.Orders.{NotAfter, every_in_order, pairs_in_order, sorted_in_order, length_in_order, member_in_order, in_order_member, strict_numbers}
+use Rattle.round_budget.specs.proof.BudgetLaws.{AreMembers, IsWithinBudget, EachIsServed, ServedOnce, ServedInOrder}
+use Rattle.round_budget.specs.proof.BudgetLaws.{NoneBeginsEarly, OneAtATime, ResponsesFit, MostResponsesFit}
+use Rattle.round_budget.specs.proof.BudgetLaws.{ExecResponsesFit, RoundsAreApart}
+use Rattle.round_budget.proofs.Elements.{every_both, Pairs, pairs_weaker, pairs_both, all_pairs_from, Member, member_of}
+use Rattle.round_budget.proofs.Elements.{contains_of}
+use Rattle.round_budget.proofs.Orders.{NotAfter, every_in_order, pairs_in_order, sorted_in_order, length_in_order}
+use Rattle.round_budget.proofs.Orders.{member_in_order, in_order_member, strict_numbers}
 use Rattle.round_budget.proofs.Weights.{one_le}
 use Rattle.round_budget.proofs.Times.{rate_fits, gap_of, AreFar, far_either, IsRelease, releases_are, releases_are_far}
-use Rattle.round_budget.proofs.InTime.{served_releases, length_serve, every_serve, pairs_serve, TakesItsTime, none_early, one_at_a_time, IsApart, IsWeighed, all_in_time}
+use Rattle.round_budget.proofs.InTime.{served_releases, length_serve, every_serve, pairs_serve, TakesItsTime}
+use Rattle.round_budget.proofs.InTime.{none_early, one_at_a_time, IsApart, IsWeighed, all_in_time}
 
 -- ---- what is served
 pub each_is_served : EachIsServed

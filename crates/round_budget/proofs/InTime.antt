@@ -1,5 +1,6 @@
 -- Why a processor is in time: while it is busy, no member has more than one step in its queue.
-use Rattle.std.proofs.Common.{◌≡◌, inl, inr, ℕ, suc, ◌+◌, ◌<◌, ◌≤◌, Bool, true, false, List, [], ◌∷◌, length, map, refl, sym, ap, arith}
+use Rattle.std.proofs.Common.{◌≡◌, inl, inr, ℕ, suc, ◌+◌, ◌<◌, ◌≤◌, Bool, true, false, List, [], ◌∷◌, length, map, refl}
+use Rattle.std.proofs.Common.{sym, ap, arith}
 use Rattle.std.specs.Prelude.{max, nat_eq}
 use Rattle.std.specs.List.{sum_by, AllByRecursion as Every}
 use Rattle.std.proofs.lemmas.Bool.{cases_lt, eqb-true, or_cases}

@@ -1,5 +1,6 @@
 -- Why the timetable of one round is that of every round.
-use Rattle.std.proofs.Common.{◌≡◌, ◌∙◌, ℕ, zero, suc, ◌+◌, ◌-◌, ◌*◌, ◌<◌, ◌≤◌, true, false, List, [], ◌∷◌, ◌++◌, map, refl, sym, ap, ap₂, subst, arith, append-nil}
+use Rattle.std.proofs.Common.{◌≡◌, ◌∙◌, ℕ, zero, suc, ◌+◌, ◌-◌, ◌*◌, ◌<◌, ◌≤◌, true, false, List, [], ◌∷◌, ◌++◌, map}
+use Rattle.std.proofs.Common.{refl, sym, ap, ap₂, subst, arith, append-nil}
 use Rattle.std.specs.Prelude.{max, nat_eq, nat_lt, ◌&&◌, ◌||◌, if◌then◌else◌}
 use Rattle.std.specs.List.{flat_map, AllByRecursion as Every}
 use Rattle.std.proofs.lemmas.Bool.Decides.{nat_tests}
@@ -14,7 +15,8 @@ use Rattle.step_code.specs.declared.instr.CodeParts.{CodeParts}
 use Rattle.pals_model.specs.declared.design.DesignParts.{DesignParts}
 use Rattle.pals_model.specs.Inputs.{rate_of}
 use Rattle.pals_model.specs.Rules.{IsDesign}
-use Rattle.round_budget.specs.Budgets.{Release, Served, Line, release_of, releases_of, releases_in, releases, precedes, put, in_order, begins, served_at, serve, budget, by_most, line_from, timetable}
+use Rattle.round_budget.specs.Budgets.{Release, Served, Line, release_of, releases_of, releases_in, releases, precedes}
+use Rattle.round_budget.specs.Budgets.{put, in_order, begins, served_at, serve, budget, by_most, line_from, timetable}
 use Rattle.round_budget.specs.proof.Budgets.{line_in_round}
 use Rattle.round_budget.specs.proof.BudgetLaws.{IsWithinBudget, TimetableRepeats}
 use Rattle.round_budget.proofs.Elements.{every_both, every_flat_map, every_upwards}

@@ -1,5 +1,6 @@
 -- When the members of a processor release their steps.
-use Rattle.std.proofs.Common.{◌≡◌, ◌⊎◌, inl, inr, ℕ, zero, suc, ◌+◌, ◌*◌, ◌/◌, ◌%◌, ◌<◌, ◌≤◌, List, [], ◌∷◌, length, Some, slice_get, Contains, refl, sym, ap, ◌∙◌, subst, arith}
+use Rattle.std.proofs.Common.{◌≡◌, ◌⊎◌, inl, inr, ℕ, zero, suc, ◌+◌, ◌*◌, ◌/◌, ◌%◌, ◌<◌, ◌≤◌, List, [], ◌∷◌, length}
+use Rattle.std.proofs.Common.{Some, slice_get, Contains, refl, sym, ap, ◌∙◌, subst, arith}
 use Rattle.std.specs.Prelude.{max, fold}
 use Rattle.std.specs.List.{AllByRecursion as Every}
 use Rattle.std.proofs.lemmas.Nat.{mul-le, le-div, div-add-mod'}
@@ -16,7 +17,8 @@ use Rattle.pals_model.proofs.Lookups.{at_element}
 use Rattle.pals_model.proofs.ShapeLaws.{component_at}
 use Rattle.round_budget.specs.Budgets.{Release, release_of, releases_of, releases_in, releases}
 use Rattle.round_budget.specs.proof.BudgetLaws.{AreMembers}
-use Rattle.round_budget.proofs.Elements.{every_both, every_flat_map, every_upwards, Pairs, pairs_weaker, pairs_map, pairs_flat_map, pairs_upwards, pairs_from, Member, member_of}
+use Rattle.round_budget.proofs.Elements.{every_both, every_flat_map, every_upwards, Pairs, pairs_weaker, pairs_map}
+use Rattle.round_budget.proofs.Elements.{pairs_flat_map, pairs_upwards, pairs_from, Member, member_of}
 
 -- ---- rates
 first_le : (from : ℕ) (cs : List Component) → from ≤ fold (λ k (c : Component). max k c.rate) from cs

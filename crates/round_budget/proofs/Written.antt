@@ -1,7 +1,6 @@
 -- Codes that are laid out for the same behaviours are one list.
-use Rattle.std.proofs.Common.{ap}
+use Rattle.std.proofs.Common.{ap, List}
 use Rattle.step_code.specs.declared.instr.CodeParts.{CodeParts}
-use Rattle.std.proofs.Common.{List}
 use Rattle.step_compiler.proofs.LaidOutCodes.{laid_out_codes_are_one}
 use Rattle.round_budget.specs.BudgetText.{some_is_over, budget_text}
 use Rattle.round_budget.specs.proof.BudgetLaws.{TextIsOne, VerdictIsOne}

@@ -1,8 +1,9 @@
 //! Laws of round budgets. Each is the contract of a function that does nothing.
-ghost use Rattle.round_budget.specs.proof.BudgetLaws.{EachIsServed, ServedOnce, ServedInOrder, NoneBeginsEarly, OneAtATime};
-ghost use Rattle.round_budget.specs.proof.BudgetLaws.{ResponsesFit, MostResponsesFit, ExecResponsesFit, RoundsAreApart, TimetableRepeats};
-ghost use Rattle.round_budget.specs.proof.BudgetLaws.{TextIsOne, VerdictIsOne};
-ghost use Rattle.round_budget.specs.proof.TurnControllerBudget.{TurnIsCompiled, TurnFits, TurnIsOver, TurnHasSlots, TurnIsWritten, TurnIsWrittenOver};
+ghost use Rattle.round_budget.specs.proof.BudgetLaws.{EachIsServed, ServedOnce, ServedInOrder, NoneBeginsEarly};
+ghost use Rattle.round_budget.specs.proof.BudgetLaws.{OneAtATime, ResponsesFit, MostResponsesFit, ExecResponsesFit};
+ghost use Rattle.round_budget.specs.proof.BudgetLaws.{RoundsAreApart, TimetableRepeats, TextIsOne, VerdictIsOne};
+ghost use Rattle.round_budget.specs.proof.TurnControllerBudget.{TurnIsCompiled, TurnFits, TurnIsOver, TurnHasSlots};
+ghost use Rattle.round_budget.specs.proof.TurnControllerBudget.{TurnIsWritten, TurnIsWrittenOver};
 
 /// Each release is served once, in order of release and then of component.
 pub fn releases_are_served()

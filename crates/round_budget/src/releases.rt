@@ -1,9 +1,8 @@
 //! The steps of one round, by their releases.
 ghost use Rattle.std.specs.Prelude.{◌<◌, ◌++◌, IfOk, OnOk, length, map};
-ghost use Rattle.round_budget.specs.Budgets.{releases, releases_in, releases_of, in_order};
+ghost use Rattle.round_budget.specs.Budgets.{releases, releases_in, releases_of, in_order, numbers};
 ghost use Rattle.round_budget.specs.proof.BudgetLaws.{AreMembers};
 ghost use Rattle.pals_model.specs.Rules.{IsDesign};
-ghost use Rattle.round_budget.specs.Budgets.{numbers};
 ghost use Rattle.round_budget.specs.proof.Values.{release_value, AreReleases};
 
 use pals_base::bound::step_period;

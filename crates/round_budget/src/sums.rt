@@ -1,8 +1,7 @@
 //! What one step of each component of a processor takes at most. The calls take no memory.
 ghost use Rattle.std.specs.Prelude.{◌≡◌, ◌<◌, ◌≤◌, All, length};
 ghost use Rattle.pals_base.specs.declared.limits.TheConstants.{HOUR, COMPONENTS};
-ghost use Rattle.round_budget.specs.Budgets.{total, fits};
-ghost use Rattle.round_budget.specs.Budgets.{numbers};
+ghost use Rattle.round_budget.specs.Budgets.{total, fits, numbers};
 
 use pals_base::{Gamma, Nanos, NodeNo};
 use step_code::Code;

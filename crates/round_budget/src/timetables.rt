@@ -1,9 +1,8 @@
 //! The timetable of a round.
 ghost use Rattle.std.specs.Prelude.{◌≡◌, ◌≤◌, true, length, IfOk, IfErr, OnOk};
 ghost use Rattle.pals_base.specs.declared.limits.TheConstants.{HOUR};
-ghost use Rattle.round_budget.specs.Budgets.{timetable, total, fits};
+ghost use Rattle.round_budget.specs.Budgets.{timetable, total, fits, numbers};
 ghost use Rattle.round_budget.specs.proof.BudgetLaws.{AreMembers};
-ghost use Rattle.round_budget.specs.Budgets.{numbers};
 ghost use Rattle.round_budget.specs.Responses.{RespondInTime};
 ghost use Rattle.round_budget.specs.proof.Values.{AreLines};
 ghost use Rattle.round_budget.specs.proof.Promises.{IsEnd, TimetableIsEach};

@@ -9,11 +9,13 @@ use Rattle.pals_runs.specs.declared.journal.Phase.TheVariants.{Waiting, Running,
 use Rattle.pals_runs.specs.declared.journal.JournalEntry.{JournalEntry}
 use Rattle.bus_machine.specs.Plans.{plan_of, component_at}
 use Rattle.bus_machine.specs.Nodes.{NodeState}
-use Rattle.bus_machine.specs.NodeEvents.{started, stepped, finished, sent_from, next_step, running_step, received, arrived}
+use Rattle.bus_machine.specs.NodeEvents.{started, stepped, finished, sent_from, next_step, running_step, received}
+use Rattle.bus_machine.specs.NodeEvents.{arrived}
 use Rattle.bus_machine.specs.LinkEvents.{arriving}
 use Rattle.bus_machine.specs.States.{Run, BusState, node_at, no_node, flight_at, link_at, with_node}
 use Rattle.bus_machine.specs.Stops.{missing_link}
-use Rattle.bus_machine.specs.Machine.{BusEvent, Start, Step, Finish, Send, Arrive, Drop, Repeat, after, after_start, on_step}
+use Rattle.bus_machine.specs.Machine.{BusEvent, Start, Step, Finish, Send, Arrive, Drop, Repeat, after, after_start}
+use Rattle.bus_machine.specs.Machine.{on_step}
 use Rattle.bus_machine.specs.Agreement.{PhaseAgrees, Agrees}
 use Rattle.bus_machine.specs.proof.MachineLaws.{IsRunOf}
 use Rattle.bus_machine.specs.declared.action.NodeAction.TheVariants as action
@@ -22,7 +24,8 @@ use Rattle.run_laws.specs.NodeActions.{Follows}
 use Rattle.pals_clock.specs.declared.clock.Clocks.{Clocks}
 use Rattle.pals_clock.specs.declared.clock.Clocks.TheVariants.{Lists}
 use Rattle.run_laws.specs.Runs.{Does, KeepsTo, Runs, opens, picks_for, goes_on}
-use Rattle.run_laws.proofs.Follows.{next_is, starts_follow, steps_follow, sends_follow, finish_follows, received_follows}
+use Rattle.run_laws.proofs.Follows.{next_is, starts_follow, steps_follow, sends_follow, finish_follows}
+use Rattle.run_laws.proofs.Follows.{received_follows}
 use Rattle.run_laws.proofs.Picking.{runs_agree, node_opens, plan_rules, held_of, node_agrees, below_nodes}
 
 abbrev pub HasDone : Run → ℕ → NodeState → Type 0

@@ -1,7 +1,9 @@
 -- A message that arrives is kept, and keeps the time.
-use Rattle.std.proofs.Common.{◌≡◌, ◌≢◌, inl, inr, ℕ, suc, ◌+◌, ◌<◌, nat_eq, true, false, List, [], length, slice_get, Option, Some, None, refl, sym, ap, ap₂, ◌∙◌, subst, arith}
+use Rattle.std.proofs.Common.{◌≡◌, ◌≢◌, inl, inr, ℕ, suc, ◌+◌, ◌<◌, nat_eq, true, false, List, [], length, slice_get}
+use Rattle.std.proofs.Common.{Option, Some, None, refl, sym, ap, ap₂, ◌∙◌, subst, arith}
 use Rattle.std.specs.Prelude.{nat_lt, is_some}
-use Rattle.std.proofs.lemmas.Bool.{and_left, and_right, and_from, eqb-true, eq-eqb, ne_eqb, cases_eq, cases_order, false≢true}
+use Rattle.std.proofs.lemmas.Bool.{and_left, and_right, and_from, eqb-true, eq-eqb, ne_eqb, cases_eq, cases_order}
+use Rattle.std.proofs.lemmas.Bool.{false≢true}
 use Rattle.std.proofs.lemmas.Grind.{get_or-set_at}
 use Rattle.std.proofs.lemmas.List.{get_or-set_other}
 use Rattle.list_lemmas.proofs.Elements.{find-passes}
@@ -31,7 +33,8 @@ use Rattle.bus_machine.proofs.States.{node_set, node_stays}
 use Rattle.run_laws.specs.proof.WorldsKeep.{IsOnce, copies, waits, taken, one_if, KeepsLink, KeepsTime}
 use Rattle.run_laws.proofs.Lists.{count_without}
 use Rattle.run_laws.proofs.Nodes.{Stands, stands_at, component_is}
-use Rattle.run_laws.proofs.Links.{comes_in_time, ComesInTime, is_kept, link_is, rule_of, one_of_true, one_of_false, in_flight_counts, counts_in_flight}
+use Rattle.run_laws.proofs.Links.{comes_in_time, ComesInTime, is_kept, link_is, rule_of, one_of_true, one_of_false}
+use Rattle.run_laws.proofs.Links.{in_flight_counts, counts_in_flight}
 use Rattle.run_laws.proofs.Changes.{same_at, changed, stands_put, keeps_again}
 use Rattle.run_laws.proofs.Faults.{ArrivesInTime}
 

@@ -1,5 +1,6 @@
 -- With list clocks the journal shows picks.
-use Rattle.std.proofs.Common.{◌≡◌, inl, inr, ℕ, nat_eq, Bool, true, false, cond, List, [], ◌∷◌, ◌++◌, length, slice_get, Option, Some, None, refl, sym, ap, ◌∙◌, subst, arith}
+use Rattle.std.proofs.Common.{◌≡◌, inl, inr, ℕ, nat_eq, Bool, true, false, cond, List, [], ◌∷◌, ◌++◌, length, slice_get}
+use Rattle.std.proofs.Common.{Option, Some, None, refl, sym, ap, ◌∙◌, subst, arith}
 use Rattle.std.proofs.lemmas.Bool.{cases_eq, eqb-true}
 use Rattle.std.proofs.lemmas.Grind.{flat_map-append, get_or-set_at}
 use Rattle.std.proofs.lemmas.List.{append-nil, get_or-set_other}
@@ -20,7 +21,8 @@ use Rattle.bus_machine.specs.NodeEvents.{next_step, running_step, stepped, finis
 use Rattle.bus_machine.specs.LinkEvents.{arriving}
 use Rattle.bus_machine.specs.States.{Run, BusState, node_at, flight_at, link_at, with_node}
 use Rattle.bus_machine.specs.Stops.{missing_link, sent_rounds}
-use Rattle.bus_machine.specs.Machine.{BusEvent, Start, Step, Finish, Send, Arrive, Drop, Repeat, is_allowed, after, after_start, after_arrive, on_step, arrival, early_stop}
+use Rattle.bus_machine.specs.Machine.{BusEvent, Start, Step, Finish, Send, Arrive, Drop, Repeat, is_allowed, after}
+use Rattle.bus_machine.specs.Machine.{after_start, after_arrive, on_step, arrival, early_stop}
 use Rattle.bus_machine.specs.Replay.{entries, start_entry, stop_entry}
 use Rattle.bus_machine.specs.proof.MachineLaws.{IsRunOf}
 use Rattle.bus_machine.specs.declared.action.NodeAction.{NodeAction}
@@ -33,7 +35,8 @@ use Rattle.run_laws.specs.Runs.{no_clock, clock_at, Does, Takes, KeepsTo, Picks,
 use Rattle.run_laws.specs.Picked.{picks_of, IsPickFor}
 use Rattle.run_laws.proofs.Clocks.{pick_at}
 use Rattle.run_laws.proofs.Follows.{action_is}
-use Rattle.run_laws.proofs.Picking.{runs_agree, many_clocks, nodes_pick, next_target, acting_by, plan_rules, held_of, node_agrees}
+use Rattle.run_laws.proofs.Picking.{runs_agree, many_clocks, nodes_pick, next_target, acting_by, plan_rules, held_of}
+use Rattle.run_laws.proofs.Picking.{node_agrees}
 use Rattle.run_laws.proofs.Counting.{rounds_are_shown, sender_before}
 use Rattle.run_laws.proofs.Missing.{missed_link}
 use Rattle.run_laws.proofs.LinkViews.{keeps_at}

@@ -13,7 +13,8 @@ use Rattle.bus_machine.specs.NodeEvents.{started, stepped, finished, sent_from, 
 use Rattle.bus_machine.specs.LinkEvents.{arriving}
 use Rattle.bus_machine.specs.States.{Run, BusState, node_at, flight_at, link_at, with_node}
 use Rattle.bus_machine.specs.Stops.{missing_link}
-use Rattle.bus_machine.specs.Machine.{BusEvent, Start, Step, Finish, Send, Arrive, Drop, Repeat, IsStep, after, after_start, on_step}
+use Rattle.bus_machine.specs.Machine.{BusEvent, Start, Step, Finish, Send, Arrive, Drop, Repeat, IsStep, after}
+use Rattle.bus_machine.specs.Machine.{after_start, on_step}
 use Rattle.bus_machine.specs.declared.action.NodeAction.{NodeAction}
 use Rattle.bus_machine.specs.Targets.{target, next_in}
 use Rattle.bus_machine.proofs.States.{node_stays}

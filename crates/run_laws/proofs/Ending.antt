@@ -1,5 +1,7 @@
 -- Each run comes to its end: it can go on until then, and each event leaves less to do.
-use Rattle.std.proofs.Common.{◌≡◌, ◌⊎◌, inl, inr, ℕ, zero, suc, ◌+◌, ◌<◌, ◌≤◌, nat_lt, Bool, true, false, cond, List, [], ◌∷◌, ◌++◌, length, map, slice_get, Option, Some, None, refl, sym, ap, ◌∙◌, subst, arith, append_assoc, length-append}
+use Rattle.std.proofs.Common.{◌≡◌, ◌⊎◌, inl, inr, ℕ, zero, suc, ◌+◌, ◌<◌, ◌≤◌, nat_lt, Bool, true, false, cond, List}
+use Rattle.std.proofs.Common.{[], ◌∷◌, ◌++◌, length, map, slice_get, Option, Some, None, refl, sym, ap, ◌∙◌, subst}
+use Rattle.std.proofs.Common.{arith, append_assoc, length-append}
 use Rattle.std.specs.Prelude.{slice_set}
 use Rattle.std.specs.Option.{option_map, unwrap_or}
 use Rattle.std.proofs.lemmas.Bool.{ltb-false}
@@ -27,10 +29,10 @@ use Rattle.bus_machine.specs.proof.MachineLaws.{IsRunOf}
 use Rattle.pals_clock.specs.declared.clock.Clocks.{Clocks}
 use Rattle.pals_clock.specs.declared.clock.Clocks.TheVariants.{Meet, Lists}
 use Rattle.run_laws.specs.NodeActions.{upcoming}
-use Rattle.run_laws.specs.Runs.{no_clock, clock_at, lists_in, left_for, target_of, HasEnded, Picks, Runs, opens, picks_for, goes_on}
+use Rattle.run_laws.specs.Runs.{no_clock, clock_at, lists_in, left_for, target_of, HasEnded, Picks, Runs, opens}
+use Rattle.run_laws.specs.Runs.{picks_for, goes_on}
 use Rattle.run_laws.specs.Meetings.{AllDone}
-use Rattle.run_laws.specs.Timely.{IsOver, AllOver}
-use Rattle.run_laws.specs.Timely.{AllAtEnd}
+use Rattle.run_laws.specs.Timely.{IsOver, AllOver, AllAtEnd}
 use Rattle.run_laws.specs.proof.Ending.{HasCome, IsEnding, EachRunEnds, EachGoesOn, JournalsEnd, EndsAreNamed}
 use Rattle.run_laws.proofs.Picking.{runs_agree, node_agrees, many_clocks}
 use Rattle.run_laws.proofs.MeetingSources.{sent_true}

@@ -1,5 +1,6 @@
 -- A finish keeps the time.
-use Rattle.std.proofs.Common.{◌≡◌, ◌≢◌, ℕ, suc, ◌+◌, ◌-◌, ◌*◌, ◌<◌, ◌≤◌, nat_eq, Bool, true, false, length, Option, Some, refl, sym, ap, ap₂, ◌∙◌, subst, arith}
+use Rattle.std.proofs.Common.{◌≡◌, ◌≢◌, ℕ, suc, ◌+◌, ◌-◌, ◌*◌, ◌<◌, ◌≤◌, nat_eq, Bool, true, false, length, Option}
+use Rattle.std.proofs.Common.{Some, refl, sym, ap, ap₂, ◌∙◌, subst, arith}
 use Rattle.std.specs.Prelude.{nat_lt, max, is_some, slice_set, if◌then◌else◌}
 use Rattle.std.proofs.lemmas.Bool.{ltb-true, ltb-false, eqb-true, eqb-false, false≢true}
 use Rattle.std.proofs.lemmas.Grind.{get_or-set_at}
@@ -28,7 +29,8 @@ use Rattle.bus_machine.proofs.States.{node_set, node_stays}
 use Rattle.bus_machine.proofs.Steps.{finish_keeps_all}
 use Rattle.run_laws.specs.proof.WorldsKeep.{IsInTime, IsReadySince, KeepsTime}
 use Rattle.run_laws.proofs.WorldTimes.{finish_between, late_running}
-use Rattle.run_laws.proofs.Nodes.{fits_at, may_be, may_is, Stands, stands_at, left_in_time, both_in_time, send_in_time, sends_in_time, phase_last, send_last, phase_agrees, next_alarm}
+use Rattle.run_laws.proofs.Nodes.{fits_at, may_be, may_is, Stands, stands_at, left_in_time, both_in_time, send_in_time}
+use Rattle.run_laws.proofs.Nodes.{sends_in_time, phase_last, send_last, phase_agrees, next_alarm}
 use Rattle.run_laws.proofs.Changes.{changed, same_links, stands_put, keeps_again, moved_here, moved_length, moved_other}
 use Rattle.run_laws.proofs.Faults.{FinishesInTime}
 

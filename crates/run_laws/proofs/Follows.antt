@@ -1,5 +1,7 @@
 -- Where the actions of a node bring it.
-use Rattle.std.proofs.Common.{◌≡◌, ◌≢◌, inl, inr, ℕ, suc, ◌+◌, ◌-◌, ◌*◌, ◌<◌, ◌≤◌, nat_eq, nat_le, nat_lt, Bool, true, false, ◌&&◌, ◌||◌, cond, List, slice_get, Some, refl, sym, ap, ap₂, ◌∙◌, subst, arith, add-one}
+use Rattle.std.proofs.Common.{◌≡◌, ◌≢◌, inl, inr, ℕ, suc, ◌+◌, ◌-◌, ◌*◌, ◌<◌, ◌≤◌, nat_eq, nat_le, nat_lt, Bool, true}
+use Rattle.std.proofs.Common.{false, ◌&&◌, ◌||◌, cond, List, slice_get, Some, refl, sym, ap, ap₂, ◌∙◌, subst, arith}
+use Rattle.std.proofs.Common.{add-one}
 use Rattle.std.specs.Prelude.{if◌then◌else◌}
 use Rattle.std.proofs.lemmas.Bool.{ltb-false}
 use Rattle.std.proofs.lemmas.Grind.{common_steps}
@@ -15,7 +17,8 @@ use Rattle.bus_machine.specs.Nodes.{NodeState, round_of, at_rest}
 use Rattle.bus_machine.specs.NodeEvents.{started, stepped, finished, sent_from, after_send, after_round, with_message}
 use Rattle.bus_machine.specs.declared.action.NodeAction.{NodeAction}
 use Rattle.bus_machine.specs.declared.action.NodeAction.TheVariants as action
-use Rattle.bus_machine.specs.Targets.{Progress, actions, target, send_is_next, next_action, progress_after, targets, next_in}
+use Rattle.bus_machine.specs.Targets.{Progress, actions, target, send_is_next, next_action, progress_after, targets}
+use Rattle.bus_machine.specs.Targets.{next_in}
 use Rattle.run_laws.specs.NodeActions.{Turn, turn, progress_in, upcoming, Follows}
 use Rattle.run_laws.proofs.Turns.{IsPlan, turn_next, sized, size, bit, action_at, target_at}
 

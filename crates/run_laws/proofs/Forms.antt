@@ -14,8 +14,11 @@ use Rattle.pals_runs.specs.declared.journal.Stop.{Stop}
 use Rattle.pals_runs.specs.declared.journal.Stop.TheVariants as stop
 use Rattle.pals_runs.specs.declared.journal.JournalEntry.{JournalEntry}
 use Rattle.pals_runs.specs.declared.journal.JournalEntry.TheVariants as entry
-use Rattle.pals_runs.specs.Journal.{node_word, link_word, reading_word, arrived_word, cause_word, spaced, stop_words, entry_words}
-use Rattle.run_laws.specs.LineForms.{Form, ArriveLine, StartLine, StepLine, FinishLine, SendLine, DropLine, RepeatLine, EarlyLine, MissedLine, is_there, form_of_words, form_of, named, read, at_end, with_result, with_cause, with_step}
+use Rattle.pals_runs.specs.Journal.{node_word, link_word, reading_word, arrived_word, cause_word, spaced, stop_words}
+use Rattle.pals_runs.specs.Journal.{entry_words}
+use Rattle.run_laws.specs.LineForms.{Form, ArriveLine, StartLine, StepLine, FinishLine, SendLine, DropLine, RepeatLine}
+use Rattle.run_laws.specs.LineForms.{EarlyLine, MissedLine, is_there, form_of_words, form_of, named, read, at_end}
+use Rattle.run_laws.specs.LineForms.{with_result, with_cause, with_step}
 use Rattle.run_laws.specs.proof.EntryLines.{stop_form, entry_form, LinesHaveForms, EntriesHaveLines}
 use Rattle.run_laws.specs.Entries.{IsReading, IsOfNode, IsOfLink, IsStopIn, IsEntryIn}
 use Rattle.run_laws.proofs.Words.{is_plain, ArePlain, end, before, words_are, all_there, is_one_line}

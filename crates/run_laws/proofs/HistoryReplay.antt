@@ -1,5 +1,6 @@
 -- The journal of a history replays, and its readings don't fall.
-use Rattle.std.proofs.Common.{◌≡◌, ℕ, ◌+◌, ◌≤◌, cond, List, [], ◌∷◌, ◌++◌, All, Option, Some, None, refl, sym, ap, ◌∙◌, subst, arith}
+use Rattle.std.proofs.Common.{◌≡◌, ℕ, ◌+◌, ◌≤◌, cond, List, [], ◌∷◌, ◌++◌, All, Option, Some, None, refl, sym, ap, ◌∙◌}
+use Rattle.std.proofs.Common.{subst, arith}
 use Rattle.std.specs.Option.{unwrap_or}
 use Rattle.std.proofs.lemmas.List.{append-nil, append_assoc}
 use Rattle.std.proofs.lemmas.List.Elements.{All-nil, All-cons, All-append}
@@ -21,16 +22,15 @@ use Rattle.bus_machine.specs.Alarms.{start_alarm, step_alarm, release_alarm}
 use Rattle.bus_machine.specs.States.{Run, BusState, no_link, node_at, link_at}
 use Rattle.bus_machine.specs.Stops.{missing_link}
 use Rattle.bus_machine.specs.Machine.{BusEvent, Start, Step, Finish, Send, Arrive, Drop, Repeat, arrival, early_stop}
-use Rattle.bus_machine.specs.Replay.{Replays, entries, start_entry, stop_entry}
+use Rattle.bus_machine.specs.Replay.{Replays, entries, start_entry, stop_entry, opens as replay_opens}
+use Rattle.bus_machine.specs.Replay.{goes_on as replay_goes_on}
 use Rattle.run_laws.specs.Shown.{last_of, latest}
 use Rattle.run_laws.specs.TraceLines.{Timed, timed}
 use Rattle.run_laws.specs.proof.RisingReadings.{LinesRise}
 use Rattle.run_laws.proofs.Missing.{missed_link}
 use Rattle.run_laws.specs.Histories.{IsRead, IsInTime, History, opens, goes_on}
-use Rattle.run_laws.specs.proof.SoundTraces.{ShowsFrom, ShowsTime}
-use Rattle.run_laws.specs.proof.SoundTraces.{HistoriesReplay}
+use Rattle.run_laws.specs.proof.SoundTraces.{ShowsFrom, ShowsTime, HistoriesReplay}
 use Rattle.run_laws.proofs.SoundHistories.{latest_one}
-use Rattle.bus_machine.specs.Replay.{opens as replay_opens, goes_on as replay_goes_on}
 
 pub replays : (run : Run) (journal : List JournalEntry) (s : BusState) → History run journal s → Replays run journal s
 replays run journal s opens = replay_opens

@@ -1,5 +1,7 @@
 -- The lines of a history that is over break no rule.
-use Rattle.std.proofs.Common.{◌≡◌, ◌≢◌, ◌⊎◌, inl, inr, ℕ, ◌+◌, ◌<◌, ◌≤◌, nat_eq, nat_lt, Bool, true, false, not, ◌&&◌, cond, List, [], ◌∷◌, ◌++◌, length, map, slice_get, All, Option, Some, None, refl, sym, ap, ap₂, ◌∙◌, subst, arith}
+use Rattle.std.proofs.Common.{◌≡◌, ◌≢◌, ◌⊎◌, inl, inr, ℕ, ◌+◌, ◌<◌, ◌≤◌, nat_eq, nat_lt, Bool, true, false, not, ◌&&◌}
+use Rattle.std.proofs.Common.{cond, List, [], ◌∷◌, ◌++◌, length, map, slice_get, All, Option, Some, None, refl, sym, ap}
+use Rattle.std.proofs.Common.{ap₂, ◌∙◌, subst, arith}
 use Rattle.std.specs.Prelude.{is_some, is_none}
 use Rattle.std.specs.List.{list_all}
 use Rattle.std.specs.Option.{option_map_or, unwrap_or}
@@ -32,22 +34,25 @@ use Rattle.bus_machine.specs.NodeEvents.{is_waiting, next_step}
 use Rattle.bus_machine.specs.Alarms.{start_alarm, step_alarm, release_alarm}
 use Rattle.bus_machine.specs.States.{Run, BusState, no_node, no_link, node_at, link_at, finished_by_all}
 use Rattle.bus_machine.specs.Stops.{missing_link}
-use Rattle.bus_machine.specs.Machine.{BusEvent, Start, Step, Finish, Send, Arrive, Drop, Repeat, is_allowed, after, arrival, early_stop}
+use Rattle.bus_machine.specs.Machine.{BusEvent, Start, Step, Finish, Send, Arrive, Drop, Repeat, is_allowed, after}
+use Rattle.bus_machine.specs.Machine.{arrival, early_stop}
 use Rattle.bus_machine.specs.Replay.{entries, start_entry, stop_entry}
 use Rattle.bus_machine.proofs.Arrivals.{replay_agrees}
 use Rattle.run_laws.specs.Shown.{latest}
 use Rattle.run_laws.specs.TraceLines.{timed, has_reading, event_of}
-use Rattle.run_laws.specs.TraceRules.{same_result, is_in_order, falls, is_before, too_early, is_due, waits, is_line_of, first_entry, tells_stop, broken}
-use Rattle.run_laws.specs.Traces.{Audit, opening_audit, noted, second_entry, audit_event, audit_after, line_broken, is_done, wrong_or, verdict}
+use Rattle.run_laws.specs.TraceRules.{same_result, is_in_order, falls, is_before, too_early, is_due, waits, is_line_of}
+use Rattle.run_laws.specs.TraceRules.{first_entry, tells_stop, broken}
+use Rattle.run_laws.specs.Traces.{Audit, opening_audit, noted, second_entry, audit_event, audit_after, line_broken}
+use Rattle.run_laws.specs.Traces.{is_done, wrong_or, verdict}
 use Rattle.run_laws.specs.Meetings.{AllDone}
 use Rattle.run_laws.specs.Entries.{IsEntryIn}
-use Rattle.run_laws.specs.Histories.{IsStoppedOrDone}
+use Rattle.run_laws.specs.Histories.{IsStoppedOrDone, IsRead, StepsInTime, StartsInTime, ArrivesInTime, IsInTime}
+use Rattle.run_laws.specs.Histories.{History, opens, goes_on}
 use Rattle.run_laws.proofs.Entries.{lines_tell_entries}
 use Rattle.run_laws.proofs.Forms.{lines_have_forms}
 use Rattle.run_laws.proofs.Missing.{missed_link}
 use Rattle.run_laws.proofs.Judged.{BreakNone, audited, break_append, verdict_is, not_before, none_of, none_due}
 use Rattle.run_laws.proofs.ReportEnds.{FirstHasForm, behind_report}
-use Rattle.run_laws.specs.Histories.{IsRead, StepsInTime, StartsInTime, ArrivesInTime, IsInTime, History, opens, goes_on}
 use Rattle.run_laws.specs.proof.SoundTraces.{TracesAreSound}
 use Rattle.run_laws.proofs.SoundEntries.{AreLast, target_within}
 use Rattle.run_laws.proofs.SoundHistories.{noted_many, noted_last, opening_many, opening_last}

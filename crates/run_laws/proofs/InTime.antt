@@ -1,5 +1,7 @@
 -- Runs in time have no stop, and the ends of runs hang on the readings of their lists alone.
-use Rattle.std.proofs.Common.{◌≡◌, ◌⊎◌, inl, inr, ℕ, zero, suc, ◌-◌, ◌<◌, ◌≤◌, Bool, true, false, cond, List, [], ◌∷◌, length, map, slice_get, slice_index_or, Option, Some, None, refl, sym, ap, ◌∙◌, subst, arith}
+use Rattle.std.proofs.Common.{◌≡◌, ◌⊎◌, inl, inr, ℕ, zero, suc, ◌-◌, ◌<◌, ◌≤◌, Bool, true, false, cond, List, [], ◌∷◌}
+use Rattle.std.proofs.Common.{length, map, slice_get, slice_index_or, Option, Some, None, refl, sym, ap, ◌∙◌, subst}
+use Rattle.std.proofs.Common.{arith}
 use Rattle.std.specs.Prelude.{IfSome}
 use Rattle.std.proofs.lemmas.Bool.{cases_order}
 use Rattle.std.proofs.lemmas.Option.{same_Some, slice_get_within, slice_get-get_or}
@@ -24,10 +26,9 @@ use Rattle.run_laws.specs.Shown.{sends}
 use Rattle.run_laws.specs.Runs.{clock_at, lists_in, HasEnded, Runs}
 use Rattle.run_laws.specs.Picked.{picks_of, IsPickFor}
 use Rattle.run_laws.specs.proof.Timing.{due_of}
-use Rattle.run_laws.specs.Timely.{IsTimely, PicksAll, PicksEndAt, ListStop}
+use Rattle.run_laws.specs.Timely.{IsTimely, PicksAll, PicksEndAt, ListStop, AllAtEnd}
 use Rattle.run_laws.specs.Meetings.{AllDone, MeetingStop}
 use Rattle.run_laws.specs.proof.Stopping.{StopFits}
-use Rattle.run_laws.specs.Timely.{AllAtEnd}
 use Rattle.run_laws.specs.proof.Ending.{IsFirstEnded}
 use Rattle.run_laws.specs.proof.InTime.{InTime, NoneStops, BoundsAreInTime, EndsFirst, EndsAreOne, PickedAreDone}
 use Rattle.run_laws.proofs.Picking.{runs_agree, node_agrees}

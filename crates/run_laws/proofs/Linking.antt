@@ -1,5 +1,6 @@
 -- The facts of each link, event by event.
-use Rattle.std.proofs.Common.{◌≡◌, ◌≢◌, inl, inr, ℕ, zero, suc, ◌+◌, ◌<◌, ◌≤◌, nat_eq, true, false, cond, List, [], ◌∷◌, ◌++◌, length, map, slice_get, Option, Some, None, refl, sym, ap, ap₂, ◌∙◌, subst, arith}
+use Rattle.std.proofs.Common.{◌≡◌, ◌≢◌, inl, inr, ℕ, zero, suc, ◌+◌, ◌<◌, ◌≤◌, nat_eq, true, false, cond, List, [], ◌∷◌}
+use Rattle.std.proofs.Common.{◌++◌, length, map, slice_get, Option, Some, None, refl, sym, ap, ap₂, ◌∙◌, subst, arith}
 use Rattle.std.specs.Prelude.{slice_index_or, if◌then◌else◌}
 use Rattle.std.specs.Option.{option_map}
 use Rattle.std.proofs.lemmas.Bool.{cases_eq, cases_order, false≢true, eq-eqb, ne_eqb}
@@ -27,11 +28,14 @@ use Rattle.pals_runs.specs.declared.journal.JournalEntry.{JournalEntry}
 use Rattle.pals_runs.specs.declared.journal.JournalEntry.TheVariants as entry
 use Rattle.bus_machine.specs.Plans.{plan_of, component_at, no_component}
 use Rattle.bus_machine.specs.Nodes.{NodeState, round_of}
-use Rattle.bus_machine.specs.NodeEvents.{started, stepped, finished, sent_from, next_step, running_step, may_send, received, with_message, slot_at, message_from}
+use Rattle.bus_machine.specs.NodeEvents.{started, stepped, finished, sent_from, next_step, running_step, may_send}
+use Rattle.bus_machine.specs.NodeEvents.{received, with_message, slot_at, message_from}
 use Rattle.bus_machine.specs.LinkEvents.{arriving, sent_copy}
 use Rattle.bus_machine.specs.States.{Run, BusState, opening, node_at, no_node, flight_at, link_at, no_link, with_node}
 use Rattle.bus_machine.specs.Stops.{missing_link, sent_rounds}
-use Rattle.bus_machine.specs.Machine.{BusEvent, Start, Step, Finish, Send, Arrive, Drop, Repeat, is_allowed, after, after_start, after_send, after_arrive, on_step, arrival, early_stop, flight_after_send}
+use Rattle.bus_machine.specs.Machine.{BusEvent, Start, Step, Finish, Send, Arrive, Drop, Repeat, is_allowed, after}
+use Rattle.bus_machine.specs.Machine.{after_start, after_send, after_arrive, on_step, arrival, early_stop}
+use Rattle.bus_machine.specs.Machine.{flight_after_send}
 use Rattle.bus_machine.specs.declared.plan.Input.{Input}
 use Rattle.run_laws.specs.TraceRules.{is_due}
 use Rattle.bus_machine.specs.Replay.{entries, start_entry, stop_entry}
@@ -51,7 +55,8 @@ use Rattle.run_laws.proofs.Timed.{goes_start, goes_send, goes_arrive, slot_after
 use Rattle.run_laws.proofs.Missing.{full_slot}
 use Rattle.run_laws.proofs.MeetingReadings.{no_fall}
 use Rattle.run_laws.proofs.Reading.{does_read, start_tells, arrive_tells, event_tells, later, latest_after, NoFall}
-use Rattle.run_laws.proofs.LinkViews.{same_view, send_at, none_at, sends_more, starts_more, grows_by, keeps_at, TimedIn, stays_timed}
+use Rattle.run_laws.proofs.LinkViews.{same_view, send_at, none_at, sends_more, starts_more, grows_by, keeps_at, TimedIn}
+use Rattle.run_laws.proofs.LinkViews.{stays_timed}
 
 -- ---- Start
 abbrev no_slot : Option (List PortValue)

@@ -1,5 +1,6 @@
 -- With a meeting no reading is later than the target of a node that is not done.
-use Rattle.std.proofs.Common.{◌≡◌, inl, inr, ℕ, suc, ◌<◌, ◌≤◌, nat_eq, Bool, true, false, cond, List, [], ◌++◌, length, Option, Some, None, refl, sym, ap, ◌∙◌, subst, arith}
+use Rattle.std.proofs.Common.{◌≡◌, inl, inr, ℕ, suc, ◌<◌, ◌≤◌, nat_eq, Bool, true, false, cond, List, [], ◌++◌, length}
+use Rattle.std.proofs.Common.{Option, Some, None, refl, sym, ap, ◌∙◌, subst, arith}
 use Rattle.std.specs.Option.{option_map}
 use Rattle.std.proofs.lemmas.Bool.{cases_eq}
 use Rattle.std.proofs.lemmas.Grind.{get_or-set_at}
@@ -15,11 +16,13 @@ use Rattle.pals_runs.specs.declared.journal.JournalEntry.{JournalEntry}
 use Rattle.bus_machine.specs.declared.plan.Plan.{Plan}
 use Rattle.bus_machine.specs.Plans.{plan_of, component_at}
 use Rattle.bus_machine.specs.Nodes.{NodeState}
-use Rattle.bus_machine.specs.NodeEvents.{is_waiting, started, stepped, finished, sent_from, next_step, running_step, received, arrived, with_message}
+use Rattle.bus_machine.specs.NodeEvents.{is_waiting, started, stepped, finished, sent_from, next_step, running_step}
+use Rattle.bus_machine.specs.NodeEvents.{received, arrived, with_message}
 use Rattle.bus_machine.specs.LinkEvents.{arriving}
 use Rattle.bus_machine.specs.States.{Run, BusState, opening, node_at, no_node, flight_at, link_at, with_node}
 use Rattle.bus_machine.specs.Stops.{missing_link}
-use Rattle.bus_machine.specs.Machine.{BusEvent, Start, Step, Finish, Send, Arrive, Drop, Repeat, is_allowed, after, after_start, on_step}
+use Rattle.bus_machine.specs.Machine.{BusEvent, Start, Step, Finish, Send, Arrive, Drop, Repeat, is_allowed, after}
+use Rattle.bus_machine.specs.Machine.{after_start, on_step}
 use Rattle.bus_machine.specs.Replay.{entries}
 use Rattle.bus_machine.specs.Agreement.{PhaseAgrees, Agrees}
 use Rattle.bus_machine.specs.proof.MachineLaws.{IsRunOf}
@@ -33,7 +36,8 @@ use Rattle.pals_clock.specs.declared.clock.Clocks.TheVariants.{Meet, Lists}
 use Rattle.run_laws.specs.Runs.{target_of, Does, KeepsTo, Runs, opens, picks_for, goes_on}
 use Rattle.run_laws.proofs.Picking.{runs_agree, node_agrees, below_nodes, component_is}
 use Rattle.run_laws.proofs.ActionsInOrder.{HasDone, follows_in}
-use Rattle.run_laws.proofs.RisingTargets.{IsTimedPlan, plan_times, step_was, aim_in, aim, Rises, same_aim, start_rises, step_rises, send_rises, finish_rises, Steps}
+use Rattle.run_laws.proofs.RisingTargets.{IsTimedPlan, plan_times, step_was, aim_in, aim, Rises, same_aim, start_rises}
+use Rattle.run_laws.proofs.RisingTargets.{step_rises, send_rises, finish_rises, Steps}
 use Rattle.run_laws.proofs.Reading.{Told, none_told, is_told, event_tells, latest_after, NoFall, lists_no_fall}
 use Rattle.run_laws.proofs.Counting.{is_waiting_phase}
 

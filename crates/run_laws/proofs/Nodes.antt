@@ -1,5 +1,6 @@
 -- A node against the time: it is never past the next round's alarm by the skew, and what it has not sent has time left.
-use Rattle.std.proofs.Common.{◌≡◌, ◌≢◌, ◌⊎◌, inl, inr, ℕ, zero, suc, ◌+◌, ◌-◌, ◌<◌, ◌≤◌, Bool, true, false, List, [], ◌∷◌, length, slice_get, Option, Some, None, refl, sym, ap, ◌∙◌, subst, arith}
+use Rattle.std.proofs.Common.{◌≡◌, ◌≢◌, ◌⊎◌, inl, inr, ℕ, zero, suc, ◌+◌, ◌-◌, ◌<◌, ◌≤◌, Bool, true, false, List, []}
+use Rattle.std.proofs.Common.{◌∷◌, length, slice_get, Option, Some, None, refl, sym, ap, ◌∙◌, subst, arith}
 use Rattle.std.specs.Prelude.{max, min, not, nat_le, if◌then◌else◌, fold}
 use Rattle.std.specs.Option.{option_map_or}
 use Rattle.std.proofs.lemmas.Bool.{and_from, and_parts, not-true, leb-true, le-leb, cases_lt, false≢true}
@@ -24,7 +25,8 @@ use Rattle.bus_machine.specs.proof.MachineLaws.{IsRunOf}
 use Rattle.run_laws.specs.Worlds.{World, reading_at, since_at, ready_at, sendings}
 use Rattle.run_laws.specs.Deadlines.{last_before, lesser, phase_deadline, node_deadline}
 use Rattle.run_laws.specs.proof.WorldsKeep.{IsInTime, KeepsNode, KeepsSends, KeepsTime}
-use Rattle.run_laws.proofs.WorldTimes.{Fits, fits, alarm_next, alarm_after, next_after_skew, late_running, late_between, unsent_running, unsent_between, unsent_ready}
+use Rattle.run_laws.proofs.WorldTimes.{Fits, fits, alarm_next, alarm_after, next_after_skew, late_running, late_between}
+use Rattle.run_laws.proofs.WorldTimes.{unsent_running, unsent_between, unsent_ready}
 
 -- ---- last allowed times
 pub left_in_time : (t a : ℕ) (b : Option ℕ) → IsInTime t (lesser (Some a) b) → t ≤ a

@@ -1,11 +1,13 @@
 -- Of each round one copy at most is in flight on a link, so a copy that is due is the oldest of its round.
-use Rattle.std.proofs.Common.{◌≡◌, ℕ, zero, suc, ◌+◌, ◌<◌, ◌≤◌, Bool, true, false, cond, List, [], ◌∷◌, length, slice_get, Option, Some, refl, ap, ◌∙◌, subst, arith}
+use Rattle.std.proofs.Common.{◌≡◌, ℕ, zero, suc, ◌+◌, ◌<◌, ◌≤◌, Bool, true, false, cond, List, [], ◌∷◌, length}
+use Rattle.std.proofs.Common.{slice_get, Option, Some, refl, ap, ◌∙◌, subst, arith}
 use Rattle.std.proofs.lemmas.Grind.{common_steps}
 use Rattle.pals_base.specs.declared.values.PortValue.{PortValue}
 use Rattle.pals_model.specs.declared.flight.FlightCopy.{FlightCopy}
 use Rattle.pals_model.specs.Flights.{is_of, oldest}
 use Rattle.pals_model.proofs.Lookups.{at_element}
-use Rattle.run_laws.specs.proof.Timing.{LinkView, one_if, copies, Whereabouts, in_flight, in_slot, was_taken, came_early, IsDueCopy, IsTimed}
+use Rattle.run_laws.specs.proof.Timing.{LinkView, one_if, copies, Whereabouts, in_flight, in_slot, was_taken}
+use Rattle.run_laws.specs.proof.Timing.{came_early, IsDueCopy, IsTimed}
 
 some_copy : (flight : List FlightCopy) (place round : ℕ) (copy : FlightCopy) → slice_get flight place ≡ Some copy
     → is_of round copy ≡ true → 1 ≤ copies round flight

@@ -1,5 +1,6 @@
 -- Time that passes keeps the time's facts: no last allowed time is passed, and the rest stays.
-use Rattle.std.proofs.Common.{◌≡◌, ℕ, ◌+◌, ◌-◌, ◌<◌, ◌≤◌, true, List, [], ◌∷◌, length, map, slice_get, Option, Some, None, refl, sym, ◌∙◌, subst, arith}
+use Rattle.std.proofs.Common.{◌≡◌, ℕ, ◌+◌, ◌-◌, ◌<◌, ◌≤◌, true, List, [], ◌∷◌, length, map, slice_get, Option, Some}
+use Rattle.std.proofs.Common.{None, refl, sym, ◌∙◌, subst, arith}
 use Rattle.std.specs.Prelude.{nat_lt, nat_le, is_some, slice_index_or}
 use Rattle.std.specs.List.{enumerate_from, position_or_len}
 use Rattle.std.proofs.lemmas.Bool.{ltb-false, leb-false, eqb-true, false≢true}
@@ -19,7 +20,8 @@ use Rattle.bus_machine.specs.LinkEvents.{is_in_flight}
 use Rattle.bus_machine.specs.States.{Run, node_at, flight_at}
 use Rattle.run_laws.specs.Worlds.{World, since_at, ready_at, sendings, world_after}
 use Rattle.run_laws.specs.Deadlines.{node_deadline, message_deadline}
-use Rattle.run_laws.specs.Faults.{fault_of, found_if, first_of, apart, clock_back, clock_apart, past, node_past, copy_past, link_past}
+use Rattle.run_laws.specs.Faults.{fault_of, found_if, first_of, apart, clock_back, clock_apart, past, node_past}
+use Rattle.run_laws.specs.Faults.{copy_past, link_past}
 use Rattle.run_laws.specs.proof.WorldsKeep.{IsInTime, KeepsNode, KeepsSends, KeepsTime}
 use Rattle.run_laws.proofs.Lists.{both_none, none_first, upwards_at, enumerated_at}
 use Rattle.run_laws.proofs.Nodes.{deadline_is}

@@ -1,5 +1,6 @@
 -- With list clocks each node does its actions at its clock's picks.
-use Rattle.std.proofs.Common.{◌≡◌, ◌≢◌, inl, inr, ℕ, zero, suc, ◌+◌, ◌<◌, ◌≤◌, nat_eq, Bool, true, false, cond, List, [], ◌∷◌, ◌++◌, length, slice_get, Option, Some, None, refl, sym, ap, ◌∙◌, subst, arith}
+use Rattle.std.proofs.Common.{◌≡◌, ◌≢◌, inl, inr, ℕ, zero, suc, ◌+◌, ◌<◌, ◌≤◌, nat_eq, Bool, true, false, cond, List}
+use Rattle.std.proofs.Common.{[], ◌∷◌, ◌++◌, length, slice_get, Option, Some, None, refl, sym, ap, ◌∙◌, subst, arith}
 use Rattle.std.specs.Prelude.{slice_index_or}
 use Rattle.std.specs.Option.{unwrap_or}
 use Rattle.std.proofs.lemmas.Bool.{cases_eq, eqb-true, eqb-false}
@@ -25,13 +26,15 @@ use Rattle.pals_runs.specs.declared.journal.JournalEntry.{JournalEntry}
 use Rattle.pals_runs.specs.declared.journal.JournalEntry.TheVariants as entry
 use Rattle.bus_machine.specs.Plans.{plan_of, component_at, no_component}
 use Rattle.bus_machine.specs.Nodes.{NodeState, round_of, opening_node}
-use Rattle.bus_machine.specs.NodeEvents.{started, stepped, finished, sent_from, next_step, running_step, received, arrived}
+use Rattle.bus_machine.specs.NodeEvents.{started, stepped, finished, sent_from, next_step, running_step, received}
+use Rattle.bus_machine.specs.NodeEvents.{arrived}
 use Rattle.bus_machine.specs.LinkEvents.{arriving}
 use Rattle.bus_machine.specs.States.{Run, BusState, opening, node_at, no_node, flight_at, link_at, with_node}
 use Rattle.bus_machine.specs.Stops.{missing_link}
-use Rattle.bus_machine.specs.Machine.{BusEvent, Start, Step, Finish, Send, Arrive, Drop, Repeat, IsStep, is_allowed, after, after_start, after_send, after_arrive, on_step, arrival, early_stop}
-use Rattle.bus_machine.specs.Replay.{Replays, entries, start_entry, stop_entry}
-use Rattle.bus_machine.specs.Replay.{opens as replay_opens, goes_on as replay_goes_on}
+use Rattle.bus_machine.specs.Machine.{BusEvent, Start, Step, Finish, Send, Arrive, Drop, Repeat, IsStep, is_allowed}
+use Rattle.bus_machine.specs.Machine.{after, after_start, after_send, after_arrive, on_step, arrival, early_stop}
+use Rattle.bus_machine.specs.Replay.{Replays, entries, start_entry, stop_entry, opens as replay_opens}
+use Rattle.bus_machine.specs.Replay.{goes_on as replay_goes_on}
 use Rattle.bus_machine.specs.Agreement.{NodeAgrees, PhaseAgrees, Agrees}
 use Rattle.bus_machine.specs.proof.MachineLaws.{IsRunOf}
 use Rattle.bus_machine.specs.declared.action.NodeAction.{NodeAction}
@@ -43,12 +46,14 @@ use Rattle.run_laws.specs.Shown.{listed, if_at, act_in, acts}
 use Rattle.run_laws.specs.NodeActions.{upcoming, Follows}
 use Rattle.pals_clock.specs.declared.clock.Clocks.{Clocks}
 use Rattle.pals_clock.specs.declared.clock.Clocks.TheVariants.{Meet, Lists}
-use Rattle.run_laws.specs.Runs.{no_clock, clock_at, Does, Begins, Takes, KeepsTo, Picks, AreFresh, Begin, Runs, opens, picks_for, goes_on}
+use Rattle.run_laws.specs.Runs.{no_clock, clock_at, Does, Begins, Takes, KeepsTo, Picks, AreFresh, Begin, Runs, opens}
+use Rattle.run_laws.specs.Runs.{picks_for, goes_on}
 use Rattle.run_laws.specs.proof.Picked.{IsPicked}
 use Rattle.run_laws.specs.Picked.{picks_of, IsPrefix}
 use Rattle.run_laws.proofs.Turns.{IsPlan, length-targets}
 use Rattle.run_laws.proofs.Clocks.{does_next, picks_next, goes_otherwise, is_prefix}
-use Rattle.run_laws.proofs.Follows.{acting, is_at_most, next_is, target_is, starts_follow, steps_follow, sends_follow, finish_follows, received_follows}
+use Rattle.run_laws.proofs.Follows.{acting, is_at_most, next_is, target_is, starts_follow, steps_follow, sends_follow}
+use Rattle.run_laws.proofs.Follows.{finish_follows, received_follows}
 
 -- ---- a run replays, and agrees
 pub runs_replay : (run : Run) (clocks : Clocks) (journal : List JournalEntry) (s : BusState) → Runs run clocks journal s

@@ -1,5 +1,6 @@
 -- Behind the report of a design the verdict is that on the journal.
-use Rattle.std.proofs.Common.{◌≡◌, ℕ, ◌+◌, ◌*◌, ◌/◌, Bool, true, false, not, cond, List, [], ◌∷◌, ◌++◌, length, take, drop, All, None, refl, ap, ap₂, ◌∙◌, arith}
+use Rattle.std.proofs.Common.{◌≡◌, ℕ, ◌+◌, ◌*◌, ◌/◌, Bool, true, false, not, cond, List, [], ◌∷◌, ◌++◌, length, take}
+use Rattle.std.proofs.Common.{drop, All, None, refl, ap, ap₂, ◌∙◌, arith}
 use Rattle.std.specs.Prelude.{is_some}
 use Rattle.std.specs.List.{position_or_len}
 use Rattle.std.proofs.lemmas.List.Elements.{All-head, All-tail}
@@ -10,7 +11,8 @@ use Rattle.pals_model.specs.RoundTexts.{report_lines}
 use Rattle.pals_model.specs.Rules.{IsDesign}
 use Rattle.bus_machine.specs.States.{Run}
 use Rattle.run_laws.specs.LineForms.{form_of}
-use Rattle.run_laws.specs.Traces.{report_size, row_size, wrong_row, opening_audit, journal_verdict, trace_verdict, verdict}
+use Rattle.run_laws.specs.Traces.{report_size, row_size, wrong_row, opening_audit, journal_verdict, trace_verdict}
+use Rattle.run_laws.specs.Traces.{verdict}
 use Rattle.run_laws.proofs.ReportRows.{report_length, row_some, reports_have_rows}
 use Rattle.run_laws.proofs.ReportForms.{reports_have_no_forms}
 

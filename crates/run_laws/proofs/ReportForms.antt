@@ -1,5 +1,7 @@
 -- No line of a report has the form of a journal's line.
-use Rattle.std.proofs.Common.{◌≡◌, ◌≢◌, ℕ, zero, suc, ℤ, pos, negsuc, ◌+◌, ◌/◌, ◌%◌, ◌<◌, ◌≤◌, ◌==◌, nat_eq, nat_le, nat_lt, Bool, true, false, ◌&&◌, cond, List, [], ◌∷◌, ◌++◌, map, flat_map, zip, slice_get, All, Option, Some, None, refl, sym, ap, ◌∙◌, subst, arith, append_assoc}
+use Rattle.std.proofs.Common.{◌≡◌, ◌≢◌, ℕ, zero, suc, ℤ, pos, negsuc, ◌+◌, ◌/◌, ◌%◌, ◌<◌, ◌≤◌, ◌==◌, nat_eq, nat_le}
+use Rattle.std.proofs.Common.{nat_lt, Bool, true, false, ◌&&◌, cond, List, [], ◌∷◌, ◌++◌, map, flat_map, zip, slice_get}
+use Rattle.std.proofs.Common.{All, Option, Some, None, refl, sym, ap, ◌∙◌, subst, arith, append_assoc}
 use Rattle.std.specs.Prelude.{codes, decimal, slice_index_or}
 use Rattle.std.specs.List.{list_all, enumerate_from}
 use Rattle.std.specs.Option.{option_and_then}
@@ -31,11 +33,15 @@ use Rattle.pals_model.specs.declared.rounds.Env.{Env}
 use Rattle.pals_model.specs.declared.rounds.Part.{Part}
 use Rattle.pals_model.specs.Composition.{part}
 use Rattle.pals_model.specs.Ports.{out_kind}
-use Rattle.pals_model.specs.RoundTexts.{value_text, state_name, state_text, variable_text, vars_text, component_line, tuple_text, taps_before, tap_line, round_line, part_lines, tap_lines, composed_lines}
+use Rattle.pals_model.specs.RoundTexts.{value_text, state_name, state_text, variable_text, vars_text, component_line}
+use Rattle.pals_model.specs.RoundTexts.{tuple_text, taps_before, tap_line, round_line, part_lines, tap_lines}
+use Rattle.pals_model.specs.RoundTexts.{composed_lines}
 use Rattle.pals_model.specs.Rules.{IsDesign, IsComponent}
 use Rattle.pals_model.proofs.Lookups.{at_element}
 use Rattle.pals_model.proofs.Words.{IsWithout, all_pass, word_without, path_without, other_bytes}
-use Rattle.run_laws.specs.LineForms.{Form, is, is_there, spelled, round_in, words_of, with_step, arrive_line, start_line, step_line, finish_line, send_line, drop_line, repeat_line, early_line, missed_line, stop_line, form_of_words, form_of, named}
+use Rattle.run_laws.specs.LineForms.{Form, is, is_there, spelled, round_in, words_of, with_step, arrive_line}
+use Rattle.run_laws.specs.LineForms.{start_line, step_line, finish_line, send_line, drop_line, repeat_line, early_line}
+use Rattle.run_laws.specs.LineForms.{missed_line, stop_line, form_of_words, form_of, named}
 use Rattle.run_laws.specs.proof.Reports.{ReportsHaveNoForms}
 use Rattle.run_laws.proofs.Words.{NoSpace, no_space}
 use Rattle.run_laws.proofs.ReportRows.{numbered_all}

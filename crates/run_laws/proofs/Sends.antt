@@ -1,7 +1,9 @@
 -- A send keeps the time: its messages go into flight within what the bound allows.
-use Rattle.std.proofs.Common.{◌≡◌, ◌≢◌, inl, inr, ℕ, suc, ◌+◌, ◌-◌, ◌<◌, ◌≤◌, nat_eq, Bool, true, false, List, [], ◌∷◌, ◌++◌, length, Option, Some, refl, sym, ap, ◌∙◌, subst, arith, length-append}
+use Rattle.std.proofs.Common.{◌≡◌, ◌≢◌, inl, inr, ℕ, suc, ◌+◌, ◌-◌, ◌<◌, ◌≤◌, nat_eq, Bool, true, false, List, [], ◌∷◌}
+use Rattle.std.proofs.Common.{◌++◌, length, Option, Some, refl, sym, ap, ◌∙◌, subst, arith, length-append}
 use Rattle.std.specs.Prelude.{max, nat_lt, if◌then◌else◌, slice_index_or, slice_set}
-use Rattle.std.proofs.lemmas.Bool.{eqb-true, eq-eqb, ne_eqb, lt-ltb, le-ltb, cases_eq, cases_lt, cases_order, false≢true}
+use Rattle.std.proofs.lemmas.Bool.{eqb-true, eq-eqb, ne_eqb, lt-ltb, le-ltb, cases_eq, cases_lt, cases_order}
+use Rattle.std.proofs.lemmas.Bool.{false≢true}
 use Rattle.std.proofs.lemmas.Grind.{get_or-set_at}
 use Rattle.std.proofs.lemmas.List.{length-set, get_or-set_other, get_or_append_left}
 use Rattle.std.proofs.Math.Seq.{get_or-append_seam}
@@ -33,10 +35,12 @@ use Rattle.bus_machine.proofs.Lists.{numbered_at}
 use Rattle.bus_machine.proofs.Nodes.{MaySend, may_send_of}
 use Rattle.bus_machine.proofs.States.{node_set, node_stays}
 use Rattle.bus_machine.proofs.Steps.{send_keeps}
-use Rattle.run_laws.specs.proof.WorldsKeep.{IsInTime, RunsSince, IsSentAt, IsOnce, copies, waits, taken, one_if, KeepsLink, KeepsTime}
+use Rattle.run_laws.specs.proof.WorldsKeep.{IsInTime, RunsSince, IsSentAt, IsOnce, copies, waits, taken, one_if}
+use Rattle.run_laws.specs.proof.WorldsKeep.{KeepsLink, KeepsTime}
 use Rattle.run_laws.proofs.WorldTimes.{sent_prompt}
 use Rattle.run_laws.proofs.Lists.{count_more}
-use Rattle.run_laws.proofs.Nodes.{fits_at, component_is, MayBe, may_is, Stands, stands_at, left_in_time, both_in_time, send_in_time, phase_last, send_last, late}
+use Rattle.run_laws.proofs.Nodes.{fits_at, component_is, MayBe, may_is, Stands, stands_at, left_in_time, both_in_time}
+use Rattle.run_laws.proofs.Nodes.{send_in_time, phase_last, send_last, late}
 use Rattle.run_laws.proofs.Links.{link_is, one_of_true, one_of_false, in_flight_counts, counts_in_flight, under_way}
 use Rattle.run_laws.proofs.Changes.{same_at, changed, stands_put, keeps_again, moved_here, moved_length, moved_other}
 use Rattle.run_laws.proofs.Faults.{SendsInTime}

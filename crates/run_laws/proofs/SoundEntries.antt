@@ -1,5 +1,6 @@
 -- An entry that breaks no rule tells an event of the machine that is in time.
-use Rattle.std.proofs.Common.{◌≡◌, ℕ, ◌+◌, ◌<◌, ◌≤◌, nat_eq, nat_lt, true, false, not, ◌&&◌, cond, List, [], ◌∷◌, length, All, Option, Some, None, refl, sym, ap, ap₂, ◌∙◌, subst, arith}
+use Rattle.std.proofs.Common.{◌≡◌, ℕ, ◌+◌, ◌<◌, ◌≤◌, nat_eq, nat_lt, true, false, not, ◌&&◌, cond, List, [], ◌∷◌}
+use Rattle.std.proofs.Common.{length, All, Option, Some, None, refl, sym, ap, ap₂, ◌∙◌, subst, arith}
 use Rattle.std.specs.Prelude.{is_some, is_none, slice_index_or}
 use Rattle.std.specs.Option.{option_map_or, unwrap_or}
 use Rattle.std.proofs.lemmas.Bool.{and_parts, eqb-true, ltb-false, false≢true, true≢false, not-false}
@@ -30,11 +31,13 @@ use Rattle.bus_machine.specs.NodeEvents.{is_waiting, next_step}
 use Rattle.bus_machine.specs.Alarms.{start_alarm, step_alarm, release_alarm}
 use Rattle.bus_machine.specs.States.{Run, BusState, no_link, node_at, flight_at, link_at}
 use Rattle.bus_machine.specs.Stops.{missing_link, cause_of}
-use Rattle.bus_machine.specs.Machine.{BusEvent, Start, Step, Finish, Send, Arrive, IsStep, is_allowed, after, arrival, missed_stop, early_stop}
+use Rattle.bus_machine.specs.Machine.{BusEvent, Start, Step, Finish, Send, Arrive, IsStep, is_allowed, after, arrival}
+use Rattle.bus_machine.specs.Machine.{missed_stop, early_stop}
 use Rattle.bus_machine.specs.Replay.{entries, start_entry, stop_entry}
 use Rattle.run_laws.specs.Shown.{latest}
 use Rattle.run_laws.specs.TraceLines.{timed, has_reading, event_of}
-use Rattle.run_laws.specs.TraceRules.{same_result, fits, is_in_order, falls, is_before, too_early, is_due, waits, is_line_of, first_entry, tells_stop, broken}
+use Rattle.run_laws.specs.TraceRules.{same_result, fits, is_in_order, falls, is_before, too_early, is_due, waits}
+use Rattle.run_laws.specs.TraceRules.{is_line_of, first_entry, tells_stop, broken}
 use Rattle.run_laws.specs.Entries.{IsEntryIn}
 use Rattle.run_laws.proofs.Entries.{lines_differ}
 use Rattle.run_laws.proofs.Missing.{missed_link}

@@ -1,5 +1,7 @@
 -- What is judged sound is the trace of a history that is over.
-use Rattle.std.proofs.Common.{◌≡◌, ◌≢◌, ◌⊎◌, inl, inr, ℕ, zero, suc, ◌+◌, ◌/◌, ◌<◌, ◌≤◌, nat_eq, Bool, true, false, not, ◌&&◌, cond, List, [], ◌∷◌, ◌++◌, length, map, take, drop, All, Option, Some, None, refl, sym, ap, ap₂, ◌∙◌, subst, arith, length-take-le, take-append-drop}
+use Rattle.std.proofs.Common.{◌≡◌, ◌≢◌, ◌⊎◌, inl, inr, ℕ, zero, suc, ◌+◌, ◌/◌, ◌<◌, ◌≤◌, nat_eq, Bool, true, false, not}
+use Rattle.std.proofs.Common.{◌&&◌, cond, List, [], ◌∷◌, ◌++◌, length, map, take, drop, All, Option, Some, None, refl}
+use Rattle.std.proofs.Common.{sym, ap, ap₂, ◌∙◌, subst, arith, length-take-le, take-append-drop}
 use Rattle.std.specs.Prelude.{is_some, is_none, slice_index_or, slice_set}
 use Rattle.std.specs.List.{list_all}
 use Rattle.std.proofs.lemmas.Bool.{and_parts, eqb-true, eqb-false, false≢true, true≢false}
@@ -32,12 +34,13 @@ use Rattle.run_laws.specs.LineForms.{form_of}
 use Rattle.run_laws.specs.Shown.{last_of, latest}
 use Rattle.run_laws.specs.TraceLines.{Timed, told, timed, has_reading}
 use Rattle.run_laws.specs.TraceRules.{is_line_of, reading_of, broken}
-use Rattle.run_laws.specs.Traces.{report_size, row_size, wrong_row, Audit, opening_audit, noted, second_entry, audit_event, audit_after, line_broken, is_done, end_broken, wrong_or, entry_or, journal_verdict, trace_verdict}
+use Rattle.run_laws.specs.Traces.{report_size, row_size, wrong_row, Audit, opening_audit, noted, second_entry}
+use Rattle.run_laws.specs.Traces.{audit_event, audit_after, line_broken, is_done, end_broken, wrong_or, entry_or}
+use Rattle.run_laws.specs.Traces.{journal_verdict, trace_verdict}
 use Rattle.run_laws.specs.Entries.{IsEntryIn}
-use Rattle.run_laws.specs.Histories.{IsStoppedOrDone}
+use Rattle.run_laws.specs.Histories.{IsStoppedOrDone, History, opens, goes_on, IsTraceOf}
 use Rattle.run_laws.proofs.Entries.{lines_differ}
 use Rattle.run_laws.proofs.ToldLines.{told_are_in}
-use Rattle.run_laws.specs.Histories.{History, opens, goes_on, IsTraceOf}
 use Rattle.run_laws.specs.proof.SoundTraces.{SoundAreTraces}
 use Rattle.run_laws.proofs.EntrySpelling.{told_is_line}
 use Rattle.run_laws.proofs.SoundRows.{report_is}

@@ -1,10 +1,14 @@
 -- A start misses nothing, and keeps the time.
-use Rattle.std.proofs.Common.{◌≡◌, inl, inr, ℕ, zero, suc, ◌+◌, ◌-◌, ◌<◌, ◌≤◌, nat_eq, Bool, true, false, List, [], ◌∷◌, length, map, slice_get, Option, Some, None, refl, sym, ap, ap₂, ◌∙◌, subst, arith}
-use Rattle.std.specs.Prelude.{nat_lt, is_some, is_none, position, zip, option_map, if◌then◌else◌, slice_index_or, slice_set}
-use Rattle.std.proofs.lemmas.Bool.{and_right, and_left, and_from, eqb-false, eq-eqb, ne_eqb, lt-ltb, le-ltb, cases_order, cases_eq, cases_lt, false≢true}
+use Rattle.std.proofs.Common.{◌≡◌, inl, inr, ℕ, zero, suc, ◌+◌, ◌-◌, ◌<◌, ◌≤◌, nat_eq, Bool, true, false, List, [], ◌∷◌}
+use Rattle.std.proofs.Common.{length, map, slice_get, Option, Some, None, refl, sym, ap, ap₂, ◌∙◌, subst, arith}
+use Rattle.std.specs.Prelude.{nat_lt, is_some, is_none, position, zip, option_map, if◌then◌else◌, slice_index_or}
+use Rattle.std.specs.Prelude.{slice_set}
+use Rattle.std.proofs.lemmas.Bool.{and_right, and_left, and_from, eqb-false, eq-eqb, ne_eqb, lt-ltb, le-ltb}
+use Rattle.std.proofs.lemmas.Bool.{cases_order, cases_eq, cases_lt, false≢true}
 use Rattle.std.proofs.lemmas.Grind.{get_or-set_at}
 use Rattle.std.proofs.lemmas.List.{length-set, get_or-set_other}
-use Rattle.std.proofs.lemmas.Option.{slice_get-get_or, slice_get_within, slice_get-map, get_or_from_slice_get, same_Some}
+use Rattle.std.proofs.lemmas.Option.{slice_get-get_or, slice_get_within, slice_get-map, get_or_from_slice_get}
+use Rattle.std.proofs.lemmas.Option.{same_Some}
 use Rattle.list_lemmas.proofs.Options.{option_map-parts}
 use Rattle.pals_base.specs.declared.values.NodeNo.{NodeNo}
 use Rattle.pals_base.specs.declared.values.PortValue.{PortValue}
@@ -39,7 +43,8 @@ use Rattle.bus_machine.proofs.States.{node_set, node_stays}
 use Rattle.bus_machine.proofs.Steps.{start_keeps}
 use Rattle.run_laws.specs.proof.WorldsKeep.{IsOnce, copies, waits, taken, one_if, RunsSince, KeepsLink, KeepsTime}
 use Rattle.run_laws.proofs.Lists.{upwards_at, zipped_at}
-use Rattle.run_laws.proofs.Nodes.{FitsAt, fits_at, may_is, Stands, stands_at, both_in_time, sends_in_time, late, phase_agrees}
+use Rattle.run_laws.proofs.Nodes.{FitsAt, fits_at, may_is, Stands, stands_at, both_in_time, sends_in_time, late}
+use Rattle.run_laws.proofs.Nodes.{phase_agrees}
 use Rattle.run_laws.proofs.Links.{has_come, link_is, one_of_true, one_of_false}
 use Rattle.run_laws.proofs.Changes.{same_at, changed, stands_put, keeps_again}
 use Rattle.run_laws.proofs.Faults.{StartsInTime}

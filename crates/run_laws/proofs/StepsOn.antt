@@ -22,7 +22,8 @@ use Rattle.run_laws.specs.Worlds.{World, reading_at, since_at, ready_at, sending
 use Rattle.bus_machine.proofs.States.{node_set, node_stays}
 use Rattle.bus_machine.proofs.Steps.{step_keeps}
 use Rattle.run_laws.specs.proof.WorldsKeep.{IsInTime, RunsSince, KeepsTime}
-use Rattle.run_laws.proofs.Nodes.{fits_at, may_be, may_is, Stands, stands_at, left_in_time, both_in_time, send_in_time, sends_in_time, phase_last, send_last}
+use Rattle.run_laws.proofs.Nodes.{fits_at, may_be, may_is, Stands, stands_at, left_in_time, both_in_time, send_in_time}
+use Rattle.run_laws.proofs.Nodes.{sends_in_time, phase_last, send_last}
 use Rattle.run_laws.proofs.Changes.{changed, same_links, stands_put, keeps_again}
 use Rattle.run_laws.proofs.Faults.{StepsInTime}
 

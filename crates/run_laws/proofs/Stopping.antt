@@ -1,7 +1,9 @@
 -- What each stop of a run tells.
 -- ---- a meeting's source has sent
 -- the steps of a round start before the next alarm
-use Rattle.std.proofs.Common.{◌≡◌, inl, inr, ℕ, ◌+◌, ◌-◌, ◌<◌, ◌≤◌, nat_eq, nat_le, nat_lt, Bool, true, false, cond, ◌&&◌, List, [], ◌∷◌, ◌++◌, length, slice_get, All, Option, Some, None, refl, sym, ap, ap₂, ◌∙◌, subst, arith}
+use Rattle.std.proofs.Common.{◌≡◌, inl, inr, ℕ, ◌+◌, ◌-◌, ◌<◌, ◌≤◌, nat_eq, nat_le, nat_lt, Bool, true, false, cond}
+use Rattle.std.proofs.Common.{◌&&◌, List, [], ◌∷◌, ◌++◌, length, slice_get, All, Option, Some, None, refl, sym, ap, ap₂}
+use Rattle.std.proofs.Common.{◌∙◌, subst, arith}
 use Rattle.std.specs.Prelude.{is_some, is_none, if◌then◌else◌}
 use Rattle.std.specs.Option.{option_map, option_map_or, unwrap_or}
 use Rattle.std.proofs.lemmas.Bool.{cases_eq, cases_lt, ltb-true, ltb-false, leb-true, eqb-true, false≢true}
@@ -30,11 +32,13 @@ use Rattle.pals_runs.specs.declared.journal.JournalEntry.{JournalEntry}
 use Rattle.pals_runs.specs.declared.journal.JournalEntry.TheVariants as entry
 use Rattle.bus_machine.specs.Plans.{plan_of, component_at}
 use Rattle.bus_machine.specs.Nodes.{NodeState, round_of}
-use Rattle.bus_machine.specs.NodeEvents.{is_waiting, next_step, running_step, stepped, finished, slot_at, arrived, received}
+use Rattle.bus_machine.specs.NodeEvents.{is_waiting, next_step, running_step, stepped, finished, slot_at, arrived}
+use Rattle.bus_machine.specs.NodeEvents.{received}
 use Rattle.bus_machine.specs.LinkEvents.{is_in_flight, arriving}
 use Rattle.bus_machine.specs.States.{Run, BusState, node_at, flight_at, link_at, no_link, with_node}
 use Rattle.bus_machine.specs.Stops.{missing_link, sent_rounds, cause_of}
-use Rattle.bus_machine.specs.Machine.{BusEvent, Start, Step, Finish, Send, Arrive, Drop, Repeat, is_allowed, after, after_start, after_arrive, on_step, arrival, early_stop, missed_stop}
+use Rattle.bus_machine.specs.Machine.{BusEvent, Start, Step, Finish, Send, Arrive, Drop, Repeat, is_allowed, after}
+use Rattle.bus_machine.specs.Machine.{after_start, after_arrive, on_step, arrival, early_stop, missed_stop}
 use Rattle.bus_machine.specs.Replay.{entries, start_entry, stop_entry}
 use Rattle.bus_machine.specs.Agreement.{PhaseAgrees, Agrees}
 use Rattle.bus_machine.specs.proof.MachineLaws.{IsRunOf}
@@ -46,8 +50,10 @@ use Rattle.run_laws.specs.Shown.{send_in, sends}
 use Rattle.run_laws.specs.NodeActions.{upcoming}
 use Rattle.pals_clock.specs.declared.clock.Clocks.{Clocks}
 use Rattle.pals_clock.specs.declared.clock.Clocks.TheVariants.{Meet, Lists}
-use Rattle.run_laws.specs.Runs.{no_clock, clock_at, Shows, HasEnded, IsAwaited, Begins, Takes, KeepsTo, Picks, Runs, opens, picks_for, goes_on}
-use Rattle.run_laws.specs.proof.Timing.{view, early_on, due_of, one_if, copies, Whereabouts, in_flight, in_slot, was_taken, came_early, IsDueCopy}
+use Rattle.run_laws.specs.Runs.{no_clock, clock_at, Shows, HasEnded, IsAwaited, Begins, Takes, KeepsTo, Picks, Runs}
+use Rattle.run_laws.specs.Runs.{opens, picks_for, goes_on}
+use Rattle.run_laws.specs.proof.Timing.{view, early_on, due_of, one_if, copies, Whereabouts, in_flight, in_slot}
+use Rattle.run_laws.specs.proof.Timing.{was_taken, came_early, IsDueCopy}
 use Rattle.run_laws.specs.proof.Stopping.{IsFor, StopsAt, NeverSent, CauseFits, StopFits, StopsFit}
 use Rattle.run_laws.proofs.Picking.{runs_agree, node_agrees, many_clocks}
 use Rattle.run_laws.proofs.Counting.{rounds_are_shown, is_waiting_phase}

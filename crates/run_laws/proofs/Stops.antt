@@ -15,7 +15,8 @@ use Rattle.bus_machine.specs.Plans.{plan_of}
 use Rattle.bus_machine.specs.NodeEvents.{next_step, running_step, stepped, finished}
 use Rattle.bus_machine.specs.States.{Run, BusState, node_at, with_node}
 use Rattle.bus_machine.specs.Stops.{missing_link}
-use Rattle.bus_machine.specs.Machine.{BusEvent, Start, Step, Finish, Send, Arrive, Drop, Repeat, after, after_start, on_step, arrival, early_stop}
+use Rattle.bus_machine.specs.Machine.{BusEvent, Start, Step, Finish, Send, Arrive, Drop, Repeat, after, after_start}
+use Rattle.bus_machine.specs.Machine.{on_step, arrival, early_stop}
 use Rattle.bus_machine.specs.Replay.{Replays, opens, goes_on, entries, start_entry, stop_entry}
 
 -- ---- entries that tell no stop

@@ -1,5 +1,7 @@
 -- What each event does to the facts of a link.
-use Rattle.std.proofs.Common.{◌≡◌, ◌≢◌, inl, inr, ℕ, zero, suc, ◌+◌, ◌-◌, ◌<◌, ◌≤◌, nat_eq, nat_le, Bool, true, false, not, ◌&&◌, cond, List, [], ◌∷◌, ◌++◌, length, take, drop, slice_get, All, Option, Some, None, refl, sym, ap, ap₂, ◌∙◌, subst, arith, length-append}
+use Rattle.std.proofs.Common.{◌≡◌, ◌≢◌, inl, inr, ℕ, zero, suc, ◌+◌, ◌-◌, ◌<◌, ◌≤◌, nat_eq, nat_le, Bool, true, false}
+use Rattle.std.proofs.Common.{not, ◌&&◌, cond, List, [], ◌∷◌, ◌++◌, length, take, drop, slice_get, All, Option, Some}
+use Rattle.std.proofs.Common.{None, refl, sym, ap, ap₂, ◌∙◌, subst, arith, length-append}
 use Rattle.std.specs.Prelude.{is_some, is_none, if◌then◌else◌}
 use Rattle.std.specs.Option.{option_map, option_map_or, unwrap_or}
 use Rattle.std.specs.List.{position_or_len}
@@ -15,7 +17,8 @@ use Rattle.pals_runs.specs.declared.journal.Arrived.{Arrived}
 use Rattle.pals_runs.specs.declared.journal.Arrived.TheVariants.{Kept, Ignored, Early}
 use Rattle.run_laws.specs.TraceRules.{is_due}
 use Rattle.bus_machine.proofs.Lists.{All-without_oldest, oldest_is_one}
-use Rattle.run_laws.specs.proof.Timing.{LinkView, due_of, one_if, copies, Whereabouts, in_flight, in_slot, was_taken, came_early, IsDueCopy, SlotWasDue, IsTimed}
+use Rattle.run_laws.specs.proof.Timing.{LinkView, due_of, one_if, copies, Whereabouts, in_flight, in_slot, was_taken}
+use Rattle.run_laws.specs.proof.Timing.{came_early, IsDueCopy, SlotWasDue, IsTimed}
 
 -- ---- lists
 get_more : (xs ys : List ℕ) (k x : ℕ) → slice_get xs k ≡ Some x → slice_get (xs ++ ys) k ≡ Some x

@@ -1,5 +1,6 @@
 -- What a line tells is an entry of the design.
-use Rattle.std.proofs.Common.{◌≡◌, ℕ, ◌<◌, ◌≤◌, nat_le, Bool, true, false, ◌&&◌, cond, List, [], ◌∷◌, length, Option, Some, None, refl, sym, subst}
+use Rattle.std.proofs.Common.{◌≡◌, ℕ, ◌<◌, ◌≤◌, nat_le, Bool, true, false, ◌&&◌, cond, List, [], ◌∷◌, length, Option}
+use Rattle.std.proofs.Common.{Some, None, refl, sym, subst}
 use Rattle.std.specs.Prelude.{codes, decimal, bytes_eq, IfSome}
 use Rattle.std.specs.Option.{option_map, option_and_then}
 use Rattle.std.specs.List.{list_all}
@@ -18,7 +19,11 @@ use Rattle.pals_runs.specs.declared.journal.Cause.{Cause}
 use Rattle.pals_runs.specs.declared.journal.Stop.TheVariants as stop
 use Rattle.pals_runs.specs.declared.journal.JournalEntry.{JournalEntry}
 use Rattle.pals_runs.specs.declared.journal.JournalEntry.TheVariants as entry
-use Rattle.run_laws.specs.LineForms.{Form, ArriveLine, StartLine, StepLine, FinishLine, SendLine, DropLine, RepeatLine, EarlyLine, MissedLine, is, is_there, spelled, number_up_to, round_in, reading_in, arrived_in, cause_in, named, at_end, read, with_result, with_cause, with_step, arrive_line, start_line, step_line, finish_line, send_line, drop_line, repeat_line, early_line, missed_line, stop_line, form_of_words, words_of, form_of}
+use Rattle.run_laws.specs.LineForms.{Form, ArriveLine, StartLine, StepLine, FinishLine, SendLine, DropLine, RepeatLine}
+use Rattle.run_laws.specs.LineForms.{EarlyLine, MissedLine, is, is_there, spelled, number_up_to, round_in, reading_in}
+use Rattle.run_laws.specs.LineForms.{arrived_in, cause_in, named, at_end, read, with_result, with_cause, with_step}
+use Rattle.run_laws.specs.LineForms.{arrive_line, start_line, step_line, finish_line, send_line, drop_line, repeat_line}
+use Rattle.run_laws.specs.LineForms.{early_line, missed_line, stop_line, form_of_words, words_of, form_of}
 use Rattle.run_laws.specs.TraceLines.{of_node, of_link, entry_of, told}
 use Rattle.run_laws.specs.proof.EntryLines.{ToldAreIn}
 use Rattle.run_laws.specs.Entries.{IsReading, IsEntryIn}

@@ -1,5 +1,6 @@
 -- The turns of a node.
-use Rattle.std.proofs.Common.{◌≡◌, ℕ, zero, suc, ◌+◌, ◌*◌, ◌<◌, ◌≤◌, nat_eq, nat_le, nat_lt, Bool, true, false, not, ◌&&◌, ◌||◌, cond, length, slice_get, Some, refl, sym, ap, ap₂, ◌∙◌, subst, arith}
+use Rattle.std.proofs.Common.{◌≡◌, ℕ, zero, suc, ◌+◌, ◌*◌, ◌<◌, ◌≤◌, nat_eq, nat_le, nat_lt, Bool, true, false, not}
+use Rattle.std.proofs.Common.{◌&&◌, ◌||◌, cond, length, slice_get, Some, refl, sym, ap, ap₂, ◌∙◌, subst, arith}
 use Rattle.std.proofs.lemmas.Bool.{ltb-true, ltb-false, false≢true}
 use Rattle.std.proofs.lemmas.Grind.{common_steps}
 use Rattle.std.proofs.lemmas.List.{length-map}
@@ -8,7 +9,8 @@ use Rattle.std.specs.Option.{option_map}
 use Rattle.bus_machine.specs.declared.plan.Plan.{Plan}
 use Rattle.bus_machine.specs.declared.action.NodeAction.{NodeAction}
 use Rattle.bus_machine.specs.declared.action.NodeAction.TheVariants as action
-use Rattle.bus_machine.specs.Targets.{Progress, target, send_is_next, next_action, progress_after, actions_from, actions, targets}
+use Rattle.bus_machine.specs.Targets.{Progress, target, send_is_next, next_action, progress_after, actions_from}
+use Rattle.bus_machine.specs.Targets.{actions, targets}
 use Rattle.run_laws.specs.NodeActions.{Turn, first_turn, next_turn, turns, turn}
 
 -- ---- one turn after another

@@ -1,5 +1,7 @@
 -- What is left to do in a run, which each event makes less.
-use Rattle.std.proofs.Common.{◌≡◌, ◌≢◌, ℕ, zero, suc, ◌+◌, ◌-◌, ◌*◌, ◌<◌, ◌≤◌, nat_eq, nat_lt, nat_le, Bool, true, false, not, cond, List, [], ◌∷◌, ◌++◌, length, map, slice_get, Option, Some, None, refl, sym, ap, ◌∙◌, subst, arith, length-append}
+use Rattle.std.proofs.Common.{◌≡◌, ◌≢◌, ℕ, zero, suc, ◌+◌, ◌-◌, ◌*◌, ◌<◌, ◌≤◌, nat_eq, nat_lt, nat_le, Bool, true}
+use Rattle.std.proofs.Common.{false, not, cond, List, [], ◌∷◌, ◌++◌, length, map, slice_get, Option, Some, None, refl}
+use Rattle.std.proofs.Common.{sym, ap, ◌∙◌, subst, arith, length-append}
 use Rattle.std.specs.Prelude.{if◌then◌else◌, is_some, slice_index_or}
 use Rattle.std.specs.List.{sum_by}
 use Rattle.std.specs.Option.{option_map_or}
@@ -24,11 +26,15 @@ use Rattle.pals_runs.specs.declared.journal.Stop.{Stop}
 use Rattle.bus_machine.specs.declared.plan.Plan.{Plan}
 use Rattle.bus_machine.specs.Plans.{plan_of, component_at, no_component}
 use Rattle.bus_machine.specs.Nodes.{NodeState, round_of, finished_steps, at_rest}
-use Rattle.bus_machine.specs.NodeEvents.{is_waiting, started, next_step, stepped, running_step, finished, after_round, may_send, after_send as phase_after_send, sent_from, message_from, arrived, received}
+use Rattle.bus_machine.specs.NodeEvents.{is_waiting, started, next_step, stepped, running_step, finished, after_round}
+use Rattle.bus_machine.specs.NodeEvents.{may_send, after_send as phase_after_send, sent_from, message_from, arrived}
+use Rattle.bus_machine.specs.NodeEvents.{received}
 use Rattle.bus_machine.specs.LinkEvents.{sent_copy, arriving}
 use Rattle.bus_machine.specs.States.{Run, BusState, opening, node_at, flight_at, link_at, no_link, with_node}
 use Rattle.bus_machine.specs.Stops.{missing_link}
-use Rattle.bus_machine.specs.Machine.{BusEvent, Start, Step, Finish, Send, Arrive, Drop, Repeat, is_allowed, after, after_start, after_send, after_arrive, on_step, flight_after_send, arrival, early_stop}
+use Rattle.bus_machine.specs.Machine.{BusEvent, Start, Step, Finish, Send, Arrive, Drop, Repeat, is_allowed, after}
+use Rattle.bus_machine.specs.Machine.{after_start, after_send, after_arrive, on_step, flight_after_send, arrival}
+use Rattle.bus_machine.specs.Machine.{early_stop}
 use Rattle.bus_machine.specs.Replay.{entries, stop_entry}
 use Rattle.bus_machine.specs.Agreement.{PhaseAgrees, Agrees}
 use Rattle.bus_machine.specs.proof.MachineLaws.{IsRunOf}
@@ -42,7 +48,8 @@ use Rattle.run_laws.proofs.Picking.{node_agrees, below_nodes, plan_rules, node_o
 use Rattle.run_laws.proofs.Counting.{is_waiting_phase}
 use Rattle.run_laws.proofs.Timed.{without_by}
 use Rattle.run_laws.proofs.Due.{message_keeps}
-use Rattle.run_laws.proofs.Sums.{sum_below, sum_stays, sum_rises, sum_falls, sum_none, sum_scale, sum_both, sum_columns, one_is, sum_list}
+use Rattle.run_laws.proofs.Sums.{sum_below, sum_stays, sum_rises, sum_falls, sum_none, sum_scale, sum_both, sum_columns}
+use Rattle.run_laws.proofs.Sums.{one_is, sum_list}
 
 -- ---- of a node
 -- a send counts for more than the messages that it puts into flight

@@ -1,5 +1,6 @@
 -- The numbers of a world are readings.
-use Rattle.std.proofs.Common.{◌≡◌, ◌≢◌, ℕ, suc, ◌+◌, ◌-◌, ◌*◌, ◌<◌, ◌≤◌, Bool, true, false, length, Option, Some, None, refl, sym, ◌∙◌, arith}
+use Rattle.std.proofs.Common.{◌≡◌, ◌≢◌, ℕ, suc, ◌+◌, ◌-◌, ◌*◌, ◌<◌, ◌≤◌, Bool, true, false, length, Option, Some, None}
+use Rattle.std.proofs.Common.{refl, sym, ◌∙◌, arith}
 use Rattle.std.specs.Prelude.{max, min, if◌then◌else◌}
 use Rattle.std.proofs.lemmas.Nat.{mul-le}
 use Rattle.std.proofs.lemmas.Option.{same_Some, none-some}
@@ -21,7 +22,8 @@ use Rattle.run_laws.specs.Deadlines.{last_before, lesser, message_deadline}
 use Rattle.run_laws.specs.proof.WorldsKeep.{KeepsTime}
 use Rattle.run_laws.specs.proof.WorldLaws.{TimesAreReadings}
 use Rattle.run_laws.proofs.WorldTimes.{alarm_more}
-use Rattle.run_laws.proofs.Nodes.{fits_at, phase_last, send_last, deadline_is, next_alarm, phase_agrees, rounds_at_most, late}
+use Rattle.run_laws.proofs.Nodes.{fits_at, phase_last, send_last, deadline_is, next_alarm, phase_agrees, rounds_at_most}
+use Rattle.run_laws.proofs.Nodes.{late}
 use Rattle.run_laws.proofs.Links.{rule_of}
 
 -- ---- products

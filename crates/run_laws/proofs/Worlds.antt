@@ -10,9 +10,11 @@ use Rattle.run_laws.specs.Worlds.{World, opening_world, world_after}
 use Rattle.run_laws.specs.Faults.{IsWithin}
 use Rattle.run_laws.specs.proof.WorldsKeep.{KeepsTime}
 use Rattle.run_laws.specs.EventLists.{world_left}
-use Rattle.run_laws.specs.proof.WorldLaws.{EventKeepsTime, ArrivalsAreKept, CountsAreClose, ListsAreInStep, ListsKeepArrivals, ListsGoRight}
+use Rattle.run_laws.specs.proof.WorldLaws.{EventKeepsTime, ArrivalsAreKept, CountsAreClose, ListsAreInStep}
+use Rattle.run_laws.specs.proof.WorldLaws.{ListsKeepArrivals, ListsGoRight}
 use Rattle.run_laws.proofs.Nodes.{counts_close}
-use Rattle.run_laws.proofs.Faults.{named, starts_in_time, steps_in_time, finishes_in_time, sends_in_time, arrives_in_time}
+use Rattle.run_laws.proofs.Faults.{named, starts_in_time, steps_in_time, finishes_in_time, sends_in_time}
+use Rattle.run_laws.proofs.Faults.{arrives_in_time}
 use Rattle.run_laws.proofs.Passes.{passes_in_time, pass_keeps_time}
 use Rattle.run_laws.proofs.Starts.{start_keeps_time}
 use Rattle.run_laws.proofs.StepsOn.{step_keeps_time}

@@ -1,5 +1,6 @@
 -- Which lines have the form of a journal line, and what they say.
-use Rattle.std.specs.Prelude.{ℕ, ◌+◌, ◌-◌, ◌*◌, nat_eq, nat_le, Bool, not, ◌&&◌, if◌then◌else◌, List, [], ◌∷◌, length, fold, bytes_eq, codes, decimal, Option, Some, None, option_and_then, option_map}
+use Rattle.std.specs.Prelude.{ℕ, ◌+◌, ◌-◌, ◌*◌, nat_eq, nat_le, Bool, not, ◌&&◌, if◌then◌else◌, List, [], ◌∷◌, length}
+use Rattle.std.specs.Prelude.{fold, bytes_eq, codes, decimal, Option, Some, None, option_and_then, option_map}
 use Rattle.std.specs.List.{list_all, slice_split}
 use Rattle.pals_base.specs.declared.limits.TheConstants.{ROUNDS, READING}
 use Rattle.pals_runs.specs.declared.journal.Arrived.{Arrived}

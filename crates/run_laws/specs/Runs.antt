@@ -1,5 +1,6 @@
 -- Runs whose nodes keep to their clocks: each does its next action, at a reading that its clock shows, in any order of the nodes.
-use Rattle.std.specs.Prelude.{◌≡◌, ◌⊎◌, ℕ, ◌<◌, ◌≤◌, true, false, List, [], ◌++◌, length, map, All, Option, Some, None, option_map, slice_get, slice_index_or, slice_set}
+use Rattle.std.specs.Prelude.{◌≡◌, ◌⊎◌, ℕ, ◌<◌, ◌≤◌, true, false, List, [], ◌++◌, length, map, All, Option, Some, None}
+use Rattle.std.specs.Prelude.{option_map, slice_get, slice_index_or, slice_set}
 use Rattle.std.specs.List.Sorted.{IsNonDecreasing}
 use Rattle.pals_base.specs.declared.values.NodeNo.{NodeNo}
 use Rattle.pals_base.specs.declared.values.LinkNo.{LinkNo}

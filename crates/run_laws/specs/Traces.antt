@@ -1,5 +1,7 @@
 -- The verdict on the trace of a run: the rows of its report, and then its journal, which replays.
-use Rattle.std.specs.Prelude.{ℕ, ◌+◌, ◌/◌, ◌%◌, nat_eq, Bool, true, false, not, ◌&&◌, if◌then◌else◌, List, [], ◌∷◌, length, map, take, drop, bytes_eq, position, Option, Some, None, is_some, is_none, slice_index_or, slice_set}
+use Rattle.std.specs.Prelude.{ℕ, ◌+◌, ◌/◌, ◌%◌, nat_eq, Bool, true, false, not, ◌&&◌, if◌then◌else◌, List, [], ◌∷◌}
+use Rattle.std.specs.Prelude.{length, map, take, drop, bytes_eq, position, Option, Some, None, is_some, is_none}
+use Rattle.std.specs.Prelude.{slice_index_or, slice_set}
 use Rattle.std.specs.List.{list_all, enumerate_from, position_or_len}
 use Rattle.std.specs.Option.{unwrap_or}
 use Rattle.pals_model.specs.declared.design.DesignParts.{DesignParts}

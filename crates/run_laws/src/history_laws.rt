@@ -1,5 +1,6 @@
 //! What a trace is that is judged sound. Each law is the contract of a function that does nothing.
-ghost use Rattle.run_laws.specs.proof.SoundTraces.{HistoriesReplay, RunsAreHistories, RunsAreTraces, SoundAreTraces, SoundIsTrace, ToldAreLines, TracesAreSound};
+ghost use Rattle.run_laws.specs.proof.SoundTraces.{HistoriesReplay, RunsAreHistories, RunsAreTraces, SoundAreTraces};
+ghost use Rattle.run_laws.specs.proof.SoundTraces.{SoundIsTrace, ToldAreLines, TracesAreSound};
 
 /// A trace is judged sound, with this number of rounds and this stop, exactly where it is the report of so
 /// many rounds of the composition and then the lines of a history that has come to its end: it stands at

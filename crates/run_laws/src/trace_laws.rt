@@ -1,5 +1,6 @@
 //! Laws of traces. The functions do nothing: their contracts are the laws.
-ghost use Rattle.run_laws.specs.proof.EntryLines.{EntriesHaveLines, LinesDiffer, LinesHaveForms, LinesTellEntries, ToldAreIn};
+ghost use Rattle.run_laws.specs.proof.EntryLines.{EntriesHaveLines, LinesDiffer, LinesHaveForms, LinesTellEntries};
+ghost use Rattle.run_laws.specs.proof.EntryLines.{ToldAreIn};
 ghost use Rattle.run_laws.specs.proof.Reports.{ReportsHaveNoForms, ReportsHaveRows, TextsHaveLines};
 ghost use Rattle.run_laws.specs.proof.TraceRows.{TracesAreJudged};
 

@@ -4,7 +4,8 @@ use Rattle.std.specs.Fmt.{digits}
 use Rattle.pals_base.specs.Fire.{fire}
 use Rattle.pals_model.specs.Composition.{comp}
 use Rattle.run_monitor.specs.Monitors.{holds}
-use Rattle.run_monitor.specs.proof.CounterProperties.{SmallIsWatched, UpIsWatched, QuietIsWatched, TwoText, OneText, AreViolated}
+use Rattle.run_monitor.specs.proof.CounterProperties.{SmallIsWatched, UpIsWatched, QuietIsWatched, TwoText, OneText}
+use Rattle.run_monitor.specs.proof.CounterProperties.{AreViolated}
 
 pub small_is_watched : SmallIsWatched
 unfolding fire comp holds

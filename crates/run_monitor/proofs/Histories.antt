@@ -1,5 +1,6 @@
 -- What a formula says at a round stays, and one bit a formula tells what it says at one more.
-use Rattle.std.proofs.Common.{◌≡◌, ◌∙◌, ℕ, suc, ℤ, Bool, not, ◌&&◌, ◌||◌, is_some, List, [], ◌∷◌, ◌++◌, length, refl, sym, ap, ap₂, arith}
+use Rattle.std.proofs.Common.{◌≡◌, ◌∙◌, ℕ, suc, ℤ, Bool, not, ◌&&◌, ◌||◌, is_some, List, [], ◌∷◌, ◌++◌, length, refl}
+use Rattle.std.proofs.Common.{sym, ap, ap₂, arith}
 use Rattle.std.proofs.lemmas.List.{get_or_append_left}
 use Rattle.std.proofs.Math.Seq.{get_or-append_seam}
 use Rattle.pals_base.specs.declared.values.Frame.{Frame}
@@ -8,8 +9,11 @@ use Rattle.pals_runs.specs.Formula.{Formula, Var, Halted, Not, And, Or, Previous
 use Rattle.run_monitor.specs.Times.{since}
 use Rattle.run_monitor.specs.Monitors.{frame_in, variable_in, compares, holds}
 use Rattle.run_monitor.specs.proof.MonitorSteps.{further, bits_after}
-use Rattle.run_monitor.specs.proof.FormulaLaws.{PreviousReads, OnceReads, HistoricallyReads, SinceReads, PastStays, OneBitEach}
-use Rattle.run_monitor.proofs.Times.{once-first, once-next, always-first, always-next, since-first, since-next, previously-same, once-same, always-same, since-same, previously-reads, once-reads, always-reads, since-reads}
+use Rattle.run_monitor.specs.proof.FormulaLaws.{PreviousReads, OnceReads, HistoricallyReads, SinceReads, PastStays}
+use Rattle.run_monitor.specs.proof.FormulaLaws.{OneBitEach}
+use Rattle.run_monitor.proofs.Times.{once-first, once-next, always-first, always-next, since-first, since-next}
+use Rattle.run_monitor.proofs.Times.{previously-same, once-same, always-same, since-same, previously-reads, once-reads}
+use Rattle.run_monitor.proofs.Times.{always-reads, since-reads}
 
 -- ---- the words of time
 pub previous_reads : PreviousReads

@@ -1,5 +1,7 @@
 -- A monitor stands for the history that it went through.
-use Rattle.std.proofs.Common.{◌≡◌, ◌≢◌, ◌∙◌, ℕ, zero, suc, ◌-◌, ◌<◌, nat_eq, Bool, true, false, if◌then◌else◌, not, ◌&&◌, ◌||◌, List, [], ◌∷◌, ◌++◌, length, map, Some, None, slice_get, refl, sym, ap, ap₂, arith, length-append}
+use Rattle.std.proofs.Common.{◌≡◌, ◌≢◌, ◌∙◌, ℕ, zero, suc, ◌-◌, ◌<◌, nat_eq, Bool, true, false, if◌then◌else◌, not}
+use Rattle.std.proofs.Common.{◌&&◌, ◌||◌, List, [], ◌∷◌, ◌++◌, length, map, Some, None, slice_get, refl, sym, ap, ap₂}
+use Rattle.std.proofs.Common.{arith, length-append}
 use Rattle.std.proofs.lemmas.Bool.{eqb-true, eq-eqb, ne_eqb, false≢true}
 use Rattle.std.proofs.lemmas.List.{length-map, ext_get_or, get_or-map}
 use Rattle.std.proofs.lemmas.Option.{slice_get_within, slice_get-get_or, get_or_from_slice_get}
@@ -13,7 +15,8 @@ use Rattle.run_monitor.specs.declared.forms.FlatForm.TheVariants as flat
 use Rattle.pals_runs.specs.proof.FormulaNames.{reads, names}
 use Rattle.run_monitor.specs.proof.Flat.{formula_at, built, forms_of, HasParts, IsFlat, Adds}
 use Rattle.run_monitor.specs.proof.Bits.{bit_at, seen_bit, row_bit, next_bit, AreSeen, AreOfRow, AreNext}
-use Rattle.run_monitor.specs.proof.States.{MonitorState, whole, said, HasKept, StandsFor, HasSeen, IsNew, Sees, SeesAll, AdvancesBy, Advances, GoesOn, IsReady}
+use Rattle.run_monitor.specs.proof.States.{MonitorState, whole, said, HasKept, StandsFor, HasSeen, IsNew, Sees, SeesAll}
+use Rattle.run_monitor.specs.proof.States.{AdvancesBy, Advances, GoesOn, IsReady}
 use Rattle.run_monitor.proofs.Adding.{length-forms, form-is}
 
 abbrev pub state : List FlatForm → Bool → List Bool → List Bool → MonitorState

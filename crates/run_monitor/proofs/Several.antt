@@ -1,5 +1,7 @@
 -- Several monitors go on side by side.
-use Rattle.std.proofs.Common.{◌≡◌, ◌∙◌, inl, inr, ℕ, zero, suc, ◌+◌, ◌<◌, ◌≤◌, Bool, false, not, cond, List, [], ◌∷◌, ◌++◌, length, map, All, get_or, slice_set, Option, Some, None, position, refl, sym, ap, ap₂, subst, arith, eq-or-lt_of_le, add-one}
+use Rattle.std.proofs.Common.{◌≡◌, ◌∙◌, inl, inr, ℕ, zero, suc, ◌+◌, ◌<◌, ◌≤◌, Bool, false, not, cond, List, [], ◌∷◌}
+use Rattle.std.proofs.Common.{◌++◌, length, map, All, get_or, slice_set, Option, Some, None, position, refl, sym, ap}
+use Rattle.std.proofs.Common.{ap₂, subst, arith, eq-or-lt_of_le, add-one}
 use Rattle.std.specs.List.{position_from}
 use Rattle.std.specs.Option.{option_map, option_or}
 use Rattle.std.proofs.lemmas.List.{get_or-set_other, map-append}

@@ -1,5 +1,7 @@
 -- The first violation is at the least round at which a formula is false, and the first that is false there.
-use Rattle.std.proofs.Common.{◌≡◌, ◌∙◌, ◌⊎◌, inl, inr, ℕ, zero, suc, ◌+◌, ◌<◌, ◌≤◌, Bool, true, false, not, List, [], ◌∷◌, ◌++◌, length, map, Option, Some, None, slice_get, position, refl, sym, ap, ap₂, subst, arith, eq-or-lt_of_le, true≢false, length-append, zero-add}
+use Rattle.std.proofs.Common.{◌≡◌, ◌∙◌, ◌⊎◌, inl, inr, ℕ, zero, suc, ◌+◌, ◌<◌, ◌≤◌, Bool, true, false, not, List, []}
+use Rattle.std.proofs.Common.{◌∷◌, ◌++◌, length, map, Option, Some, None, slice_get, position, refl, sym, ap, ap₂}
+use Rattle.std.proofs.Common.{subst, arith, eq-or-lt_of_le, true≢false, length-append, zero-add}
 use Rattle.std.specs.List.{list_any, position_from}
 use Rattle.std.specs.Option.{option_map, option_or}
 use Rattle.std.proofs.lemmas.Bool.{or_from, or_left, or_right, false≢true}

@@ -1,5 +1,6 @@
 -- The history of a design grows by a row each round.
-use Rattle.std.proofs.Common.{◌∙◌, inl, inr, zero, suc, ◌≤◌, List, [], ◌∷◌, length, refl, sym, ap, arith, length-append, add-one, eq-or-lt_of_le}
+use Rattle.std.proofs.Common.{◌∙◌, inl, inr, zero, suc, ◌≤◌, List, [], ◌∷◌, length, refl, sym, ap, arith, length-append}
+use Rattle.std.proofs.Common.{add-one, eq-or-lt_of_le}
 use Rattle.pals_base.specs.declared.values.Frame.{Frame}
 use Rattle.pals_base.proofs.Upwards.{map_upwards_more}
 use Rattle.pals_model.specs.Composition.{comp}

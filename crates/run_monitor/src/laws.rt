@@ -1,8 +1,10 @@
 //! Laws of monitors. Each law is the contract of a function that does nothing.
-ghost use Rattle.run_monitor.specs.proof.FormulaLaws.{PreviousReads, OnceReads, HistoricallyReads, SinceReads, PastStays};
-ghost use Rattle.run_monitor.specs.proof.FormulaLaws.{OneBitEach, HistoryHasRounds, HistoryGoesOn, SaidAtOnce, RowsGoOn};
+ghost use Rattle.run_monitor.specs.proof.FormulaLaws.{PreviousReads, OnceReads, HistoricallyReads, SinceReads};
+ghost use Rattle.run_monitor.specs.proof.FormulaLaws.{PastStays, OneBitEach, HistoryHasRounds, HistoryGoesOn};
+ghost use Rattle.run_monitor.specs.proof.FormulaLaws.{SaidAtOnce, RowsGoOn};
 ghost use Rattle.run_monitor.specs.proof.Found.{ViolatedIsFirst, OthersHold};
-ghost use Rattle.run_monitor.specs.proof.CounterProperties.{SmallIsWatched, UpIsWatched, QuietIsWatched, TwoText, OneText, AreViolated};
+ghost use Rattle.run_monitor.specs.proof.CounterProperties.{SmallIsWatched, UpIsWatched, QuietIsWatched, TwoText};
+ghost use Rattle.run_monitor.specs.proof.CounterProperties.{OneText, AreViolated};
 
 /// What the words of time mean, said over all rounds up to the one that is asked of.
 pub fn words_read_as_written()

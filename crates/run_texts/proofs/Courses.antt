@@ -1,5 +1,6 @@
 -- What is told of a run that has come to its end: its texts are those of the run, and its trace is sound.
-use Rattle.std.proofs.Common.{◌≡◌, ◌≢◌, ◌∙◌, inl, inr, ◌⊎◌, ℕ, ◌≤◌, Bool, List, [], map, All, ◌++◌, Option, Some, None, sym, ap, subst, if◌then◌else◌}
+use Rattle.std.proofs.Common.{◌≡◌, ◌≢◌, ◌∙◌, inl, inr, ◌⊎◌, ℕ, ◌≤◌, Bool, List, [], map, All, ◌++◌, Option, Some, None}
+use Rattle.std.proofs.Common.{sym, ap, subst, if◌then◌else◌}
 use Rattle.pals_base.specs.declared.limits.TheConstants.{ROUNDS, READING}
 use Rattle.pals_clock.specs.declared.clock.Clocks.{Clocks}
 use Rattle.pals_clock.specs.declared.clock.Clocks.TheVariants.{Meet, Lists}

@@ -1,5 +1,6 @@
 -- What is told of a bus that has come to its end is told of its run.
-use Rattle.std.proofs.Common.{◌≡◌, ◌≢◌, ◌∙◌, inl, inr, ℕ, ◌<◌, ◌≤◌, Bool, List, [], length, ◌++◌, Option, Some, None, slice_get, refl, sym, ap, subst, arith, if◌then◌else◌}
+use Rattle.std.proofs.Common.{◌≡◌, ◌≢◌, ◌∙◌, inl, inr, ℕ, ◌<◌, ◌≤◌, Bool, List, [], length, ◌++◌, Option, Some, None}
+use Rattle.std.proofs.Common.{slice_get, refl, sym, ap, subst, arith, if◌then◌else◌}
 use Rattle.std.specs.Prelude.{Result, Ok, Err, IfOk}
 use Rattle.pals_base.specs.declared.limits.TheConstants.{COMPONENTS, ROUNDS}
 use Rattle.pals_clock.specs.Clock.{ClockState}
@@ -17,8 +18,7 @@ use Rattle.node_threads.specs.proof.Courses.{EndsAt as EndsAtOn}
 use Rattle.node_threads.specs.declared.ends.NodeEnd.{NodeEnd}
 use Rattle.node_threads.specs.declared.ends.NodeEnd.TheVariants as end
 use Rattle.node_threads.specs.proof.Ends.{EndFits, EndsFit, IsOutcome}
-use Rattle.run_laws.specs.Timely.{IsOver}
-use Rattle.run_laws.specs.Timely.{AllAtEnd}
+use Rattle.run_laws.specs.Timely.{IsOver, AllAtEnd}
 use Rattle.run_laws.specs.proof.Sound.{AreReadings}
 use Rattle.run_laws.proofs.Picking.{runs_agree}
 use Rattle.run_texts.specs.declared.told.RunReport.{RunReport}

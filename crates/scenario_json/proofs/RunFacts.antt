@@ -1,5 +1,6 @@
 -- The fields of runs keep what their readers look at.
-use Rattle.std.proofs.Common.{◌≡◌, ℕ, ◌<◌, ◌≤◌, ◌+◌, ◌-◌, Bool, true, false, cond, List, [], ◌∷◌, ◌++◌, length, replicate, Ok, All, refl, ◌∙◌, subst, arith, codes, decimal, length-append, lit<}
+use Rattle.std.proofs.Common.{◌≡◌, ℕ, ◌<◌, ◌≤◌, ◌+◌, ◌-◌, Bool, true, false, cond, List, [], ◌∷◌, ◌++◌, length}
+use Rattle.std.proofs.Common.{replicate, Ok, All, refl, ◌∙◌, subst, arith, codes, decimal, length-append, lit<}
 use Rattle.std.specs.Prelude.{nat_lt, slice_set}
 use Rattle.std.specs.List.Sorted.{IsNonDecreasing}
 use Rattle.std.proofs.lemmas.Bool.Decides.{nat_tests}
@@ -21,9 +22,11 @@ use Rattle.scenario_values.specs.FaultPlaces.{inside}
 use Rattle.scenario_values.specs.Values.{elements, entries, short_list, whole}
 use Rattle.scenario_values.proofs.PassedValues.{ok_same, ok_bind, ok_only_if, through_keeps, whole_within}
 use Rattle.scenario_values.specs.Names.{node_at, link_at, root_at}
-use Rattle.scenario_json.specs.Inputs.{value_list, with_input, inputs_in, with_delay, delay_list, with_link_delays, delays_in}
+use Rattle.scenario_json.specs.Inputs.{value_list, with_input, inputs_in, with_delay, delay_list, with_link_delays}
+use Rattle.scenario_json.specs.Inputs.{delays_in}
 use Rattle.scenario_json.specs.Clocks.{last_of, with_reading, reading_list, with_clock, clock_lists, is_meet, clocks_in}
-use Rattle.scenario_json.specs.proof.RunFacts.{AreInputsOf, IsDelayList, AreDelaysOf, IsOpening, AreClocksOf, AreClocksFor}
+use Rattle.scenario_json.specs.proof.RunFacts.{AreInputsOf, IsDelayList, AreDelaysOf, IsOpening, AreClocksOf}
+use Rattle.scenario_json.specs.proof.RunFacts.{AreClocksFor}
 use Rattle.scenario_json.proofs.Readings.{order_push}
 
 -- ---- inputs

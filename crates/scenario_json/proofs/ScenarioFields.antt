@@ -1,5 +1,6 @@
 -- A scenario that was read keeps what its fields keep.
-use Rattle.std.proofs.Common.{◌≡◌, ℕ, ◌≤◌, Bool, true, false, List, [], ◌∷◌, length, codes, Option, Some, None, Result, Ok, Err, All, IfOk, replicate, subst, refl, sym, ap, ◌∙◌, arith}
+use Rattle.std.proofs.Common.{◌≡◌, ℕ, ◌≤◌, Bool, true, false, List, [], ◌∷◌, length, codes, Option, Some, None, Result}
+use Rattle.std.proofs.Common.{Ok, Err, All, IfOk, replicate, subst, refl, sym, ap, ◌∙◌, arith}
 use Rattle.std.specs.Prelude.{nat_le, min, ◌^◌, ◌-◌}
 use Rattle.std.proofs.lemmas.Bool.{leb-true}
 use Rattle.std.proofs.lemmas.List.Elements.{All-nil}
@@ -36,7 +37,9 @@ use Rattle.analysis_fields.proofs.FaultFacts.{faults_keep}
 use Rattle.analysis_fields.proofs.ProcessorFacts.{processors_keep}
 use Rattle.scenario_json.specs.declared.scenario.Scenario.{Scenario}
 use Rattle.scenario_json.specs.proof.Facts.{IsScenarioOf}
-use Rattle.scenario_json.specs.Scenarios.{field, small_enough, needs_processors, rounds_in, inputs_field, events_field, clocks_field, delays_field, trace_field, properties_field, replicas_field, faults_field, plants_field, processors_field, fields_in}
+use Rattle.scenario_json.specs.Scenarios.{field, small_enough, needs_processors, rounds_in, inputs_field, events_field}
+use Rattle.scenario_json.specs.Scenarios.{clocks_field, delays_field, trace_field, properties_field, replicas_field}
+use Rattle.scenario_json.specs.Scenarios.{faults_field, plants_field, processors_field, fields_in}
 
 -- a field that is there keeps what its reader keeps, and one that is not there what stands in its place keeps
 field_keeps : {A : Type 0} (P : A → Type 0) (name : List ℕ) (needed : Bool) (otherwise : A)

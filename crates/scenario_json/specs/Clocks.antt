@@ -1,5 +1,6 @@
 -- The clocks of the nodes.
-use Rattle.std.specs.Prelude.{ℕ, bytes_eq, codes, decimal, List, [], ◌∷◌, ◌++◌, length, replicate, slice_set, slice_index, Bool, ◌-◌, option_map, unwrap_or, false, Result, Ok, if◌then◌else◌}
+use Rattle.std.specs.Prelude.{ℕ, bytes_eq, codes, decimal, List, [], ◌∷◌, ◌++◌, length, replicate, slice_set}
+use Rattle.std.specs.Prelude.{slice_index, Bool, ◌-◌, option_map, unwrap_or, false, Result, Ok, if◌then◌else◌}
 use Rattle.serde_json.specs.Data.{Data}
 use Rattle.serde_json.specs.Find.{as_str}
 use Rattle.pals_base.specs.declared.limits.TheConstants.{READING, LIST_ITEMS}

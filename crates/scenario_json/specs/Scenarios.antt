@@ -1,5 +1,7 @@
 -- What a scenario means, or its first fault.
-use Rattle.std.specs.Prelude.{◌≡◌, ◌≢◌, ◌⊎◌, IsUtf8, MatchResult, ℕ, ◌^◌, ◌-◌, min, nat_le, bytes_eq, codes, List, [], ◌∷◌, length, find, replicate, Bool, true, false, not, Option, Some, None, Result, Ok, Err, if◌then◌else◌}
+use Rattle.std.specs.Prelude.{◌≡◌, ◌≢◌, ◌⊎◌, IsUtf8, MatchResult, ℕ, ◌^◌, ◌-◌, min, nat_le, bytes_eq, codes, List, []}
+use Rattle.std.specs.Prelude.{◌∷◌, length, find, replicate, Bool, true, false, not, Option, Some, None, Result, Ok, Err}
+use Rattle.std.specs.Prelude.{if◌then◌else◌}
 use Rattle.std.specs.List.{list_any}
 use Rattle.serde_json.specs.Data.{Data}
 use Rattle.serde_json.specs.Find.{get}

@@ -4,7 +4,8 @@ ghost use Rattle.serde_json.specs.View.{view};
 ghost use Rattle.pals_model.specs.Inputs.{root_inputs};
 ghost use Rattle.scenario_values.specs.Outcomes.{Answers, Makes};
 ghost use Rattle.scenario_values.specs.FaultPlaces.{inside};
-ghost use Rattle.scenario_json.specs.Inputs.{value_list, with_input, inputs_in, delay_list, with_link_delays, delays_in};
+ghost use Rattle.scenario_json.specs.Inputs.{value_list, with_input, inputs_in, delay_list, with_link_delays};
+ghost use Rattle.scenario_json.specs.Inputs.{delays_in};
 
 use pals_base::limits::HOUR;
 use pals_base::{Items, Kind, Nanos, NoMemory, Tuple};

@@ -13,7 +13,11 @@ ghost use Rattle.analysis_fields.specs.Replicas.{replicas_in, faults_in};
 ghost use Rattle.analysis_fields.specs.Plants.{plants_in};
 ghost use Rattle.analysis_fields.specs.Processors.{processors_in};
 ghost use Rattle.scenario_json.specs.proof.Facts.{IsScenarioOf};
-ghost use Rattle.scenario_json.specs.Scenarios.{is_field, needs_events, needs_trace, needs_properties, needs_processors, rounds_in, inputs_field, events_field, clocks_field, delays_field, trace_field, properties_field, replicas_field, faults_field, plants_field, processors_field, fields_in, scen, IsAnswer};
+ghost use Rattle.scenario_json.specs.Scenarios.{is_field, needs_events, needs_trace, needs_properties};
+ghost use Rattle.scenario_json.specs.Scenarios.{needs_processors, rounds_in, inputs_field, events_field, clocks_field};
+ghost use Rattle.scenario_json.specs.Scenarios.{delays_field, trace_field, properties_field, replicas_field};
+ghost use Rattle.scenario_json.specs.Scenarios.{faults_field, plants_field, processors_field, fields_in, scen};
+ghost use Rattle.scenario_json.specs.Scenarios.{IsAnswer};
 
 use crate::scenario::Scenario;
 use crate::{

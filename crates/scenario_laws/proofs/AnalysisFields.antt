@@ -22,11 +22,18 @@ use Rattle.analysis_fields.specs.declared.plants.NamedPair.{NamedPair}
 use Rattle.analysis_fields.specs.declared.processors.Processor.{Processor}
 use Rattle.analysis_fields.specs.PropertyValues.{PropertyValue}
 use Rattle.analysis_fields.specs.Plants.{named_in, pair_in, with_pair, plants_in}
-use Rattle.analysis_fields.specs.Processors.{with_member, processor_parts, processor_in, with_processor, all_placed, nowhere, processors_in}
-use Rattle.analysis_fields.specs.Properties.{compare_of, variable_at, var_form, halted_form, one_part, two_parts, form_of, role_in, rest_of, formula_in, property_in, with_property, properties_in}
-use Rattle.analysis_fields.specs.Replicas.{with_replica, replicas_in, copies_at, kind_at, with_fault_value, replica_at, link_from, ends_of, fault_behind, fault_of, fault_from, fault_in, with_fault, faults_in}
-use Rattle.scenario_laws.proofs.Named.{IsNamed, ok, wrong, out, strange, lacking, bind, given_named, only, through_named}
-use Rattle.scenario_laws.proofs.Values.{elements_named, entries_named, whole_named, number_named, text_named, port_value_named, node_at_named, link_at_named}
+use Rattle.analysis_fields.specs.Processors.{with_member, processor_parts, processor_in, with_processor, all_placed}
+use Rattle.analysis_fields.specs.Processors.{nowhere, processors_in}
+use Rattle.analysis_fields.specs.Properties.{compare_of, variable_at, var_form, halted_form, one_part, two_parts}
+use Rattle.analysis_fields.specs.Properties.{form_of, role_in, rest_of, formula_in, property_in, with_property}
+use Rattle.analysis_fields.specs.Properties.{properties_in}
+use Rattle.analysis_fields.specs.Replicas.{with_replica, replicas_in, copies_at, kind_at, with_fault_value, replica_at}
+use Rattle.analysis_fields.specs.Replicas.{link_from, ends_of, fault_behind, fault_of, fault_from, fault_in, with_fault}
+use Rattle.analysis_fields.specs.Replicas.{faults_in}
+use Rattle.scenario_laws.proofs.Named.{IsNamed, ok, wrong, out, strange, lacking, bind, given_named, only}
+use Rattle.scenario_laws.proofs.Named.{through_named}
+use Rattle.scenario_laws.proofs.Values.{elements_named, entries_named, whole_named, number_named, text_named}
+use Rattle.scenario_laws.proofs.Values.{port_value_named, node_at_named, link_at_named}
 
 -- ---- properties
 variable_at_named : (place : List ℕ) (design : DesignParts) (node : ℕ) (name : List ℕ)

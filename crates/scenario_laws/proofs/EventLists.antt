@@ -1,5 +1,6 @@
 -- The events of a scenario are no more than a list may have, and those of a loose world are events of that world.
-use Rattle.std.proofs.Common.{◌≡◌, ℕ, ◌<◌, ◌≤◌, ◌+◌, true, List, [], ◌∷◌, ◌++◌, length, codes, decimal, Ok, All, refl, ap, subst, arith, length-append}
+use Rattle.std.proofs.Common.{◌≡◌, ℕ, ◌<◌, ◌≤◌, ◌+◌, true, List, [], ◌∷◌, ◌++◌, length, codes, decimal, Ok, All, refl}
+use Rattle.std.proofs.Common.{ap, subst, arith, length-append}
 use Rattle.std.specs.Prelude.{nat_le, option_and_then}
 use Rattle.std.proofs.lemmas.Bool.{leb-true}
 use Rattle.std.proofs.lemmas.List.Elements.{All-nil, All-push}
@@ -19,8 +20,10 @@ use Rattle.scenario_values.specs.Values.{elements, short_list, text, whole, is_w
 use Rattle.scenario_values.proofs.PassedValues.{ok_same, ok_bind, ok_only_if}
 use Rattle.scenario_values.specs.Names.{node_at, link_at, node_no, link_no}
 use Rattle.scenario_json.specs.declared.events.EventWord.{EventWord}
-use Rattle.scenario_json.specs.declared.events.EventWord.TheVariants.{Pass, Start, Step, Finish, Send, Arrive, Drop, Repeat}
-use Rattle.scenario_json.specs.Events.{word_of, is_usual, node_part, link_parts, event_of, usual_word, event_from, event_in, with_event, events_in}
+use Rattle.scenario_json.specs.declared.events.EventWord.TheVariants.{Pass, Start, Step, Finish, Send, Arrive, Drop}
+use Rattle.scenario_json.specs.declared.events.EventWord.TheVariants.{Repeat}
+use Rattle.scenario_json.specs.Events.{word_of, is_usual, node_part, link_parts, event_of, usual_word, event_from}
+use Rattle.scenario_json.specs.Events.{event_in, with_event, events_in}
 use Rattle.loose_world.specs.Worlds.{IsLooseIn}
 use Rattle.scenario_laws.specs.proof.Events.{loosely, AreLooseEvents}
 use Rattle.scenario_laws.proofs.Names.{node_below, link_below}

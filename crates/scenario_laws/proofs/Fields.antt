@@ -1,5 +1,6 @@
 -- The fields of a scenario that was read, one after another.
-use Rattle.std.proofs.Common.{◌≡◌, inl, inr, ℕ, Bool, true, false, List, [], ◌∷◌, length, codes, Option, Some, None, Result, Ok, Err, replicate, refl, subst}
+use Rattle.std.proofs.Common.{◌≡◌, inl, inr, ℕ, Bool, true, false, List, [], ◌∷◌, length, codes, Option, Some, None}
+use Rattle.std.proofs.Common.{Result, Ok, Err, replicate, refl, subst}
 use Rattle.std.specs.Prelude.{find, not}
 use Rattle.serde_json.specs.Data.{Data}
 use Rattle.serde_json.specs.Find.{get}
@@ -29,7 +30,8 @@ use Rattle.analysis_fields.specs.Replicas.{replicas_in, faults_in}
 use Rattle.analysis_fields.specs.Plants.{plants_in}
 use Rattle.analysis_fields.specs.Processors.{processors_in}
 use Rattle.scenario_json.specs.declared.scenario.Scenario.{Scenario}
-use Rattle.scenario_json.specs.Scenarios.{field, only_known, is_field, needs_events, needs_trace, needs_properties, needs_processors, rounds_in, fields_in, scen, Means}
+use Rattle.scenario_json.specs.Scenarios.{field, only_known, is_field, needs_events, needs_trace, needs_properties}
+use Rattle.scenario_json.specs.Scenarios.{needs_processors, rounds_in, fields_in, scen, Means}
 
 -- what a reader keeps that goes on with other fields
 goes_on : {A : Type 0} (m : Result A ScenarioFault) (go : A → Result Scenario ScenarioFault) (s : Scenario) (P : Type 0)

@@ -2,7 +2,8 @@
 use Rattle.std.proofs.Common.{◌≡◌, ◌∙◌, Bool, true, false, List, [], ◌∷◌, ℕ, Option, Some, None, refl}
 use Rattle.std.specs.Prelude.{◌≢◌, Result, Ok, Err}
 use Rattle.scenario_values.specs.declared.fault.ScenarioFault.{ScenarioFault}
-use Rattle.scenario_values.specs.declared.fault.ScenarioFault.TheVariants.{NotJson, Field, Unknown, WrongKind, OutOfRange, TooBig, Memory}
+use Rattle.scenario_values.specs.declared.fault.ScenarioFault.TheVariants.{NotJson, Field, Unknown, WrongKind}
+use Rattle.scenario_values.specs.declared.fault.ScenarioFault.TheVariants.{OutOfRange, TooBig, Memory}
 use Rattle.scenario_values.specs.Outcomes.{◌>>=◌, given, only_if, through}
 
 pub record IsNamed {A : Type 0} (r : Result A ScenarioFault) : Type 0 where

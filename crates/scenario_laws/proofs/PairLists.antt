@@ -1,5 +1,6 @@
 -- The pairs that are read from a scenario can be fused.
-use Rattle.std.proofs.Common.{◌≡◌, ◌≢◌, ◌∙◌, ℕ, zero, suc, ◌<◌, ◌≤◌, cond, Bool, true, false, nat_eq, List, [], ◌∷◌, ◌++◌, length, map, codes, Option, Some, Ok, All, refl, sym, ap, ap₂, subst, arith}
+use Rattle.std.proofs.Common.{◌≡◌, ◌≢◌, ◌∙◌, ℕ, zero, suc, ◌<◌, ◌≤◌, cond, Bool, true, false, nat_eq, List, [], ◌∷◌}
+use Rattle.std.proofs.Common.{◌++◌, length, map, codes, Option, Some, Ok, All, refl, sym, ap, ap₂, subst, arith}
 use Rattle.std.specs.Prelude.{not, ◌&&◌, ◌||◌, count_by, sum_by, option_and_then, slice_index_or}
 use Rattle.std.specs.List.{list_all}
 use Rattle.std.proofs.lemmas.Bool.{eq-eqb, eqb-true, and_parts, or_parts, true≢false}
@@ -19,7 +20,8 @@ use Rattle.scenario_values.specs.Values.{entries, text}
 use Rattle.scenario_values.proofs.PassedValues.{ok_same, ok_bind, ok_given, ok_only_if}
 use Rattle.scenario_values.specs.Names.{node_at}
 use Rattle.analysis_fields.specs.declared.plants.NamedPair.{NamedPair}
-use Rattle.analysis_fields.specs.Plants.{pair, named_in, shares, is_between, are_equals, is_alone, is_sound, pair_in, with_pair, plants_in}
+use Rattle.analysis_fields.specs.Plants.{pair, named_in, shares, is_between, are_equals, is_alone, is_sound, pair_in}
+use Rattle.analysis_fields.specs.Plants.{with_pair, plants_in}
 use Rattle.plant_fuse.specs.Fused.{IsPair, AreApart, ArePairs}
 use Rattle.plant_fuse.proofs.Fitting.{pair_by}
 use Rattle.scenario_laws.proofs.Names.{node_below}

@@ -15,13 +15,17 @@ use Rattle.pals_runs.specs.declared.commands.Command.{Command}
 use Rattle.pals_runs.specs.declared.events.Event.{Event}
 use Rattle.scenario_values.specs.FaultPlaces.{inside}
 use Rattle.scenario_json.specs.declared.events.EventWord.{EventWord}
-use Rattle.scenario_json.specs.declared.events.EventWord.TheVariants.{Pass, Start, Step, Finish, Send, Arrive, Drop, Repeat}
-use Rattle.scenario_json.specs.Inputs.{with_value, value_list, with_input, inputs_in, with_delay, delay_list, with_link_delays, delays_in}
+use Rattle.scenario_json.specs.declared.events.EventWord.TheVariants.{Pass, Start, Step, Finish, Send, Arrive, Drop}
+use Rattle.scenario_json.specs.declared.events.EventWord.TheVariants.{Repeat}
+use Rattle.scenario_json.specs.Inputs.{with_value, value_list, with_input, inputs_in, with_delay, delay_list}
+use Rattle.scenario_json.specs.Inputs.{with_link_delays, delays_in}
 use Rattle.scenario_json.specs.Traces.{with_line, trace_in}
 use Rattle.scenario_json.specs.Clocks.{last_of, with_reading, reading_list, with_clock, clock_lists, is_meet, clocks_in}
-use Rattle.scenario_json.specs.Events.{word_of, node_part, link_parts, with_number, pass_parts, event_of, usual_word, event_from, event_in, with_event, events_in}
+use Rattle.scenario_json.specs.Events.{word_of, node_part, link_parts, with_number, pass_parts, event_of, usual_word}
+use Rattle.scenario_json.specs.Events.{event_from, event_in, with_event, events_in}
 use Rattle.scenario_laws.proofs.Named.{IsNamed, ok, wrong, out, bind, given_named, only, through_named}
-use Rattle.scenario_laws.proofs.Values.{elements_named, entries_named, short_list_named, whole_named, text_named, port_value_named, node_at_named, link_at_named, root_at_named}
+use Rattle.scenario_laws.proofs.Values.{elements_named, entries_named, short_list_named, whole_named, text_named}
+use Rattle.scenario_laws.proofs.Values.{port_value_named, node_at_named, link_at_named, root_at_named}
 
 -- ---- inputs
 with_value_named : (kind : Kind) (place : List ℕ) (values : List PortValue) (d : Data)

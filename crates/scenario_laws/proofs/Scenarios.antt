@@ -21,12 +21,14 @@ use Rattle.analysis_fields.specs.Replicas.{replicas_in, faults_in}
 use Rattle.analysis_fields.specs.Plants.{plants_in}
 use Rattle.analysis_fields.specs.Processors.{processors_in}
 use Rattle.scenario_json.specs.declared.scenario.Scenario.{Scenario}
-use Rattle.scenario_json.specs.Scenarios.{only_known, field, needs_events, needs_trace, needs_properties, needs_processors, rounds_in, fields_in, scen}
+use Rattle.scenario_json.specs.Scenarios.{only_known, field, needs_events, needs_trace, needs_properties}
+use Rattle.scenario_json.specs.Scenarios.{needs_processors, rounds_in, fields_in, scen}
 use Rattle.scenario_laws.specs.proof.Meanings.{HasScenario, HasFault}
 use Rattle.scenario_laws.proofs.Named.{IsNamed, ok, strange, lacking, big, bind, only}
 use Rattle.scenario_laws.proofs.Values.{entries_named, whole_named}
 use Rattle.scenario_laws.proofs.RunFields.{inputs_named, delays_named, trace_named, clocks_named, events_named}
-use Rattle.scenario_laws.proofs.AnalysisFields.{properties_named, replicas_named, faults_named, plants_named, processors_named}
+use Rattle.scenario_laws.proofs.AnalysisFields.{properties_named, replicas_named, faults_named, plants_named}
+use Rattle.scenario_laws.proofs.AnalysisFields.{processors_named}
 
 by_need : {A : Type 0} (name : List ℕ) (needed : Bool) (otherwise : A) (read : Data → Result A ScenarioFault)
     → IsNamed (field name needed otherwise read None)

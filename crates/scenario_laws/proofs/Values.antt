@@ -8,7 +8,8 @@ use Rattle.pals_base.specs.declared.behaviour.Kind.TheVariants.{Integer, Boolean
 use Rattle.pals_base.specs.declared.values.PortValue.TheVariants.{Absent}
 use Rattle.pals_model.specs.declared.design.DesignParts.{DesignParts}
 use Rattle.scenario_values.specs.declared.fault.ScenarioFault.TheVariants.{WrongKind}
-use Rattle.scenario_values.specs.Values.{integer_of, elements, entries, short_list, in_range, whole, number, text, present, port_value}
+use Rattle.scenario_values.specs.Values.{integer_of, elements, entries, short_list, in_range, whole, number, text}
+use Rattle.scenario_values.specs.Values.{present, port_value}
 use Rattle.scenario_values.specs.Names.{node_at, link_at, root_at}
 use Rattle.scenario_laws.proofs.Named.{IsNamed, ok, wrong, out, strange, bind, given_named, only}
 

@@ -1,5 +1,7 @@
 -- Looking a name up, place by place.
-use Rattle.std.proofs.Common.{◌≡◌, ℕ, suc, ◌<◌, ◌+◌, Bool, true, false, cond, List, [], ◌∷◌, length, map, drop, get_or, Some, None, slice_get, refl, sym, ap, ◌∙◌, arith, bytes_eq, string_bytes, String, Global, BTreeMap}
+use Rattle.std.proofs.Common.{◌≡◌, ℕ, suc, ◌<◌, ◌+◌, Bool, true, false, cond, List, [], ◌∷◌, length, map, drop, get_or}
+use Rattle.std.proofs.Common.{Some, None, slice_get, refl, sym, ap, ◌∙◌, arith, bytes_eq, string_bytes, String, Global}
+use Rattle.std.proofs.Common.{BTreeMap}
 use Rattle.std.specs.Prelude.{position, find}
 use Rattle.std.specs.List.{position_from}
 use Rattle.std.specs.BTreeMap as tree

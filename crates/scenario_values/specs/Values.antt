@@ -1,5 +1,6 @@
 -- JSON values as what fields ask for.
-use Rattle.std.specs.Prelude.{String, string_bytes, ℕ, ◌^◌, ◌-◌, nat_le, ℤ, pos, negsuc, int_le, Bool, ◌&&◌, List, [], ◌∷◌, length, Option, option_map, option_and_then, is_some, Result, Ok, Err, if◌then◌else◌}
+use Rattle.std.specs.Prelude.{String, string_bytes, ℕ, ◌^◌, ◌-◌, nat_le, ℤ, pos, negsuc, int_le, Bool, ◌&&◌, List, []}
+use Rattle.std.specs.Prelude.{◌∷◌, length, Option, option_map, option_and_then, is_some, Result, Ok, Err, if◌then◌else◌}
 use Rattle.std.specs.declared.alloc.Global.{Global}
 use Rattle.serde_json.specs.Data.{Data, Items, no_items, item, Members, no_members, member}
 use Rattle.serde_json.specs.Find.{as_null, as_bool, as_number, as_str, as_array, as_object, as_integer}

@@ -3,7 +3,8 @@ ghost use Rattle.std.specs.Prelude.{◌≡◌, ◌≤◌, map, IfOk, IfErr};
 ghost use Rattle.serde_json.specs.View.{view};
 ghost use Rattle.scenario_values.specs.Outcomes.{Answers, Shows};
 ghost use Rattle.scenario_values.specs.FaultPlaces.{place_text};
-ghost use Rattle.scenario_values.specs.Values.{elements, entries, entry_of, short_list, integer_of, is_whole, in_range, whole, number, text, present, port_value};
+ghost use Rattle.scenario_values.specs.Values.{elements, entries, entry_of, short_list, integer_of, is_whole, in_range};
+ghost use Rattle.scenario_values.specs.Values.{whole, number, text, present, port_value};
 
 use crate::fault::ScenarioFault;
 use crate::place::{Place, out_of_range, wrong_kind};

@@ -113,7 +113,8 @@ fn root_names(alloc: Global, feeds: &[Feed]) -> Result<IndexSet<Text>, NoMemory>
 }
 
 impl<'a> DesignNames<'a> {
-    ghost use Rattle.std.specs.Prelude.{◌≡◌, ◌<◌, IfOk, IfSome, length, option_map, option_copied, find, position, bytes_eq};
+    ghost use Rattle.std.specs.Prelude.{◌≡◌, ◌<◌, IfOk, IfSome, length, option_map, option_copied, find, position};
+    ghost use Rattle.std.specs.Prelude.{bytes_eq};
     ghost use Rattle.pals_model.specs.Inputs.{root_inputs};
     ghost use Rattle.pals_model.specs.LinkNames.{node_named, link_named};
     ghost use Rattle.pals_model.specs.Ports.{root_kind};

@@ -1,5 +1,6 @@
 -- A step of verified code leaves something.
-use Rattle.std.proofs.Common.{◌≡◌, ◌∙◌, inl, inr, ℕ, zero, suc, ◌+◌, ◌≤◌, ℤ, pos, true, List, [], ◌∷◌, length, map, replicate, Option, Some, None, refl, sym, ap, subst, ⊎_elim, arith, length-append}
+use Rattle.std.proofs.Common.{◌≡◌, ◌∙◌, inl, inr, ℕ, zero, suc, ◌+◌, ◌≤◌, ℤ, pos, true, List, [], ◌∷◌, length, map}
+use Rattle.std.proofs.Common.{replicate, Option, Some, None, refl, sym, ap, subst, ⊎_elim, arith, length-append}
 use Rattle.std.specs.Prelude.{slice_get}
 use Rattle.std.proofs.lemmas.List.{length-map, length-replicate}
 use Rattle.pals_base.specs.declared.values.Trap.{Trap}
@@ -11,7 +12,8 @@ use Rattle.step_code.specs.declared.instr.Instr.{Instr}
 use Rattle.step_code.specs.declared.instr.CodeParts.{CodeParts}
 use Rattle.step_code.specs.Loops.{around}
 use Rattle.step_code.specs.Paths.{heaviest, entry_weight, weight}
-use Rattle.step_code.specs.proof.Exec.{Outcome, Ended, Trapped, Stuck, Unfinished, left, run_from, from_entry, unless_halted, exec, Leaves, has_entry, FitsCode, Sized}
+use Rattle.step_code.specs.proof.Exec.{Outcome, Ended, Trapped, Stuck, Unfinished, left, run_from, from_entry}
+use Rattle.step_code.specs.proof.Exec.{unless_halted, exec, Leaves, has_entry, FitsCode, Sized}
 use Rattle.step_code.specs.Made.{silent, senses, slots_of}
 use Rattle.step_code.specs.proof.Heights.{Member}
 use Rattle.step_code.specs.proof.Rules.{IsVerified}

@@ -1,5 +1,6 @@
 -- Code whose rules find nothing is never stuck.
-use Rattle.std.proofs.Common.{◌≡◌, ◌∙◌, inl, inr, ℕ, zero, suc, ◌+◌, ◌-◌, ◌<◌, ◌≤◌, ℤ, pos, ◌+ℤ◌, Bool, true, false, if◌then◌else◌, List, [], ◌∷◌, length, Option, Some, None, refl, sym, subst, ⊎_elim, arith}
+use Rattle.std.proofs.Common.{◌≡◌, ◌∙◌, inl, inr, ℕ, zero, suc, ◌+◌, ◌-◌, ◌<◌, ◌≤◌, ℤ, pos, ◌+ℤ◌, Bool, true, false}
+use Rattle.std.proofs.Common.{if◌then◌else◌, List, [], ◌∷◌, length, Option, Some, None, refl, sym, subst, ⊎_elim, arith}
 use Rattle.std.specs.Prelude.{not, slice_get, slice_set, int_lt, Result, Ok, Err}
 use Rattle.std.proofs.lemmas.List.{length-set}
 use Rattle.std.proofs.lemmas.Option.{slice_get-get_or}
@@ -11,7 +12,9 @@ use Rattle.pals_base.specs.declared.behaviour.Op.TheVariants as op
 use Rattle.pals_base.specs.Arithmetic.{negation_of, magnitude_of}
 use Rattle.pals_base.specs.Expressions.{is_true, truth, applied}
 use Rattle.step_code.specs.declared.instr.Instr.{Instr}
-use Rattle.step_code.specs.declared.instr.Instr.TheVariants.{Push, Load, Store, Port, Fresh, Neg, Abs, Not, Add, Sub, Mul, Quot, Mod, Rem, Eq, Ne, Lt, Le, Gt, Ge, And, Or, Xor, Jump, JumpZero, LoopStart, LoopNext, Emit, End}
+use Rattle.step_code.specs.declared.instr.Instr.TheVariants.{Push, Load, Store, Port, Fresh, Neg, Abs, Not, Add, Sub}
+use Rattle.step_code.specs.declared.instr.Instr.TheVariants.{Mul, Quot, Mod, Rem, Eq, Ne, Lt, Le, Gt, Ge, And, Or, Xor}
+use Rattle.step_code.specs.declared.instr.Instr.TheVariants.{Jump, JumpZero, LoopStart, LoopNext, Emit, End}
 use Rattle.step_code.specs.Step.{Next, Goes, Ends, Traps, Sticks, Senses, on_top, on_found, on_result, on_two, step}
 use Rattle.step_code.specs.declared.loops.LoopSpan.{LoopSpan}
 use Rattle.step_code.specs.Loops.{around}

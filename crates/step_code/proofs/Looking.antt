@@ -1,12 +1,14 @@
 -- What the verifier knows while it goes through the places.
-use Rattle.std.proofs.Common.{◌≡◌, ◌∙◌, ℕ, ◌<◌, ◌≤◌, Bool, true, List, length, Option, Some, None, sym, ap, subst, arith}
+use Rattle.std.proofs.Common.{◌≡◌, ◌∙◌, ℕ, ◌<◌, ◌≤◌, Bool, true, List, length, Option, Some, None, sym, ap, subst}
+use Rattle.std.proofs.Common.{arith}
 use Rattle.std.proofs.lemmas.Bool.Decides.{nat_tests}
 use Rattle.std.specs.Option.{option_eq}
 use lib.Dec.{eqb}
 use Rattle.std.proofs.lemmas.Bool.{or_left}
 use Rattle.step_code.specs.declared.instr.CodeParts.{CodeParts}
 use Rattle.pals_base.specs.declared.limits.TheConstants.{INSTRUCTIONS}
-use Rattle.step_code.specs.proof.Rules.{is_bad_entry, jumps_badly, finds, Rule, BadJump, rank, Finds, IsCleanBelow, IsFirst}
+use Rattle.step_code.specs.proof.Rules.{is_bad_entry, jumps_badly, finds, Rule, BadJump, rank, Finds, IsCleanBelow}
+use Rattle.step_code.specs.proof.Rules.{IsFirst}
 use Rattle.step_code.specs.proof.Checks.{IsLeast, AreHeights}
 
 abbrev pub StandsFrom : ℕ → Option ℕ → Type 0

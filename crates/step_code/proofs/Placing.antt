@@ -1,5 +1,6 @@
 -- What the verifier knows behind a place.
-use Rattle.std.proofs.Common.{◌≡◌, ◌∙◌, ℕ, zero, suc, ◌+◌, ◌<◌, ◌≤◌, Bool, true, false, ◌||◌, List, length, Option, Some, None, option_to_list, sym, ap, subst, ⊎_elim, arith, slice_index_or}
+use Rattle.std.proofs.Common.{◌≡◌, ◌∙◌, ℕ, zero, suc, ◌+◌, ◌<◌, ◌≤◌, Bool, true, false, ◌||◌, List, length, Option}
+use Rattle.std.proofs.Common.{Some, None, option_to_list, sym, ap, subst, ⊎_elim, arith, slice_index_or}
 use Rattle.std.specs.Prelude.{not, nat_lt, if◌then◌else◌, Result, Ok, Err, IfErr, OnOk, slice_get}
 use Rattle.std.proofs.lemmas.Bool.{cases_lt, false≢true, cases_eq}
 use Rattle.std.proofs.lemmas.Option.{slice_get_within, slice_get-get_or}
@@ -12,7 +13,10 @@ use Rattle.step_code.specs.declared.fault.CodeFault.TheVariants as fault
 use Rattle.pals_base.specs.declared.limits.TheConstants.{INSTRUCTIONS}
 use Rattle.step_code.specs.Paths.{jump_of, may_go_on, next_of, onward}
 use Rattle.step_code.specs.proof.Heights.{takes, after, Member, Reaches, ComesFromBelow, Given, ways}
-use Rattle.step_code.specs.proof.Rules.{strays, lacks_next, jumps_badly, jumps_back, lacks_loop, misses_slot, is_bad_entry, on_some, finds, Underflows, Differs, Rule, BadJump, BackJump, BadSlot, Underflow, HeightsDiffer, rank, Finds, IsCleanBelow, IsFirst, IsFaultOf}
+use Rattle.step_code.specs.proof.Rules.{strays, lacks_next, jumps_badly, jumps_back, lacks_loop, misses_slot}
+use Rattle.step_code.specs.proof.Rules.{is_bad_entry, on_some, finds, Underflows, Differs, Rule, BadJump, BackJump}
+use Rattle.step_code.specs.proof.Rules.{BadSlot, Underflow, HeightsDiffer, rank, Finds, IsCleanBelow, IsFirst}
+use Rattle.step_code.specs.proof.Rules.{IsFaultOf}
 use Rattle.step_code.specs.proof.Checks.{Holds, Clashes, AreThere, AreHeights, PassesOn, Disagrees, Passed}
 use Rattle.step_code.proofs.Refusals.{IsSound, goes_well}
 use Rattle.step_code.proofs.Crossing.{not_le}

@@ -1,12 +1,14 @@
 -- What it says of an instruction that a rule finds nothing there.
-use Rattle.std.proofs.Common.{◌≡◌, ◌∙◌, ℕ, ◌<◌, Bool, true, false, ◌&&◌, ◌||◌, IsTrue, List, length, Some, refl, sym, ap, nat_lt}
+use Rattle.std.proofs.Common.{◌≡◌, ◌∙◌, ℕ, ◌<◌, Bool, true, false, ◌&&◌, ◌||◌, IsTrue, List, length, Some, refl, sym}
+use Rattle.std.proofs.Common.{ap, nat_lt}
 use Rattle.std.specs.Prelude.{not, slice_get}
 use Rattle.std.proofs.lemmas.Bool.{and_parts, ltb-true, not-false}
 use Rattle.list_lemmas.proofs.Booleans.{or_false_left, or_false_right}
 use Rattle.step_code.specs.declared.instr.Instr.{Instr}
 use Rattle.step_code.specs.declared.instr.Instr.TheVariants.{LoopStart}
 use Rattle.step_code.specs.declared.instr.CodeParts.{CodeParts}
-use Rattle.step_code.specs.proof.Rules.{stays, strays, jumps_badly, jumps_back, misses_slot, is_bad_entry, on_some, finds, Rule, BadJump, BackJump, BadSlot, Finds, IsCleanBelow}
+use Rattle.step_code.specs.proof.Rules.{stays, strays, jumps_badly, jumps_back, misses_slot, is_bad_entry, on_some}
+use Rattle.step_code.specs.proof.Rules.{finds, Rule, BadJump, BackJump, BadSlot, Finds, IsCleanBelow}
 use Rattle.step_code.proofs.Nesting.{loop_is}
 use Rattle.step_code.proofs.Crossing.{AreClosed, not_le}
 

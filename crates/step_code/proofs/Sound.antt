@@ -1,16 +1,19 @@
 -- Verified code is clean, level and fed, as the laws take it.
-use Rattle.std.proofs.Common.{◌≡◌, ◌∙◌, ℕ, zero, suc, ◌+◌, ◌<◌, ◌≤◌, true, false, List, [], ◌∷◌, length, Option, Some, None, refl, sym, ap, ⊎_elim, arith, nat_eq, nat_lt}
+use Rattle.std.proofs.Common.{◌≡◌, ◌∙◌, ℕ, zero, suc, ◌+◌, ◌<◌, ◌≤◌, true, false, List, [], ◌∷◌, length, Option, Some}
+use Rattle.std.proofs.Common.{None, refl, sym, ap, ⊎_elim, arith, nat_eq, nat_lt}
 use Rattle.std.specs.Prelude.{ℤ, not, slice_get}
 use Rattle.std.proofs.lemmas.Bool.{cases_lt, false≢true, ltb-false, eqb-true, eqb-false, cases_eq, not-false}
 use Rattle.list_lemmas.proofs.Booleans.{or_false_left, or_false_right}
 use Rattle.step_code.specs.declared.instr.Instr.{Instr}
-use Rattle.step_code.specs.declared.instr.Instr.TheVariants.{Load, Store, Port, Fresh, Jump, JumpZero, LoopStart, LoopNext, Emit, End}
+use Rattle.step_code.specs.declared.instr.Instr.TheVariants.{Load, Store, Port, Fresh, Jump, JumpZero, LoopStart}
+use Rattle.step_code.specs.declared.instr.Instr.TheVariants.{LoopNext, Emit, End}
 use Rattle.step_code.specs.declared.instr.CodeParts.{CodeParts}
 use Rattle.step_code.specs.declared.loops.LoopSpan.{LoopSpan}
 use Rattle.step_code.specs.Loops.{loop_at, around}
 use Rattle.step_code.specs.Paths.{onward}
 use Rattle.step_code.specs.proof.Heights.{takes, after, Member, Reaches, ways, Fed}
-use Rattle.step_code.specs.proof.Rules.{on_some, strays, lacks_next, ends_loop, is_no_loop_slot, Underflow, HeightsDiffer, IsVerified}
+use Rattle.step_code.specs.proof.Rules.{on_some, strays, lacks_next, ends_loop, is_no_loop_slot, Underflow}
+use Rattle.step_code.specs.proof.Rules.{HeightsDiffer, IsVerified}
 use Rattle.step_code.proofs.Nested.{Free, IsNested}
 use Rattle.step_code.proofs.Clean.{Jumps, IsEnd, Clean}
 use Rattle.step_code.proofs.Nesting.{loop_is, clean_nested}

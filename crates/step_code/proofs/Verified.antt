@@ -1,5 +1,6 @@
 -- What verified code keeps.
-use Rattle.std.proofs.Common.{◌≡◌, ◌∙◌, ℕ, ◌<◌, Bool, true, false, ◌&&◌, ◌||◌, List, [], ◌∷◌, length, Option, Some, refl, sym, ap, ⊎_elim, nat_eq, nat_lt}
+use Rattle.std.proofs.Common.{◌≡◌, ◌∙◌, ℕ, ◌<◌, Bool, true, false, ◌&&◌, ◌||◌, List, [], ◌∷◌, length, Option, Some}
+use Rattle.std.proofs.Common.{refl, sym, ap, ⊎_elim, nat_eq, nat_lt}
 use Rattle.std.specs.Prelude.{slice_get}
 use Rattle.std.proofs.lemmas.Bool.{and_parts, ltb-true, false≢true, or_right, not-false}
 use Rattle.list_lemmas.proofs.Booleans.{or_false_left}
@@ -9,7 +10,8 @@ use Rattle.step_code.specs.declared.instr.CodeParts.{CodeParts}
 use Rattle.step_code.specs.declared.loops.LoopSpan.{LoopSpan}
 use Rattle.step_code.specs.Loops.{around}
 use Rattle.step_code.specs.proof.Heights.{Member}
-use Rattle.step_code.specs.proof.Rules.{is_none, enters_badly, is_entry, is_bad_entry, on_some, finds, jumps_badly, BadJump, IsVerified}
+use Rattle.step_code.specs.proof.Rules.{is_none, enters_badly, is_entry, is_bad_entry, on_some, finds, jumps_badly}
+use Rattle.step_code.specs.proof.Rules.{BadJump, IsVerified}
 use Rattle.step_code.proofs.Refusals.{untrue, is_sound, clean_closed}
 use Rattle.step_code.proofs.Crossing.{AreClosed}
 use Rattle.step_code.proofs.Placing.{IsKnown}

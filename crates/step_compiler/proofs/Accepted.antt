@@ -1,11 +1,14 @@
 -- The loops and jumps of code that was laid out.
-use Rattle.std.proofs.Common.{◌≡◌, ◌∙◌, ◌⊎◌, ℕ, zero, suc, ◌+◌, ◌<◌, ◌≤◌, ℤ, pos, Bool, true, false, ◌&&◌, if◌then◌else◌, List, [], ◌∷◌, ◌++◌, length, Option, Some, None, refl, sym, ap, subst, ⊎_elim, arith, nat_lt}
+use Rattle.std.proofs.Common.{◌≡◌, ◌∙◌, ◌⊎◌, ℕ, zero, suc, ◌+◌, ◌<◌, ◌≤◌, ℤ, pos, Bool, true, false, ◌&&◌}
+use Rattle.std.proofs.Common.{if◌then◌else◌, List, [], ◌∷◌, ◌++◌, length, Option, Some, None, refl, sym, ap, subst}
+use Rattle.std.proofs.Common.{⊎_elim, arith, nat_lt}
 use Rattle.std.specs.Prelude.{not, slice_get}
 use Rattle.std.specs.List.{list_all}
 use Rattle.std.proofs.lemmas.Bool.{cases_lt, both_ways, and_parts, le-ltb, lt-ltb}
 use Rattle.pals_base.specs.declared.behaviour.Op.{Op}
 use Rattle.pals_base.specs.declared.behaviour.Op.TheVariants as op
-use Rattle.pals_base.specs.Tree.{Expression, Literal, Variable, PortRead, Fresh, Neg, Abs, Not, Chain, Operands, NoMore, Then, Action, Assign, Emit, If, For, Actions, Nothing, Do, Branches, NoBranch, Where}
+use Rattle.pals_base.specs.Tree.{Expression, Literal, Variable, PortRead, Fresh, Neg, Abs, Not, Chain, Operands, NoMore}
+use Rattle.pals_base.specs.Tree.{Then, Action, Assign, Emit, If, For, Actions, Nothing, Do, Branches, NoBranch, Where}
 use Rattle.step_code.specs.declared.instr.Instr.{Instr}
 use Rattle.step_code.specs.declared.instr.Instr.TheVariants as code
 use Rattle.step_code.specs.declared.loops.LoopSpan.{LoopSpan}
@@ -13,7 +16,8 @@ use Rattle.step_code.specs.Loops.{loop_from, loop_at, with_loop, loops_below}
 use Rattle.step_code.specs.proof.Rules.{inside, agrees, stays}
 use Rattle.step_code.specs.Lengths.{operand_length, length_of, length_act, length_acts, length_branches}
 use Rattle.step_compiler.specs.Layout.{operand_code, code_of, code_rest, code_act, code_acts, code_branches}
-use Rattle.step_compiler.proofs.PlacedCode.{HasAt, has_front, has_back, code-length, act-length, acts-length, branches-length}
+use Rattle.step_compiler.proofs.PlacedCode.{HasAt, has_front, has_back, code-length, act-length, acts-length}
+use Rattle.step_compiler.proofs.PlacedCode.{branches-length}
 use Rattle.step_code.proofs.Nesting.{loop_is}
 
 -- the loops that start before a stretch end before it, or have all of it in their bodies

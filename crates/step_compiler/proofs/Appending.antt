@@ -1,5 +1,6 @@
 -- Code that grows by one part after the other.
-use Rattle.std.proofs.Common.{◌≡◌, ◌∙◌, ℕ, ◌+◌, ◌<◌, List, [], ◌∷◌, ◌++◌, length, drop, slice_index_or, refl, ap, arith, append_assoc, length-append}
+use Rattle.std.proofs.Common.{◌≡◌, ◌∙◌, ℕ, ◌+◌, ◌<◌, List, [], ◌∷◌, ◌++◌, length, drop, slice_index_or, refl, ap, arith}
+use Rattle.std.proofs.Common.{append_assoc, length-append}
 use Rattle.list_lemmas.proofs.Lists.{drop-next}
 use Rattle.pals_base.specs.declared.behaviour.Operand.{Operand}
 use Rattle.pals_base.specs.declared.behaviour.Act.{Act}

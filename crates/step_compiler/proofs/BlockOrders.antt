@@ -1,5 +1,6 @@
 -- The order of blocks is the one that is searched for, and there is no other.
-use Rattle.std.proofs.Common.{◌≡◌, ◌∙◌, inl, inr, ℕ, zero, suc, ◌+◌, ◌<◌, ◌≤◌, Bool, true, false, List, [], ◌∷◌, ◌++◌, length, take, Option, Some, None, Contains, slice_get, refl, sym, ap, ap₂, subst, arith}
+use Rattle.std.proofs.Common.{◌≡◌, ◌∙◌, inl, inr, ℕ, zero, suc, ◌+◌, ◌<◌, ◌≤◌, Bool, true, false, List, [], ◌∷◌, ◌++◌}
+use Rattle.std.proofs.Common.{length, take, Option, Some, None, Contains, slice_get, refl, sym, ap, ap₂, subst, arith}
 use Rattle.std.specs.Prelude.{not, ◌&&◌, nat_eq}
 use Rattle.std.specs.Option.{option_to_list}
 use Rattle.std.proofs.lemmas.Bool.{eqb-true, eq-eqb, and_parts, cases_lt, cases_order, cases_Bool, true≢false, not-true}
@@ -10,11 +11,11 @@ use Rattle.list_lemmas.proofs.Places.{slice_get-push}
 use Rattle.pals_base.specs.declared.behaviour.BehaviourParts.{BehaviourParts}
 use Rattle.pals_base.specs.Rules.{IsBehaviour}
 use Rattle.pals_base.specs.Tree.{Edge}
-use Rattle.step_compiler.specs.proof.Order.{is_placed, is_awaited, leads_from_outside, may_follow, next_state, with_next, ordered, block_order}
-use Rattle.step_compiler.specs.LaidOut.{complete_states}
+use Rattle.step_compiler.specs.proof.Order.{is_placed, is_awaited, leads_from_outside, may_follow, next_state}
+use Rattle.step_compiler.specs.proof.Order.{with_next, ordered, block_order}
+use Rattle.step_compiler.specs.LaidOut.{complete_states, MayFollow, IsNext, IsBlockOrder}
 use Rattle.step_compiler.proofs.Listing.{found_is}
 use Rattle.step_compiler.proofs.Covered.{order_full}
-use Rattle.step_compiler.specs.LaidOut.{MayFollow, IsNext, IsBlockOrder}
 use Rattle.step_compiler.specs.proof.LayoutLaws.{OrderIsOne}
 use Rattle.step_compiler.proofs.Placing.{placed_contains, contains_placed, find_least, get_take, take_next, get_front}
 

@@ -1,5 +1,6 @@
 -- The code of transitions and states steps as the behaviour does.
-use Rattle.std.proofs.Common.{◌≡◌, ◌∙◌, ℕ, zero, suc, ◌+◌, ◌<◌, ℤ, pos, Bool, true, false, if◌then◌else◌, List, [], ◌∷◌, ◌++◌, length, take, Option, Some, refl, sym, ap, subst, arith}
+use Rattle.std.proofs.Common.{◌≡◌, ◌∙◌, ℕ, zero, suc, ◌+◌, ◌<◌, ℤ, pos, Bool, true, false, if◌then◌else◌, List, [], ◌∷◌}
+use Rattle.std.proofs.Common.{◌++◌, length, take, Option, Some, refl, sym, ap, subst, arith}
 use Rattle.std.specs.Prelude.{slice_get, slice_index_or, fold, Result, Ok, Err}
 use Rattle.std.proofs.lemmas.Bool.{true≢false, false≢true}
 use Rattle.pals_base.specs.declared.values.Trap.{Trap}
@@ -18,10 +19,12 @@ use Rattle.step_code.specs.Step.{Senses, step}
 use Rattle.step_code.specs.proof.Exec.{Ended, then_run, run}
 use Rattle.step_code.specs.Lengths.{length_of, length_acts, length_trigger, length_edge}
 use Rattle.step_compiler.specs.Layout.{code_of, code_acts}
-use Rattle.step_compiler.proofs.PlacedCode.{HasAt, has_front, has_back, code-length, acts-length, trigger-length, edge-length}
+use Rattle.step_compiler.proofs.PlacedCode.{HasAt, has_front, has_back, code-length, acts-length, trigger-length}
+use Rattle.step_compiler.proofs.PlacedCode.{edge-length}
 use Rattle.step_compiler.proofs.Sight.{Sizes, SeesTrigger, IsGood, AreGood}
 use Rattle.step_compiler.specs.Blocks.{trigger_code, last_instr, edge_code, block_code}
-use Rattle.step_compiler.proofs.ExpressionRuns.{At, at, runs, Leads, Traps', Gives, leads_on, leads_trap, goes, jumps, passes}
+use Rattle.step_compiler.proofs.ExpressionRuns.{At, at, runs, Leads, Traps', Gives, leads_on, leads_trap, goes, jumps}
+use Rattle.step_compiler.proofs.ExpressionRuns.{passes}
 use Rattle.step_compiler.proofs.LoopTurns.{Fits, Comes}
 use Rattle.step_compiler.proofs.ActionRuns.{value_runs, acts_run}
 

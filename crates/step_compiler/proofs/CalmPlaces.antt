@@ -1,5 +1,6 @@
 -- Where the compiled code of transitions and blocks closes its loops, and at which places none is under way.
-use Rattle.std.proofs.Common.{◌≡◌, ◌∙◌, inl, inr, ⊎_elim, ℕ, ◌+◌, ◌-◌, ◌<◌, ◌≤◌, Bool, true, false, ◌||◌, if◌then◌else◌, List, [], ◌∷◌, ◌++◌, length, refl, sym, ap, subst, arith, nat_eq}
+use Rattle.std.proofs.Common.{◌≡◌, ◌∙◌, inl, inr, ⊎_elim, ℕ, ◌+◌, ◌-◌, ◌<◌, ◌≤◌, Bool, true, false, ◌||◌, if◌then◌else◌}
+use Rattle.std.proofs.Common.{List, [], ◌∷◌, ◌++◌, length, refl, sym, ap, subst, arith, nat_eq}
 use Rattle.std.specs.Prelude.{filter, fold}
 use Rattle.std.proofs.lemmas.Bool.{cases_lt, true≢false, false≢true, or_right}
 use Rattle.pals_base.specs.declared.behaviour.BehaviourParts.{BehaviourParts}
@@ -13,11 +14,14 @@ use Rattle.step_code.specs.Lengths.{length_of, length_acts, length_trigger, leng
 use Rattle.step_compiler.specs.Layout.{code_of, code_acts}
 use Rattle.step_compiler.specs.Depths.{depth_acts, depth_edges}
 use Rattle.step_compiler.specs.proof.Order.{is_placed}
-use Rattle.step_compiler.specs.Blocks.{trigger_code, last_instr, past, edge_code, block_code, block_length, start_of, blocks_code}
+use Rattle.step_compiler.specs.Blocks.{trigger_code, last_instr, past, edge_code, block_code, block_length, start_of}
+use Rattle.step_compiler.specs.Blocks.{blocks_code}
 use Rattle.step_compiler.specs.proof.Blocks.{order_length}
-use Rattle.step_compiler.proofs.PlacedCode.{HasAt, has_front, has_back, code-length, acts-length, trigger-length, edge-length, block-length}
+use Rattle.step_compiler.proofs.PlacedCode.{HasAt, has_front, has_back, code-length, acts-length, trigger-length}
+use Rattle.step_compiler.proofs.PlacedCode.{edge-length, block-length}
 use Rattle.step_compiler.proofs.Built.{AreOnce}
-use Rattle.step_compiler.proofs.Accepted.{Outer, Closed, closed_both, one_closed, none_closed, starts_none, expr_closed, acts_closed}
+use Rattle.step_compiler.proofs.Accepted.{Outer, Closed, closed_both, one_closed, none_closed, starts_none, expr_closed}
+use Rattle.step_compiler.proofs.Accepted.{acts_closed}
 use Rattle.step_compiler.proofs.Levels.{height, edge_height, block_height}
 use Rattle.step_compiler.proofs.FineActions.{Round}
 

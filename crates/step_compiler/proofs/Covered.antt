@@ -1,5 +1,7 @@
 -- Each state's block is placed in the end.
-use Rattle.std.proofs.Common.{◌≡◌, ◌∙◌, inl, inr, ℕ, zero, suc, ◌+◌, ◌<◌, ◌≤◌, Bool, true, false, ◌&&◌, ◌||◌, not, if◌then◌else◌, List, [], ◌∷◌, ◌++◌, length, Option, Some, None, slice_index_or, refl, sym, ap, subst, ⊎_elim, arith, nat_eq}
+use Rattle.std.proofs.Common.{◌≡◌, ◌∙◌, inl, inr, ℕ, zero, suc, ◌+◌, ◌<◌, ◌≤◌, Bool, true, false, ◌&&◌, ◌||◌, not}
+use Rattle.std.proofs.Common.{if◌then◌else◌, List, [], ◌∷◌, ◌++◌, length, Option, Some, None, slice_index_or, refl, sym}
+use Rattle.std.proofs.Common.{ap, subst, ⊎_elim, arith, nat_eq}
 use Rattle.std.specs.Prelude.{filter}
 use Rattle.std.specs.List.{list_all, list_any, All}
 use Rattle.std.proofs.lemmas.Bool.{and_parts, cases_Bool, true≢false, false≢true, not-true}
@@ -13,7 +15,8 @@ use Rattle.pals_base.proofs.Ways.{settled_unless_cycle}
 use Rattle.step_code.specs.Lengths.{code_length}
 use Rattle.step_code.specs.proof.Heights.{Member}
 use Rattle.step_compiler.specs.LaidOut.{states_of, complete_states}
-use Rattle.step_compiler.specs.proof.Order.{is_placed, leads_from_outside, is_awaited, may_follow, next_state, with_next, ordered, block_order}
+use Rattle.step_compiler.specs.proof.Order.{is_placed, leads_from_outside, is_awaited, may_follow, next_state}
+use Rattle.step_compiler.specs.proof.Order.{with_next, ordered, block_order}
 use Rattle.step_compiler.specs.proof.Blocks.{order_length}
 use Rattle.step_compiler.proofs.Listing.{found_is, none_is, member_upwards, length-upwards}
 use Rattle.step_compiler.proofs.Marking.{edge_has}

@@ -1,10 +1,12 @@
 -- What the verifier asks at each place, of expressions and actions.
-use Rattle.std.proofs.Common.{◌≡◌, ◌∙◌, ⊎_elim, ℕ, ◌+◌, ◌<◌, ◌≤◌, pos, Bool, true, false, not, if◌then◌else◌, List, [], ◌∷◌, ◌++◌, length, Option, Some, None, refl, sym, ap, subst, arith, nat_lt}
+use Rattle.std.proofs.Common.{◌≡◌, ◌∙◌, ⊎_elim, ℕ, ◌+◌, ◌<◌, ◌≤◌, pos, Bool, true, false, not, if◌then◌else◌, List, []}
+use Rattle.std.proofs.Common.{◌∷◌, ◌++◌, length, Option, Some, None, refl, sym, ap, subst, arith, nat_lt}
 use Rattle.std.specs.Prelude.{slice_get, option_to_list}
 use Rattle.std.proofs.lemmas.Bool.{cases_lt, false≢true}
 use Rattle.pals_base.specs.declared.behaviour.Op.{Op}
 use Rattle.pals_base.specs.declared.behaviour.Op.TheVariants as op
-use Rattle.pals_base.specs.Tree.{Expression, Literal, Variable, PortRead, Fresh, Neg, Abs, Not, Chain, Operands, NoMore, Then}
+use Rattle.pals_base.specs.Tree.{Expression, Literal, Variable, PortRead, Fresh, Neg, Abs, Not, Chain, Operands, NoMore}
+use Rattle.pals_base.specs.Tree.{Then}
 use Rattle.step_code.specs.declared.instr.Instr.{Instr}
 use Rattle.step_code.specs.declared.instr.Instr.TheVariants as code
 use Rattle.step_code.specs.declared.instr.CodeParts.{CodeParts}

@@ -1,12 +1,15 @@
 -- What the verifier asks at each place, of actions.
-use Rattle.std.proofs.Common.{◌≡◌, ◌∙◌, ◌⊎◌, inl, inr, ⊎_elim, ℕ, zero, suc, ◌+◌, ◌-◌, ◌<◌, ◌≤◌, ℤ, Bool, true, false, ◌&&◌, ◌||◌, not, if◌then◌else◌, List, [], ◌∷◌, ◌++◌, length, Option, Some, None, refl, sym, ap, subst, arith, add-one, nat_lt, nat_eq}
+use Rattle.std.proofs.Common.{◌≡◌, ◌∙◌, ◌⊎◌, inl, inr, ⊎_elim, ℕ, zero, suc, ◌+◌, ◌-◌, ◌<◌, ◌≤◌, ℤ, Bool, true, false}
+use Rattle.std.proofs.Common.{◌&&◌, ◌||◌, not, if◌then◌else◌, List, [], ◌∷◌, ◌++◌, length, Option, Some, None, refl}
+use Rattle.std.proofs.Common.{sym, ap, subst, arith, add-one, nat_lt, nat_eq}
 use Rattle.std.specs.Prelude.{slice_get, filter}
 use Rattle.std.specs.List.{list_any}
 use Rattle.std.proofs.lemmas.Bool.{and_parts, cases_lt}
 use Rattle.std.proofs.lemmas.Int.{ints}
 use Rattle.list_lemmas.proofs.Numbers.{nat_eq-self}
 use Rattle.pals_base.specs.Expressions.{same_number}
-use Rattle.pals_base.specs.Tree.{Expression, Action, Assign, Emit, If, For, Actions, Nothing, Do, Branches, NoBranch, Where}
+use Rattle.pals_base.specs.Tree.{Expression, Action, Assign, Emit, If, For, Actions, Nothing, Do, Branches, NoBranch}
+use Rattle.pals_base.specs.Tree.{Where}
 use Rattle.step_code.specs.declared.instr.Instr.{Instr}
 use Rattle.step_code.specs.declared.instr.Instr.TheVariants as code
 use Rattle.step_code.specs.declared.instr.CodeParts.{CodeParts}
@@ -16,10 +19,15 @@ use Rattle.step_code.specs.proof.Rules.{on_some, stays, ends_loop}
 use Rattle.step_code.specs.Lengths.{length_of, length_act, length_acts, length_branches}
 use Rattle.step_compiler.specs.Layout.{code_of, code_act, code_acts, code_branches}
 use Rattle.step_compiler.proofs.Sight.{Sees, Sizes, SeesAct, SeesActs, SeesBranches}
-use Rattle.step_compiler.proofs.PlacedCode.{HasAt, has_front, has_back, code-length, act-length, acts-length, branches-length}
-use Rattle.step_compiler.proofs.Accepted.{Outer, Closed, jump_stays, closed_both, one_closed, none_closed, loopless, starts_none, not_loop, expr-loopless, expr_closed, act_closed, acts_closed, branches_closed}
-use Rattle.step_compiler.proofs.Levels.{height, height_next, height_at, expr_height, act_height, acts_height, branches_height}
-use Rattle.step_compiler.proofs.Fine.{AreFine, less_not, one_fine, both_fine, none_fine, fine_at, plain_fine, jump_fine, zero_fine, expr_fine}
+use Rattle.step_compiler.proofs.PlacedCode.{HasAt, has_front, has_back, code-length, act-length, acts-length}
+use Rattle.step_compiler.proofs.PlacedCode.{branches-length}
+use Rattle.step_compiler.proofs.Accepted.{Outer, Closed, jump_stays, closed_both, one_closed, none_closed, loopless}
+use Rattle.step_compiler.proofs.Accepted.{starts_none, not_loop, expr-loopless, expr_closed, act_closed, acts_closed}
+use Rattle.step_compiler.proofs.Accepted.{branches_closed}
+use Rattle.step_compiler.proofs.Levels.{height, height_next, height_at, expr_height, act_height, acts_height}
+use Rattle.step_compiler.proofs.Levels.{branches_height}
+use Rattle.step_compiler.proofs.Fine.{AreFine, less_not, one_fine, both_fine, none_fine, fine_at, plain_fine, jump_fine}
+use Rattle.step_compiler.proofs.Fine.{zero_fine, expr_fine}
 
 -- the loops that start before a stretch end before it, or have all of it in their bodies and a slot below n
 pub record Round (whole : List Instr) (p q n : ℕ) : Type 0 where

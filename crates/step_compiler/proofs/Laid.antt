@@ -1,5 +1,6 @@
 -- Where the blocks and the dispatch transitions of the compiled code stand.
-use Rattle.std.proofs.Common.{◌≡◌, ◌∙◌, ℕ, ◌+◌, ◌<◌, Bool, true, false, ◌||◌, if◌then◌else◌, List, [], ◌∷◌, ◌++◌, length, Some, refl, sym, ap, subst, arith, append_assoc, length-append, nat_eq}
+use Rattle.std.proofs.Common.{◌≡◌, ◌∙◌, ℕ, ◌+◌, ◌<◌, Bool, true, false, ◌||◌, if◌then◌else◌, List, [], ◌∷◌, ◌++◌}
+use Rattle.std.proofs.Common.{length, Some, refl, sym, ap, subst, arith, append_assoc, length-append, nat_eq}
 use Rattle.std.specs.Prelude.{slice_get, find}
 use Rattle.std.proofs.lemmas.Bool.{false≢true}
 use Rattle.pals_base.specs.declared.behaviour.BehaviourParts.{BehaviourParts}
@@ -10,7 +11,8 @@ use Rattle.step_code.specs.declared.instr.Instr.{Instr}
 use Rattle.step_code.specs.Lengths.{length_trigger, length_edge}
 use Rattle.step_compiler.specs.Layout.{code_acts}
 use Rattle.step_compiler.specs.proof.Order.{is_placed, block_order}
-use Rattle.step_compiler.specs.Blocks.{trigger_code, last_instr, past, edge_code, block_code, block_length, start_of, blocks_code, dispatch_offset}
+use Rattle.step_compiler.specs.Blocks.{trigger_code, last_instr, past, edge_code, block_code, block_length, start_of}
+use Rattle.step_compiler.specs.Blocks.{blocks_code, dispatch_offset}
 use Rattle.step_compiler.specs.proof.Blocks.{in_list, block_starts}
 use Rattle.step_compiler.proofs.Listing.{listed}
 use Rattle.step_compiler.proofs.PlacedCode.{HasAt, has_front, has_back, edge-length, block-length}

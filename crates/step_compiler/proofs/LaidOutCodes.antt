@@ -1,5 +1,6 @@
 -- The code that is laid out is the compiled one.
-use Rattle.std.proofs.Common.{◌≡◌, ◌∙◌, ℕ, zero, suc, ◌+◌, ◌<◌, ◌≤◌, Bool, true, List, [], ◌∷◌, ◌++◌, length, map, Option, refl, sym, ap, ap₂, arith}
+use Rattle.std.proofs.Common.{◌≡◌, ◌∙◌, ℕ, zero, suc, ◌+◌, ◌<◌, ◌≤◌, Bool, true, List, [], ◌∷◌, ◌++◌, length, map}
+use Rattle.std.proofs.Common.{Option, refl, sym, ap, ap₂, arith}
 use Rattle.std.specs.Prelude.{nat_eq}
 use Rattle.std.specs.List.{list_all, AllByRecursion as Every}
 use Rattle.std.proofs.lemmas.Bool.{and_parts}
@@ -12,14 +13,14 @@ use Rattle.pals_base.specs.Steps.{upwards}
 use Rattle.step_code.specs.declared.instr.Instr.{Instr}
 use Rattle.step_code.specs.declared.instr.CodeParts.{CodeParts}
 use Rattle.step_code.specs.Lengths.{length_edge, length_trigger}
-use Rattle.step_compiler.specs.LaidOut.{states_of}
+use Rattle.step_compiler.specs.LaidOut.{states_of, IsLaidOut, AreLaidOut}
 use Rattle.step_compiler.specs.proof.Order.{block_order}
 use Rattle.step_compiler.specs.Layout.{code_acts}
-use Rattle.step_compiler.specs.Blocks.{trigger_code, past, last_instr, edge_code, block_code, block_length, blocks_code, start_of, entry_of}
+use Rattle.step_compiler.specs.Blocks.{trigger_code, past, last_instr, edge_code, block_code, block_length, blocks_code}
+use Rattle.step_compiler.specs.Blocks.{start_of, entry_of}
 use Rattle.step_compiler.specs.proof.Blocks.{block_starts, in_list, compiled}
 use Rattle.step_compiler.proofs.Marking.{edge_has}
 use Rattle.step_compiler.proofs.Laid.{start_is}
-use Rattle.step_compiler.specs.LaidOut.{IsLaidOut, AreLaidOut}
 use Rattle.step_compiler.specs.proof.LayoutLaws.{HasLayout, LaidOutCodeIsOne, LaidOutCodesAreOne}
 use Rattle.step_compiler.proofs.BlockOrders.{blocks_are_ordered, order_is_one}
 

@@ -1,18 +1,23 @@
 -- The height of the stack at each place of laid-out code.
-use Rattle.std.proofs.Common.{◌≡◌, ◌∙◌, ℕ, zero, suc, ◌+◌, ◌-◌, pos, Bool, true, false, if◌then◌else◌, List, [], ◌∷◌, ◌++◌, length, Option, Some, None, refl, sym, ap, subst, arith, add-one}
+use Rattle.std.proofs.Common.{◌≡◌, ◌∙◌, ℕ, zero, suc, ◌+◌, ◌-◌, pos, Bool, true, false, if◌then◌else◌, List, [], ◌∷◌}
+use Rattle.std.proofs.Common.{◌++◌, length, Option, Some, None, refl, sym, ap, subst, arith, add-one}
 use Rattle.std.specs.Prelude.{slice_get}
 use Rattle.pals_base.specs.declared.behaviour.BehaviourParts.{BehaviourParts}
 use Rattle.pals_base.specs.declared.behaviour.Op.{Op}
 use Rattle.pals_base.specs.declared.behaviour.Op.TheVariants as op
 use Rattle.pals_base.specs.Fire.{is_complete}
-use Rattle.pals_base.specs.Tree.{Expression, Literal, Variable, PortRead, Fresh, Neg, Abs, Not, Chain, Operands, NoMore, Then, Action, Assign, Emit, If, For, Actions, Nothing, Do, Branches, NoBranch, Where, Edge, Trigger, Dispatch, Always, When}
+use Rattle.pals_base.specs.Tree.{Expression, Literal, Variable, PortRead, Fresh, Neg, Abs, Not, Chain, Operands, NoMore}
+use Rattle.pals_base.specs.Tree.{Then, Action, Assign, Emit, If, For, Actions, Nothing, Do, Branches, NoBranch, Where}
+use Rattle.pals_base.specs.Tree.{Edge, Trigger, Dispatch, Always, When}
 use Rattle.step_code.specs.declared.instr.Instr.{Instr}
 use Rattle.step_code.specs.declared.instr.Instr.TheVariants as code
 use Rattle.step_code.specs.proof.Heights.{after}
-use Rattle.step_code.specs.Lengths.{operand_length, length_of, length_rest, length_act, length_acts, length_branches, length_trigger, length_edge, length_edges}
+use Rattle.step_code.specs.Lengths.{operand_length, length_of, length_rest, length_act, length_acts, length_branches}
+use Rattle.step_code.specs.Lengths.{length_trigger, length_edge, length_edges}
 use Rattle.step_compiler.specs.Layout.{operator, operand_code, code_of, code_rest, code_act, code_acts, code_branches}
 use Rattle.step_compiler.specs.Blocks.{trigger_code, last_instr, past, edge_code, block_code}
-use Rattle.step_compiler.proofs.PlacedCode.{HasAt, has_front, has_back, code-length, operand-length, act-length, acts-length, branches-length, trigger-length, edge-length}
+use Rattle.step_compiler.proofs.PlacedCode.{HasAt, has_front, has_back, code-length, operand-length, act-length}
+use Rattle.step_compiler.proofs.PlacedCode.{acts-length, branches-length, trigger-length, edge-length}
 
 -- behind a jump stands code for one number fewer, or for none
 abbrev pub next_height : ℕ → Option Instr → ℕ

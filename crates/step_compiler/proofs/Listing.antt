@@ -1,5 +1,7 @@
 -- Lists over the numbers from 0 on.
-use Rattle.std.proofs.Common.{◌≡◌, ◌∙◌, inl, inr, subst, None, ℕ, zero, suc, ◌+◌, ◌-◌, ◌<◌, Bool, true, false, if◌then◌else◌, List, [], ◌∷◌, ◌++◌, length, map, slice_index_or, Some, refl, sym, ap, arith, add-one, zero-add}
+use Rattle.std.proofs.Common.{◌≡◌, ◌∙◌, inl, inr, subst, None, ℕ, zero, suc, ◌+◌, ◌-◌, ◌<◌, Bool, true, false}
+use Rattle.std.proofs.Common.{if◌then◌else◌, List, [], ◌∷◌, ◌++◌, length, map, slice_index_or, Some, refl, sym, ap}
+use Rattle.std.proofs.Common.{arith, add-one, zero-add}
 use Rattle.std.specs.Prelude.{filter, find, slice_get}
 use Rattle.std.proofs.lemmas.List.Elements.{filter-append}
 use Rattle.pals_base.specs.Steps.{upwards}

@@ -1,5 +1,7 @@
 -- A step of the compiled code leaves what the behaviour's step leaves.
-use Rattle.std.proofs.Common.{◌≡◌, ◌∙◌, inl, inr, ⊎_elim, ℕ, zero, suc, ◌+◌, ◌<◌, ◌≤◌, ℤ, pos, Bool, true, false, ◌&&◌, ◌||◌, if◌then◌else◌, List, [], ◌∷◌, ◌++◌, length, map, take, replicate, Option, Some, None, slice_index_or, refl, sym, ap, subst, arith, length-append, nat_eq}
+use Rattle.std.proofs.Common.{◌≡◌, ◌∙◌, inl, inr, ⊎_elim, ℕ, zero, suc, ◌+◌, ◌<◌, ◌≤◌, ℤ, pos, Bool, true, false, ◌&&◌}
+use Rattle.std.proofs.Common.{◌||◌, if◌then◌else◌, List, [], ◌∷◌, ◌++◌, length, map, take, replicate, Option, Some}
+use Rattle.std.proofs.Common.{None, slice_index_or, refl, sym, ap, subst, arith, length-append, nat_eq}
 use Rattle.std.specs.Prelude.{slice_get, filter, find, IsTrue, Result, Ok, Err, max}
 use Rattle.std.specs.List.{list_all}
 use Rattle.std.proofs.lemmas.Bool.{and_parts}
@@ -14,7 +16,8 @@ use Rattle.pals_base.specs.declared.behaviour.StateDecl.{StateDecl}
 use Rattle.pals_base.specs.Tree.{Edge}
 use Rattle.pals_base.specs.Expressions.{on_value}
 use Rattle.pals_base.specs.Actions.{Effect, acts}
-use Rattle.pals_base.specs.Fire.{Fired, holding, is_present, silence, completes, may_begin, is_complete, leaving, is_dispatch, first_open, along, settled, dispatched, reaction, outcome, HasShape, fire}
+use Rattle.pals_base.specs.Fire.{Fired, holding, is_present, silence, completes, may_begin, is_complete, leaving}
+use Rattle.pals_base.specs.Fire.{is_dispatch, first_open, along, settled, dispatched, reaction, outcome, HasShape, fire}
 use Rattle.pals_base.specs.Fire as base
 use Rattle.pals_base.specs.Rules.{is_edge, dispatch_count, ends_unguarded, has_ways, IsBehaviour}
 use Rattle.pals_base.specs.proof.Settling.{settles}

@@ -1,5 +1,6 @@
 -- A sound behaviour's expressions and actions see what they read and write.
-use Rattle.std.proofs.Common.{◌≡◌, ℕ, ◌+◌, ◌*◌, ◌<◌, ◌≤◌, Bool, true, false, ◌&&◌, ◌||◌, length, Option, Some, None, refl, sym, ap, subst, arith, nat_lt}
+use Rattle.std.proofs.Common.{◌≡◌, ℕ, ◌+◌, ◌*◌, ◌<◌, ◌≤◌, Bool, true, false, ◌&&◌, ◌||◌, length, Option, Some, None}
+use Rattle.std.proofs.Common.{refl, sym, ap, subst, arith, nat_lt}
 use Rattle.std.specs.Prelude.{slice_get}
 use Rattle.std.proofs.lemmas.Bool.{and_parts, ltb-true, false≢true}
 use Rattle.std.proofs.lemmas.Option.{slice_get_within}
@@ -11,8 +12,11 @@ use Rattle.pals_base.specs.declared.behaviour.BehaviourParts.{BehaviourParts}
 use Rattle.pals_base.specs.declared.behaviour.Kind.{Kind}
 use Rattle.pals_base.specs.declared.behaviour.Kind.TheVariants.{Integer, Boolean}
 use Rattle.pals_base.specs.declared.kinds.Kinds.{Kinds}
-use Rattle.pals_base.specs.Tree.{Expression, Literal, Variable, PortRead, Fresh, Neg, Abs, Not, Chain, Operands, NoMore, Then, Action, Assign, Emit, If, For, Actions, Nothing, Do, Branches, NoBranch, Where, Trigger, Dispatch, Always, When}
-use Rattle.pals_base.specs.Kinds.{allows, port_kinds, declared_or, joined, kinds_of, kinds_along, suits_variable, suits_port, turns, is_short, is_sound, are_sound, branches_are_sound}
+use Rattle.pals_base.specs.Tree.{Expression, Literal, Variable, PortRead, Fresh, Neg, Abs, Not, Chain, Operands, NoMore}
+use Rattle.pals_base.specs.Tree.{Then, Action, Assign, Emit, If, For, Actions, Nothing, Do, Branches, NoBranch, Where}
+use Rattle.pals_base.specs.Tree.{Trigger, Dispatch, Always, When}
+use Rattle.pals_base.specs.Kinds.{allows, port_kinds, declared_or, joined, kinds_of, kinds_along, suits_variable}
+use Rattle.pals_base.specs.Kinds.{suits_port, turns, is_short, is_sound, are_sound, branches_are_sound}
 use Rattle.pals_base.specs.Rules.{has_condition}
 use Rattle.step_compiler.specs.Depths.{depth_act, depth_acts, depth_branches}
 use Rattle.step_compiler.proofs.Sight.{Sees, SeesAll, Sizes, SeesAct, SeesActs, SeesBranches, SeesTrigger}

@@ -1,5 +1,7 @@
 -- The verifier takes the compiled code.
-use Rattle.std.proofs.Common.{◌≡◌, ◌∙◌, inl, inr, ⊎_elim, ℕ, zero, suc, ◌+◌, ◌-◌, ◌<◌, ◌≤◌, Bool, true, false, ◌&&◌, ◌||◌, not, if◌then◌else◌, List, [], ◌∷◌, ◌++◌, length, map, Option, Some, None, refl, sym, ap, subst, arith, nat_lt, nat_eq}
+use Rattle.std.proofs.Common.{◌≡◌, ◌∙◌, inl, inr, ⊎_elim, ℕ, zero, suc, ◌+◌, ◌-◌, ◌<◌, ◌≤◌, Bool, true, false, ◌&&◌}
+use Rattle.std.proofs.Common.{◌||◌, not, if◌then◌else◌, List, [], ◌∷◌, ◌++◌, length, map, Option, Some, None, refl, sym}
+use Rattle.std.proofs.Common.{ap, subst, arith, nat_lt, nat_eq}
 use Rattle.std.specs.Prelude.{slice_get, find, IsTrue, option_to_list}
 use Rattle.std.specs.List.{list_any}
 use Rattle.std.proofs.lemmas.Bool.{true≢false, false≢true}
@@ -20,16 +22,21 @@ use Rattle.step_code.specs.Loops.{around}
 use Rattle.step_code.specs.Paths.{jump_of, may_go_on, onward}
 use Rattle.step_code.specs.proof.Exec.{has_entry}
 use Rattle.step_code.specs.proof.Heights.{after, Member, Reaches, back_of, ways}
-use Rattle.step_code.specs.proof.Rules.{on_some, strays, stays, lacks_next, jumps_badly, jumps_back, lacks_loop, misses_slot, is_none, enters_badly, is_entry, is_bad_entry, finds, Rule, BadJump, BackJump, BadSlot, Underflow, HeightsDiffer, Finds, IsFaultOf, IsVerified}
+use Rattle.step_code.specs.proof.Rules.{on_some, strays, stays, lacks_next, jumps_badly, jumps_back, lacks_loop}
+use Rattle.step_code.specs.proof.Rules.{misses_slot, is_none, enters_badly, is_entry, is_bad_entry, finds, Rule}
+use Rattle.step_code.specs.proof.Rules.{BadJump, BackJump, BadSlot, Underflow, HeightsDiffer, Finds, IsFaultOf}
+use Rattle.step_code.specs.proof.Rules.{IsVerified}
 use Rattle.step_code.specs.Lengths.{length_of, length_acts, length_trigger, length_edge, length_edges, code_length}
 use Rattle.step_compiler.specs.Layout.{code_of, code_acts}
 use Rattle.step_compiler.specs.proof.Order.{block_order}
 use Rattle.step_compiler.specs.LaidOut.{states_of}
-use Rattle.step_compiler.specs.Blocks.{trigger_code, last_instr, past, edge_code, block_code, block_length, start_of, blocks_code, dispatch_offset, entry_of}
+use Rattle.step_compiler.specs.Blocks.{trigger_code, last_instr, past, edge_code, block_code, block_length, start_of}
+use Rattle.step_compiler.specs.Blocks.{blocks_code, dispatch_offset, entry_of}
 use Rattle.step_compiler.specs.proof.Blocks.{order_length, in_list, block_starts, compiled}
 use Rattle.step_compiler.proofs.Sight.{SeesTrigger}
 use Rattle.step_compiler.proofs.Sighting.{acts_seen, trigger_seen}
-use Rattle.step_compiler.proofs.PlacedCode.{HasAt, has_front, has_back, code-length, acts-length, trigger-length, edge-length, blocks-length}
+use Rattle.step_compiler.proofs.PlacedCode.{HasAt, has_front, has_back, code-length, acts-length, trigger-length}
+use Rattle.step_compiler.proofs.PlacedCode.{edge-length, blocks-length}
 use Rattle.step_compiler.proofs.Marking.{edge_has}
 use Rattle.step_compiler.proofs.Built.{start_below}
 use Rattle.step_compiler.proofs.Covered.{all_member, some_member, order_full}
@@ -40,7 +47,9 @@ use Rattle.step_compiler.proofs.Accepted.{Closed, jump_stays, closed_both, none_
 use Rattle.step_compiler.proofs.Levels.{height, height_at, expr_height, acts_height, trigger_height, edge_height}
 use Rattle.step_compiler.proofs.Fine.{IsFine, AreFine, one_fine, both_fine, none_fine, fine_at, jump_fine, zero_fine}
 use Rattle.step_compiler.proofs.FineActions.{none_round, Matches, value_fine, acts_fine}
-use Rattle.step_compiler.proofs.CalmPlaces.{trigger_closed, edge_closed, IsCalm, calm_edge, calm_at, calm_round, calm_outer, calm_start, lies_in, member_leaving, edge_depth, some_edges, LastOpen, last_open, rest_open, past_inside}
+use Rattle.step_compiler.proofs.CalmPlaces.{trigger_closed, edge_closed, IsCalm, calm_edge, calm_at, calm_round}
+use Rattle.step_compiler.proofs.CalmPlaces.{calm_outer, calm_start, lies_in, member_leaving, edge_depth, some_edges}
+use Rattle.step_compiler.proofs.CalmPlaces.{LastOpen, last_open, rest_open, past_inside}
 
 module _ (b : BehaviourParts) (c : CodeParts) (rules : IsBehaviour b)
     (instrs : c.instrs ≡ blocks_code b (in_list (block_starts b)) (block_order b) 0)

@@ -1,6 +1,7 @@
 //! The order of the blocks of states.
 ghost use Rattle.std.specs.Prelude.{◌≡◌, IfOk, OnOk, false};
-ghost use Rattle.step_compiler.specs.proof.Order.{is_placed, next_state, block_order, with_next, awaited_marks, states_outside};
+ghost use Rattle.step_compiler.specs.proof.Order.{is_placed, next_state, block_order, with_next, awaited_marks};
+ghost use Rattle.step_compiler.specs.proof.Order.{states_outside};
 ghost use Rattle.step_compiler.specs.LaidOut.{complete_states};
 
 use crate::numbering::{item_at, mark};

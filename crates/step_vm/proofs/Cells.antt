@@ -1,5 +1,6 @@
 -- Cells and the stack in them.
-use Rattle.std.proofs.Common.{◌≡◌, ◌∙◌, ℕ, zero, suc, ◌+◌, ◌<◌, ◌≤◌, ℤ, pos, List, ◌∷◌, length, slice_index_or, slice_set, refl, ap, arith, add-one}
+use Rattle.std.proofs.Common.{◌≡◌, ◌∙◌, ℕ, zero, suc, ◌+◌, ◌<◌, ◌≤◌, ℤ, pos, List, ◌∷◌, length, slice_index_or}
+use Rattle.std.proofs.Common.{slice_set, refl, ap, arith, add-one}
 use Rattle.std.proofs.lemmas.List.{get_or-set_other, get_or-set_same}
 use Rattle.step_vm.specs.proof.Stacks.{stacked}
 

@@ -1,5 +1,7 @@
 -- The frame after a step fits the code again.
-use Rattle.std.proofs.Common.{◌≡◌, ◌∙◌, ℕ, zero, suc, ◌+◌, ℤ, pos, ◌+ℤ◌, Bool, true, false, if◌then◌else◌, List, [], ◌∷◌, length, take, replicate, Option, Some, None, refl, sym, ap, subst, arith, length-append}
+use Rattle.std.proofs.Common.{◌≡◌, ◌∙◌, ℕ, zero, suc, ◌+◌, ℤ, pos, ◌+ℤ◌, Bool, true, false, if◌then◌else◌, List, []}
+use Rattle.std.proofs.Common.{◌∷◌, length, take, replicate, Option, Some, None, refl, sym, ap, subst, arith}
+use Rattle.std.proofs.Common.{length-append}
 use Rattle.std.specs.Prelude.{slice_get, int_lt, Result, Ok, Err}
 use Rattle.std.proofs.lemmas.List.{length-set, length-replicate, length-take-le}
 use Rattle.std.proofs.lemmas.Bool.{not-false}
@@ -12,10 +14,13 @@ use Rattle.pals_base.specs.Arithmetic.{negation_of, magnitude_of}
 use Rattle.pals_base.specs.Expressions.{is_true, applied}
 use Rattle.pals_base.specs.Fire.{Fired, holding}
 use Rattle.step_code.specs.declared.instr.Instr.{Instr}
-use Rattle.step_code.specs.declared.instr.Instr.TheVariants.{Push, Load, Store, Port, Fresh, Neg, Abs, Not, Add, Sub, Mul, Quot, Mod, Rem, Eq, Ne, Lt, Le, Gt, Ge, And, Or, Xor, Jump, JumpZero, LoopStart, LoopNext, Emit, End}
+use Rattle.step_code.specs.declared.instr.Instr.TheVariants.{Push, Load, Store, Port, Fresh, Neg, Abs, Not, Add, Sub}
+use Rattle.step_code.specs.declared.instr.Instr.TheVariants.{Mul, Quot, Mod, Rem, Eq, Ne, Lt, Le, Gt, Ge, And, Or, Xor}
+use Rattle.step_code.specs.declared.instr.Instr.TheVariants.{Jump, JumpZero, LoopStart, LoopNext, Emit, End}
 use Rattle.step_code.specs.declared.instr.CodeParts.{CodeParts}
 use Rattle.step_code.specs.Step.{Next, Goes, Ends, Traps, Sticks, Senses, on_top, on_found, on_result, on_two, step}
-use Rattle.step_code.specs.proof.Exec.{Outcome, Ended, Trapped, Stuck, Unfinished, then_run, run, left, from_entry, unless_halted, exec, Leaves, has_entry, FitsCode}
+use Rattle.step_code.specs.proof.Exec.{Outcome, Ended, Trapped, Stuck, Unfinished, then_run, run, left, from_entry}
+use Rattle.step_code.specs.proof.Exec.{unless_halted, exec, Leaves, has_entry, FitsCode}
 use Rattle.step_code.specs.Made.{silent, senses, slots_of}
 use Rattle.step_code.specs.proof.Rules.{finds, misses_slot, on_some, BadSlot, IsVerified}
 use Rattle.step_code.proofs.Refusals.{untrue}

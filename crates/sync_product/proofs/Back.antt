@@ -1,10 +1,11 @@
 -- A renumbering can be undone.
-use Rattle.std.proofs.Common.{◌≡◌, ◌≢◌, ◌∙◌, inl, inr, ℕ, zero, suc, ◌<◌, Bool, nat_eq, List, length}
-use Rattle.std.proofs.Common.{get_or, Some, slice_get, Contains, sym, ap, ap₂, subst, arith}
+use Rattle.std.proofs.Common.{◌≡◌, ◌≢◌, ◌∙◌, inl, inr, ℕ, zero, suc, ◌<◌, Bool, nat_eq, List, length, get_or, Some}
+use Rattle.std.proofs.Common.{slice_get, Contains, sym, ap, ap₂, subst, arith}
 use Rattle.std.proofs.lemmas.Bool.{eqb-true, eq-eqb, true≢false}
 use Rattle.std.proofs.lemmas.List.Elements.{All-contains, Contains-get_or}
 use Rattle.std.proofs.lemmas.Option.{slice_get_within}
-use Rattle.list_lemmas.proofs.Places.{Contains-from_slice_get, slice_get-from_Contains, slice_get-map_some, slice_get-map_parts}
+use Rattle.list_lemmas.proofs.Places.{Contains-from_slice_get, slice_get-from_Contains, slice_get-map_some}
+use Rattle.list_lemmas.proofs.Places.{slice_get-map_parts}
 use Rattle.pals_model.specs.declared.design.Link.{Link}
 use Rattle.pals_model.specs.declared.design.Feed.{Feed}
 use Rattle.pals_model.specs.declared.design.DesignParts.{DesignParts}
@@ -14,7 +15,8 @@ use Rattle.pals_model.specs.Rules.{IsDesign, IsLink, IsFeed}
 use Rattle.pals_model.proofs.Lookups.{at_element}
 use Rattle.pals_model.proofs.RootInputLaws.{root_inputs_are_feeds}
 use Rattle.pals_model.proofs.ShapeLaws.{component_at}
-use Rattle.sync_product.specs.proof.Renumbered.{renumbered_link, renumbered_feed, values_of, IsRenumbered, AreSameInputs}
+use Rattle.sync_product.specs.proof.Renumbered.{renumbered_link, renumbered_feed, values_of, IsRenumbered}
+use Rattle.sync_product.specs.proof.Renumbered.{AreSameInputs}
 use Rattle.sync_product.proofs.Counting.{Search, search_below, too_many}
 use Rattle.sync_product.proofs.Images.{images_back}
 use Rattle.sync_product.proofs.Parts.{feed_back}

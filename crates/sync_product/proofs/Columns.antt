@@ -1,7 +1,10 @@
 -- Columns of rows.
-use Rattle.std.proofs.Common.{◌≡◌, ◌∙◌, ℕ, ◌-◌, ◌<◌, ◌≤◌, inl, inr, Bool, if◌then◌else◌, nat_lt, List, ◌++◌, length, map, take, replicate, slice_index_or, sym, ap, arith}
+use Rattle.std.proofs.Common.{◌≡◌, ◌∙◌, ℕ, ◌-◌, ◌<◌, ◌≤◌, inl, inr, Bool, if◌then◌else◌, nat_lt, List, ◌++◌, length}
+use Rattle.std.proofs.Common.{map, take, replicate, slice_index_or, sym, ap, arith}
 use Rattle.std.proofs.lemmas.Bool.{lt-ltb, le-ltb, cases_lt}
-use Rattle.std.proofs.lemmas.List.{length-map, append-nil, take_all, length-append, length-take, length-take-le, length-replicate, get_or-map, get_or-take, get_or-replicate, get_or_append_left, get_or-append_right}
+use Rattle.std.proofs.lemmas.List.{length-map, append-nil, take_all, length-append, length-take, length-take-le}
+use Rattle.std.proofs.lemmas.List.{length-replicate, get_or-map, get_or-take, get_or-replicate, get_or_append_left}
+use Rattle.std.proofs.lemmas.List.{get_or-append_right}
 use Rattle.pals_base.specs.declared.values.PortValue.{PortValue}
 use Rattle.pals_base.specs.declared.values.PortValue.TheVariants.{Absent}
 use Rattle.pals_base.specs.Steps.{column, cut}

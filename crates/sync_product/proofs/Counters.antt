@@ -11,7 +11,8 @@ use Rattle.pals_model.specs.declared.design.Feed.{Feed}
 use Rattle.pals_model.specs.declared.design.Tap.{Tap}
 use Rattle.pals_model.specs.declared.design.DesignParts.{DesignParts}
 use Rattle.pals_model.specs.proof.Counters.{two_counters}
-use Rattle.pals_model.specs.Rules.{IsComponent, IsLink, IsFeed, IsTap, IsApart, LinkPrecedes, FeedPrecedes, AgreeInKind, AreLinks, AreFeeds, IsDesign}
+use Rattle.pals_model.specs.Rules.{IsComponent, IsLink, IsFeed, IsTap, IsApart, LinkPrecedes, FeedPrecedes, AgreeInKind}
+use Rattle.pals_model.specs.Rules.{AreLinks, AreFeeds, IsDesign}
 use Rattle.sync_product.specs.proof.Exchanged.{exchanged_counters, fed, fed_counters, exchanged_fed_counters}
 use Rattle.sync_product.proofs.Counter.{all_of_two, pair_of_two, counter, counter_behaves}
 

@@ -6,7 +6,8 @@ use Rattle.pals_base.specs.declared.values.PortValue.{PortValue}
 use Rattle.pals_model.specs.proof.Counters.{two_counters}
 use Rattle.pals_model.specs.Inputs.{no_env}
 use Rattle.sync_product.specs.proof.Renumbered.{IsRenumbered, AreSameInputs, values_of}
-use Rattle.sync_product.specs.proof.Exchanged.{exchange, exchanged_counters, fed_counters, exchanged_fed_counters, inputs_of_two}
+use Rattle.sync_product.specs.proof.Exchanged.{exchange, exchanged_counters, fed_counters, exchanged_fed_counters}
+use Rattle.sync_product.specs.proof.Exchanged.{inputs_of_two}
 use Rattle.sync_product.proofs.Counter.{all_of_two}
 
 -- two elements in the other order

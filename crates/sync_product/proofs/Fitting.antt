@@ -11,7 +11,8 @@ use Rattle.pals_model.specs.declared.rounds.Part.{Part}
 use Rattle.pals_model.specs.Inputs.{source_of}
 use Rattle.sync_product.specs.declared.stage.Stage.{Stage}
 use Rattle.sync_product.specs.declared.wiring.WiredComponent.{WiredComponent}
-use Rattle.sync_product.specs.proof.Sizes.{PartSize, StageSize, frame_size, frame_size_of, part_size, part_size_of, part_sizes, stage_size, stage_size_of, stage_sizes, tap_ports}
+use Rattle.sync_product.specs.proof.Sizes.{PartSize, StageSize, frame_size, frame_size_of, part_size, part_size_of}
+use Rattle.sync_product.specs.proof.Sizes.{part_sizes, stage_size, stage_size_of, stage_sizes, tap_ports}
 use Rattle.sync_product.specs.proof.Wired.{IsWired}
 use Rattle.sync_product.proofs.Sizing.{length-upwards}
 use Rattle.sync_product.proofs.Tables.{numbered-at, sized_at, count_of_sized}

@@ -1,6 +1,6 @@
 -- Each in port brings what it brings in the design with the other numbers.
-use Rattle.std.proofs.Common.{◌≡◌, ◌⊎◌, ◌∙◌, inl, inr, ℕ, ◌<◌, ◌&&◌, true, false, nat_eq, List, [], ◌∷◌, length, Some, All, slice_get}
-use Rattle.std.proofs.Common.{slice_index_or, sym, ap, ap₂, subst}
+use Rattle.std.proofs.Common.{◌≡◌, ◌⊎◌, ◌∙◌, inl, inr, ℕ, ◌<◌, ◌&&◌, true, false, nat_eq, List, [], ◌∷◌, length, Some}
+use Rattle.std.proofs.Common.{All, slice_get, slice_index_or, sym, ap, ap₂, subst}
 use Rattle.std.proofs.lemmas.Bool.{eqb-true, and_parts}
 use Rattle.std.proofs.lemmas.List.Elements.{All-contains}
 use Rattle.std.proofs.lemmas.Option.{get_or_from_slice_get}
@@ -12,12 +12,14 @@ use Rattle.pals_model.specs.declared.design.Link.{Link}
 use Rattle.pals_model.specs.declared.design.Feed.{Feed}
 use Rattle.pals_model.specs.declared.design.DesignParts.{DesignParts}
 use Rattle.pals_model.specs.declared.rounds.Env.{Env}
-use Rattle.pals_model.specs.Inputs.{feed_names, root_inputs, root_of, place_of, values_at, link_goes_to, feed_goes_to, source_of, read_link, read_feed, reading}
+use Rattle.pals_model.specs.Inputs.{feed_names, root_inputs, root_of, place_of, values_at, link_goes_to, feed_goes_to}
+use Rattle.pals_model.specs.Inputs.{source_of, read_link, read_feed, reading}
 use Rattle.pals_model.specs.Rules.{IsDesign, IsLink, IsFeed}
 use Rattle.pals_model.proofs.Lookups.{at_element}
 use Rattle.pals_model.proofs.SourceLaws.{link_is_source, feed_is_source, nothing_is_source}
 use Rattle.pals_model.proofs.RootInputLaws.{root_inputs_are_feeds}
-use Rattle.sync_product.specs.proof.Renumbered.{renumbered_link, renumbered_feed, IsRenumbered, values_of, AreSameInputs}
+use Rattle.sync_product.specs.proof.Renumbered.{renumbered_link, renumbered_feed, IsRenumbered, values_of}
+use Rattle.sync_product.specs.proof.Renumbered.{AreSameInputs}
 use Rattle.sync_product.proofs.Elements.{Passes, some_or_none, column_at}
 use Rattle.sync_product.proofs.Images.{none_there}
 use Rattle.sync_product.proofs.Parts.{rate_there, same_number, link_there, feed_there}

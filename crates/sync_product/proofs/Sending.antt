@@ -1,5 +1,6 @@
 -- Messages and the rows that they come from.
-use Rattle.std.proofs.Common.{◌≡◌, ◌∙◌, ℕ, ◌<◌, inl, inr, List, length, map, slice_get, slice_index_or, refl, sym, ap, arith}
+use Rattle.std.proofs.Common.{◌≡◌, ◌∙◌, ℕ, ◌<◌, inl, inr, List, length, map, slice_get, slice_index_or, refl, sym, ap}
+use Rattle.std.proofs.Common.{arith, Some}
 use Rattle.std.proofs.lemmas.Option.{slice_get_cases, slice_get_read}
 use Rattle.std.proofs.lemmas.List.{get_or-map}
 use Rattle.pals_base.specs.Steps.{column, cut}
@@ -14,7 +15,6 @@ use Rattle.sync_product.specs.declared.stage.Stage.{Stage}
 use Rattle.sync_product.specs.proof.Sizes.{StageSize, stage_size, stage_size_of, stage_sizes, message_sizes}
 use Rattle.sync_product.proofs.Sizing.{count_of_rows}
 use Rattle.sync_product.proofs.Tables.{sized_at}
-use Rattle.std.proofs.Common.{Some}
 use Rattle.list_lemmas.proofs.Places.{slice_get-map_some}
 
 -- a message has a place for each row of its source

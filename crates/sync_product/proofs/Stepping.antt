@@ -1,5 +1,6 @@
 -- The steps of one more component.
-use Rattle.std.proofs.Common.{◌≡◌, ◌∙◌, ℕ, ◌+◌, ◌<◌, inl, inr, List, length, map, set, slice_get, slice_index_or, Some, sym, ap, ap₂, arith}
+use Rattle.std.proofs.Common.{◌≡◌, ◌∙◌, ℕ, ◌+◌, ◌<◌, inl, inr, List, length, map, set, slice_get, slice_index_or, Some}
+use Rattle.std.proofs.Common.{sym, ap, ap₂, arith}
 use Rattle.std.proofs.lemmas.Bool.{cases_lt}
 use Rattle.std.proofs.lemmas.List.{map-set, length-map, get_or-map}
 use Rattle.pals_base.specs.declared.values.PortValue.{PortValue}

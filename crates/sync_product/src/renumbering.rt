@@ -10,7 +10,8 @@ ghost use Rattle.pals_model.specs.Composition.{state, msg, part};
 ghost use Rattle.pals_model.specs.proof.Counters.{two_counters};
 ghost use Rattle.pals_model.specs.Inputs.{no_env};
 ghost use Rattle.sync_product.specs.proof.Renumbered.{renumbered_link, renumbered_tap, IsRenumbered, AreSameInputs};
-ghost use Rattle.sync_product.specs.proof.Exchanged.{exchange, exchanged_counters, fed_counters, exchanged_fed_counters, inputs_of_two};
+ghost use Rattle.sync_product.specs.proof.Exchanged.{exchange, exchanged_counters, fed_counters};
+ghost use Rattle.sync_product.specs.proof.Exchanged.{exchanged_fed_counters, inputs_of_two};
 
 /// The numbers of the components do not matter: with other numbers and the same inputs, each
 /// component is in the same state after any number of rounds.

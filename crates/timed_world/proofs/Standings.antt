@@ -1,5 +1,6 @@
 -- A node of a world stands in range, and the last time that it allows is the world's.
-use Rattle.std.proofs.Common.{◌≡◌, ℕ, ◌+◌, ◌<◌, ◌≤◌, true, length, Option, Some, None, refl, ap, ap₂, ◌∙◌, sym, subst, arith}
+use Rattle.std.proofs.Common.{◌≡◌, ℕ, ◌+◌, ◌<◌, ◌≤◌, true, length, Option, Some, None, refl, ap, ap₂, ◌∙◌, sym, subst}
+use Rattle.std.proofs.Common.{arith}
 use Rattle.std.specs.Prelude.{is_some, slice_index_or}
 use Rattle.std.proofs.lemmas.Bool.{false≢true}
 use Rattle.pals_base.specs.declared.limits.TheConstants.{READING, ROUNDS}
@@ -14,7 +15,8 @@ use Rattle.bus_machine.specs.proof.MachineLaws.{IsRunOf}
 use Rattle.run_laws.specs.Worlds.{World, since_at, ready_at}
 use Rattle.run_laws.specs.Deadlines.{node_deadline, phase_deadline, lesser}
 use Rattle.run_laws.specs.proof.WorldsKeep.{IsInTime, KeepsTime}
-use Rattle.run_laws.proofs.Nodes.{deadline_is, phase_agrees, rounds_at_most, send_last as of_send, phase_last as of_phase}
+use Rattle.run_laws.proofs.Nodes.{deadline_is, phase_agrees, rounds_at_most, send_last as of_send}
+use Rattle.run_laws.proofs.Nodes.{phase_last as of_phase}
 use Rattle.run_laws.proofs.WorldNumbers.{times_are_readings}
 use Rattle.timed_world.specs.declared.standing.NodeStanding.{NodeStanding}
 use Rattle.timed_world.specs.proof.Values.{WorldValue, KeepsWorld, world_of}

@@ -28,7 +28,9 @@ pub struct NodeStanding {
 }
 
 impl NodeStanding {
-    ghost use Rattle.timed_world.specs.proof.Standings.{IsSound, alarm_of_step, release_of, start_fault, step_fault, finish_fault, send_fault, may_go, phase_last, send_last, last_time};
+    ghost use Rattle.timed_world.specs.proof.Standings.{IsSound, alarm_of_step, release_of, start_fault, step_fault};
+    ghost use Rattle.timed_world.specs.proof.Standings.{finish_fault, send_fault, may_go, phase_last, send_last};
+    ghost use Rattle.timed_world.specs.proof.Standings.{last_time};
 
     /// Why it may not start its next round, if so.
     pub fn start_fault(&self, plan: &Plan) -> Option<EventFault>

@@ -1,5 +1,6 @@
 -- What an audit keeps from line to line.
-use Rattle.std.proofs.Common.{◌≡◌, ℕ, zero, suc, Bool, true, not, cond, List, ◌∷◌, length, map, Option, Some, None, refl, sym, ap, ◌∙◌, length-set}
+use Rattle.std.proofs.Common.{◌≡◌, ℕ, zero, suc, Bool, true, not, cond, List, ◌∷◌, length, map, Option, Some, None}
+use Rattle.std.proofs.Common.{refl, sym, ap, ◌∙◌, length-set}
 use Rattle.std.specs.Prelude.{is_some, replicate, IfSome}
 use Rattle.std.specs.Option.{unwrap_or}
 use Rattle.pals_base.specs.Steps.{upwards}

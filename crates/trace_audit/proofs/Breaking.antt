@@ -13,7 +13,8 @@ use Rattle.bus_machine.specs.States.{Run, BusState}
 use Rattle.bus_machine.specs.Machine.{BusEvent, is_allowed}
 use Rattle.bus_machine.specs.Replay.{entries}
 use Rattle.run_laws.specs.TraceLines.{timed, event_of}
-use Rattle.run_laws.specs.TraceRules.{broken, falls, first_entry, fits, is_in_order, is_line_of, tells_stop, too_early, waits}
+use Rattle.run_laws.specs.TraceRules.{broken, falls, first_entry, fits, is_in_order, is_line_of, tells_stop, too_early}
+use Rattle.run_laws.specs.TraceRules.{waits}
 use Rattle.trace_audit.specs.proof.FirstRules.{first_rule}
 
 -- an entry that tells an event with its own numbers, where no stop stands

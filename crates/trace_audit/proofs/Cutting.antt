@@ -1,5 +1,6 @@
 -- The lines of a text, cut off one after the other.
-use Rattle.std.proofs.Common.{◌≡◌, ◌≢◌, ℕ, suc, ◌+◌, ◌≤◌, cond, List, [], ◌∷◌, ◌++◌, length, take, drop, Some, refl, sym, ap, ap₂, ◌∙◌, arith, append_assoc, length-append}
+use Rattle.std.proofs.Common.{◌≡◌, ◌≢◌, ℕ, suc, ◌+◌, ◌≤◌, cond, List, [], ◌∷◌, ◌++◌, length, take, drop, Some, refl}
+use Rattle.std.proofs.Common.{sym, ap, ap₂, ◌∙◌, arith, append_assoc, length-append}
 use Rattle.std.specs.Prelude.{bytes_eq, min, position}
 use Rattle.std.specs.List.{position_from}
 use Rattle.std.proofs.lemmas.Bool.{ne_eqb}
@@ -7,8 +8,7 @@ use Rattle.std.proofs.lemmas.Iterator.Adapters.{position_from-zero}
 use Rattle.std.proofs.lemmas.List.{drop-drop, length-drop}
 use Rattle.std.proofs.lemmas.List.Elements.{All-head, All-tail}
 use Rattle.pals_model.specs.proof.CompositionLaws.Lines.{IsLine}
-use Rattle.pals_model.specs.RoundTexts.{is_line_feed}
-use Rattle.pals_model.specs.RoundTexts.{text_of}
+use Rattle.pals_model.specs.RoundTexts.{is_line_feed, text_of}
 
 feed_from : (from : ℕ) (line rest : List ℕ) → IsLine line
     → position_from is_line_feed from (line ++ 10 ∷ rest) ≡ Some (from + length line)

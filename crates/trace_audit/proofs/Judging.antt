@@ -1,5 +1,6 @@
 -- The verdict on a journal, line by line.
-use Rattle.std.proofs.Common.{◌≡◌, ℕ, ◌+◌, ◌/◌, ◌<◌, ◌≤◌, List, ◌∷◌, length, take, drop, get_or, Option, Some, None, sym, ap, ap₂, ◌∙◌}
+use Rattle.std.proofs.Common.{◌≡◌, ℕ, ◌+◌, ◌/◌, ◌<◌, ◌≤◌, List, ◌∷◌, length, take, drop, get_or, Option, Some, None}
+use Rattle.std.proofs.Common.{sym, ap, ap₂, ◌∙◌}
 use Rattle.std.specs.Prelude.{IfSome}
 use Rattle.std.proofs.lemmas.List.{drop_all, drop_more}
 use Rattle.pals_runs.specs.declared.journal.JournalEntry.{JournalEntry}
@@ -8,7 +9,8 @@ use Rattle.pals_runs.specs.declared.verdicts.Verdict.{Verdict}
 use Rattle.pals_runs.specs.declared.verdicts.Verdict.TheVariants.{Sound, Wrong}
 use Rattle.bus_machine.specs.States.{Run}
 use Rattle.run_laws.specs.TraceLines.{told}
-use Rattle.run_laws.specs.Traces.{Audit, audit_after, end_broken, entry_or, journal_verdict, line_broken, opening_audit, report_size, row_size, trace_verdict, verdict, wrong_or, wrong_row}
+use Rattle.run_laws.specs.Traces.{Audit, audit_after, end_broken, entry_or, journal_verdict, line_broken, opening_audit}
+use Rattle.run_laws.specs.Traces.{report_size, row_size, trace_verdict, verdict, wrong_or, wrong_row}
 use Rattle.trace_audit.specs.declared.replay.Replay.{Replay}
 use Rattle.trace_audit.specs.proof.Replays.{Follows, IsReplay, audit_in}
 

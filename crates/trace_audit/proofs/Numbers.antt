@@ -1,5 +1,6 @@
 -- Whether entries tell the numbers of their events.
-use Rattle.std.proofs.Common.{◌≡◌, ◌≢◌, ℕ, nat_eq, Bool, true, false, ◌&&◌, List, ◌∷◌, Option, Some, None, refl, sym, ap, ap₂, ◌∙◌}
+use Rattle.std.proofs.Common.{◌≡◌, ◌≢◌, ℕ, nat_eq, Bool, true, false, ◌&&◌, List, ◌∷◌, Option, Some, None, refl, sym}
+use Rattle.std.proofs.Common.{ap, ap₂, ◌∙◌}
 use Rattle.std.specs.Prelude.{is_some, is_none, option_and_then}
 use Rattle.std.specs.Option.{option_map_or, unwrap_or}
 use Rattle.std.proofs.lemmas.Bool.{and_parts, eqb-true, eq-eqb, and_right}
@@ -19,7 +20,8 @@ use Rattle.bus_machine.specs.States.{Run, BusState, node_at}
 use Rattle.bus_machine.specs.Machine.{BusEvent, Step, arrival, early_stop}
 use Rattle.bus_machine.specs.Replay.{entries, stop_entry}
 use Rattle.run_laws.specs.TraceLines.{event_of, timed}
-use Rattle.run_laws.specs.TraceRules.{broken, falls, first_entry, fits, is_in_order, same_result, tells_stop, too_early, waits}
+use Rattle.run_laws.specs.TraceRules.{broken, falls, first_entry, fits, is_in_order, same_result, tells_stop, too_early}
+use Rattle.run_laws.specs.TraceRules.{waits}
 use Rattle.run_laws.specs.Traces.{second_entry}
 use Rattle.pals_node.specs.proof.Answers.{is_busy}
 use Rattle.trace_audit.specs.proof.FirstRules.{first_rule}

@@ -1,5 +1,6 @@
 //! The rule that is broken first.
-ghost use Rattle.std.specs.Prelude.{◌≡◌, ◌++◌, ◌∷◌, ◌↔◌, [], Bool, List, Some, None, true, IsTrue, false, option_copied};
+ghost use Rattle.std.specs.Prelude.{◌≡◌, ◌++◌, ◌∷◌, ◌↔◌, [], Bool, List, Some, None, true, IsTrue, false};
+ghost use Rattle.std.specs.Prelude.{option_copied};
 ghost use Rattle.std.specs.Option.{option_map_or};
 ghost use Rattle.pals_runs.specs.declared.journal.JournalEntry.{JournalEntry};
 ghost use Rattle.run_laws.specs.Entries.{IsEntryIn};

@@ -1,5 +1,6 @@
 -- What contracts see of a product with votes, before the first round and after one more.
-use Rattle.std.proofs.Common.{◌≡◌, ◌∙◌, ℕ, ◌-◌, ◌<◌, ◌≤◌, Bool, List, [], length, map, replicate, slice_get, slice_index_or, Some, sym, ap, ap₂, subst, arith}
+use Rattle.std.proofs.Common.{◌≡◌, ◌∙◌, ℕ, ◌-◌, ◌<◌, ◌≤◌, Bool, List, [], length, map, replicate, slice_get}
+use Rattle.std.proofs.Common.{slice_index_or, Some, sym, ap, ap₂, subst, arith}
 use Rattle.std.proofs.lemmas.List.{length-map, get_or-map, get_or-replicate, get_or_default}
 use Rattle.std.proofs.lemmas.Option.{get_or_from_slice_get}
 use Rattle.list_lemmas.proofs.Places.{slice_get-map_some}
@@ -23,10 +24,13 @@ use Rattle.sync_product.specs.proof.Sizes.{part_size, part_size_of, stage_size}
 use Rattle.sync_product.specs.proof.Rounds.{frames_of}
 use Rattle.sync_product.proofs.Tables.{count_of_sized}
 use Rattle.triple_vote.specs.declared.layer.Layer.{Layer}
-use Rattle.triple_vote.specs.Replicas.{copies_of, Voted, frame_at, received_at, first_frame, first_tuple, vopening, vshown_by}
+use Rattle.triple_vote.specs.Replicas.{copies_of, Voted, frame_at, received_at, first_frame, first_tuple, vopening}
+use Rattle.triple_vote.specs.Replicas.{vshown_by}
 use Rattle.triple_vote.specs.proof.States.{VotedState, vbegun, vadvanced}
 use Rattle.triple_vote.specs.proof.Layers.{lengths, frame_sizes, tap_sizes}
-use Rattle.triple_vote.specs.proof.Triples.{there_in, parts_in, frame_of, tuple_of, voted_of, AreThree, HaveReplicas, AreOpened, StayPut, AreMade, AllReceived, AreShown, AreTurned, AreHeard, HasTables, HasReplicas}
+use Rattle.triple_vote.specs.proof.Triples.{there_in, parts_in, frame_of, tuple_of, voted_of, AreThree, HaveReplicas}
+use Rattle.triple_vote.specs.proof.Triples.{AreOpened, StayPut, AreMade, AllReceived, AreShown, AreTurned, AreHeard}
+use Rattle.triple_vote.specs.proof.Triples.{HasTables, HasReplicas}
 use Rattle.triple_vote.proofs.ReplicasFollow.{replica_at, receiver_at}
 use Rattle.triple_vote.proofs.Layering.{room_at}
 use Rattle.triple_vote.proofs.Voting.{replicas-same, receivers-same, within_three, voted_is, shown_is}

@@ -1,5 +1,6 @@
 -- What two of three agree on wins.
-use Rattle.std.proofs.Common.{◌≡◌, ◌≢◌, ◌∙◌, ◌||◌, Bool, true, false, if◌then◌else◌, List, [], ◌∷◌, length, refl, ap, ap₂, arith}
+use Rattle.std.proofs.Common.{◌≡◌, ◌≢◌, ◌∙◌, ◌||◌, Bool, true, false, if◌then◌else◌, List, [], ◌∷◌, length, refl, ap}
+use Rattle.std.proofs.Common.{ap₂, arith}
 use Rattle.std.proofs.lemmas.Bool.{or_left, or_right, or_from, false_from_ne_true}
 use Rattle.std.proofs.lemmas.Bool.Decides.{Decides-int_eq}
 use Rattle.pals_base.specs.declared.values.PortValue.{PortValue}

@@ -1,5 +1,6 @@
 -- Where faults are outvoted, nothing shows them; and without replicas it is the composition.
-use Rattle.std.proofs.Common.{◌≡◌, ◌∙◌, ℕ, zero, suc, ◌<◌, Bool, false, if◌then◌else◌, List, [], ◌∷◌, length, map, None, Some, slice_get, slice_index_or, sym, ap, ap₂, arith, true≢false}
+use Rattle.std.proofs.Common.{◌≡◌, ◌∙◌, ℕ, zero, suc, ◌<◌, Bool, false, if◌then◌else◌, List, [], ◌∷◌, length, map, None}
+use Rattle.std.proofs.Common.{Some, slice_get, slice_index_or, sym, ap, ap₂, arith, true≢false}
 use Rattle.std.proofs.lemmas.List.{length-map}
 use Rattle.std.proofs.lemmas.Option.{slice_get-get_or}
 use Rattle.std.proofs.Math.ListN.{get_or-map}
@@ -13,8 +14,10 @@ use Rattle.pals_model.specs.Inputs.{values_at}
 use Rattle.pals_model.specs.Composition.{no_frame, comp, state, msg}
 use Rattle.pals_model.proofs.CompositionLaws.{one_frame_each, one_message_each}
 use Rattle.pals_runs.specs.declared.pairs.VoteFault.{VoteFault}
-use Rattle.triple_vote.specs.Replicas.{is_replicated, copies_of, receivers_in, Voted, for_replicas, for_receivers, first_frame, first_tuple, replica_steps, receives_on, vcomp}
-use Rattle.triple_vote.specs.proof.VoteLaws.{ReplicasAreStates, ReceivedAreMessages, TapsShowTuples, alone, NoReplicasAreComposition}
+use Rattle.triple_vote.specs.Replicas.{is_replicated, copies_of, receivers_in, Voted, for_replicas, for_receivers}
+use Rattle.triple_vote.specs.Replicas.{first_frame, first_tuple, replica_steps, receives_on, vcomp}
+use Rattle.triple_vote.specs.proof.VoteLaws.{ReplicasAreStates, ReceivedAreMessages, TapsShowTuples, alone}
+use Rattle.triple_vote.specs.proof.VoteLaws.{NoReplicasAreComposition}
 use Rattle.triple_vote.proofs.Tables.{table-is}
 use Rattle.triple_vote.proofs.Faults.{vote_is}
 use Rattle.triple_vote.proofs.ReplicasFollow.{replica_at, receiver_at, Agrees, AreOverruled, agrees_after, shows_after}

@@ -7,7 +7,8 @@ use Rattle.triple_vote.specs.Replicas.{vcomp, vshown}
 use Rattle.pals_model.specs.proof.Counters.{two_counters}
 use Rattle.pals_runs.specs.declared.pairs.VoteFault.{VoteFault}
 use Rattle.triple_vote.specs.proof.VoteLaws.{IsFault}
-use Rattle.triple_vote.specs.proof.CounterVotes.{liar, first_round, OneLiarIsOutvoted, TwoLiarsAreNot, OneLiarText, TwoLiarsText, OneLiarIsFault, OneLiarIsAllowed}
+use Rattle.triple_vote.specs.proof.CounterVotes.{liar, first_round, OneLiarIsOutvoted, TwoLiarsAreNot, OneLiarText}
+use Rattle.triple_vote.specs.proof.CounterVotes.{TwoLiarsText, OneLiarIsFault, OneLiarIsAllowed}
 
 pub one_liar_is_outvoted : OneLiarIsOutvoted
 unfolding fire vcomp

@@ -1,12 +1,17 @@
 -- The first fault at each place, from the last of the list to the first.
-use Rattle.std.proofs.Common.{◌≡◌, ◌≢◌, ◌∙◌, ℕ, suc, ◌+◌, ◌-◌, ◌*◌, ◌<◌, ◌≤◌, nat_eq, nat_lt, ◌&&◌, Bool, true, false, cond, if◌then◌else◌, List, [], ◌∷◌, length, set, drop, replicate, find, Option, None, Some, slice_get, slice_index_or, refl, sym, subst, ap, ap₂, inl, inr, arith, add-one}
-use Rattle.std.proofs.lemmas.Bool.{ltb-true, lt-ltb, eqb-true, eq-eqb, cases_eq, and_parts, and_from, false_from_ne_true}
-use Rattle.std.proofs.lemmas.List.{drop_more, drop_all, get_or-set_same, get_or-set_other, get_or-replicate, length-set, length-replicate}
+use Rattle.std.proofs.Common.{◌≡◌, ◌≢◌, ◌∙◌, ℕ, suc, ◌+◌, ◌-◌, ◌*◌, ◌<◌, ◌≤◌, nat_eq, nat_lt, ◌&&◌, Bool, true, false}
+use Rattle.std.proofs.Common.{cond, if◌then◌else◌, List, [], ◌∷◌, length, set, drop, replicate, find, Option, None}
+use Rattle.std.proofs.Common.{Some, slice_get, slice_index_or, refl, sym, subst, ap, ap₂, inl, inr, arith, add-one}
+use Rattle.std.proofs.lemmas.Bool.{ltb-true, lt-ltb, eqb-true, eq-eqb, cases_eq, and_parts, and_from}
+use Rattle.std.proofs.lemmas.Bool.{false_from_ne_true}
+use Rattle.std.proofs.lemmas.List.{drop_more, drop_all, get_or-set_same, get_or-set_other, get_or-replicate, length-set}
+use Rattle.std.proofs.lemmas.List.{length-replicate}
 use Rattle.std.proofs.lemmas.Option.{slice_get-get_or}
 use Rattle.pals_base.specs.declared.values.PortValue.{PortValue}
 use Rattle.pals_runs.specs.declared.pairs.VoteFault.{VoteFault}
 use Rattle.triple_vote.specs.Replicas.{is_fault, fault_or}
-use Rattle.triple_vote.specs.proof.FaultPlaces.{place, is_replica, is_placed, with_fault, fault_at, AreFirstOn, AreFirst}
+use Rattle.triple_vote.specs.proof.FaultPlaces.{place, is_replica, is_placed, with_fault, fault_at, AreFirstOn}
+use Rattle.triple_vote.specs.proof.FaultPlaces.{AreFirst}
 
 -- the same of the faults from this number on
 abbrev pub FirstFrom : List VoteFault → ℕ → List (Option ℕ) → ℕ → Type 0

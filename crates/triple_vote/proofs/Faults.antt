@@ -1,5 +1,6 @@
 -- With at most one of three at fault, the vote is the message that the others send.
-use Rattle.std.proofs.Common.{◌≡◌, ◌∙◌, ℕ, suc, nat_eq, ◌&&◌, true, List, length, Option, Some, None, slice_get, find, refl, sym, ap, arith}
+use Rattle.std.proofs.Common.{◌≡◌, ◌∙◌, ℕ, suc, nat_eq, ◌&&◌, true, List, length, Option, Some, None, slice_get, find}
+use Rattle.std.proofs.Common.{refl, sym, ap, arith}
 use Rattle.std.proofs.lemmas.Bool.{eqb-true, and_parts}
 use Rattle.std.proofs.lemmas.List.Elements.{All-contains}
 use Rattle.pals_base.specs.declared.values.PortValue.{PortValue}

@@ -1,5 +1,6 @@
 -- Lists of tuples written over, place by place, where a test passes.
-use Rattle.std.proofs.Common.{◌≡◌, ◌∙◌, ℕ, ◌+◌, ◌<◌, ◌≤◌, inl, inr, Bool, true, false, List, length, set, Some, slice_get, sym, ap, ap₂, arith, eq-or-lt_of_le}
+use Rattle.std.proofs.Common.{◌≡◌, ◌∙◌, ℕ, ◌+◌, ◌<◌, ◌≤◌, inl, inr, Bool, true, false, List, length, set, Some}
+use Rattle.std.proofs.Common.{slice_get, sym, ap, ap₂, arith, eq-or-lt_of_le}
 use Rattle.std.proofs.lemmas.Bool.{false≢true}
 use Rattle.std.proofs.lemmas.Option.{slice_get_within}
 use Rattle.sync_product.proofs.Tables.{slice_get-set_same, slice_get-set_other}

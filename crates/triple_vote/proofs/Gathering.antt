@@ -1,5 +1,7 @@
 -- What is voted of three layers, link by link and root out port by root out port.
-use Rattle.std.proofs.Common.{◌≡◌, ◌∙◌, ℕ, zero, suc, ◌+◌, ◌<◌, inl, inr, nat_eq, ◌&&◌, Bool, true, false, List, [], ◌∷◌, length, map, set, All, find, Option, Some, None, slice_get, slice_index_or, refl, sym, ap, ap₂, arith, add-one}
+use Rattle.std.proofs.Common.{◌≡◌, ◌∙◌, ℕ, zero, suc, ◌+◌, ◌<◌, inl, inr, nat_eq, ◌&&◌, Bool, true, false, List, []}
+use Rattle.std.proofs.Common.{◌∷◌, length, map, set, All, find, Option, Some, None, slice_get, slice_index_or, refl}
+use Rattle.std.proofs.Common.{sym, ap, ap₂, arith, add-one}
 use Rattle.std.proofs.lemmas.Bool.{eqb-true, and_parts}
 use Rattle.std.proofs.lemmas.List.{get_or-map}
 use Rattle.std.proofs.lemmas.List.Elements.{All-contains}
@@ -19,7 +21,8 @@ use Rattle.triple_vote.specs.Votes.{votes}
 use Rattle.triple_vote.specs.Replicas.{source_in, is_replicated, is_fault, fault_or, vote_of}
 use Rattle.triple_vote.specs.proof.VoteLaws.{IsFault}
 use Rattle.triple_vote.specs.proof.Layers.{lengths, tap_sizes, HasRoom, is_there}
-use Rattle.triple_vote.specs.proof.Triples.{there_in, sent_in, shown_in, tuple_of, received_of, shown_of, AreOfSize, FaultsFit, AreThree}
+use Rattle.triple_vote.specs.proof.Triples.{there_in, sent_in, shown_in, tuple_of, received_of, shown_of, AreOfSize}
+use Rattle.triple_vote.specs.proof.Triples.{FaultsFit, AreThree}
 use Rattle.triple_vote.proofs.Tables.{found}
 use Rattle.triple_vote.proofs.Places.{length-votes}
 use Rattle.triple_vote.proofs.Filling.{Filled, filled_put}

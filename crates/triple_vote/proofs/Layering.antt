@@ -1,5 +1,6 @@
 -- Layers, one after the other.
-use Rattle.std.proofs.Common.{◌≡◌, ◌∙◌, ℕ, suc, ◌+◌, ◌<◌, ◌≤◌, inl, inr, Bool, List, [], ◌∷◌, length, map, set, slice_get, slice_index_or, Some, refl, sym, ap, ap₂, subst, arith, eq-or-lt_of_le}
+use Rattle.std.proofs.Common.{◌≡◌, ◌∙◌, ℕ, suc, ◌+◌, ◌<◌, ◌≤◌, inl, inr, Bool, List, [], ◌∷◌, length, map, set}
+use Rattle.std.proofs.Common.{slice_get, slice_index_or, Some, refl, sym, ap, ap₂, subst, arith, eq-or-lt_of_le}
 use Rattle.std.proofs.lemmas.List.{get_or-set_other, get_or_default, length-set}
 use Rattle.std.proofs.Math.Seq.{map-set_same}
 use Rattle.std.proofs.lemmas.List.Elements.{All-set}

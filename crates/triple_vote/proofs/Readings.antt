@@ -1,5 +1,6 @@
 -- A replica reads what its component reads, where it received the same messages.
-use Rattle.std.proofs.Common.{◌≡◌, ◌∙◌, ℕ, nat_eq, List, [], ◌∷◌, length, map, Option, Some, None, slice_get, slice_index_or, refl, ap, ap₂}
+use Rattle.std.proofs.Common.{◌≡◌, ◌∙◌, ℕ, nat_eq, List, [], ◌∷◌, length, map, Option, Some, None, slice_get}
+use Rattle.std.proofs.Common.{slice_index_or, refl, ap, ap₂}
 use Rattle.std.specs.Prelude.{position}
 use Rattle.std.proofs.lemmas.Bool.{eqb-true, and_parts}
 use Rattle.std.proofs.Math.ListN.{get_or-map}
@@ -8,7 +9,8 @@ use Rattle.pals_base.specs.Steps.{columns, upwards}
 use Rattle.pals_model.specs.declared.design.Component.{Component}
 use Rattle.pals_model.specs.declared.design.Link.{Link}
 use Rattle.pals_model.specs.declared.design.DesignParts.{DesignParts}
-use Rattle.pals_model.specs.Inputs.{inputs_of, source_of, from_link, from_feed, link_goes_to, feed_goes_to, reading, read_link}
+use Rattle.pals_model.specs.Inputs.{inputs_of, source_of, from_link, from_feed, link_goes_to, feed_goes_to, reading}
+use Rattle.pals_model.specs.Inputs.{read_link}
 use Rattle.pals_model.proofs.Lookups.{found_at}
 use Rattle.triple_vote.specs.Replicas.{Voted, received_at, heard_by}
 

@@ -1,5 +1,6 @@
 -- Round by round, replicas are in their components' states, and receive the messages of the composition.
-use Rattle.std.proofs.Common.{◌≡◌, ◌∙◌, ℕ, zero, suc, ◌<◌, Bool, true, false, if◌then◌else◌, List, [], length, map, replicate, Some, slice_get, slice_index_or, find, refl, sym, ap, ap₂, subst, arith}
+use Rattle.std.proofs.Common.{◌≡◌, ◌∙◌, ℕ, zero, suc, ◌<◌, Bool, true, false, if◌then◌else◌, List, [], length, map}
+use Rattle.std.proofs.Common.{replicate, Some, slice_get, slice_index_or, find, refl, sym, ap, ap₂, subst, arith}
 use Rattle.std.proofs.lemmas.Option.{slice_get_within, get_or_from_slice_get, slice_get-map}
 use Rattle.std.specs.Option.{option_map}
 use Rattle.pals_base.specs.declared.values.PortValue.{PortValue}
@@ -21,7 +22,10 @@ use Rattle.pals_model.proofs.Lookups.{at_element}
 use Rattle.pals_model.proofs.ShapeLaws.{component_at, message_has_rate}
 use Rattle.pals_runs.specs.declared.pairs.VoteFault.{VoteFault}
 use Rattle.triple_vote.specs.Votes.{votes}
-use Rattle.triple_vote.specs.Replicas.{is_replicated, copies_of, receivers_in, Voted, frame_at, received_at, for_replicas, for_receivers, first_frame, first_tuple, vopening, steps_in, replica_steps, tuple_at, is_fault, fault_or, own_message, sent_to, vote_of, receives_on, vnext, vcomp, vshown_by, vshown}
+use Rattle.triple_vote.specs.Replicas.{is_replicated, copies_of, receivers_in, Voted, frame_at, received_at}
+use Rattle.triple_vote.specs.Replicas.{for_replicas, for_receivers, first_frame, first_tuple, vopening, steps_in}
+use Rattle.triple_vote.specs.Replicas.{replica_steps, tuple_at, is_fault, fault_or, own_message, sent_to, vote_of}
+use Rattle.triple_vote.specs.Replicas.{receives_on, vnext, vcomp, vshown_by, vshown}
 use Rattle.triple_vote.proofs.Agreeing.{votes-first_two}
 use Rattle.triple_vote.proofs.Tables.{table-at}
 use Rattle.triple_vote.proofs.Readings.{same_inputs}

@@ -1,5 +1,6 @@
 -- What the steps of the components that are there leave.
-use Rattle.std.proofs.Common.{◌≡◌, ◌∙◌, ℕ, ◌+◌, ◌<◌, ◌≤◌, inl, inr, Bool, true, false, List, [], length, map, set, slice_get, slice_index_or, Some, sym, ap, ap₂, arith, eq-or-lt_of_le}
+use Rattle.std.proofs.Common.{◌≡◌, ◌∙◌, ℕ, ◌+◌, ◌<◌, ◌≤◌, inl, inr, Bool, true, false, List, [], length, map, set}
+use Rattle.std.proofs.Common.{slice_get, slice_index_or, Some, sym, ap, ap₂, arith, eq-or-lt_of_le}
 use Rattle.std.proofs.lemmas.Bool.{false≢true}
 use Rattle.std.proofs.lemmas.List.{map-set, length-map, get_or-map}
 use Rattle.list_lemmas.proofs.Places.{slice_get-map_some}
@@ -14,10 +15,12 @@ use Rattle.pals_model.specs.declared.sources.PortSource.{PortSource}
 use Rattle.pals_model.specs.Inputs.{inputs_of, source_of, sources_of, all_sources}
 use Rattle.pals_model.specs.Composition.{no_frame}
 use Rattle.sync_product.specs.declared.stage.Stage.{Stage}
-use Rattle.sync_product.specs.proof.Sizes.{PartSize, StageSize, part_size, part_size_of, stage_size, stage_size_of, stage_sizes}
+use Rattle.sync_product.specs.proof.Sizes.{PartSize, StageSize, part_size, part_size_of, stage_size, stage_size_of}
+use Rattle.sync_product.specs.proof.Sizes.{stage_sizes}
 use Rattle.sync_product.specs.proof.Rounds.{frames_of}
 use Rattle.sync_product.proofs.Sizing.{length-upwards}
-use Rattle.sync_product.proofs.Tables.{numbered-at, entry_at, sized_at, within_table, count_of_sized, item_at, slice_get-set_same, slice_get-set_other}
+use Rattle.sync_product.proofs.Tables.{numbered-at, entry_at, sized_at, within_table, count_of_sized, item_at}
+use Rattle.sync_product.proofs.Tables.{slice_get-set_same, slice_get-set_other}
 use Rattle.triple_vote.specs.proof.Layers.{frame_sizes, is_there, frame_made, rows_made, IsRun}
 
 abbrev rows_of : List Stage → List (List (List PortValue))

@@ -1,5 +1,7 @@
 -- The report of rounds that are voted on is that of the composition, with lines three times.
-use Rattle.std.proofs.Common.{◌≡◌, ◌∙◌, ℕ, zero, suc, ◌+◌, ◌<◌, nat_eq, Bool, true, false, cond, if◌then◌else◌, List, [], ◌∷◌, ◌++◌, length, map, filter, flat_map, take, Some, slice_get, slice_index_or, refl, sym, ap, ap₂, arith}
+use Rattle.std.proofs.Common.{◌≡◌, ◌∙◌, ℕ, zero, suc, ◌+◌, ◌<◌, nat_eq, Bool, true, false, cond, if◌then◌else◌, List}
+use Rattle.std.proofs.Common.{[], ◌∷◌, ◌++◌, length, map, filter, flat_map, take, Some, slice_get, slice_index_or, refl}
+use Rattle.std.proofs.Common.{sym, ap, ap₂, arith}
 use Rattle.std.specs.List.{enumerate_from}
 use Rattle.std.proofs.lemmas.Bool.{eq-eqb}
 use Rattle.std.proofs.lemmas.Option.{slice_get_within, slice_get-map, get_or_from_slice_get}
@@ -14,7 +16,8 @@ use Rattle.pals_model.specs.declared.rounds.Env.{Env}
 use Rattle.pals_model.specs.declared.rounds.Part.{Part}
 use Rattle.pals_model.specs.Ports.{out_kind}
 use Rattle.pals_model.specs.Composition.{state, steps_of_round, tuple_of, taps_of, part}
-use Rattle.pals_model.specs.RoundTexts.{text_of, round_line, component_line, tap_line, part_lines, tap_lines, taps_before, composed_lines}
+use Rattle.pals_model.specs.RoundTexts.{text_of, round_line, component_line, tap_line, part_lines, tap_lines}
+use Rattle.pals_model.specs.RoundTexts.{taps_before, composed_lines}
 use Rattle.pals_model.proofs.CompositionLaws.{state_goes_on, part_from_steps}
 use Rattle.triple_vote.specs.Replicas.{is_replicated, copies_of, frame_at, vcomp, vshown}
 use Rattle.triple_vote.specs.VotedText.{replica_name, replica_lines, shown_line, vrow_lines, voted_lines, thrice_lines}

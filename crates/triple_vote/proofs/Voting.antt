@@ -1,5 +1,6 @@
 -- What three layers made, and what is voted of it, is one round of *votes*.
-use Rattle.std.proofs.Common.{◌≡◌, ◌∙◌, ℕ, zero, suc, ◌+◌, ◌<◌, inl, inr, Bool, true, false, if◌then◌else◌, List, [], ◌∷◌, length, map, find, slice_get, slice_index_or, Some, refl, sym, ap, ap₂, subst, arith}
+use Rattle.std.proofs.Common.{◌≡◌, ◌∙◌, ℕ, zero, suc, ◌+◌, ◌<◌, inl, inr, Bool, true, false, if◌then◌else◌, List, []}
+use Rattle.std.proofs.Common.{◌∷◌, length, map, find, slice_get, slice_index_or, Some, refl, sym, ap, ap₂, subst, arith}
 use Rattle.std.proofs.lemmas.Bool.{lt-ltb}
 use Rattle.std.proofs.lemmas.List.{length-map, ext_get_or}
 use Rattle.std.proofs.lemmas.Option.{slice_get_within, slice_get_cases, get_or_from_slice_get}
@@ -23,9 +24,13 @@ use Rattle.pals_runs.specs.declared.pairs.VoteFault.{VoteFault}
 use Rattle.sync_product.specs.proof.Rounds.{frames_of}
 use Rattle.triple_vote.specs.declared.layer.Layer.{Layer}
 use Rattle.triple_vote.specs.Votes.{votes}
-use Rattle.triple_vote.specs.Replicas.{is_replicated, copies_of, receivers_in, Voted, for_replicas, for_receivers, steps_in, replica_steps, tuple_at, is_fault, fault_or, own_message, sent_to, vote_of, receives_on, vnext, vshown_by}
+use Rattle.triple_vote.specs.Replicas.{is_replicated, copies_of, receivers_in, Voted, for_replicas, for_receivers}
+use Rattle.triple_vote.specs.Replicas.{steps_in, replica_steps, tuple_at, is_fault, fault_or, own_message, sent_to}
+use Rattle.triple_vote.specs.Replicas.{vote_of, receives_on, vnext, vshown_by}
 use Rattle.triple_vote.specs.proof.Layers.{is_there, frame_made, rows_made}
-use Rattle.triple_vote.specs.proof.Triples.{there_in, parts_in, next_in, sent_in, shown_in, frame_of, tuple_of, voted_of, received_of, AllReceived, shown_of, AreShown, AreMade, HaveReplicas}
+use Rattle.triple_vote.specs.proof.Triples.{there_in, parts_in, next_in, sent_in, shown_in, frame_of, tuple_of}
+use Rattle.triple_vote.specs.proof.Triples.{voted_of, received_of, AllReceived, shown_of, AreShown, AreMade}
+use Rattle.triple_vote.specs.proof.Triples.{HaveReplicas}
 use Rattle.triple_vote.proofs.Readings.{same_inputs}
 use Rattle.triple_vote.proofs.ReplicasFollow.{replica_at, receiver_at, has_first, has_three}
 

@@ -1,6 +1,7 @@
 -- The composition with three replicas of some components, whose messages each reader votes on. Replicas are numbered from 0
 -- here, and from 1 in faults.
-use Rattle.std.specs.Prelude.{ℕ, zero, suc, nat_eq, ◌&&◌, Bool, false, if◌then◌else◌, List, [], length, map, find, replicate, Option, None, Some, slice_get, slice_index_or}
+use Rattle.std.specs.Prelude.{ℕ, zero, suc, nat_eq, ◌&&◌, Bool, false, if◌then◌else◌, List, [], length, map, find}
+use Rattle.std.specs.Prelude.{replicate, Option, None, Some, slice_get, slice_index_or}
 use Rattle.pals_base.specs.declared.values.PortValue.{PortValue}
 use Rattle.pals_base.specs.declared.values.PortValue.TheVariants.{Absent}
 use Rattle.pals_base.specs.declared.values.Frame.{Frame}

@@ -1,6 +1,10 @@
 //! Laws of votes. Each law is the contract of a function that does nothing.
-ghost use Rattle.triple_vote.specs.proof.VoteLaws.{VotesOfThree, OneNamedIsOutvoted, ReplicasAreStates, ReceivedAreMessages, TapsShowTuples, ReportIsThrice, ThriceWithoutReplicas, NoReplicasAreComposition, StandsAtVotes, ShowsVotes};
-ghost use Rattle.triple_vote.specs.proof.CounterVotes.{OneLiarIsOutvoted, TwoLiarsAreNot, OneLiarText, TwoLiarsText, OneLiarIsFault, OneLiarIsAllowed};
+ghost use Rattle.triple_vote.specs.proof.VoteLaws.{VotesOfThree, OneNamedIsOutvoted, ReplicasAreStates};
+ghost use Rattle.triple_vote.specs.proof.VoteLaws.{ReceivedAreMessages, TapsShowTuples, ReportIsThrice};
+ghost use Rattle.triple_vote.specs.proof.VoteLaws.{ThriceWithoutReplicas, NoReplicasAreComposition, StandsAtVotes};
+ghost use Rattle.triple_vote.specs.proof.VoteLaws.{ShowsVotes};
+ghost use Rattle.triple_vote.specs.proof.CounterVotes.{OneLiarIsOutvoted, TwoLiarsAreNot, OneLiarText, TwoLiarsText};
+ghost use Rattle.triple_vote.specs.proof.CounterVotes.{OneLiarIsFault, OneLiarIsAllowed};
 
 /// What two of three agree on wins, and where no two agree there is no value.
 pub fn two_of_three_win()

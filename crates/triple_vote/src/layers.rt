@@ -5,7 +5,8 @@ ghost use Rattle.pals_model.specs.Composition.{opening};
 ghost use Rattle.sync_product.specs.proof.Sizes.{stage_size, stage_sizes};
 ghost use Rattle.triple_vote.specs.proof.FaultPlaces.{AreFirst};
 ghost use Rattle.triple_vote.specs.proof.VoteLaws.{IsFault};
-ghost use Rattle.triple_vote.specs.proof.Triples.{AreThree, AreOpened, AreMade, StayPut, AreHeard, AllReceived, AreTurned};
+ghost use Rattle.triple_vote.specs.proof.Triples.{AreThree, AreOpened, AreMade, StayPut, AreHeard, AllReceived};
+ghost use Rattle.triple_vote.specs.proof.Triples.{AreTurned};
 
 use crate::first_faults::FaultTable;
 use crate::layer::Layer;

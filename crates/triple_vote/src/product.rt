@@ -1,5 +1,6 @@
 //! The composition of a design with replicas, round by round.
-ghost use Rattle.std.specs.Prelude.{◌≡◌, ◌≤◌, ◌<◌, ◌-◌, [], All, IfOk, OnOk, OnErr, Some, length, slice_get, slice_index_or};
+ghost use Rattle.std.specs.Prelude.{◌≡◌, ◌≤◌, ◌<◌, ◌-◌, [], All, IfOk, OnOk, OnErr, Some, length, slice_get};
+ghost use Rattle.std.specs.Prelude.{slice_index_or};
 ghost use Rattle.std.specs.Arc.{arc_value};
 ghost use Rattle.pals_model.specs.declared.design.Link.{Link};
 ghost use Rattle.triple_vote.specs.Replicas.{copies_of, frame_at, received_at};

@@ -5,7 +5,8 @@ ghost use Rattle.triple_vote.specs.Replicas.{fault_or};
 ghost use Rattle.triple_vote.specs.proof.FaultPlaces.{fault_at, AreFirstOn, AreFirst};
 ghost use Rattle.triple_vote.specs.proof.Layers.{lengths};
 ghost use Rattle.triple_vote.specs.proof.VoteLaws.{IsFault};
-ghost use Rattle.triple_vote.specs.proof.Triples.{AreThree, sent_in, tuple_of, received_of, AreReceived, AreOfSize, FaultsFit};
+ghost use Rattle.triple_vote.specs.proof.Triples.{AreThree, sent_in, tuple_of, received_of, AreReceived, AreOfSize};
+ghost use Rattle.triple_vote.specs.proof.Triples.{FaultsFit};
 
 use crate::first_faults::{FaultTable, place};
 use crate::layer::Layer;

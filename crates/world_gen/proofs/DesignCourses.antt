@@ -1,5 +1,6 @@
 -- The courses of a design do what its schedule says.
-use Rattle.std.proofs.Common.{◌≡◌, ℕ, zero, suc, ◌+◌, ◌*◌, ◌<◌, ◌≤◌, nat_eq, Bool, true, false, List, [], ◌∷◌, ◌++◌, length, map, Some, All, cond, refl, sym, ap, ap₂, ◌∙◌, arith}
+use Rattle.std.proofs.Common.{◌≡◌, ℕ, zero, suc, ◌+◌, ◌*◌, ◌<◌, ◌≤◌, nat_eq, Bool, true, false, List, [], ◌∷◌, ◌++◌}
+use Rattle.std.proofs.Common.{length, map, Some, All, cond, refl, sym, ap, ap₂, ◌∙◌, arith}
 use Rattle.std.specs.Prelude.{flat_map, if◌then◌else◌}
 use Rattle.std.specs.List.{position_from}
 use Rattle.std.proofs.lemmas.Iterator.Adapters.{position_from-zero}
@@ -19,8 +20,12 @@ use Rattle.bus_machine.specs.proof.MachineLaws.{IsRunOf}
 use Rattle.run_laws.specs.Worlds.{world_run}
 use Rattle.run_laws.proofs.Links.{rule_of}
 use Rattle.world_gen.specs.declared.courses.EventSeries.{EventSeries}
-use Rattle.world_gen.specs.proof.Schedules.{step_time, finish_time, send_time, arrive_time, which, event_of, all_of, step_count, begins, starts_at, finishes_at, sends_at, arrivals_at, finishes, earlier_finishes, present_finishes, events_at}
-use Rattle.world_gen.specs.proof.Courses.{IsCourse, time_of, course_events, events_of, begin_course, finish_course, send_course, arrive_course, each_of, begin_courses, finish_courses, send_courses, arrive_courses, earlier_courses, present_courses, timetable}
+use Rattle.world_gen.specs.proof.Schedules.{step_time, finish_time, send_time, arrive_time, which, event_of, all_of}
+use Rattle.world_gen.specs.proof.Schedules.{step_count, begins, starts_at, finishes_at, sends_at, arrivals_at, finishes}
+use Rattle.world_gen.specs.proof.Schedules.{earlier_finishes, present_finishes, events_at}
+use Rattle.world_gen.specs.proof.Courses.{IsCourse, time_of, course_events, events_of, begin_course, finish_course}
+use Rattle.world_gen.specs.proof.Courses.{send_course, arrive_course, each_of, begin_courses, finish_courses}
+use Rattle.world_gen.specs.proof.Courses.{send_courses, arrive_courses, earlier_courses, present_courses, timetable}
 use Rattle.world_gen.proofs.Numbered.{numbered_all}
 use Rattle.world_gen.proofs.ScheduleTimes.{whole, some_rate, some_step, step_at, send_before}
 

@@ -1,5 +1,6 @@
 -- A world that follows its schedule: of each kind, the events that come before a time are made, and no others.
-use Rattle.std.proofs.Common.{◌≡◌, ◌≢◌, inl, inr, ℕ, zero, suc, ◌+◌, ◌-◌, ◌*◌, ◌<◌, ◌≤◌, Bool, true, List, [], ◌∷◌, ◌++◌, length, Option, Some, None, refl, sym, ap, ◌∙◌, subst, arith}
+use Rattle.std.proofs.Common.{◌≡◌, ◌≢◌, inl, inr, ℕ, zero, suc, ◌+◌, ◌-◌, ◌*◌, ◌<◌, ◌≤◌, Bool, true, List, [], ◌∷◌}
+use Rattle.std.proofs.Common.{◌++◌, length, Option, Some, None, refl, sym, ap, ◌∙◌, subst, arith}
 use Rattle.std.specs.Prelude.{nat_lt, flat_map, if◌then◌else◌, slice_index_or}
 use Rattle.std.proofs.lemmas.Bool.{cases_eq, cases_lt, lt-ltb, le-ltb}
 use Rattle.pals_base.specs.Bound.{alarm}
@@ -17,7 +18,8 @@ use Rattle.run_laws.specs.Worlds.{World, reading_at, since_at, ready_at, sending
 use Rattle.run_laws.specs.Faults.{fault_of, IsWithin}
 use Rattle.run_laws.specs.proof.WorldsKeep.{copies, KeepsTime}
 use Rattle.run_laws.specs.EventLists.{world_left}
-use Rattle.world_gen.specs.proof.Schedules.{step_time, finish_time, send_time, arrive_time, step_count, event_of, all_of}
+use Rattle.world_gen.specs.proof.Schedules.{step_time, finish_time, send_time, arrive_time, step_count, event_of}
+use Rattle.world_gen.specs.proof.Schedules.{all_of}
 use Rattle.run_laws.proofs.Changes.{same_at, changed, ChangesAt}
 use Rattle.world_gen.proofs.ScheduleTimes.{Made}
 

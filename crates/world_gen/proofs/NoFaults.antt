@@ -1,5 +1,6 @@
 -- Events without a fault.
-use Rattle.std.proofs.Common.{◌≡◌, ℕ, zero, suc, ◌+◌, ◌-◌, ◌<◌, ◌≤◌, Bool, true, false, List, [], ◌∷◌, length, map, slice_get, Option, Some, None, refl, sym, ap, ◌∙◌, arith}
+use Rattle.std.proofs.Common.{◌≡◌, ℕ, zero, suc, ◌+◌, ◌-◌, ◌<◌, ◌≤◌, Bool, true, false, List, [], ◌∷◌, length, map}
+use Rattle.std.proofs.Common.{slice_get, Option, Some, None, refl, sym, ap, ◌∙◌, arith}
 use Rattle.std.specs.Prelude.{not, nat_lt, nat_le, is_some, if◌then◌else◌, slice_index_or, replicate}
 use Rattle.std.specs.List.{enumerate_from}
 use Rattle.std.specs.Option.{unwrap_or}
@@ -22,7 +23,9 @@ use Rattle.bus_machine.specs.States.{Run, node_at, flight_at}
 use Rattle.bus_machine.specs.Machine.{Start, Step, Finish, Send}
 use Rattle.run_laws.specs.Worlds.{World, reading_at, since_at, flight_since}
 use Rattle.run_laws.specs.Deadlines.{node_deadline, message_deadline}
-use Rattle.run_laws.specs.Faults.{fault_of, event_fault, is_named, found_if, or_else, first_of, wrong_phase, no_message, not_due, too_soon, clock_back, clock_apart, apart, past, node_past, copy_past, link_past}
+use Rattle.run_laws.specs.Faults.{fault_of, event_fault, is_named, found_if, or_else, first_of, wrong_phase, no_message}
+use Rattle.run_laws.specs.Faults.{not_due, too_soon, clock_back, clock_apart, apart, past, node_past, copy_past}
+use Rattle.run_laws.specs.Faults.{link_past}
 use Rattle.run_laws.specs.proof.WorldsKeep.{IsInTime}
 
 pub found_none : (b : Bool) (why : EventFault) → b ≡ false → found_if b why ≡ None

@@ -1,5 +1,6 @@
 -- Rings are designs, and what two small ones come to.
-use Rattle.std.proofs.Common.{◌≡◌, ◌≢◌, ℕ, zero, suc, ◌%◌, ◌<◌, ◌≤◌, max, Bool, true, nat_le, ◌&&◌, List, [], ◌∷◌, length, fold, slice_get, Some, All, IsTrue, refl, sym, ap, ap₂, ◌∙◌, subst, subst₂, arith}
+use Rattle.std.proofs.Common.{◌≡◌, ◌≢◌, ℕ, zero, suc, ◌%◌, ◌<◌, ◌≤◌, max, Bool, true, nat_le, ◌&&◌, List, [], ◌∷◌}
+use Rattle.std.proofs.Common.{length, fold, slice_get, Some, All, IsTrue, refl, sym, ap, ap₂, ◌∙◌, subst, subst₂, arith}
 use Rattle.std.specs.List.{list_all}
 use Rattle.std.specs.Fmt.{decimal, digits}
 use Rattle.std.proofs.lemmas.Bool.{and_parts, leb-true}
@@ -20,11 +21,13 @@ use Rattle.pals_model.specs.declared.design.DesignParts.{DesignParts}
 use Rattle.pals_model.specs.Inputs.{rate_of, rate_in, feed}
 use Rattle.pals_model.specs.Ports.{ins_in, outs_in, in_kind, out_kind}
 use Rattle.pals_model.specs.Composition.{comp, state}
-use Rattle.pals_model.specs.Rules.{IsComponent, IsSource, IsTarget, IsLink, IsFeed, IsTap, IsApart, AgreeInKind, LinkPrecedes, FeedPrecedes, greatest_rate, IsDesign}
+use Rattle.pals_model.specs.Rules.{IsComponent, IsSource, IsTarget, IsLink, IsFeed, IsTap, IsApart, AgreeInKind}
+use Rattle.pals_model.specs.Rules.{LinkPrecedes, FeedPrecedes, greatest_rate, IsDesign}
 use Rattle.pals_model.proofs.Lookups.{at_element}
 use Rattle.pals_model.proofs.Words.{all_pass}
 use Rattle.run_laws.proofs.Lists.{upwards_at}
-use Rattle.world_gen.specs.Rings.{ring_rate, ring_path, rate_by, ring_adaptor, before_in, ring_component, ring_link, ring_bounds, ring}
+use Rattle.world_gen.specs.Rings.{ring_rate, ring_path, rate_by, ring_adaptor, before_in, ring_component, ring_link}
+use Rattle.world_gen.specs.Rings.{ring_bounds, ring}
 use Rattle.world_gen.specs.proof.RingLaws.{RingsAreDesigns, RingsAddUp}
 use Rattle.world_gen.proofs.Numbered.{length-numbered, numbered_get, numbered_all, numbered_pairs}
 use Rattle.world_gen.proofs.RingBehaviours.{ring_behaves}

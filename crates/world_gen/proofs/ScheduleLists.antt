@@ -1,5 +1,6 @@
 -- There is one list of a schedule's moments.
-use Rattle.std.proofs.Common.{◌≡◌, ◌≢◌, inl, inr, ℕ, zero, suc, ◌+◌, ◌*◌, ◌<◌, ◌≤◌, nat_eq, Bool, true, false, List, [], ◌∷◌, ◌++◌, length, Option, Some, None, refl, sym, ap, ◌∙◌, subst, arith}
+use Rattle.std.proofs.Common.{◌≡◌, ◌≢◌, inl, inr, ℕ, zero, suc, ◌+◌, ◌*◌, ◌<◌, ◌≤◌, nat_eq, Bool, true, false, List, []}
+use Rattle.std.proofs.Common.{◌∷◌, ◌++◌, length, Option, Some, None, refl, sym, ap, ◌∙◌, subst, arith}
 use Rattle.std.specs.Prelude.{flat_map, if◌then◌else◌}
 use Rattle.std.proofs.lemmas.Bool.{cases_eq, cases_order}
 use Rattle.std.proofs.lemmas.Nat.{mul-le}
@@ -12,7 +13,9 @@ use Rattle.bus_machine.specs.Plans.{plan_of}
 use Rattle.bus_machine.specs.States.{Run, link_at}
 use Rattle.bus_machine.specs.proof.MachineLaws.{IsRunOf}
 use Rattle.world_gen.specs.proof.ScheduleLaws.{MomentsExist, MomentsAreOne}
-use Rattle.world_gen.specs.proof.Schedules.{step_time, finish_time, send_time, arrive_time, which, event_of, all_of, step_count, begins, starts_at, finishes_at, sends_at, arrivals_at, finishes, earlier_finishes, present_finishes, events_at, AreMoments}
+use Rattle.world_gen.specs.proof.Schedules.{step_time, finish_time, send_time, arrive_time, which, event_of, all_of}
+use Rattle.world_gen.specs.proof.Schedules.{step_count, begins, starts_at, finishes_at, sends_at, arrivals_at, finishes}
+use Rattle.world_gen.specs.proof.Schedules.{earlier_finishes, present_finishes, events_at, AreMoments}
 use Rattle.run_laws.proofs.WorldTimes.{alarm_more}
 use Rattle.run_laws.proofs.Links.{rule_of}
 use Rattle.world_gen.proofs.ScheduleTimes.{fit, whole, which_is, step_at, least_step}

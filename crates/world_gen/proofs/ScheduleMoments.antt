@@ -1,5 +1,6 @@
 -- A schedule is within the bounds, moment by moment.
-use Rattle.std.proofs.Common.{◌≡◌, ◌≢◌, ℕ, suc, ◌+◌, ◌-◌, ◌*◌, ◌<◌, ◌≤◌, nat_eq, Bool, true, false, List, [], ◌∷◌, ◌++◌, length, refl, sym, ap, ◌∙◌, subst, arith}
+use Rattle.std.proofs.Common.{◌≡◌, ◌≢◌, ℕ, suc, ◌+◌, ◌-◌, ◌*◌, ◌<◌, ◌≤◌, nat_eq, Bool, true, false, List, [], ◌∷◌, ◌++◌}
+use Rattle.std.proofs.Common.{length, refl, sym, ap, ◌∙◌, subst, arith}
 use Rattle.std.specs.Prelude.{replicate, if◌then◌else◌}
 use Rattle.std.proofs.lemmas.Bool.{eqb-true, eqb-false, false≢true}
 use Rattle.std.proofs.lemmas.Nat.{mul-le}
@@ -16,12 +17,15 @@ use Rattle.bus_machine.specs.proof.MachineLaws.{IsRunOf}
 use Rattle.run_laws.specs.Worlds.{World, opening_world, since_at, ready_at, sendings, world_after}
 use Rattle.run_laws.specs.EventLists.{world_left}
 use Rattle.world_gen.specs.proof.ScheduleLaws.{SchedulesAreWhole}
-use Rattle.world_gen.specs.proof.Schedules.{step_time, finish_time, send_time, arrive_time, which, all_of, step_count, begins, starts_at, finishes_at, sends_at, arrivals_at, finishes, events_at, AreMoments, schedule_at}
+use Rattle.world_gen.specs.proof.Schedules.{step_time, finish_time, send_time, arrive_time, which, all_of, step_count}
+use Rattle.world_gen.specs.proof.Schedules.{begins, starts_at, finishes_at, sends_at, arrivals_at, finishes, events_at}
+use Rattle.world_gen.specs.proof.Schedules.{AreMoments, schedule_at}
 use Rattle.run_laws.proofs.Nodes.{phase_agrees, rounds_at_most}
 use Rattle.run_laws.proofs.Links.{rule_of}
 use Rattle.run_laws.proofs.Openings.{opening_keeps_time, opens_at, zero_at, nothing_sent, nothing_flies, not_running}
 use Rattle.world_gen.proofs.ScheduleTimes.{Made, which_none, some_rate, some_step, least_step}
-use Rattle.world_gen.proofs.Follows.{begun_by, ended_by, NodeFollows, Follows, Runs, runs_none, runs_on, runs_all, runs_event, bump, bump_done, bump_left, bump_other}
+use Rattle.world_gen.proofs.Follows.{begun_by, ended_by, NodeFollows, Follows, Runs, runs_none, runs_on, runs_all}
+use Rattle.world_gen.proofs.Follows.{runs_event, bump, bump_done, bump_left, bump_other}
 use Rattle.world_gen.proofs.ScheduleQuiet.{is_quiet, follows_same, none_starts, none_ends, none_sends, none_arrives}
 use Rattle.world_gen.proofs.ScheduleStarts.{start_comes}
 use Rattle.world_gen.proofs.ScheduleFinishes.{finish_comes}

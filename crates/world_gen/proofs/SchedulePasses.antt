@@ -1,5 +1,6 @@
 -- The passes of a schedule are within the bounds: no last allowed time lies before the next moment.
-use Rattle.std.proofs.Common.{◌≡◌, inl, inr, ℕ, suc, ◌+◌, ◌-◌, ◌*◌, ◌<◌, ◌≤◌, Bool, true, cond, List, [], length, slice_get, Some, None, refl, sym, ap, ◌∙◌, subst, arith}
+use Rattle.std.proofs.Common.{◌≡◌, inl, inr, ℕ, suc, ◌+◌, ◌-◌, ◌*◌, ◌<◌, ◌≤◌, Bool, true, cond, List, [], length}
+use Rattle.std.proofs.Common.{slice_get, Some, None, refl, sym, ap, ◌∙◌, subst, arith}
 use Rattle.std.specs.Prelude.{max, replicate, if◌then◌else◌, slice_index_or}
 use Rattle.std.proofs.lemmas.Bool.{cases_lt, eq-eqb}
 use Rattle.std.proofs.lemmas.List.{get_or_past}
@@ -27,7 +28,8 @@ use Rattle.run_laws.specs.Faults.{fault_of}
 use Rattle.bus_machine.proofs.Nodes.{MaySend, may_send_of}
 use Rattle.run_laws.specs.proof.WorldsKeep.{IsInTime, copies}
 use Rattle.world_gen.specs.proof.Schedules.{step_time, finish_time, send_time, arrive_time, step_count, events_at}
-use Rattle.run_laws.proofs.Nodes.{may_is, component_is, phase_agrees, rounds_at_most, both_in_time, sends_in_time, phase_last, send_last, deadline_is}
+use Rattle.run_laws.proofs.Nodes.{may_is, component_is, phase_agrees, rounds_at_most, both_in_time, sends_in_time}
+use Rattle.run_laws.proofs.Nodes.{phase_last, send_last, deadline_is}
 use Rattle.run_laws.proofs.Links.{rule_of, one_of_true, under_way}
 use Rattle.world_gen.proofs.NoFaults.{pass_is_fine, replicate_at}
 use Rattle.run_laws.proofs.Passes.{passes_in_time, pass_keeps_time}

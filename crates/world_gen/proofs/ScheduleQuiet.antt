@@ -1,5 +1,6 @@
 -- Where nothing of a schedule comes.
-use Rattle.std.proofs.Common.{◌≡◌, ◌≢◌, inl, inr, ℕ, zero, suc, ◌+◌, ◌<◌, ◌≤◌, nat_eq, Bool, true, false, List, [], ◌∷◌, ◌++◌, length, Option, Some, None, refl, sym, subst, arith}
+use Rattle.std.proofs.Common.{◌≡◌, ◌≢◌, inl, inr, ℕ, zero, suc, ◌+◌, ◌<◌, ◌≤◌, nat_eq, Bool, true, false, List, [], ◌∷◌}
+use Rattle.std.proofs.Common.{◌++◌, length, Option, Some, None, refl, sym, subst, arith}
 use Rattle.std.specs.Prelude.{flat_map, if◌then◌else◌}
 use Rattle.std.proofs.lemmas.Bool.{cases_eq}
 use Rattle.bus_machine.proofs.Moves.{sent_most}
@@ -13,13 +14,16 @@ use Rattle.bus_machine.specs.States.{Run, node_at, flight_at, link_at}
 use Rattle.bus_machine.specs.Stops.{rounds_sent_on, sent_rounds}
 use Rattle.bus_machine.specs.proof.MachineLaws.{IsRunOf}
 use Rattle.run_laws.specs.Worlds.{World, since_at, ready_at, sendings}
-use Rattle.world_gen.specs.proof.Schedules.{step_time, finish_time, send_time, arrive_time, which, event_of, all_of, step_count, begins, starts_at, finishes_at, sends_at, arrivals_at, finishes, earlier_finishes, present_finishes, events_at}
+use Rattle.world_gen.specs.proof.Schedules.{step_time, finish_time, send_time, arrive_time, which, event_of, all_of}
+use Rattle.world_gen.specs.proof.Schedules.{step_count, begins, starts_at, finishes_at, sends_at, arrivals_at, finishes}
+use Rattle.world_gen.specs.proof.Schedules.{earlier_finishes, present_finishes, events_at}
 use Rattle.world_gen.proofs.ScheduleTimes.{Made, which_none, made_none}
 use Rattle.pals_model.specs.declared.flight.FlightCopy.{FlightCopy}
 use Rattle.run_laws.specs.proof.WorldsKeep.{copies}
 use Rattle.run_laws.proofs.Nodes.{rounds_at_most}
 use Rattle.run_laws.proofs.Links.{rule_of, under_way}
-use Rattle.world_gen.proofs.Follows.{begun_by, ended_by, NodeFollows, LinkFollows, Follows, bump, bump_done, bump_left, bump_other}
+use Rattle.world_gen.proofs.Follows.{begun_by, ended_by, NodeFollows, LinkFollows, Follows, bump, bump_done, bump_left}
+use Rattle.world_gen.proofs.Follows.{bump_other}
 
 -- ---- nothing comes at a time
 nil_parts : (xs ys : List Event) → xs ++ ys ≡ [] → (xs ≡ []) × (ys ≡ [])

@@ -1,5 +1,6 @@
 -- The sends of a schedule are within the bounds.
-use Rattle.std.proofs.Common.{◌≡◌, ◌≢◌, inl, inr, ℕ, suc, ◌+◌, ◌-◌, ◌*◌, ◌<◌, ◌≤◌, nat_eq, Bool, true, false, List, [], ◌∷◌, ◌++◌, length, Some, None, refl, sym, ap, ◌∙◌, subst, arith}
+use Rattle.std.proofs.Common.{◌≡◌, ◌≢◌, inl, inr, ℕ, suc, ◌+◌, ◌-◌, ◌*◌, ◌<◌, ◌≤◌, nat_eq, Bool, true, false, List, []}
+use Rattle.std.proofs.Common.{◌∷◌, ◌++◌, length, Some, None, refl, sym, ap, ◌∙◌, subst, arith}
 use Rattle.std.specs.Prelude.{if◌then◌else◌, slice_index_or, slice_set}
 use Rattle.std.proofs.lemmas.Bool.{eqb-true, eq-eqb, cases_eq, cases_lt, cases_Bool, false≢true}
 use Rattle.std.proofs.lemmas.List.{get_or-set_other, get_or_append_left}
@@ -33,7 +34,8 @@ use Rattle.world_gen.proofs.NoFaults.{send_is_fine}
 use Rattle.run_laws.proofs.Changes.{moved_here, moved_other}
 use Rattle.run_laws.proofs.Sends.{runs_before, one_is}
 use Rattle.run_laws.proofs.Sends as send
-use Rattle.world_gen.proofs.ScheduleTimes.{Made, which_is, which_next, made_next, step_is, sends_rise, send_after, some_rate}
+use Rattle.world_gen.proofs.ScheduleTimes.{Made, which_is, which_next, made_next, step_is, sends_rise, send_after}
+use Rattle.world_gen.proofs.ScheduleTimes.{some_rate}
 use Rattle.world_gen.proofs.Follows.{begun_by, ended_by, NodeFollows, LinkFollows, Follows, follows_again, follows_put}
 
 -- a send leaves the steps that are begun and finished

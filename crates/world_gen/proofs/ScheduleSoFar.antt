@@ -1,5 +1,6 @@
 -- A schedule up to a time, and one moment more.
-use Rattle.std.proofs.Common.{◌≡◌, ◌≢◌, ℕ, suc, ◌+◌, ◌<◌, ◌≤◌, List, [], ◌∷◌, ◌++◌, length, Some, None, sym, ap, ap₂, ◌∙◌, subst, append_assoc, add-one, All}
+use Rattle.std.proofs.Common.{◌≡◌, ◌≢◌, ℕ, suc, ◌+◌, ◌<◌, ◌≤◌, List, [], ◌∷◌, ◌++◌, length, Some, None, sym, ap, ap₂}
+use Rattle.std.proofs.Common.{◌∙◌, subst, append_assoc, add-one, All}
 use Rattle.std.specs.Prelude.{replicate}
 use Rattle.std.proofs.lemmas.List.{flat_map_more, append-nil}
 use Rattle.pals_base.specs.declared.limits.TheConstants.{ROUNDS, READING}

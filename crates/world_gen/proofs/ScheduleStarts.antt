@@ -1,5 +1,6 @@
 -- The starts and steps of a schedule are within the bounds.
-use Rattle.std.proofs.Common.{◌≡◌, ◌≢◌, ℕ, suc, ◌+◌, ◌-◌, ◌*◌, ◌%◌, ◌<◌, ◌≤◌, Bool, length, Some, None, refl, sym, ap, ◌∙◌, subst, arith}
+use Rattle.std.proofs.Common.{◌≡◌, ◌≢◌, ℕ, suc, ◌+◌, ◌-◌, ◌*◌, ◌%◌, ◌<◌, ◌≤◌, Bool, length, Some, None, refl, sym, ap}
+use Rattle.std.proofs.Common.{◌∙◌, subst, arith}
 use Rattle.std.specs.Prelude.{if◌then◌else◌, is_some, slice_index_or, slice_set}
 use Rattle.std.specs.Option.{unwrap_or}
 use Rattle.std.proofs.lemmas.Bool.{eq-eqb, ne_eqb}
@@ -29,7 +30,8 @@ use Rattle.run_laws.proofs.Faults.{StartsInTime, starts_in_time, StepsInTime, st
 use Rattle.world_gen.proofs.NoFaults.{start_is_fine, step_is_fine}
 use Rattle.run_laws.proofs.Starts as start
 use Rattle.run_laws.proofs.StepsOn as on
-use Rattle.world_gen.proofs.ScheduleTimes.{Made, which_is, which_next, made_next, step_is, steps_rise, next_step_after, send_before, some_rate}
+use Rattle.world_gen.proofs.ScheduleTimes.{Made, which_is, which_next, made_next, step_is, steps_rise, next_step_after}
+use Rattle.world_gen.proofs.ScheduleTimes.{send_before, some_rate}
 use Rattle.world_gen.proofs.Follows.{begun_by, ended_by, NodeFollows, Follows, follows_again, follows_put, links_follow}
 
 pred_is : (n m : ℕ) → n ≡ suc m → n - 1 ≡ m

@@ -1,5 +1,6 @@
 -- Rings: designs whose components send to one another in a circle.
-use Rattle.std.specs.Prelude.{ℕ, suc, ◌-◌, ◌%◌, zero, nat_lt, ℤ, pos, ◌+ℤ◌, true, if◌then◌else◌, codes, List, [], ◌∷◌, ◌++◌, map, fold, Option, Some, None, slice_index_or}
+use Rattle.std.specs.Prelude.{ℕ, suc, ◌-◌, ◌%◌, zero, nat_lt, ℤ, pos, ◌+ℤ◌, true, if◌then◌else◌, codes, List, [], ◌∷◌}
+use Rattle.std.specs.Prelude.{◌++◌, map, fold, Option, Some, None, slice_index_or}
 use Rattle.std.specs.Fmt.{decimal}
 use Rattle.pals_base.specs.declared.values.NodeNo.{NodeNo}
 use Rattle.pals_base.specs.declared.values.Gamma.{Gamma}
@@ -12,7 +13,8 @@ use Rattle.pals_base.specs.declared.behaviour.VarDecl.{VarDecl}
 use Rattle.pals_base.specs.declared.behaviour.StateDecl.{StateDecl}
 use Rattle.pals_base.specs.declared.behaviour.BehaviourParts.{BehaviourParts}
 use Rattle.pals_base.specs.Steps.{upwards}
-use Rattle.pals_base.specs.Tree.{Expression, Literal, Variable, PortRead, Chain, NoMore, Then, Assign, Emit, Actions, Nothing, Do, Dispatch, Edge}
+use Rattle.pals_base.specs.Tree.{Expression, Literal, Variable, PortRead, Chain, NoMore, Then, Assign, Emit, Actions}
+use Rattle.pals_base.specs.Tree.{Nothing, Do, Dispatch, Edge}
 use Rattle.pals_model.specs.declared.design.Component.{Component}
 use Rattle.pals_model.specs.declared.design.Link.{Link}
 use Rattle.pals_model.specs.declared.design.DesignParts.{DesignParts}

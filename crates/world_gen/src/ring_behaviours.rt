@@ -2,7 +2,8 @@
 ghost use Rattle.std.specs.Prelude.{◌≡◌, [], ◌∷◌, IfOk};
 ghost use Rattle.pals_base.specs.proof.Seen.{tree_of, operands_along, actions_along};
 ghost use Rattle.pals_base.specs.Tree as tree;
-ghost use Rattle.world_gen.specs.Rings.{number_port, ring_variable, ring_state, twice_input, number_sum, next_number, ring_actions, ring_edge, ring_behaviour};
+ghost use Rattle.world_gen.specs.Rings.{number_port, ring_variable, ring_state, twice_input, number_sum, next_number};
+ghost use Rattle.world_gen.specs.Rings.{ring_actions, ring_edge, ring_behaviour};
 
 use pals_base::{
     Act, Behaviour, BehaviourParts, Expr, Guard, Items, Kind, NoMemory, Op, Operand, PortDecl,

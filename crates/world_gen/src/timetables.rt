@@ -3,7 +3,9 @@ ghost use Rattle.std.specs.Prelude.{◌≡◌, ◌<◌, ◌≤◌, ◌++◌, len
 ghost use Rattle.pals_base.specs.declared.limits.TheConstants.{ROUNDS};
 ghost use Rattle.run_laws.specs.Deadlines.{lesser};
 ghost use Rattle.world_gen.specs.proof.Schedules.{send_time};
-ghost use Rattle.world_gen.specs.proof.Courses.{IsCourse, begin_course, finish_course, send_course, arrive_course, begin_courses, finish_courses, send_courses, arrive_courses, timetable, next_moment, events_of};
+ghost use Rattle.world_gen.specs.proof.Courses.{IsCourse, begin_course, finish_course, send_course, arrive_course};
+ghost use Rattle.world_gen.specs.proof.Courses.{begin_courses, finish_courses, send_courses, arrive_courses, timetable};
+ghost use Rattle.world_gen.specs.proof.Courses.{next_moment, events_of};
 
 use crate::courses::{EventKind, EventSeries};
 use pals_base::bound::step_period;

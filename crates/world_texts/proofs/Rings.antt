@@ -1,5 +1,7 @@
 -- What a ring comes to: its codes are short, its sum is below what 64 bits hold, and it stands in the parts of the last round.
-use Rattle.std.proofs.Common.{◌≡◌, ◌∙◌, ℕ, zero, suc, ◌+◌, ◌-◌, ◌*◌, ◌<◌, ◌≤◌, List, [], ◌∷◌, length, map, fold, Option, Some, None, slice_get, pos, ◌+ℤ◌, ◌≤ℤ◌, refl, sym, ap, ap₂, subst, arith, lit≤, FitsSigned, w64, to_z, of_z}
+use Rattle.std.proofs.Common.{◌≡◌, ◌∙◌, ℕ, zero, suc, ◌+◌, ◌-◌, ◌*◌, ◌<◌, ◌≤◌, List, [], ◌∷◌, length, map, fold, Option}
+use Rattle.std.proofs.Common.{Some, None, slice_get, pos, ◌+ℤ◌, ◌≤ℤ◌, refl, sym, ap, ap₂, subst, arith, lit≤}
+use Rattle.std.proofs.Common.{FitsSigned, w64, to_z, of_z}
 use Rattle.std.specs.Prelude.{ℤ, slice_index_or}
 use Rattle.std.proofs.lemmas.Int.{ints, to_z-of_z}
 use Rattle.std.proofs.lemmas.Option.{none-some, same_Some}

@@ -1,5 +1,6 @@
 -- Ports of threads below an implementation, by how the walk back from them goes there.
-use Rattle.std.specs.Prelude.{◌≡◌, ℕ, ◌<◌, false, ◌+◌, min, List, [], ◌∷◌, ◌++◌, Option, Some, None, slice_get, if◌then◌else◌}
+use Rattle.std.specs.Prelude.{◌≡◌, ℕ, ◌<◌, false, ◌+◌, min, List, [], ◌∷◌, ◌++◌, Option, Some, None, slice_get}
+use Rattle.std.specs.Prelude.{if◌then◌else◌}
 use Rattle.std.specs.Map.{lookup}
 use Rattle.std.specs.Option.{option_map_or}
 use Rattle.aadl_tree.specs.Declarations.{PackageTree}

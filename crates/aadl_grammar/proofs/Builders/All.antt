@@ -8,11 +8,41 @@ use Rattle.aadl_grammar.specs.proof.Symbols as s
 use Rattle.aadl_grammar.specs.proof.Table.{rows, can_omit}
 use Rattle.aadl_grammar.proofs.Derived.Trees.{U, TreeOf}
 use Rattle.aadl_grammar.proofs.Derived.RowTrees.{Builders}
-use Rattle.aadl_grammar.proofs.Builders.Values.{only_builders, identifier_builders, name_builders, names_builders, path_builders, paths_builders, more_identifiers_builders, reference_builders, dot_identifier_builders, figure_builders, unit_builders, quantity_builders, upper_builders, value_builders, path_group_builders, reference_group_builders, values_builders, more_values_builders, operator_builders, constant_builders, applies_builders, more_paths_builders, association_builders, associations_builders, properties_builders}
-use Rattle.aadl_grammar.proofs.Builders.Expressions.{primary_builders, fresh_builders, factor_builders, term_builders, factors_builders, sum_builders, terms_builders, compared_builders, relation_builders, relations_builders, after_and_builders, after_or_builders, expression_builders}
-use Rattle.aadl_grammar.proofs.Builders.Actions.{test_builders, whole_number_builders, bound_builders, after_target_builders, loop_head_builders, action_builders, actions_builders, mores_builders, after_semicolon_builders, elsifs_builders, otherwise_builders, end_if_builders, closing_if_builders, block_builders, body_builders}
-use Rattle.aadl_grammar.proofs.Builders.Annexes.{variable_builders, variable_list_builders, variables_builders, initial_builders, complete_builders, state_builders, state_list_builders, states_builders, guard_builders, guarded_builders, after_word_builders, effect_builders, transition_builders, transition_list_builders, transitions_builders, content_builders, annex_builders, annexes_builders}
-use Rattle.aadl_grammar.proofs.Builders.Declarations.{direction_builders, category_builders, data_type_builders, feature_builders, subcomponent_builders, connection_end_builders, connection_builders, feature_list_builders, feature_section_builders, features_builders, subcomponent_list_builders, subcomponent_section_builders, subcomponents_builders, connection_list_builders, connection_section_builders, connections_builders, property_section_builders, own_properties_builders, implementation_name_builders, type_end_builders, implementation_end_builders, package_end_builders, after_category_builders, declarations_builders, more_names_builders, withs_builders, a_package_builders}
+use Rattle.aadl_grammar.proofs.Builders.Values.{only_builders, identifier_builders, name_builders, names_builders}
+use Rattle.aadl_grammar.proofs.Builders.Values.{path_builders, paths_builders, more_identifiers_builders}
+use Rattle.aadl_grammar.proofs.Builders.Values.{reference_builders, dot_identifier_builders, figure_builders}
+use Rattle.aadl_grammar.proofs.Builders.Values.{unit_builders, quantity_builders, upper_builders, value_builders}
+use Rattle.aadl_grammar.proofs.Builders.Values.{path_group_builders, reference_group_builders, values_builders}
+use Rattle.aadl_grammar.proofs.Builders.Values.{more_values_builders, operator_builders, constant_builders}
+use Rattle.aadl_grammar.proofs.Builders.Values.{applies_builders, more_paths_builders, association_builders}
+use Rattle.aadl_grammar.proofs.Builders.Values.{associations_builders, properties_builders}
+use Rattle.aadl_grammar.proofs.Builders.Expressions.{primary_builders, fresh_builders, factor_builders, term_builders}
+use Rattle.aadl_grammar.proofs.Builders.Expressions.{factors_builders, sum_builders, terms_builders, compared_builders}
+use Rattle.aadl_grammar.proofs.Builders.Expressions.{relation_builders, relations_builders, after_and_builders}
+use Rattle.aadl_grammar.proofs.Builders.Expressions.{after_or_builders, expression_builders}
+use Rattle.aadl_grammar.proofs.Builders.Actions.{test_builders, whole_number_builders, bound_builders}
+use Rattle.aadl_grammar.proofs.Builders.Actions.{after_target_builders, loop_head_builders, action_builders}
+use Rattle.aadl_grammar.proofs.Builders.Actions.{actions_builders, mores_builders, after_semicolon_builders}
+use Rattle.aadl_grammar.proofs.Builders.Actions.{elsifs_builders, otherwise_builders, end_if_builders}
+use Rattle.aadl_grammar.proofs.Builders.Actions.{closing_if_builders, block_builders, body_builders}
+use Rattle.aadl_grammar.proofs.Builders.Annexes.{variable_builders, variable_list_builders, variables_builders}
+use Rattle.aadl_grammar.proofs.Builders.Annexes.{initial_builders, complete_builders, state_builders}
+use Rattle.aadl_grammar.proofs.Builders.Annexes.{state_list_builders, states_builders, guard_builders, guarded_builders}
+use Rattle.aadl_grammar.proofs.Builders.Annexes.{after_word_builders, effect_builders, transition_builders}
+use Rattle.aadl_grammar.proofs.Builders.Annexes.{transition_list_builders, transitions_builders, content_builders}
+use Rattle.aadl_grammar.proofs.Builders.Annexes.{annex_builders, annexes_builders}
+use Rattle.aadl_grammar.proofs.Builders.Declarations.{direction_builders, category_builders, data_type_builders}
+use Rattle.aadl_grammar.proofs.Builders.Declarations.{feature_builders, subcomponent_builders, connection_end_builders}
+use Rattle.aadl_grammar.proofs.Builders.Declarations.{connection_builders, feature_list_builders}
+use Rattle.aadl_grammar.proofs.Builders.Declarations.{feature_section_builders, features_builders}
+use Rattle.aadl_grammar.proofs.Builders.Declarations.{subcomponent_list_builders, subcomponent_section_builders}
+use Rattle.aadl_grammar.proofs.Builders.Declarations.{subcomponents_builders, connection_list_builders}
+use Rattle.aadl_grammar.proofs.Builders.Declarations.{connection_section_builders, connections_builders}
+use Rattle.aadl_grammar.proofs.Builders.Declarations.{property_section_builders, own_properties_builders}
+use Rattle.aadl_grammar.proofs.Builders.Declarations.{implementation_name_builders, type_end_builders}
+use Rattle.aadl_grammar.proofs.Builders.Declarations.{implementation_end_builders, package_end_builders}
+use Rattle.aadl_grammar.proofs.Builders.Declarations.{after_category_builders, declarations_builders}
+use Rattle.aadl_grammar.proofs.Builders.Declarations.{more_names_builders, withs_builders, a_package_builders}
 
 abbrev pub builders : (y : Symbol) → Builders y (rows y)
 builders (s.only m) = only_builders m

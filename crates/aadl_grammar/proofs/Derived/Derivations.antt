@@ -1,14 +1,15 @@
 -- Which terminals a stack can be written as, whatever the machine does; and that the machine takes just these.
-use Rattle.std.proofs.Common.{◌≡◌, ◌⊎◌, Bool, true, false, cond, not, ◌&&◌, ◌∙◌, sym, ap, subst, List, [], ◌∷◌, ◌++◌, Option, Some, refl}
-use Rattle.std.proofs.Common.{inl, inr}
-use Rattle.std.proofs.lemmas.Bool.{eqb-true}
+use Rattle.std.proofs.Common.{◌≡◌, ◌⊎◌, Bool, true, false, cond, not, ◌&&◌, ◌∙◌, sym, ap, subst, List, [], ◌∷◌, ◌++◌}
+use Rattle.std.proofs.Common.{Option, Some, refl, inl, inr}
+use Rattle.std.proofs.lemmas.Bool.{eqb-true, false_from_ne_true, or_left, or_right}
 use Rattle.aadl_tree.specs.Terminals.{Kind}
 use Rattle.aadl_grammar.specs.proof.Symbols.{Class, Symbol, Row}
 use Rattle.aadl_grammar.specs.proof.Table.{rows, can_omit}
-use Rattle.aadl_grammar.specs.proof.Machine.{Stack, Move, takes, omitted, refuses, class_number, kind_number, fits, move_by, move, chosen, step, ends}
-use Rattle.aadl_grammar.proofs.Derived.Tails.{among, firsts, first_of, tail, distinct, rows_settled, distinct_firsts, settled, settled_rows}
+use Rattle.aadl_grammar.specs.proof.Machine.{Stack, Move, takes, omitted, refuses, class_number, kind_number, fits}
+use Rattle.aadl_grammar.specs.proof.Machine.{move_by, move, chosen, step, ends}
+use Rattle.aadl_grammar.proofs.Derived.Tails.{among, firsts, first_of, tail, distinct, rows_settled, distinct_firsts}
+use Rattle.aadl_grammar.proofs.Derived.Tails.{settled, settled_rows}
 use Rattle.aadl_grammar.proofs.Derived.Settled.{among_left, among_right, Clear, firsts_in_tail, clear_behind}
-use Rattle.std.proofs.lemmas.Bool.{false_from_ne_true, or_left, or_right}
 use Rattle.std.specs.Cmp.{first_so, second_so}
 use Rattle.std.proofs.lemmas.Option.{same_Some}
 use Rattle.aadl_grammar.proofs.Basics.{not_both}

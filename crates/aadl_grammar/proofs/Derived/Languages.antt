@@ -7,7 +7,8 @@ use Rattle.aadl_grammar.specs.proof.Table.{rows, can_omit}
 use Rattle.aadl_grammar.specs.proof.Machine.{Stack}
 use Rattle.aadl_grammar.proofs.Derived.Derivations.{Member, Derives, nothing, take, omit}
 use Rattle.aadl_grammar.proofs.Derived.Trees.{kind_with, TreeOf, parts, Trees, parts_all}
-use Rattle.aadl_grammar.proofs.Derived.RowTrees.{follow_first, split_first, split_all, follow_all, front, back, joined, Builder, Builders, Gives, AllGive, InRows}
+use Rattle.aadl_grammar.proofs.Derived.RowTrees.{follow_first, split_first, split_all, follow_all, front, back, joined}
+use Rattle.aadl_grammar.proofs.Derived.RowTrees.{Builder, Builders, Gives, AllGive, InRows}
 use Rattle.aadl_grammar.proofs.Builders.All.{builders, Empty, empty}
 use Rattle.aadl_grammar.proofs.Derived.Contents.{said, fits_with}
 use Rattle.aadl_grammar.proofs.Opens.All.{Omitted, Opened, opens, all_give, Nothing}

@@ -1,12 +1,12 @@
 -- What the checked table of tails says, in words of membership.
-use Rattle.std.proofs.Common.{◌≡◌, ℕ, ◌⊎◌, Bool, true, false, cond, not, ◌&&◌, ◌||◌, ◌==◌, ◌∙◌, sym, ap, List, [], ◌∷◌, ◌++◌, refl}
-use Rattle.std.proofs.Common.{inl, inr}
-use Rattle.std.proofs.lemmas.Bool.{eqb-true}
+use Rattle.std.proofs.Common.{◌≡◌, ℕ, ◌⊎◌, Bool, true, false, cond, not, ◌&&◌, ◌||◌, ◌==◌, ◌∙◌, sym, ap, List, [], ◌∷◌}
+use Rattle.std.proofs.Common.{◌++◌, refl, inl, inr}
+use Rattle.std.proofs.lemmas.Bool.{eqb-true, or_cases, or_left, or_right}
 use Rattle.aadl_grammar.specs.proof.Symbols.{Class, Symbol}
 use Rattle.aadl_grammar.specs.proof.Table.{rows, can_omit}
 use Rattle.aadl_grammar.specs.proof.Machine.{Stack, class_number}
-use Rattle.aadl_grammar.proofs.Derived.Tails.{among, firsts, first_of, nullable, tail, apart, covers, settled, omits_settled, settled_omits}
-use Rattle.std.proofs.lemmas.Bool.{or_cases, or_left, or_right}
+use Rattle.aadl_grammar.proofs.Derived.Tails.{among, firsts, first_of, nullable, tail, apart, covers, settled}
+use Rattle.aadl_grammar.proofs.Derived.Tails.{omits_settled, settled_omits}
 use Rattle.std.specs.Cmp.{first_so, second_so}
 use Rattle.aadl_grammar.proofs.Basics.{not_both}
 

@@ -1,5 +1,6 @@
 -- The terminals have one tree.
-use Rattle.std.proofs.Common.{◌≡◌, Bool, true, false, ◌∙◌, sym, ap, ap₂, subst, refl, List, [], ◌∷◌, ◌++◌, inl, inr, not, ◌==◌, eq-eqb}
+use Rattle.std.proofs.Common.{◌≡◌, Bool, true, false, ◌∙◌, sym, ap, ap₂, subst, refl, List, [], ◌∷◌, ◌++◌, inl, inr}
+use Rattle.std.proofs.Common.{not, ◌==◌, eq-eqb}
 use Rattle.aadl_tree.specs.Terminals.{Kind}
 use Rattle.aadl_tree.specs.Parts.{Spells}
 use Rattle.aadl_grammar.specs.proof.Symbols.{Symbol, Row}
@@ -9,7 +10,8 @@ use Rattle.aadl_grammar.proofs.Derived.Tails.{among, firsts, distinct, distinct_
 use Rattle.aadl_grammar.proofs.Derived.Settled.{Clear, firsts_in_tail}
 use Rattle.aadl_grammar.proofs.Derived.Derivations.{Member, begins, clear_taken}
 use Rattle.aadl_grammar.proofs.Derived.Trees.{kind_with, TreeOf, Trees, parts_all}
-use Rattle.aadl_grammar.proofs.Derived.RowTrees.{split_first, follow_all, front, back, joined, front_joined, back_joined, Builders, Uses, InRows}
+use Rattle.aadl_grammar.proofs.Derived.RowTrees.{split_first, follow_all, front, back, joined, front_joined}
+use Rattle.aadl_grammar.proofs.Derived.RowTrees.{back_joined, Builders, Uses, InRows}
 use Rattle.aadl_grammar.proofs.Builders.All.{builders, Empty, empty}
 use Rattle.aadl_grammar.proofs.Derived.Contents.{number_of, same_content}
 use Rattle.aadl_grammar.proofs.Opens.All.{Omitted, Opened, opens}

@@ -1,18 +1,21 @@
 -- The stack knows how deep the terminals nest.
-use Rattle.std.proofs.Common.{◌≡◌, ℕ, ◌+◌, ◌-◌, Bool, true, false, cond, not, ◌||◌, ◌==◌, ◌∙◌, sym, ap, subst, refl, List, [], ◌∷◌, ◌++◌, Option, Some, inl, inr, arith}
-use Rattle.std.proofs.lemmas.Bool.{eqb-true}
+use Rattle.std.proofs.Common.{◌≡◌, ℕ, ◌+◌, ◌-◌, Bool, true, false, cond, not, ◌||◌, ◌==◌, ◌∙◌, sym, ap, subst, refl}
+use Rattle.std.proofs.Common.{List, [], ◌∷◌, ◌++◌, Option, Some, inl, inr, arith}
+use Rattle.std.proofs.lemmas.Bool.{eqb-true, and_from, false_from_ne_true, or_cases}
 use Rattle.aadl_tree.specs.declared.mark.Mark.TheVariants as k
 use Rattle.aadl_tree.specs.Terminals.{Kind, mark}
 use Rattle.aadl_tree.specs.Grammar.{opened, is_end}
 use Rattle.aadl_grammar.specs.proof.Symbols.{the, Symbol, Row}
 use Rattle.aadl_grammar.specs.proof.Symbols as s
 use Rattle.aadl_grammar.specs.proof.Table.{rows, can_omit}
-use Rattle.aadl_grammar.specs.proof.Machine.{Stack, Move, takes, omitted, refuses, class_number, kind_number, fits, move, chosen, step, closes, depth}
+use Rattle.aadl_grammar.specs.proof.Machine.{Stack, Move, takes, omitted, refuses, class_number, kind_number, fits}
+use Rattle.aadl_grammar.specs.proof.Machine.{move, chosen, step, closes, depth}
 use Rattle.aadl_grammar.proofs.Derived.Tails.{among, firsts}
 use Rattle.aadl_grammar.proofs.Derived.Derivations.{Member, Goes, goes, member_first}
 use Rattle.aadl_grammar.proofs.Derived.Contents.{Said, said}
-use Rattle.aadl_grammar.proofs.Fates.Shifts.{openers, closers, shift, shift_is, end_is, opened_same, closing, odd, plain, blunt, closing_first, good, changes, row_shifts, rows_shift, rows_shifted, omits_close_nothing}
-use Rattle.std.proofs.lemmas.Bool.{and_from, false_from_ne_true, or_cases}
+use Rattle.aadl_grammar.proofs.Fates.Shifts.{openers, closers, shift, shift_is, end_is, opened_same, closing, odd}
+use Rattle.aadl_grammar.proofs.Fates.Shifts.{plain, blunt, closing_first, good, changes, row_shifts, rows_shift}
+use Rattle.aadl_grammar.proofs.Fates.Shifts.{rows_shifted, omits_close_nothing}
 use Rattle.std.specs.Cmp.{first_so, second_so}
 use Rattle.std.proofs.lemmas.Option.{same_Some}
 use Rattle.aadl_grammar.proofs.Basics.{not_both}

@@ -13,9 +13,8 @@ use Rattle.aadl_grammar.proofs.Derived.Settled.{Clear, apart_means}
 use Rattle.aadl_grammar.proofs.Derived.Trees.{Trees}
 use Rattle.aadl_grammar.proofs.Derived.Languages.{derives, Written, written}
 use Rattle.aadl_grammar.proofs.Places.Alike.{alike_spells, alike_kept}
-use Rattle.aadl_tree.specs.proof.Maps.{annex_tree_to}
+use Rattle.aadl_tree.specs.proof.Maps.{annex_tree_to, package_to}
 use Rattle.aadl_grammar.proofs.Places.Annexes.{annex_tree_alike}
-use Rattle.aadl_tree.specs.proof.Maps.{package_to}
 use Rattle.aadl_grammar.proofs.Places.Declarations.{package_alike}
 use Rattle.aadl_grammar.proofs.Derived.Unique.{one}
 use Rattle.aadl_grammar.proofs.Fates.Verdict.{Language}

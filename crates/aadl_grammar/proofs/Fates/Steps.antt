@@ -1,6 +1,7 @@
 -- One terminal of the machine, by what the top of the stack does at it. For the proofs of parsers. What it does say `move_takes`, `move_omits` and
 -- `move_refuses` of Derivations: by a row that fits, and by no row that does.
-use Rattle.std.proofs.Common.{◌≡◌, ℕ, ◌+◌, ◌<◌, ◌≤◌, Bool, true, false, cond, ◌∙◌, sym, ap, subst, refl, List, [], ◌∷◌, ◌++◌, append_assoc, le-ltb, lt-ltb, ◌&&◌}
+use Rattle.std.proofs.Common.{◌≡◌, ℕ, ◌+◌, ◌<◌, ◌≤◌, Bool, true, false, cond, ◌∙◌, sym, ap, subst, refl, List, [], ◌∷◌}
+use Rattle.std.proofs.Common.{◌++◌, append_assoc, le-ltb, lt-ltb, ◌&&◌}
 use Rattle.std.specs.Prelude.{nat_lt}
 use Rattle.aadl_tree.specs.declared.mark.Mark.{Mark}
 use Rattle.aadl_tree.specs.Terminals.{Kind, mark, Spot}
@@ -8,7 +9,9 @@ use Rattle.aadl_tree.specs.declared.limits.TheConstants.{GREATEST_NESTING}
 use Rattle.aadl_tree.specs.Grammar.{place}
 use Rattle.aadl_grammar.specs.proof.Symbols.{the, Symbol, Row}
 use Rattle.aadl_grammar.specs.proof.Table.{behind, rows, can_omit}
-use Rattle.aadl_grammar.specs.proof.Machine.{Stack, Move, takes, omitted, refuses, kind_number, fits, move_by, move, chosen, step, ends, depth, Fate, finished, syntax_at, deep_at, fate_after, fate}
+use Rattle.aadl_grammar.specs.proof.Machine.{Stack, Move, takes, omitted, refuses, kind_number, fits, move_by, move}
+use Rattle.aadl_grammar.specs.proof.Machine.{chosen, step, ends, depth, Fate, finished, syntax_at, deep_at, fate_after}
+use Rattle.aadl_grammar.specs.proof.Machine.{fate}
 use Rattle.aadl_grammar.proofs.Derived.Tails.{among, firsts}
 use Rattle.aadl_grammar.proofs.Derived.Contents.{Said, said, fits_with}
 use Rattle.std.proofs.lemmas.Bool.{or_parts}

@@ -1,11 +1,13 @@
 -- Where the machine stops, and how.
-use Rattle.std.proofs.Common.{◌≡◌, ℕ, ◌+◌, ◌<◌, ◌≤◌, Bool, true, false, cond, ◌∙◌, ap, refl, List, [], ◌∷◌, ◌++◌, Option, Some, None}
+use Rattle.std.proofs.Common.{◌≡◌, ℕ, ◌+◌, ◌<◌, ◌≤◌, Bool, true, false, cond, ◌∙◌, ap, refl, List, [], ◌∷◌, ◌++◌}
+use Rattle.std.proofs.Common.{Option, Some, None}
 use Rattle.std.specs.Prelude.{nat_lt}
 use Rattle.std.proofs.lemmas.Bool as bool
 use Rattle.aadl_tree.specs.declared.limits.TheConstants.{GREATEST_NESTING}
 use Rattle.aadl_tree.specs.Terminals.{Spot, kinds_of}
 use Rattle.aadl_tree.specs.Grammar.{place}
-use Rattle.aadl_grammar.specs.proof.Machine.{Stack, step, ends, depth, Fate, finished, syntax_at, deep_at, fate_after, fate}
+use Rattle.aadl_grammar.specs.proof.Machine.{Stack, step, ends, depth, Fate, finished, syntax_at, deep_at, fate_after}
+use Rattle.aadl_grammar.specs.proof.Machine.{fate}
 use Rattle.aadl_grammar.proofs.Fates.Walks.{walk, walk_more, Within, within_nothing, within_more}
 
 abbrev pub StopsBy : Stack → List Spot → Type 0

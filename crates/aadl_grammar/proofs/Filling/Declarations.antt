@@ -2,9 +2,10 @@
 use Rattle.std.proofs.Common.{ℕ, sym, List, [], ◌∷◌, ◌++◌, flat_map}
 use Rattle.aadl_tree.specs.declared.mark.Mark.TheVariants as k
 use Rattle.aadl_tree.specs.Terminals.{mark}
-use Rattle.aadl_tree.specs.Parts.{Part, token, feature_section, subcomponent_section, connection_section, property_section, parts_if, behind}
-use Rattle.aadl_grammar.proofs.Filling.Fills.{U, Fills, split, cut, cut_at, nil, joined, consed, list_fill, option_fill, chain_fill, sectioned, section_fill}
-use Rattle.aadl_tree.specs.Parts.{chained}
+use Rattle.aadl_tree.specs.Parts.{Part, token, feature_section, subcomponent_section, connection_section}
+use Rattle.aadl_tree.specs.Parts.{property_section, parts_if, behind, chained}
+use Rattle.aadl_grammar.proofs.Filling.Fills.{U, Fills, split, cut, cut_at, nil, joined, consed, list_fill, option_fill}
+use Rattle.aadl_grammar.proofs.Filling.Fills.{chain_fill, sectioned, section_fill}
 use Rattle.aadl_tree.specs.Names as n
 use Rattle.aadl_tree.specs.Values as v
 use Rattle.aadl_tree.specs.Annexes as x

@@ -3,7 +3,8 @@ use Rattle.std.proofs.Common.{ℕ, sym, [], ◌∷◌, ◌++◌, flat_map}
 use Rattle.aadl_tree.specs.declared.mark.Mark.TheVariants as k
 use Rattle.aadl_tree.specs.Terminals.{word, mark}
 use Rattle.aadl_tree.specs.Parts.{token, parts_if, behind}
-use Rattle.aadl_grammar.proofs.Filling.Fills.{U, Fills, split, cut, cut_at, nil, joined, consed, list_fill, option_fill, chain_fill}
+use Rattle.aadl_grammar.proofs.Filling.Fills.{U, Fills, split, cut, cut_at, nil, joined, consed, list_fill, option_fill}
+use Rattle.aadl_grammar.proofs.Filling.Fills.{chain_fill}
 use Rattle.aadl_tree.specs.Names as n
 
 pub identifier_fill : Fills (n.Identifier U) (n.Identifier ℕ) n.identifier_parts n.identifier_parts

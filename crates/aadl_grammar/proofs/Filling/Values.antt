@@ -3,7 +3,8 @@ use Rattle.std.proofs.Common.{ℕ, sym, List, [], ◌∷◌, ◌++◌, flat_map}
 use Rattle.aadl_tree.specs.declared.mark.Mark.TheVariants as k
 use Rattle.aadl_tree.specs.Terminals.{whole, real, quoted, mark}
 use Rattle.aadl_tree.specs.Parts.{token, marked_if, parts_if, behind}
-use Rattle.aadl_grammar.proofs.Filling.Fills.{U, Fills, split, cut, nil, joined, consed, option_fill, chain_fill, marked_fill}
+use Rattle.aadl_grammar.proofs.Filling.Fills.{U, Fills, split, cut, nil, joined, consed, option_fill, chain_fill}
+use Rattle.aadl_grammar.proofs.Filling.Fills.{marked_fill}
 use Rattle.aadl_tree.specs.declared.expressions.Sign.{Sign}
 use Rattle.aadl_tree.specs.Names as n
 use Rattle.aadl_tree.specs.Values as v

@@ -13,7 +13,13 @@ use Rattle.aadl_grammar.proofs.Derived.Trees.{U, id, after_word_parts, transitio
 use Rattle.aadl_grammar.proofs.Derived.RowTrees.{respell, AllGive, behind_give}
 use Rattle.aadl_grammar.proofs.Builders.Expressions.{expression_builders}
 use Rattle.aadl_grammar.proofs.Builders.Actions.{block_builders}
-use Rattle.aadl_grammar.proofs.Builders.Annexes.{variable_builders, variable_list_builders, variable_list_joins, variables_builders, initial_builders, complete_builders, state_builders, state_list_builders, state_list_joins, states_builders, guard_builders, guard_joins, guarded_builders, after_word_builders, effect_builders, effect_joins, transition_builders, transition_list_builders, transition_list_joins, transitions_builders, content_builders, annex_builders, annexes_builders, annexes_joins}
+use Rattle.aadl_grammar.proofs.Builders.Annexes.{variable_builders, variable_list_builders, variable_list_joins}
+use Rattle.aadl_grammar.proofs.Builders.Annexes.{variables_builders, initial_builders, complete_builders}
+use Rattle.aadl_grammar.proofs.Builders.Annexes.{state_builders, state_list_builders, state_list_joins, states_builders}
+use Rattle.aadl_grammar.proofs.Builders.Annexes.{guard_builders, guard_joins, guarded_builders, after_word_builders}
+use Rattle.aadl_grammar.proofs.Builders.Annexes.{effect_builders, effect_joins, transition_builders}
+use Rattle.aadl_grammar.proofs.Builders.Annexes.{transition_list_builders, transition_list_joins, transitions_builders}
+use Rattle.aadl_grammar.proofs.Builders.Annexes.{content_builders, annex_builders, annexes_builders, annexes_joins}
 use Rattle.aadl_grammar.proofs.Gives.Expressions.{expression_give}
 use Rattle.aadl_grammar.proofs.Gives.Actions.{block_give}
 

@@ -10,7 +10,12 @@ use Rattle.aadl_grammar.specs.proof.Symbols as s
 use Rattle.aadl_grammar.specs.proof.Table.{rows}
 use Rattle.aadl_grammar.proofs.Derived.Trees.{U, compared_parts, relation_of, after_parts, and_join, or_join}
 use Rattle.aadl_grammar.proofs.Derived.RowTrees.{AllGive, behind_give}
-use Rattle.aadl_grammar.proofs.Builders.Expressions.{primary_builders, fresh_builders, factor_builders, factor_joins, term_builders, term_joins, factors_builders, sum_builders, sum_joins, terms_builders, compared_builders, relation_builders, relation_joins, relations_builders, after_and_builders, after_and_joins, after_or_builders, after_or_joins, expression_builders, expression_joins}
+use Rattle.aadl_grammar.proofs.Builders.Expressions.{primary_builders, fresh_builders, factor_builders, factor_joins}
+use Rattle.aadl_grammar.proofs.Builders.Expressions.{term_builders, term_joins, factors_builders, sum_builders}
+use Rattle.aadl_grammar.proofs.Builders.Expressions.{sum_joins, terms_builders, compared_builders, relation_builders}
+use Rattle.aadl_grammar.proofs.Builders.Expressions.{relation_joins, relations_builders, after_and_builders}
+use Rattle.aadl_grammar.proofs.Builders.Expressions.{after_and_joins, after_or_builders, after_or_joins}
+use Rattle.aadl_grammar.proofs.Builders.Expressions.{expression_builders, expression_joins}
 
 relation_same : (u : e.Sum U) (c : Option (RelationOperator × e.Sum U))
     → e.sum_parts u ++ compared_parts c ≡ e.relation_parts (relation_of u c)

@@ -9,7 +9,15 @@ use Rattle.aadl_grammar.specs.proof.Table.{rows}
 use Rattle.aadl_grammar.proofs.Derived.Trees.{U}
 use Rattle.aadl_grammar.proofs.Derived.References.{reference_spells}
 use Rattle.aadl_grammar.proofs.Derived.RowTrees.{respell, AllGive, behind_give}
-use Rattle.aadl_grammar.proofs.Builders.Values.{only_builders, identifier_builders, name_builders, names_builders, path_builders, paths_builders, more_identifiers_builders, reference_builders, dot_identifier_builders, figure_builders, unit_builders, quantity_builders, upper_builders, value_builders, value_joins, path_group_builders, reference_group_builders, values_builders, values_joins, more_values_builders, operator_builders, constant_builders, applies_builders, more_paths_builders, association_builders, associations_builders, associations_joins, properties_builders}
+use Rattle.aadl_grammar.proofs.Builders.Values.{only_builders, identifier_builders, name_builders, names_builders}
+use Rattle.aadl_grammar.proofs.Builders.Values.{path_builders, paths_builders, more_identifiers_builders}
+use Rattle.aadl_grammar.proofs.Builders.Values.{reference_builders, dot_identifier_builders, figure_builders}
+use Rattle.aadl_grammar.proofs.Builders.Values.{unit_builders, quantity_builders, upper_builders, value_builders}
+use Rattle.aadl_grammar.proofs.Builders.Values.{value_joins, path_group_builders, reference_group_builders}
+use Rattle.aadl_grammar.proofs.Builders.Values.{values_builders, values_joins, more_values_builders, operator_builders}
+use Rattle.aadl_grammar.proofs.Builders.Values.{constant_builders, applies_builders, more_paths_builders}
+use Rattle.aadl_grammar.proofs.Builders.Values.{association_builders, associations_builders, associations_joins}
+use Rattle.aadl_grammar.proofs.Builders.Values.{properties_builders}
 
 regroup : (ps qs rs : List (Part U)) → ps ++ (qs ++ rs) ≡ (ps ++ qs) ++ rs
 regroup ps qs rs = sym (append_assoc ps qs rs)

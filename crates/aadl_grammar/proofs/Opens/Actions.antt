@@ -9,7 +9,12 @@ use Rattle.aadl_grammar.specs.proof.Symbols as s
 use Rattle.aadl_grammar.specs.proof.Table.{rows}
 use Rattle.aadl_grammar.proofs.Derived.Trees.{parts}
 use Rattle.aadl_grammar.proofs.Derived.RowTrees.{respell, InRows, behind_opens, uses, Opens, OpensOr}
-use Rattle.aadl_grammar.proofs.Builders.Actions.{test_builders, whole_number_builders, bound_builders, after_target_builders, loop_head_builders, action_builders, actions_builders, actions_joins, mores_builders, after_semicolon_builders, after_semicolon_joins, elsifs_builders, otherwise_builders, end_if_builders, closing_if_builders, block_builders, body_builders, body_joins}
+use Rattle.aadl_grammar.proofs.Builders.Actions.{test_builders, whole_number_builders, bound_builders}
+use Rattle.aadl_grammar.proofs.Builders.Actions.{after_target_builders, loop_head_builders, action_builders}
+use Rattle.aadl_grammar.proofs.Builders.Actions.{actions_builders, actions_joins, mores_builders}
+use Rattle.aadl_grammar.proofs.Builders.Actions.{after_semicolon_builders, after_semicolon_joins, elsifs_builders}
+use Rattle.aadl_grammar.proofs.Builders.Actions.{otherwise_builders, end_if_builders, closing_if_builders}
+use Rattle.aadl_grammar.proofs.Builders.Actions.{block_builders, body_builders, body_joins}
 use Rattle.aadl_grammar.proofs.Gives.Actions.{loop_same}
 
 pub test_opens : Opens s.test test_builders

@@ -8,16 +8,60 @@ use Rattle.aadl_grammar.specs.proof.Table.{rows, can_omit}
 use Rattle.aadl_grammar.proofs.Derived.Trees.{U, TreeOf, parts}
 use Rattle.aadl_grammar.proofs.Derived.RowTrees.{AllGive, InRows, uses}
 use Rattle.aadl_grammar.proofs.Builders.All.{builders, Empty, empty}
-use Rattle.aadl_grammar.proofs.Gives.Values.{only_give, identifier_give, name_give, names_give, path_give, paths_give, more_identifiers_give, reference_give, dot_identifier_give, figure_give, unit_give, quantity_give, upper_give, value_give, path_group_give, reference_group_give, values_give, more_values_give, operator_give, constant_give, applies_give, more_paths_give, association_give, associations_give, properties_give}
-use Rattle.aadl_grammar.proofs.Gives.Expressions.{primary_give, fresh_give, factor_give, term_give, factors_give, sum_give, terms_give, compared_give, relation_give, relations_give, after_and_give, after_or_give, expression_give}
-use Rattle.aadl_grammar.proofs.Gives.Actions.{test_give, whole_number_give, bound_give, after_target_give, loop_head_give, action_give, actions_give, mores_give, after_semicolon_give, elsifs_give, otherwise_give, end_if_give, closing_if_give, block_give, body_give}
-use Rattle.aadl_grammar.proofs.Gives.Annexes.{variable_give, variable_list_give, variables_give, initial_give, complete_give, state_give, state_list_give, states_give, guard_give, guarded_give, after_word_give, effect_give, transition_give, transition_list_give, transitions_give, content_give, annex_give, annexes_give}
-use Rattle.aadl_grammar.proofs.Gives.Declarations.{direction_give, category_give, data_type_give, feature_give, subcomponent_give, connection_end_give, connection_give, feature_list_give, feature_section_give, features_give, subcomponent_list_give, subcomponent_section_give, subcomponents_give, connection_list_give, connection_section_give, connections_give, property_section_give, own_properties_give, implementation_name_give, type_end_give, implementation_end_give, package_end_give, after_category_give, declarations_give, more_names_give, withs_give, a_package_give}
-use Rattle.aadl_grammar.proofs.Opens.Values.{identifier_opens, name_opens, names_opens, path_opens, paths_opens, more_identifiers_opens, reference_opens, dot_identifier_opens, figure_opens, unit_opens, quantity_opens, upper_opens, value_opens, path_group_opens, reference_group_opens, values_opens, more_values_opens, operator_opens, constant_opens, applies_opens, more_paths_opens, association_opens, associations_opens, properties_opens}
-use Rattle.aadl_grammar.proofs.Opens.Expressions.{primary_opens, fresh_opens, factor_opens, term_opens, factors_opens, sum_opens, terms_opens, compared_opens, relation_opens, relations_opens, after_and_opens, after_or_opens, expression_opens}
-use Rattle.aadl_grammar.proofs.Opens.Actions.{test_opens, whole_number_opens, bound_opens, after_target_opens, loop_head_opens, action_opens, actions_opens, mores_opens, after_semicolon_opens, elsifs_opens, otherwise_opens, end_if_opens, closing_if_opens, block_opens, body_opens}
-use Rattle.aadl_grammar.proofs.Opens.Annexes.{variable_opens, variable_list_opens, variables_opens, initial_opens, complete_opens, state_opens, state_list_opens, states_opens, guard_opens, guarded_opens, after_word_opens, effect_opens, transition_opens, transition_list_opens, transitions_opens, content_opens, annex_opens, annexes_opens}
-use Rattle.aadl_grammar.proofs.Opens.Declarations.{direction_opens, category_opens, data_type_opens, feature_opens, subcomponent_opens, connection_end_opens, connection_opens, feature_list_opens, feature_section_opens, features_opens, subcomponent_list_opens, subcomponent_section_opens, subcomponents_opens, connection_list_opens, connection_section_opens, connections_opens, property_section_opens, own_properties_opens, implementation_name_opens, type_end_opens, implementation_end_opens, package_end_opens, after_category_opens, declarations_opens, more_names_opens, withs_opens, a_package_opens}
+use Rattle.aadl_grammar.proofs.Gives.Values.{only_give, identifier_give, name_give, names_give, path_give, paths_give}
+use Rattle.aadl_grammar.proofs.Gives.Values.{more_identifiers_give, reference_give, dot_identifier_give, figure_give}
+use Rattle.aadl_grammar.proofs.Gives.Values.{unit_give, quantity_give, upper_give, value_give, path_group_give}
+use Rattle.aadl_grammar.proofs.Gives.Values.{reference_group_give, values_give, more_values_give, operator_give}
+use Rattle.aadl_grammar.proofs.Gives.Values.{constant_give, applies_give, more_paths_give, association_give}
+use Rattle.aadl_grammar.proofs.Gives.Values.{associations_give, properties_give}
+use Rattle.aadl_grammar.proofs.Gives.Expressions.{primary_give, fresh_give, factor_give, term_give, factors_give}
+use Rattle.aadl_grammar.proofs.Gives.Expressions.{sum_give, terms_give, compared_give, relation_give, relations_give}
+use Rattle.aadl_grammar.proofs.Gives.Expressions.{after_and_give, after_or_give, expression_give}
+use Rattle.aadl_grammar.proofs.Gives.Actions.{test_give, whole_number_give, bound_give, after_target_give}
+use Rattle.aadl_grammar.proofs.Gives.Actions.{loop_head_give, action_give, actions_give, mores_give}
+use Rattle.aadl_grammar.proofs.Gives.Actions.{after_semicolon_give, elsifs_give, otherwise_give, end_if_give}
+use Rattle.aadl_grammar.proofs.Gives.Actions.{closing_if_give, block_give, body_give}
+use Rattle.aadl_grammar.proofs.Gives.Annexes.{variable_give, variable_list_give, variables_give, initial_give}
+use Rattle.aadl_grammar.proofs.Gives.Annexes.{complete_give, state_give, state_list_give, states_give, guard_give}
+use Rattle.aadl_grammar.proofs.Gives.Annexes.{guarded_give, after_word_give, effect_give, transition_give}
+use Rattle.aadl_grammar.proofs.Gives.Annexes.{transition_list_give, transitions_give, content_give, annex_give}
+use Rattle.aadl_grammar.proofs.Gives.Annexes.{annexes_give}
+use Rattle.aadl_grammar.proofs.Gives.Declarations.{direction_give, category_give, data_type_give, feature_give}
+use Rattle.aadl_grammar.proofs.Gives.Declarations.{subcomponent_give, connection_end_give, connection_give}
+use Rattle.aadl_grammar.proofs.Gives.Declarations.{feature_list_give, feature_section_give, features_give}
+use Rattle.aadl_grammar.proofs.Gives.Declarations.{subcomponent_list_give, subcomponent_section_give}
+use Rattle.aadl_grammar.proofs.Gives.Declarations.{subcomponents_give, connection_list_give, connection_section_give}
+use Rattle.aadl_grammar.proofs.Gives.Declarations.{connections_give, property_section_give, own_properties_give}
+use Rattle.aadl_grammar.proofs.Gives.Declarations.{implementation_name_give, type_end_give, implementation_end_give}
+use Rattle.aadl_grammar.proofs.Gives.Declarations.{package_end_give, after_category_give, declarations_give}
+use Rattle.aadl_grammar.proofs.Gives.Declarations.{more_names_give, withs_give, a_package_give}
+use Rattle.aadl_grammar.proofs.Opens.Values.{identifier_opens, name_opens, names_opens, path_opens, paths_opens}
+use Rattle.aadl_grammar.proofs.Opens.Values.{more_identifiers_opens, reference_opens, dot_identifier_opens}
+use Rattle.aadl_grammar.proofs.Opens.Values.{figure_opens, unit_opens, quantity_opens, upper_opens, value_opens}
+use Rattle.aadl_grammar.proofs.Opens.Values.{path_group_opens, reference_group_opens, values_opens, more_values_opens}
+use Rattle.aadl_grammar.proofs.Opens.Values.{operator_opens, constant_opens, applies_opens, more_paths_opens}
+use Rattle.aadl_grammar.proofs.Opens.Values.{association_opens, associations_opens, properties_opens}
+use Rattle.aadl_grammar.proofs.Opens.Expressions.{primary_opens, fresh_opens, factor_opens, term_opens, factors_opens}
+use Rattle.aadl_grammar.proofs.Opens.Expressions.{sum_opens, terms_opens, compared_opens, relation_opens}
+use Rattle.aadl_grammar.proofs.Opens.Expressions.{relations_opens, after_and_opens, after_or_opens, expression_opens}
+use Rattle.aadl_grammar.proofs.Opens.Actions.{test_opens, whole_number_opens, bound_opens, after_target_opens}
+use Rattle.aadl_grammar.proofs.Opens.Actions.{loop_head_opens, action_opens, actions_opens, mores_opens}
+use Rattle.aadl_grammar.proofs.Opens.Actions.{after_semicolon_opens, elsifs_opens, otherwise_opens, end_if_opens}
+use Rattle.aadl_grammar.proofs.Opens.Actions.{closing_if_opens, block_opens, body_opens}
+use Rattle.aadl_grammar.proofs.Opens.Annexes.{variable_opens, variable_list_opens, variables_opens, initial_opens}
+use Rattle.aadl_grammar.proofs.Opens.Annexes.{complete_opens, state_opens, state_list_opens, states_opens, guard_opens}
+use Rattle.aadl_grammar.proofs.Opens.Annexes.{guarded_opens, after_word_opens, effect_opens, transition_opens}
+use Rattle.aadl_grammar.proofs.Opens.Annexes.{transition_list_opens, transitions_opens, content_opens, annex_opens}
+use Rattle.aadl_grammar.proofs.Opens.Annexes.{annexes_opens}
+use Rattle.aadl_grammar.proofs.Opens.Declarations.{direction_opens, category_opens, data_type_opens, feature_opens}
+use Rattle.aadl_grammar.proofs.Opens.Declarations.{subcomponent_opens, connection_end_opens, connection_opens}
+use Rattle.aadl_grammar.proofs.Opens.Declarations.{feature_list_opens, feature_section_opens, features_opens}
+use Rattle.aadl_grammar.proofs.Opens.Declarations.{subcomponent_list_opens, subcomponent_section_opens}
+use Rattle.aadl_grammar.proofs.Opens.Declarations.{subcomponents_opens, connection_list_opens, connection_section_opens}
+use Rattle.aadl_grammar.proofs.Opens.Declarations.{connections_opens, property_section_opens, own_properties_opens}
+use Rattle.aadl_grammar.proofs.Opens.Declarations.{implementation_name_opens, type_end_opens, implementation_end_opens}
+use Rattle.aadl_grammar.proofs.Opens.Declarations.{package_end_opens, after_category_opens, declarations_opens}
+use Rattle.aadl_grammar.proofs.Opens.Declarations.{more_names_opens, withs_opens, a_package_opens}
 
 -- the symbol is left out
 abbrev pub Omitted : (b : Bool) (y : Symbol) → Empty b y → TreeOf y → List Kind → List Kind → Type 0

@@ -13,10 +13,26 @@ use Rattle.aadl_tree.specs.Values as v
 use Rattle.aadl_tree.specs.Declarations as d
 use Rattle.aadl_grammar.specs.proof.Symbols as s
 use Rattle.aadl_grammar.specs.proof.Table.{rows}
-use Rattle.aadl_grammar.proofs.Derived.Trees.{U, Rest, type_rest, implementation_rest, declaration_of, rest_parts, parts}
+use Rattle.aadl_grammar.proofs.Derived.Trees.{U, Rest, type_rest, implementation_rest, declaration_of, rest_parts}
+use Rattle.aadl_grammar.proofs.Derived.Trees.{parts}
 use Rattle.aadl_grammar.proofs.Derived.RowTrees.{respell, InRows, behind_opens, uses, Opens, OpensOr}
 use Rattle.aadl_grammar.proofs.Builders.Values.{reference_builders, association_builders}
-use Rattle.aadl_grammar.proofs.Builders.Declarations.{direction_builders, category_builders, data_type_builders, data_type_joins, feature_builders, subcomponent_builders, connection_end_builders, connection_builders, feature_list_builders, feature_list_joins, feature_section_builders, feature_section_joins, features_builders, subcomponent_list_builders, subcomponent_list_joins, subcomponent_section_builders, subcomponent_section_joins, subcomponents_builders, connection_list_builders, connection_list_joins, connection_section_builders, connection_section_joins, connections_builders, property_section_builders, property_section_joins, own_properties_builders, implementation_name_builders, type_end_builders, implementation_end_builders, package_end_builders, after_category_builders, declarations_builders, more_names_builders, withs_builders, a_package_builders}
+use Rattle.aadl_grammar.proofs.Builders.Declarations.{direction_builders, category_builders, data_type_builders}
+use Rattle.aadl_grammar.proofs.Builders.Declarations.{data_type_joins, feature_builders, subcomponent_builders}
+use Rattle.aadl_grammar.proofs.Builders.Declarations.{connection_end_builders, connection_builders}
+use Rattle.aadl_grammar.proofs.Builders.Declarations.{feature_list_builders, feature_list_joins}
+use Rattle.aadl_grammar.proofs.Builders.Declarations.{feature_section_builders, feature_section_joins}
+use Rattle.aadl_grammar.proofs.Builders.Declarations.{features_builders, subcomponent_list_builders}
+use Rattle.aadl_grammar.proofs.Builders.Declarations.{subcomponent_list_joins, subcomponent_section_builders}
+use Rattle.aadl_grammar.proofs.Builders.Declarations.{subcomponent_section_joins, subcomponents_builders}
+use Rattle.aadl_grammar.proofs.Builders.Declarations.{connection_list_builders, connection_list_joins}
+use Rattle.aadl_grammar.proofs.Builders.Declarations.{connection_section_builders, connection_section_joins}
+use Rattle.aadl_grammar.proofs.Builders.Declarations.{connections_builders, property_section_builders}
+use Rattle.aadl_grammar.proofs.Builders.Declarations.{property_section_joins, own_properties_builders}
+use Rattle.aadl_grammar.proofs.Builders.Declarations.{implementation_name_builders, type_end_builders}
+use Rattle.aadl_grammar.proofs.Builders.Declarations.{implementation_end_builders, package_end_builders}
+use Rattle.aadl_grammar.proofs.Builders.Declarations.{after_category_builders, declarations_builders}
+use Rattle.aadl_grammar.proofs.Builders.Declarations.{more_names_builders, withs_builders, a_package_builders}
 use Rattle.aadl_grammar.proofs.Opens.Values.{reference_opens, association_opens}
 use Rattle.aadl_grammar.proofs.Gives.Declarations.{with_same}
 

@@ -14,7 +14,12 @@ use Rattle.aadl_grammar.specs.proof.Symbols as s
 use Rattle.aadl_grammar.specs.proof.Table.{rows}
 use Rattle.aadl_grammar.proofs.Derived.Trees.{U, parts}
 use Rattle.aadl_grammar.proofs.Derived.RowTrees.{respell, InRows, behind_opens, uses, Opens, OpensOr}
-use Rattle.aadl_grammar.proofs.Builders.Expressions.{primary_builders, fresh_builders, factor_builders, factor_joins, term_builders, term_joins, factors_builders, sum_builders, sum_joins, terms_builders, compared_builders, relation_builders, relation_joins, relations_builders, after_and_builders, after_and_joins, after_or_builders, after_or_joins, expression_builders, expression_joins}
+use Rattle.aadl_grammar.proofs.Builders.Expressions.{primary_builders, fresh_builders, factor_builders, factor_joins}
+use Rattle.aadl_grammar.proofs.Builders.Expressions.{term_builders, term_joins, factors_builders, sum_builders}
+use Rattle.aadl_grammar.proofs.Builders.Expressions.{sum_joins, terms_builders, compared_builders, relation_builders}
+use Rattle.aadl_grammar.proofs.Builders.Expressions.{relation_joins, relations_builders, after_and_builders}
+use Rattle.aadl_grammar.proofs.Builders.Expressions.{after_and_joins, after_or_builders, after_or_joins}
+use Rattle.aadl_grammar.proofs.Builders.Expressions.{expression_builders, expression_joins}
 
 pub primary_opens : Opens s.primary primary_builders
 primary_opens (e.number at x) ks rest (more, e, sp) = inl (uses x tt more e sp)

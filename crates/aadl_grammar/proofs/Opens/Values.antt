@@ -13,7 +13,15 @@ use Rattle.aadl_grammar.specs.proof.Table.{rows}
 use Rattle.aadl_grammar.proofs.Derived.Trees.{U, parts}
 use Rattle.aadl_grammar.proofs.Derived.References.{chain_of}
 use Rattle.aadl_grammar.proofs.Derived.RowTrees.{respell, InRows, behind_opens, uses, Opens, OpensOr}
-use Rattle.aadl_grammar.proofs.Builders.Values.{identifier_builders, name_builders, names_builders, path_builders, paths_builders, more_identifiers_builders, reference_builders, dot_identifier_builders, figure_builders, unit_builders, quantity_builders, upper_builders, value_builders, value_joins, path_group_builders, reference_group_builders, values_builders, values_joins, more_values_builders, operator_builders, constant_builders, applies_builders, more_paths_builders, association_builders, associations_builders, associations_joins, properties_builders}
+use Rattle.aadl_grammar.proofs.Builders.Values.{identifier_builders, name_builders, names_builders, path_builders}
+use Rattle.aadl_grammar.proofs.Builders.Values.{paths_builders, more_identifiers_builders, reference_builders}
+use Rattle.aadl_grammar.proofs.Builders.Values.{dot_identifier_builders, figure_builders, unit_builders}
+use Rattle.aadl_grammar.proofs.Builders.Values.{quantity_builders, upper_builders, value_builders, value_joins}
+use Rattle.aadl_grammar.proofs.Builders.Values.{path_group_builders, reference_group_builders, values_builders}
+use Rattle.aadl_grammar.proofs.Builders.Values.{values_joins, more_values_builders, operator_builders}
+use Rattle.aadl_grammar.proofs.Builders.Values.{constant_builders, applies_builders, more_paths_builders}
+use Rattle.aadl_grammar.proofs.Builders.Values.{association_builders, associations_builders, associations_joins}
+use Rattle.aadl_grammar.proofs.Builders.Values.{properties_builders}
 
 pub identifier_opens : Opens s.identifier identifier_builders
 identifier_opens t ks rest (more, e, sp) = inl (uses t.spelling tt more e sp)

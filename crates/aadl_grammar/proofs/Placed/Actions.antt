@@ -7,8 +7,8 @@ use Rattle.aadl_tree.specs.Names as n
 use Rattle.aadl_tree.specs.Expressions as e
 use Rattle.aadl_tree.specs.Actions as a
 use Rattle.aadl_grammar.proofs.Basics.{heads, tails}
-use Rattle.aadl_tree.specs.proof.Maps.{no_place, expression_to}
-use Rattle.aadl_tree.specs.proof.Maps.{action_to, actions_to, mores_to, elsifs_to, otherwise_to, block_to}
+use Rattle.aadl_tree.specs.proof.Maps.{no_place, expression_to, action_to, actions_to, mores_to, elsifs_to}
+use Rattle.aadl_tree.specs.proof.Maps.{otherwise_to, block_to}
 use Rattle.aadl_grammar.proofs.Placed.Order.{placed, in_turn}
 use Rattle.aadl_grammar.proofs.Placed.Names.{Fixed, identifier_fixed}
 use Rattle.aadl_grammar.proofs.Placed.Expressions.{expression_fixed}

@@ -7,9 +7,8 @@ use Rattle.aadl_tree.specs.Declarations.{PackageTree, package_parts}
 use Rattle.aadl_tree.proofs.Parts.{written_spells}
 use Rattle.aadl_grammar.proofs.Placed.Shapes.{shape}
 use Rattle.aadl_grammar.proofs.Places.Alike.{Alike, alike_spells, alike_shape}
-use Rattle.aadl_tree.specs.proof.Maps.{no_place, annex_tree_to}
+use Rattle.aadl_tree.specs.proof.Maps.{no_place, annex_tree_to, package_to}
 use Rattle.aadl_grammar.proofs.Places.Annexes.{annex_tree_alike}
-use Rattle.aadl_tree.specs.proof.Maps.{package_to}
 use Rattle.aadl_grammar.proofs.Places.Declarations.{package_alike}
 use Rattle.aadl_grammar.proofs.Fates.Starts.{one_package, one_behaviour}
 use Rattle.aadl_grammar.proofs.Placed.Order.{same_places}

@@ -7,13 +7,13 @@ use Rattle.aadl_tree.specs.Values as v
 use Rattle.aadl_tree.specs.Actions as a
 use Rattle.aadl_tree.specs.Annexes as x
 use Rattle.aadl_grammar.proofs.Basics.{heads, tails}
-use Rattle.aadl_tree.specs.proof.Maps.{no_place, identifier_to}
-use Rattle.aadl_tree.specs.proof.Maps.{block_to}
-use Rattle.aadl_tree.specs.proof.Maps.{variable_to, state_to, guard_to, transition_to, annex_tree_to, content_to, annex_to}
+use Rattle.aadl_tree.specs.proof.Maps.{no_place, identifier_to, block_to, variable_to, state_to, guard_to}
+use Rattle.aadl_tree.specs.proof.Maps.{transition_to, annex_tree_to, content_to, annex_to}
 use Rattle.aadl_grammar.proofs.Placed.Order.{in_turn}
 use Rattle.aadl_grammar.proofs.Placed.Names.{Fixed, identifier_fixed}
 use Rattle.aadl_grammar.proofs.Placed.Expressions.{expression_fixed}
-use Rattle.aadl_grammar.proofs.Placed.Values.{list_fixed, option_fixed, marked_none, identifiers_fixed, reference_fixed, properties_fixed}
+use Rattle.aadl_grammar.proofs.Placed.Values.{list_fixed, option_fixed, marked_none, identifiers_fixed, reference_fixed}
+use Rattle.aadl_grammar.proofs.Placed.Values.{properties_fixed}
 use Rattle.aadl_grammar.proofs.Placed.Actions.{block_fixed}
 
 pub variable_fixed : Fixed (x.VariableDeclaration ℕ) (x.VariableDeclaration (Unit {0})) (variable_to no_place)

@@ -1,19 +1,18 @@
 -- Terminals that a tree keeps have a tree that is the same except for its places.
-use Rattle.std.proofs.Common.{◌≡◌, ℕ, ◌<◌, cond, ◌==◌, ◌∙◌, sym, ap, ap₂, refl, subst, List, [], ◌∷◌, map, arith, eq-eqb}
+use Rattle.std.proofs.Common.{◌≡◌, ℕ, ◌<◌, cond, ◌==◌, ◌∙◌, sym, ap, ap₂, refl, subst, List, [], ◌∷◌, map, arith}
+use Rattle.std.proofs.Common.{eq-eqb, inl, inr}
 use Rattle.std.proofs.lemmas.Bool.{eqb-true, false_from_ne_true}
 use Rattle.std.proofs.lemmas.List.{append-nil}
-use Rattle.std.proofs.Common.{inl, inr}
 use Rattle.aadl_tree.specs.Terminals.{Kind, Spot, kinds_of}
 use Rattle.aadl_tree.specs.Parts.{Part, token, may, extra_kinds, HaveKinds, Written, Spells, kept}
 use Rattle.aadl_tree.specs.Declarations.{PackageTree, package_parts}
 use Rattle.aadl_tree.proofs.Parts.{written_spells, kept_spells}
 use Rattle.aadl_grammar.proofs.Basics.{heads, tails}
 use Rattle.aadl_grammar.proofs.Places.Alike.{alike_spells, alike_kept}
-use Rattle.aadl_tree.specs.proof.Maps.{package_to}
+use Rattle.aadl_tree.specs.proof.Maps.{package_to, no_place}
 use Rattle.aadl_grammar.proofs.Places.Declarations.{package_alike}
 use Rattle.aadl_grammar.proofs.Fates.Starts.{one_package}
 use Rattle.aadl_grammar.specs.proof.Moved.{Behind, Rising, SamePackage}
-use Rattle.aadl_tree.specs.proof.Maps.{no_place}
 use Rattle.aadl_grammar.proofs.Placed.Replaced.{moved, survivors, survivors_kinds, package_replaced}
 
 abbrev sent : ℕ → ℕ → (ℕ → ℕ) → ℕ → ℕ

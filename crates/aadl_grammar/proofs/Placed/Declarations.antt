@@ -8,14 +8,14 @@ use Rattle.aadl_tree.specs.Values as v
 use Rattle.aadl_tree.specs.Annexes as x
 use Rattle.aadl_tree.specs.Declarations as d
 use Rattle.aadl_grammar.proofs.Basics.{heads, tails}
-use Rattle.aadl_tree.specs.proof.Maps.{no_place, associations_to}
-use Rattle.aadl_tree.specs.proof.Maps.{annex_to}
-use Rattle.aadl_tree.specs.proof.Maps.{feature_to, subcomponent_to, connection_to, type_to, implementation_to, declaration_to, with_to, package_to}
+use Rattle.aadl_tree.specs.proof.Maps.{no_place, associations_to, annex_to, feature_to, subcomponent_to, connection_to}
+use Rattle.aadl_tree.specs.proof.Maps.{type_to, implementation_to, declaration_to, with_to, package_to}
 use Rattle.aadl_grammar.proofs.Placed.Order.{in_turn}
 use Rattle.aadl_grammar.proofs.Placed.Names.{Fixed, identifier_fixed, name_fixed}
 use Rattle.aadl_grammar.proofs.Placed.Values.{list_fixed, associations_fixed}
 use Rattle.aadl_grammar.proofs.Placed.Annexes.{annex_fixed}
-use Rattle.aadl_grammar.proofs.Placed.Members.{category_one, sectioned, with_fixed, feature_fixed, subcomponent_fixed, connection_fixed, implementation_name_fixed}
+use Rattle.aadl_grammar.proofs.Placed.Members.{category_one, sectioned, with_fixed, feature_fixed, subcomponent_fixed}
+use Rattle.aadl_grammar.proofs.Placed.Members.{connection_fixed, implementation_name_fixed}
 
 pub type_fixed : Fixed (d.TypeDeclaration ℕ) (d.TypeDeclaration (Unit {0})) (type_to no_place) d.type_parts
 type_fixed t u xs ys s h =

@@ -1,5 +1,6 @@
 -- Expressions are fixed by what is left without places, and by their places.
-use Rattle.std.proofs.Common.{◌≡◌, ℕ, ◌∙◌, sym, ap, ap₂, Bool, true, false, List, [], ◌∷◌, ◌++◌, Option, Some, None, option_map, refl}
+use Rattle.std.proofs.Common.{◌≡◌, ℕ, ◌∙◌, sym, ap, ap₂, Bool, true, false, List, [], ◌∷◌, ◌++◌, Option, Some, None}
+use Rattle.std.proofs.Common.{option_map, refl}
 use Rattle.aadl_tree.specs.declared.expressions.Sign.{Sign}
 use Rattle.aadl_tree.specs.declared.expressions.Sign.TheVariants as signs
 use Rattle.aadl_tree.specs.declared.expressions.LogicOperator.{LogicOperator}
@@ -8,7 +9,8 @@ use Rattle.aadl_tree.specs.declared.mark.Mark.TheVariants as k
 use Rattle.aadl_tree.specs.Parts.{Part, plain, parts_if}
 use Rattle.aadl_tree.specs.Names as n
 use Rattle.aadl_tree.specs.Expressions as e
-use Rattle.aadl_tree.specs.proof.Maps.{no_place, leading_to, primary_to, factor_to, term_to, factors_to, sum_to, terms_to, relation_to, expression_to, relations_to}
+use Rattle.aadl_tree.specs.proof.Maps.{no_place, leading_to, primary_to, factor_to, term_to, factors_to, sum_to}
+use Rattle.aadl_tree.specs.proof.Maps.{terms_to, relation_to, expression_to, relations_to}
 use Rattle.aadl_grammar.proofs.Placed.Order.{placed, in_turn}
 use Rattle.aadl_grammar.proofs.Placed.Names.{Fixed, identifier_fixed}
 

@@ -9,8 +9,8 @@ use Rattle.aadl_tree.specs.Parts.{Part, Section, token, plain, parts_if, behind}
 use Rattle.aadl_tree.specs.Names as n
 use Rattle.aadl_tree.specs.Values as v
 use Rattle.aadl_tree.specs.Declarations as d
-use Rattle.aadl_tree.specs.proof.Maps.{no_place, identifier_to, name_to, reference_to}
-use Rattle.aadl_tree.specs.proof.Maps.{feature_to, subcomponent_to, end_to, connection_to, implementation_name_to, with_to}
+use Rattle.aadl_tree.specs.proof.Maps.{no_place, identifier_to, name_to, reference_to, feature_to, subcomponent_to}
+use Rattle.aadl_tree.specs.proof.Maps.{end_to, connection_to, implementation_name_to, with_to}
 use Rattle.aadl_grammar.proofs.Placed.Order.{placed, in_turn}
 use Rattle.aadl_grammar.proofs.Placed.Names.{Fixed, identifier_fixed, chain_fixed, name_fixed}
 use Rattle.aadl_grammar.proofs.Placed.Values.{option_fixed, reference_fixed, properties_fixed}

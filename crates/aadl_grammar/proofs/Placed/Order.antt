@@ -1,8 +1,7 @@
 -- The places that a tree keeps, in the order of its tokens.
-use Rattle.std.proofs.Common.{◌≡◌, ℕ, Bool, true, false, cond, ◌∙◌, sym, ap, ap₂, refl, List, [], ◌∷◌, ◌++◌}
+use Rattle.std.proofs.Common.{◌≡◌, ℕ, Bool, true, false, cond, ◌∙◌, sym, ap, ap₂, refl, List, [], ◌∷◌, ◌++◌, inl, inr}
 use Rattle.aadl_tree.specs.Terminals.{Kind, Spot}
 use Rattle.aadl_tree.specs.Parts.{Part, token, may, extra_kinds, AreAt, HaveKinds, Written}
-use Rattle.std.proofs.Common.{inl, inr}
 use Rattle.aadl_grammar.proofs.Placed.Shapes.{quiet, none_of, shape, AreQuiet, extra_quiet}
 
 -- the places before those that follow

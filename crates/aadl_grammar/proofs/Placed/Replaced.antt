@@ -1,6 +1,5 @@
 -- The same tree at other places: what is written of it where its terminals have moved.
-use Rattle.std.proofs.Common.{◌≡◌, ℕ, ◌∙◌, sym, ap, refl, subst, List, [], ◌∷◌, ◌++◌, map}
-use Rattle.std.proofs.Common.{inl, inr}
+use Rattle.std.proofs.Common.{◌≡◌, ℕ, ◌∙◌, sym, ap, refl, subst, List, [], ◌∷◌, ◌++◌, map, inl, inr}
 use Rattle.aadl_tree.specs.Terminals.{Spot, kinds_of}
 use Rattle.aadl_tree.specs.Parts.{Part, token, may, AreAt, Written, kept}
 use Rattle.aadl_tree.specs.Declarations.{PackageTree, package_parts}

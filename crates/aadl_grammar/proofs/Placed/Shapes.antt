@@ -2,7 +2,8 @@
 use Rattle.std.proofs.Common.{◌≡◌, Bool, true, false, cond, List, [], ◌∷◌, refl}
 use Rattle.aadl_tree.specs.declared.mark.Mark.TheVariants as k
 use Rattle.aadl_tree.specs.Terminals.{Kind, mark}
-use Rattle.aadl_tree.specs.Parts.{Part, token, may, feature_section, subcomponent_section, connection_section, property_section, Extra, empty_section, last_semicolon, extra_kinds}
+use Rattle.aadl_tree.specs.Parts.{Part, token, may, feature_section, subcomponent_section, connection_section}
+use Rattle.aadl_tree.specs.Parts.{property_section, Extra, empty_section, last_semicolon, extra_kinds}
 
 -- Terminals that stand in what a tree does not keep. None of them keeps a place.
 abbrev pub quiet : Kind → Bool

@@ -1,5 +1,6 @@
 -- Values and properties are fixed by what is left without places, and by their places.
-use Rattle.std.proofs.Common.{◌≡◌, ℕ, ◌∙◌, sym, ap, ap₂, Bool, true, false, List, [], ◌∷◌, ◌++◌, map, flat_map, Option, Some, None, option_map, refl}
+use Rattle.std.proofs.Common.{◌≡◌, ℕ, ◌∙◌, sym, ap, ap₂, Bool, true, false, List, [], ◌∷◌, ◌++◌, map, flat_map, Option}
+use Rattle.std.proofs.Common.{Some, None, option_map, refl}
 use Rattle.std.proofs.lemmas.Option.{same_Some}
 use Rattle.aadl_tree.specs.declared.mark.Mark.{Mark}
 use Rattle.aadl_tree.specs.declared.mark.Mark.TheVariants as k
@@ -8,7 +9,8 @@ use Rattle.aadl_tree.specs.Parts.{Part, plain, parts_if, behind, marked_if}
 use Rattle.aadl_tree.specs.Names as n
 use Rattle.aadl_tree.specs.Values as v
 use Rattle.aadl_grammar.proofs.Basics.{heads, tails}
-use Rattle.aadl_tree.specs.proof.Maps.{no_place, identifier_to, path_to, identifiers_to, reference_to, quantity_to, value_to, values_to, association_to, associations_to}
+use Rattle.aadl_tree.specs.proof.Maps.{no_place, identifier_to, path_to, identifiers_to, reference_to, quantity_to}
+use Rattle.aadl_tree.specs.proof.Maps.{value_to, values_to, association_to, associations_to}
 use Rattle.aadl_grammar.proofs.Placed.Order.{placed, in_turn}
 use Rattle.aadl_grammar.proofs.Placed.Names.{Fixed, identifier_fixed, chain_fixed, name_fixed}
 

@@ -4,7 +4,8 @@ use Rattle.aadl_tree.specs.declared.actions.Bound.{Bound}
 use Rattle.aadl_tree.specs.declared.mark.Mark.TheVariants as k
 use Rattle.aadl_tree.specs.Expressions as e
 use Rattle.aadl_tree.specs.Actions as a
-use Rattle.aadl_tree.specs.proof.Maps.{action_to, actions_to, block_to, elsifs_to, expression_to, mores_to, otherwise_to}
+use Rattle.aadl_tree.specs.proof.Maps.{action_to, actions_to, block_to, elsifs_to, expression_to, mores_to}
+use Rattle.aadl_tree.specs.proof.Maps.{otherwise_to}
 use Rattle.aadl_grammar.proofs.Places.Alike.{Alike, none, one, extra, both, marked}
 use Rattle.aadl_grammar.proofs.Places.Values.{reference_alike}
 use Rattle.aadl_grammar.proofs.Places.Expressions.{expression_alike}

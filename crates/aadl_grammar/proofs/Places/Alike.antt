@@ -1,5 +1,6 @@
 -- Parts that are the same except for the places that trees keep.
-use Rattle.std.proofs.Common.{◌≡◌, ◌∙◌, sym, ap, ap₂, cond, refl, List, [], ◌∷◌, ◌++◌, map, flat_map, Option, Some, None, option_map, inl, inr, Bool, true, false}
+use Rattle.std.proofs.Common.{◌≡◌, ◌∙◌, sym, ap, ap₂, cond, refl, List, [], ◌∷◌, ◌++◌, map, flat_map, Option, Some}
+use Rattle.std.proofs.Common.{None, option_map, inl, inr, Bool, true, false}
 use Rattle.aadl_tree.specs.declared.mark.Mark.{Mark}
 use Rattle.aadl_tree.specs.Terminals.{Kind}
 use Rattle.aadl_tree.specs.Parts.{Part, Extra, token, may, Spells, marked_if, parts_if, behind, kept}

@@ -3,7 +3,8 @@ use Rattle.std.proofs.Common.{refl, map}
 use Rattle.aadl_tree.specs.declared.mark.Mark.TheVariants as k
 use Rattle.aadl_tree.specs.Actions as a
 use Rattle.aadl_tree.specs.Annexes as x
-use Rattle.aadl_tree.specs.proof.Maps.{annex_to, annex_tree_to, block_to, content_to, guard_to, identifier_to, state_to, transition_to, variable_to}
+use Rattle.aadl_tree.specs.proof.Maps.{annex_to, annex_tree_to, block_to, content_to, guard_to, identifier_to, state_to}
+use Rattle.aadl_tree.specs.proof.Maps.{transition_to, variable_to}
 use Rattle.aadl_grammar.proofs.Places.Alike.{Alike, none, one, both, each, perhaps, marked}
 use Rattle.aadl_grammar.proofs.Places.Values.{identifiers_alike, reference_alike, properties_alike}
 use Rattle.aadl_grammar.proofs.Places.Expressions.{expression_alike}

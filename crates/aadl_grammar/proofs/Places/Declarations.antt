@@ -1,13 +1,17 @@
 -- Trees with other places are spelled alike.
 use Rattle.std.proofs.Common.{refl, List}
 use Rattle.aadl_tree.specs.declared.mark.Mark.TheVariants as k
-use Rattle.aadl_tree.specs.Parts.{Part, Section, feature_section, subcomponent_section, connection_section, property_section}
+use Rattle.aadl_tree.specs.Parts.{Part, Section, feature_section, subcomponent_section, connection_section}
+use Rattle.aadl_tree.specs.Parts.{property_section}
 use Rattle.aadl_tree.specs.Names as n
 use Rattle.aadl_tree.specs.Annexes as x
 use Rattle.aadl_tree.specs.Declarations as d
-use Rattle.aadl_tree.specs.proof.Maps.{annex_to, connection_to, declaration_to, end_to, feature_to, implementation_name_to, implementation_to, name_to, package_to, reference_to, subcomponent_to, type_to, with_to}
+use Rattle.aadl_tree.specs.proof.Maps.{annex_to, connection_to, declaration_to, end_to, feature_to}
+use Rattle.aadl_tree.specs.proof.Maps.{implementation_name_to, implementation_to, name_to, package_to, reference_to}
+use Rattle.aadl_tree.specs.proof.Maps.{subcomponent_to, type_to, with_to}
 use Rattle.aadl_grammar.proofs.Places.Alike.{Alike, none, one, extra, both, each, chain, perhaps}
-use Rattle.aadl_grammar.proofs.Places.Values.{identifier_alike, name_alike, reference_alike, associations_alike, properties_alike, dotted_alike}
+use Rattle.aadl_grammar.proofs.Places.Values.{identifier_alike, name_alike, reference_alike, associations_alike}
+use Rattle.aadl_grammar.proofs.Places.Values.{properties_alike, dotted_alike}
 use Rattle.aadl_grammar.proofs.Places.Annexes.{annex_alike}
 
 section_alike : {P Q : Type 0} {f : P → Q} {xs : List (Part P)} {ys : List (Part Q)} (section : Section) → Alike f xs ys

@@ -4,7 +4,8 @@ use Rattle.aadl_tree.specs.declared.expressions.LogicOperator.{LogicOperator}
 use Rattle.aadl_tree.specs.declared.expressions.LogicOperator.TheVariants as logic
 use Rattle.aadl_tree.specs.Parts.{parts_if}
 use Rattle.aadl_tree.specs.Expressions as e
-use Rattle.aadl_tree.specs.proof.Maps.{expression_to, factor_to, factors_to, leading_to, primary_to, relation_to, relations_to, sum_to, term_to, terms_to}
+use Rattle.aadl_tree.specs.proof.Maps.{expression_to, factor_to, factors_to, leading_to, primary_to, relation_to}
+use Rattle.aadl_tree.specs.proof.Maps.{relations_to, sum_to, term_to, terms_to}
 use Rattle.aadl_grammar.proofs.Places.Alike.{Alike, none, one, both}
 
 leading_alike : {P Q : Type 0} (f : P → Q) (t : Option (e.LeadingSign P))

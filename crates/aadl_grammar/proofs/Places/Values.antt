@@ -5,7 +5,8 @@ use Rattle.aadl_tree.specs.declared.mark.Mark.TheVariants as k
 use Rattle.aadl_tree.specs.Parts.{parts_if, behind}
 use Rattle.aadl_tree.specs.Names as n
 use Rattle.aadl_tree.specs.Values as v
-use Rattle.aadl_tree.specs.proof.Maps.{association_to, associations_to, identifier_to, identifiers_to, name_to, path_to, quantity_to, reference_to, value_to, values_to}
+use Rattle.aadl_tree.specs.proof.Maps.{association_to, associations_to, identifier_to, identifiers_to, name_to, path_to}
+use Rattle.aadl_tree.specs.proof.Maps.{quantity_to, reference_to, value_to, values_to}
 use Rattle.aadl_grammar.proofs.Places.Alike.{Alike, none, one, both, each, chain, perhaps, marked}
 
 pub identifier_alike : {P Q : Type 0} (f : P → Q) (t : n.Identifier P)

@@ -1,14 +1,17 @@
 -- What the bytes of a token are.
-use Rattle.std.specs.Prelude.{ℕ, ℤ, ◌≡◌, ◌≢◌, ◌<◌, ◌≤◌, IsTrue, List, [], ◌∷◌, ◌++◌, length, slice_index, map, pos, codes, Some, None}
+use Rattle.std.specs.Prelude.{ℕ, ℤ, ◌≡◌, ◌≢◌, ◌<◌, ◌≤◌, IsTrue, List, [], ◌∷◌, ◌++◌, length, slice_index, map, pos}
+use Rattle.std.specs.Prelude.{codes, Some, None}
 use Rattle.std.specs.List.{list_all, list_any}
 use Rattle.std.specs.Char.{is_ascii_digit}
 use Rattle.std.specs.Str.{bytes_eq}
 use Rattle.aadl_lex.specs.declared.token.Token.{Token}
 use Rattle.aadl_lex.specs.declared.token.TokenKind.{TokenKind}
-use Rattle.aadl_lex.specs.declared.token.TokenKind.TheVariants.{Word, Whole, Real, Quoted, Symbol, AnnexOpen, AnnexClose, Unread}
+use Rattle.aadl_lex.specs.declared.token.TokenKind.TheVariants.{Word, Whole, Real, Quoted, Symbol, AnnexOpen}
+use Rattle.aadl_lex.specs.declared.token.TokenKind.TheVariants.{AnnexClose, Unread}
 use Rattle.aadl_lex.specs.declared.rules.Reading.{Reading}
 use Rattle.aadl_lex.specs.declared.rules.Reading.TheVariants.{Outside, AfterName, Inside}
-use Rattle.aadl_lex.specs.Rules.{is_word, is_in_string, whole_len, decimal, most, body_len, symbols_of_three, symbols_of_two, symbols_of_one, after}
+use Rattle.aadl_lex.specs.Rules.{is_word, is_in_string, whole_len, decimal, most, body_len, symbols_of_three}
+use Rattle.aadl_lex.specs.Rules.{symbols_of_two, symbols_of_one, after}
 use Rattle.aadl_lex.specs.Tokens.{bytes_of, AreTokensOf}
 
 -- digits, with a `_` only before a digit, that say this number

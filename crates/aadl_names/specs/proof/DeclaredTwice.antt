@@ -1,6 +1,7 @@
 -- Enough of what is declared twice among the ports of a type and what stands beside them, so that the first of it is among
 -- it: what is asked of the ports alone is the same for all implementations of a type.
-use Rattle.std.specs.Prelude.{◌||◌, nat_lt, ℕ, List, [], ◌∷◌, ◌++◌, flat_map, Option, Some, None, slice_get, if◌then◌else◌}
+use Rattle.std.specs.Prelude.{◌||◌, nat_lt, ℕ, List, [], ◌∷◌, ◌++◌, flat_map, Option, Some, None, slice_get}
+use Rattle.std.specs.Prelude.{if◌then◌else◌}
 use Rattle.std.specs.List.{filter_map}
 use Rattle.aadl_tree.specs.Annexes.{AnnexTree}
 use Rattle.aadl_tree.specs.Declarations.{Implementation, Declaration, type, implementation, PackageTree}
@@ -13,7 +14,8 @@ use Rattle.aadl_names.specs.Twice.{twice}
 use Rattle.aadl_names.specs.proof.Earliest.{earliest, is_before}
 use Rattle.aadl_names.specs.Resolving.{is_thread, ports_of}
 use Rattle.aadl_names.specs.Behaviours.{behaviours, first_behaviour}
-use Rattle.aadl_names.specs.Spaces.{port_entries, variable_entries, state_entries, member_entries, type_entry, implementation_entry}
+use Rattle.aadl_names.specs.Spaces.{port_entries, variable_entries, state_entries, member_entries, type_entry}
+use Rattle.aadl_names.specs.Spaces.{implementation_entry}
 
 abbrev pub entry_again : Option SpelledName → List PackageFault
 entry_again None = []

@@ -1,13 +1,16 @@
 -- Declarations without their category, and the parts of a package.
 use Rattle.std.specs.Prelude.{ℕ, List, ◌∷◌, ◌++◌, flat_map, map}
-use Rattle.aadl_tree.specs.Parts.{Part, plain, feature_section, subcomponent_section, connection_section, property_section}
+use Rattle.aadl_tree.specs.Parts.{Part, plain, feature_section, subcomponent_section, connection_section}
+use Rattle.aadl_tree.specs.Parts.{property_section}
 use Rattle.aadl_tree.specs.Names.{identifier_parts}
 use Rattle.aadl_tree.specs.Values.{associations_parts}
 use Rattle.aadl_tree.specs.Annexes.{annex_parts}
-use Rattle.aadl_tree.specs.Declarations.{PackageTree, section_parts, feature_parts, subcomponent_parts, connection_parts, implementation_name_parts, ending_parts}
+use Rattle.aadl_tree.specs.Declarations.{PackageTree, section_parts, feature_parts, subcomponent_parts}
+use Rattle.aadl_tree.specs.Declarations.{connection_parts, implementation_name_parts, ending_parts}
 use Rattle.aadl_tree.specs.proof.NameViews.{identifier_view, name_view}
 use Rattle.aadl_tree.specs.proof.ValueViews.{associations_view}
-use Rattle.aadl_tree.specs.proof.Views.{feature_view, subcomponent_view, connection_view, annex_view, implementation_name_view, with_view, declaration_view}
+use Rattle.aadl_tree.specs.proof.Views.{feature_view, subcomponent_view, connection_view, annex_view}
+use Rattle.aadl_tree.specs.proof.Views.{implementation_name_view, with_view, declaration_view}
 use Rattle.aadl_tree.specs.proof.Maps.{kept_place}
 use Rattle.aadl_parse.specs.declared.declarations.TypeRest.{TypeRest}
 use Rattle.aadl_parse.specs.declared.declarations.ImplementationRest.{ImplementationRest}

@@ -1,5 +1,6 @@
 -- Actions.
-use Rattle.std.proofs.Common.{◌≡◌, ℕ, ◌∙◌, ap, ap₂, sym, subst, refl, List, [], ◌∷◌, map, Option, Some, None, Box, Global}
+use Rattle.std.proofs.Common.{◌≡◌, ℕ, ◌∙◌, ap, ap₂, sym, subst, refl, List, [], ◌∷◌, map, Option, Some, None, Box}
+use Rattle.std.proofs.Common.{Global}
 use Rattle.aadl_tree.specs.declared.actions.Action.{Action}
 use Rattle.aadl_tree.specs.declared.actions.Actions.{Actions}
 use Rattle.aadl_tree.specs.declared.actions.Block.{Block}
@@ -7,14 +8,20 @@ use Rattle.aadl_tree.specs.declared.actions.Choice.{Choice}
 use Rattle.aadl_tree.specs.declared.actions.Elsif.{Elsif}
 use Rattle.aadl_tree.specs.declared.actions.Loop.{Loop}
 use Rattle.aadl_tree.specs.declared.actions.Action.TheOpen.{Action-F, Actions-F, Block-F, Choice-F, Elsif-F, Loop-F}
-use Rattle.aadl_tree.specs.declared.actions.Action.TheViews.{roll-Action, roll-Actions, roll-Block, roll-Choice, roll-Elsif, roll-Loop}
-use Rattle.aadl_tree.specs.declared.actions.Action.TheFolds.{ind-Block, map-Action, map-Actions, map-Block, map-Choice, map-Elsif, map-Loop, fold-roll-Action, fold-roll-Actions, fold-roll-Block, fold-roll-Choice, fold-roll-Elsif, fold-roll-Loop}
+use Rattle.aadl_tree.specs.declared.actions.Action.TheViews.{roll-Action, roll-Actions, roll-Block, roll-Choice}
+use Rattle.aadl_tree.specs.declared.actions.Action.TheViews.{roll-Elsif, roll-Loop}
+use Rattle.aadl_tree.specs.declared.actions.Action.TheFolds.{ind-Block, map-Action, map-Actions, map-Block, map-Choice}
+use Rattle.aadl_tree.specs.declared.actions.Action.TheFolds.{map-Elsif, map-Loop, fold-roll-Action, fold-roll-Actions}
+use Rattle.aadl_tree.specs.declared.actions.Action.TheFolds.{fold-roll-Block, fold-roll-Choice, fold-roll-Elsif}
+use Rattle.aadl_tree.specs.declared.actions.Action.TheFolds.{fold-roll-Loop}
 use Rattle.aadl_tree.specs.Expressions as e
 use Rattle.aadl_tree.specs.Actions as a
 use Rattle.aadl_tree.specs.proof.Maps.{expression_to, action_to, actions_to, mores_to, elsifs_to, block_to}
 use Rattle.aadl_tree.specs.proof.NameViews.{identifier_view}
 use Rattle.aadl_tree.specs.proof.ExpressionViews.{expression_view}
-use Rattle.aadl_tree.specs.proof.ActionViews.{mores_of, elsifs_of, action_step, actions_step, block_step, choice_step, elsif_step, loop_step, action_view, actions_view, block_view, choice_view, elsif_view, loop_view}
+use Rattle.aadl_tree.specs.proof.ActionViews.{mores_of, elsifs_of, action_step, actions_step, block_step, choice_step}
+use Rattle.aadl_tree.specs.proof.ActionViews.{elsif_step, loop_step, action_view, actions_view, block_view, choice_view}
+use Rattle.aadl_tree.specs.proof.ActionViews.{elsif_view, loop_view}
 use Rattle.aadl_tree.proofs.Ties.Names.{reference_tied}
 use Rattle.aadl_tree.proofs.Ties.Expressions.{expression_tied}
 

@@ -13,11 +13,13 @@ use Rattle.aadl_tree.specs.Names as n
 use Rattle.aadl_tree.specs.Values as v
 use Rattle.aadl_tree.specs.Actions as a
 use Rattle.aadl_tree.specs.Annexes as x
-use Rattle.aadl_tree.specs.proof.Maps.{associations_to, block_to, variable_to, state_to, guard_to, transition_to, annex_tree_to, content_to, annex_to}
+use Rattle.aadl_tree.specs.proof.Maps.{associations_to, block_to, variable_to, state_to, guard_to, transition_to}
+use Rattle.aadl_tree.specs.proof.Maps.{annex_tree_to, content_to, annex_to}
 use Rattle.aadl_tree.specs.proof.NameViews.{identifier_view, identifiers_view, reference_view}
 use Rattle.aadl_tree.specs.proof.ValueViews.{associations_view}
 use Rattle.aadl_tree.specs.proof.ActionViews.{block_view}
-use Rattle.aadl_tree.specs.proof.Views.{variable_view, state_view, guard_view, transition_view, annex_tree_view, content_view, annex_view}
+use Rattle.aadl_tree.specs.proof.Views.{variable_view, state_view, guard_view, transition_view, annex_tree_view}
+use Rattle.aadl_tree.specs.proof.Views.{content_view, annex_view}
 use Rattle.aadl_tree.proofs.Ties.Names.{each_tied, perhaps_tied, identifier_perhaps, identifiers_tied, reference_tied}
 use Rattle.aadl_tree.proofs.Ties.Values.{associations_tied}
 use Rattle.aadl_tree.proofs.Ties.Expressions.{expression_tied}

@@ -14,10 +14,14 @@ use Rattle.aadl_tree.specs.Names as n
 use Rattle.aadl_tree.specs.Values as v
 use Rattle.aadl_tree.specs.Annexes as x
 use Rattle.aadl_tree.specs.Declarations as d
-use Rattle.aadl_tree.specs.proof.Maps.{name_to, reference_to, associations_to, annex_to, feature_to, subcomponent_to, end_to, connection_to, type_to, implementation_to, declaration_to, with_to, package_to}
+use Rattle.aadl_tree.specs.proof.Maps.{name_to, reference_to, associations_to, annex_to, feature_to, subcomponent_to}
+use Rattle.aadl_tree.specs.proof.Maps.{end_to, connection_to, type_to, implementation_to, declaration_to, with_to}
+use Rattle.aadl_tree.specs.proof.Maps.{package_to}
 use Rattle.aadl_tree.specs.proof.NameViews.{identifier_view, name_view, reference_view}
 use Rattle.aadl_tree.specs.proof.ValueViews.{associations_view}
-use Rattle.aadl_tree.specs.proof.Views.{annex_view, with_view, feature_view, subcomponent_view, end_view, connection_view, type_view, implementation_name_view, implementation_view, declaration_view}
+use Rattle.aadl_tree.specs.proof.Views.{annex_view, with_view, feature_view, subcomponent_view, end_view}
+use Rattle.aadl_tree.specs.proof.Views.{connection_view, type_view, implementation_name_view, implementation_view}
+use Rattle.aadl_tree.specs.proof.Views.{declaration_view}
 use Rattle.aadl_tree.specs.proof.PackageViews.{package_view}
 use Rattle.aadl_tree.proofs.Ties.Names.{each_tied, perhaps_tied, identifier_perhaps, name_tied, reference_tied}
 use Rattle.aadl_tree.proofs.Ties.Values.{associations_tied}

@@ -1,5 +1,6 @@
 -- Expressions.
-use Rattle.std.proofs.Common.{◌≡◌, ℕ, ◌∙◌, ap, ap₂, sym, subst, refl, List, [], ◌∷◌, map, Option, Some, None, option_map, Box, Global}
+use Rattle.std.proofs.Common.{◌≡◌, ℕ, ◌∙◌, ap, ap₂, sym, subst, refl, List, [], ◌∷◌, map, Option, Some, None}
+use Rattle.std.proofs.Common.{option_map, Box, Global}
 use Rattle.aadl_tree.specs.declared.expressions.Sign.{Sign}
 use Rattle.aadl_tree.specs.declared.expressions.LogicOperator.{LogicOperator}
 use Rattle.aadl_tree.specs.declared.expressions.RelationOperator.{RelationOperator}
@@ -10,12 +11,22 @@ use Rattle.aadl_tree.specs.declared.expressions.Expression.{Expression}
 use Rattle.aadl_tree.specs.declared.expressions.Relation.{Relation}
 use Rattle.aadl_tree.specs.declared.expressions.Sum.{Sum}
 use Rattle.aadl_tree.specs.declared.expressions.Term.{Term}
-use Rattle.aadl_tree.specs.declared.expressions.Factor.TheOpen.{Factor-F, Primary-F, Expression-F, Relation-F, Sum-F, Term-F}
-use Rattle.aadl_tree.specs.declared.expressions.Factor.TheViews.{roll-Factor, roll-Primary, roll-Expression, roll-Relation, roll-Sum, roll-Term}
-use Rattle.aadl_tree.specs.declared.expressions.Factor.TheFolds.{ind-Expression, map-Factor, map-Primary, map-Expression, map-Relation, map-Sum, map-Term, fold-roll-Factor, fold-roll-Primary, fold-roll-Expression, fold-roll-Relation, fold-roll-Sum, fold-roll-Term}
+use Rattle.aadl_tree.specs.declared.expressions.Factor.TheOpen.{Factor-F, Primary-F, Expression-F, Relation-F, Sum-F}
+use Rattle.aadl_tree.specs.declared.expressions.Factor.TheOpen.{Term-F}
+use Rattle.aadl_tree.specs.declared.expressions.Factor.TheViews.{roll-Factor, roll-Primary, roll-Expression}
+use Rattle.aadl_tree.specs.declared.expressions.Factor.TheViews.{roll-Relation, roll-Sum, roll-Term}
+use Rattle.aadl_tree.specs.declared.expressions.Factor.TheFolds.{ind-Expression, map-Factor, map-Primary}
+use Rattle.aadl_tree.specs.declared.expressions.Factor.TheFolds.{map-Expression, map-Relation, map-Sum, map-Term}
+use Rattle.aadl_tree.specs.declared.expressions.Factor.TheFolds.{fold-roll-Factor, fold-roll-Primary}
+use Rattle.aadl_tree.specs.declared.expressions.Factor.TheFolds.{fold-roll-Expression, fold-roll-Relation}
+use Rattle.aadl_tree.specs.declared.expressions.Factor.TheFolds.{fold-roll-Sum, fold-roll-Term}
 use Rattle.aadl_tree.specs.Expressions as e
-use Rattle.aadl_tree.specs.proof.Maps.{leading_to, primary_to, factor_to, term_to, factors_to, sum_to, terms_to, relation_to, expression_to, relations_to}
-use Rattle.aadl_tree.specs.proof.ExpressionViews.{leading_view, factors_of, terms_of, relations_of, primary_step, factor_step, term_step, sum_step, relation_step, expression_step, primary_view, factor_view, term_view, sum_view, relation_view, expression_view}
+use Rattle.aadl_tree.specs.proof.Maps.{leading_to, primary_to, factor_to, term_to, factors_to, sum_to, terms_to}
+use Rattle.aadl_tree.specs.proof.Maps.{relation_to, expression_to, relations_to}
+use Rattle.aadl_tree.specs.proof.ExpressionViews.{leading_view, factors_of, terms_of, relations_of, primary_step}
+use Rattle.aadl_tree.specs.proof.ExpressionViews.{factor_step, term_step, sum_step, relation_step, expression_step}
+use Rattle.aadl_tree.specs.proof.ExpressionViews.{primary_view, factor_view, term_view, sum_view, relation_view}
+use Rattle.aadl_tree.specs.proof.ExpressionViews.{expression_view}
 use Rattle.aadl_tree.proofs.Ties.Names.{perhaps_tied}
 
 abbrev FactorTied : {P Q : Type 0} → (P → Q) → (ℕ → P) → Factor → Type 0

@@ -3,15 +3,18 @@ use Rattle.std.proofs.Common.{◌≡◌, ℕ, ◌∙◌, ap, ap₂, sym, subst, 
 use Rattle.aadl_tree.specs.declared.values.Value.{Value}
 use Rattle.aadl_tree.specs.declared.values.Value.TheOpen.{Value-F, Association-F}
 use Rattle.aadl_tree.specs.declared.values.Value.TheViews.{roll-Value, roll-Association}
-use Rattle.aadl_tree.specs.declared.values.Value.TheFolds.{ind-Association, map-Value, map-Association, fold-roll-Value, fold-roll-Association}
+use Rattle.aadl_tree.specs.declared.values.Value.TheFolds.{ind-Association, map-Value, map-Association, fold-roll-Value}
+use Rattle.aadl_tree.specs.declared.values.Value.TheFolds.{fold-roll-Association}
 use Rattle.aadl_tree.specs.declared.values.Association.{Association}
 use Rattle.aadl_tree.specs.declared.values.Quantity as source_quantity
 use Rattle.aadl_tree.specs.Names as n
 use Rattle.aadl_tree.specs.Values as v
 use Rattle.aadl_tree.specs.proof.Maps.{path_to, quantity_to, value_to, values_to, association_to, associations_to}
 use Rattle.aadl_tree.specs.proof.NameViews.{name_view, path_view}
-use Rattle.aadl_tree.specs.proof.ValueViews.{number_view, quantity_view, values_of, associations_of, value_step, association_step, value_view, association_view, associations_view}
-use Rattle.aadl_tree.proofs.Ties.Names.{each_tied, perhaps_tied, identifier_perhaps, name_tied, path_tied, reference_tied}
+use Rattle.aadl_tree.specs.proof.ValueViews.{number_view, quantity_view, values_of, associations_of, value_step}
+use Rattle.aadl_tree.specs.proof.ValueViews.{association_step, value_view, association_view, associations_view}
+use Rattle.aadl_tree.proofs.Ties.Names.{each_tied, perhaps_tied, identifier_perhaps, name_tied, path_tied}
+use Rattle.aadl_tree.proofs.Ties.Names.{reference_tied}
 
 pub quantity_tied : {P Q : Type 0} (f : P → Q) (g : ℕ → P) (x : source_quantity.Quantity)
     → quantity_to f (quantity_view g x) ≡ quantity_view (λ n. f (g n)) x

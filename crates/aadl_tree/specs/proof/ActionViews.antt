@@ -1,7 +1,8 @@
 -- The plain trees that actions stand for.
 use Rattle.std.specs.Prelude.{ℕ, List, [], ◌∷◌, map, Option, Some, None, option_map}
 use Rattle.aadl_tree.specs.declared.actions.Action.TheOpen.{Action-F, Actions-F, Block-F, Choice-F, Elsif-F, Loop-F}
-use Rattle.aadl_tree.specs.Actions.{Action, assign, send, choose, loop, Actions, actions, Mores, no_mores, more, Elsifs, no_elsifs, elsif, Otherwise, no_otherwise, otherwise, Block, no_block, block}
+use Rattle.aadl_tree.specs.Actions.{Action, assign, send, choose, loop, Actions, actions, Mores, no_mores, more, Elsifs}
+use Rattle.aadl_tree.specs.Actions.{no_elsifs, elsif, Otherwise, no_otherwise, otherwise, Block, no_block, block}
 use Rattle.aadl_tree.specs.Expressions.{Expression}
 use Rattle.aadl_tree.specs.proof.NameViews.{identifier_view, reference_view}
 use Rattle.aadl_tree.specs.proof.ExpressionViews.{expression_view}

@@ -4,7 +4,8 @@ use Rattle.aadl_lex.specs.declared.token.Token.{Token}
 use Rattle.aadl_lex.specs.Tokens.{token}
 use Rattle.aadl_tree.specs.Terminals.{Kind, word, whole, mark}
 use Rattle.aadl_tree.specs.Names.{Identifier}
-use Rattle.aadl_tree.specs.Expressions.{Expression, Term, number, named, bare, term, no_factors, total, Terms, no_terms, add, single, expression, no_relations}
+use Rattle.aadl_tree.specs.Expressions.{Expression, Term, number, named, bare, term, no_factors, total, Terms, no_terms}
+use Rattle.aadl_tree.specs.Expressions.{add, single, expression, no_relations}
 use Rattle.aadl_tree.specs.Actions.{assign, send, actions, no_mores, more, block}
 use Rattle.aadl_tree.specs.Annexes.{Transition, dispatch}
 use Rattle.aadl_lex.specs.declared.token.TokenKind.TheVariants as class

@@ -5,8 +5,12 @@ use Rattle.aadl_tree.specs.declared.expressions.Sign.{Sign}
 use Rattle.aadl_tree.specs.declared.expressions.LogicOperator.{LogicOperator}
 use Rattle.aadl_tree.specs.declared.expressions.RelationOperator.{RelationOperator}
 use Rattle.aadl_tree.specs.declared.expressions.MultiplyOperator.{MultiplyOperator}
-use Rattle.aadl_tree.specs.declared.expressions.Factor.TheOpen.{Factor-F, Primary-F, Expression-F, Relation-F, Sum-F, Term-F}
-use Rattle.aadl_tree.specs.Expressions.{LeadingSign, Primary, number, truth, named, group, Factor, absolute, negated, bare, Term, term, Factors, no_factors, factor, Sum, total, Terms, no_terms, add, Relation, single, compared, Expression, expression, Relations, no_relations, join}
+use Rattle.aadl_tree.specs.declared.expressions.Factor.TheOpen.{Factor-F, Primary-F, Expression-F, Relation-F, Sum-F}
+use Rattle.aadl_tree.specs.declared.expressions.Factor.TheOpen.{Term-F}
+use Rattle.aadl_tree.specs.Expressions.{LeadingSign, Primary, number, truth, named, group, Factor, absolute, negated}
+use Rattle.aadl_tree.specs.Expressions.{bare, Term, term, Factors, no_factors, factor, Sum, total, Terms, no_terms, add}
+use Rattle.aadl_tree.specs.Expressions.{Relation, single, compared, Expression, expression, Relations, no_relations}
+use Rattle.aadl_tree.specs.Expressions.{join}
 use Rattle.aadl_tree.specs.proof.NameViews.{identifier_view}
 use Rattle.aadl_tree.specs.declared.expressions.LeadingSign as source_leading
 use Rattle.aadl_tree.specs.declared.expressions.Factor as source_factor

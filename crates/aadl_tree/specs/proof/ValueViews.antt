@@ -1,7 +1,9 @@
 -- The plain trees that properties and their values stand for.
 use Rattle.std.specs.Prelude.{ℕ, List, [], ◌∷◌, map, option_map}
 use Rattle.aadl_tree.specs.declared.values.Value.TheOpen.{Value-F, Association-F}
-use Rattle.aadl_tree.specs.Values.{UnsignedNumber, whole_figure, real_figure, Number, Quantity, Value, list, fields, text, reference, classifier, named, number, Values, no_values, value, Association, association, Associations, no_associations, associate}
+use Rattle.aadl_tree.specs.Values.{UnsignedNumber, whole_figure, real_figure, Number, Quantity, Value, list, fields}
+use Rattle.aadl_tree.specs.Values.{text, reference, classifier, named, number, Values, no_values, value, Association}
+use Rattle.aadl_tree.specs.Values.{association, Associations, no_associations, associate}
 use Rattle.aadl_tree.specs.proof.NameViews.{identifier_view, name_view, path_view, reference_view}
 use Rattle.aadl_tree.specs.declared.values.Value as source_value
 use Rattle.aadl_tree.specs.declared.values.Association as source_association

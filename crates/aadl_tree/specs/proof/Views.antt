@@ -1,7 +1,9 @@
 -- The plain trees that declarations stand for.
 use Rattle.std.specs.Prelude.{ℕ, map, option_map}
-use Rattle.aadl_tree.specs.Annexes.{VariableDeclaration, StateDeclaration, Guard, dispatch, otherwise, when, Transition, AnnexTree, AnnexContent, foreign, behaviour, Annex}
-use Rattle.aadl_tree.specs.Declarations.{With, Feature, Subcomponent, ConnectionEnd, Connection, TypeDeclaration, ImplementationName, Implementation, Declaration, type, implementation}
+use Rattle.aadl_tree.specs.Annexes.{VariableDeclaration, StateDeclaration, Guard, dispatch, otherwise, when, Transition}
+use Rattle.aadl_tree.specs.Annexes.{AnnexTree, AnnexContent, foreign, behaviour, Annex}
+use Rattle.aadl_tree.specs.Declarations.{With, Feature, Subcomponent, ConnectionEnd, Connection, TypeDeclaration}
+use Rattle.aadl_tree.specs.Declarations.{ImplementationName, Implementation, Declaration, type, implementation}
 use Rattle.aadl_tree.specs.proof.NameViews.{identifier_view, name_view, identifiers_view, reference_view}
 use Rattle.aadl_tree.specs.proof.ValueViews.{associations_view}
 use Rattle.aadl_tree.specs.proof.ExpressionViews.{expression_view}

@@ -1,6 +1,7 @@
 //! Whether two actions mean the same.
 ghost use Rattle.std.specs.Prelude.{◌≡◌, ◌↔◌, IsTrue, option_map};
-ghost use Rattle.aadl_tree.specs.proof.ActionViews.{action_view, actions_view, block_view, choice_view, loop_view, mores_view, elsifs_view};
+ghost use Rattle.aadl_tree.specs.proof.ActionViews.{action_view, actions_view, block_view, choice_view, loop_view};
+ghost use Rattle.aadl_tree.specs.proof.ActionViews.{mores_view, elsifs_view};
 ghost use Rattle.aadl_tree.specs.proof.Maps.{no_place};
 
 use super::expressions::same_expression;

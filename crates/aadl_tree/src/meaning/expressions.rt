@@ -1,6 +1,7 @@
 //! Whether two expressions mean the same.
 ghost use Rattle.std.specs.Prelude.{◌≡◌, ◌↔◌, IsTrue};
-ghost use Rattle.aadl_tree.specs.proof.ExpressionViews.{primary_view, factor_view, factors_view, term_view, terms_view, sum_view, relation_view, relations_view, expression_view};
+ghost use Rattle.aadl_tree.specs.proof.ExpressionViews.{primary_view, factor_view, factors_view, term_view, terms_view};
+ghost use Rattle.aadl_tree.specs.proof.ExpressionViews.{sum_view, relation_view, relations_view, expression_view};
 ghost use Rattle.aadl_tree.specs.proof.Maps.{no_place};
 
 use super::items::{Same, same_option};

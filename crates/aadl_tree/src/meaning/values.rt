@@ -4,7 +4,7 @@ ghost use Rattle.aadl_tree.specs.proof.ValueViews.{value_view, values_view, asso
 ghost use Rattle.aadl_tree.specs.proof.Maps.{no_place};
 
 use super::items::{Same, same_items, same_option};
-use crate::values::{Association, UnsignedNumber, Number, Quantity, Value};
+use crate::values::{Association, Number, Quantity, UnsignedNumber, Value};
 
 impl Same for UnsignedNumber {
     ghost use Rattle.aadl_tree.specs.Values.{UnsignedNumber};
@@ -17,7 +17,8 @@ impl Same for UnsignedNumber {
     fn same(&self, other: &UnsignedNumber) -> bool {
         match (self, other) {
             (UnsignedNumber::Whole(left), UnsignedNumber::Whole(right)) => *left == *right,
-            (UnsignedNumber::Real(left), UnsignedNumber::Real(right)) => left.as_slice() == right.as_slice(),
+            (UnsignedNumber::Real(left), UnsignedNumber::Real(right)) => left.as_slice()
+                == right.as_slice(),
             _ => false,
         }
     }

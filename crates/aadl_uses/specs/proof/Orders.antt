@@ -1,5 +1,6 @@
 -- Declarations in an order in which each stands behind those that it contains.
-use Rattle.std.specs.Prelude.{◌≡◌, ◌⊎◌, ℕ, ◌<◌, Bool, true, List, ◌++◌, length, Option, Some, None, nat_eq, slice_get, Contains}
+use Rattle.std.specs.Prelude.{◌≡◌, ◌⊎◌, ℕ, ◌<◌, Bool, true, List, ◌++◌, length, Option, Some, None, nat_eq, slice_get}
+use Rattle.std.specs.Prelude.{Contains}
 use Rattle.std.specs.List.{IsDistinct, list_any}
 use Rattle.aadl_uses.specs.proof.Graphs.{Graph, below_in}
 

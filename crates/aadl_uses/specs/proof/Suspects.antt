@@ -1,5 +1,6 @@
 -- Subcomponents that may lead back to where they stand, by levels of declarations.
-use Rattle.std.specs.Prelude.{◌≡◌, ℕ, ◌<◌, Bool, true, false, ◌||◌, nat_lt, nat_le, List, Option, Some, None, slice_index, Contains}
+use Rattle.std.specs.Prelude.{◌≡◌, ℕ, ◌<◌, Bool, true, false, ◌||◌, nat_lt, nat_le, List, Option, Some, None}
+use Rattle.std.specs.Prelude.{slice_index, Contains}
 use Rattle.aadl_uses.specs.proof.Graphs.{Graph, below_in}
 
 abbrev pub level_in : List ℕ → ℕ → ℕ

@@ -1,5 +1,6 @@
 -- Paths by their weights.
-use Rattle.std.specs.Prelude.{◌≡◌, ℕ, ◌≤◌, ◌+◌, max, min, Bool, true, false, List, [], ◌∷◌, Option, Some, None, slice_index_or}
+use Rattle.std.specs.Prelude.{◌≡◌, ℕ, ◌≤◌, ◌+◌, max, min, Bool, true, false, List, [], ◌∷◌, Option, Some, None}
+use Rattle.std.specs.Prelude.{slice_index_or}
 use Rattle.std.specs.Option.{option_map_or}
 use Rattle.aadl_uses.specs.proof.Graphs.{Graph, below_in}
 use Rattle.aadl_uses.specs.proof.Counts.{IsMarkedAt}

@@ -1,5 +1,6 @@
 -- Tables of what reaches what.
-use Rattle.std.specs.Prelude.{◌≡◌, ℕ, Bool, true, false, not, ◌&&◌, nat_eq, List, [], length, map, filter, Option, None, Some, slice_get, slice_set, slice_index_or}
+use Rattle.std.specs.Prelude.{◌≡◌, ℕ, Bool, true, false, not, ◌&&◌, nat_eq, List, [], length, map, filter, Option, None}
+use Rattle.std.specs.Prelude.{Some, slice_get, slice_set, slice_index_or}
 use Rattle.std.specs.Option.{unwrap_or}
 use Rattle.std.specs.List.{list_any}
 use Rattle.pals_base.specs.declared.behaviour.BehaviourParts.{BehaviourParts}

@@ -1,5 +1,6 @@
 -- What a queue of due messages holds.
-use Rattle.std.specs.Prelude.{◌≡◌, ℕ, nat_eq, nat_lt, nat_le, Bool, false, not, ◌&&◌, ◌||◌, List, ◌∷◌, ◌++◌, filter, AllPairs}
+use Rattle.std.specs.Prelude.{◌≡◌, ℕ, nat_eq, nat_lt, nat_le, Bool, false, not, ◌&&◌, ◌||◌, List, ◌∷◌, ◌++◌, filter}
+use Rattle.std.specs.Prelude.{AllPairs}
 use Rattle.std.specs.List.{before_first, after_first}
 use Rattle.link_buffers.specs.declared.queue.DueEntry.{DueEntry}
 

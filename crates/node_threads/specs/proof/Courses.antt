@@ -1,5 +1,6 @@
 -- What the nodes share under the lock: a bus with the clocks of its nodes, which are a run, and what is noted of each node.
-use Rattle.std.specs.Prelude.{◌≡◌, ◌⊎◌, ℕ, ◌<◌, ◌≤◌, Bool, true, false, List, [], length, map, Option, Some, None, slice_index_or}
+use Rattle.std.specs.Prelude.{◌≡◌, ◌⊎◌, ℕ, ◌<◌, ◌≤◌, Bool, true, false, List, [], length, map, Option, Some, None}
+use Rattle.std.specs.Prelude.{slice_index_or}
 use Rattle.pals_base.specs.declared.limits.TheConstants.{READING, ROUNDS}
 use Rattle.pals_base.specs.declared.values.NodeNo.{NodeNo}
 use Rattle.pals_clock.specs.Clock.{ClockState, unpicked}

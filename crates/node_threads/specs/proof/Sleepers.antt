@@ -1,5 +1,6 @@
 -- Who sleeps until the course of a run goes on, and who is to be woken once the lock is free.
-use Rattle.std.specs.Prelude.{◌≡◌, ◌⊎◌, ℕ, ◌<◌, ◌&&◌, Bool, true, false, List, length, replicate, Option, Some, None, slice_index_or, slice_set}
+use Rattle.std.specs.Prelude.{◌≡◌, ◌⊎◌, ℕ, ◌<◌, ◌&&◌, Bool, true, false, List, length, replicate, Option, Some, None}
+use Rattle.std.specs.Prelude.{slice_index_or, slice_set}
 use Rattle.pals_base.specs.declared.limits.TheConstants.{COMPONENTS}
 use Rattle.pals_runs.specs.declared.journal.Phase.TheVariants.{Waiting}
 use Rattle.bus_machine.specs.States.{Run, BusState, node_at}

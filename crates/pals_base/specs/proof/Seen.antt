@@ -1,11 +1,17 @@
 -- The plain trees that the source's trees stand for.
 use Rattle.std.specs.Prelude.{List, [], ◌∷◌}
-use Rattle.pals_base.specs.declared.behaviour.Expr.{Expr, Literal as source_literal, Variable as source_variable, Port as source_port, Fresh as source_fresh, Neg', Abs', Not', Chain', Row_of-Operand, end_of-Operand, more_of-Operand}
+use Rattle.pals_base.specs.declared.behaviour.Expr.{Expr, Literal as source_literal, Variable as source_variable}
+use Rattle.pals_base.specs.declared.behaviour.Expr.{Port as source_port, Fresh as source_fresh, Neg', Abs', Not'}
+use Rattle.pals_base.specs.declared.behaviour.Expr.{Chain', Row_of-Operand, end_of-Operand, more_of-Operand}
 use Rattle.pals_base.specs.declared.behaviour.Operand.{Operand}
-use Rattle.pals_base.specs.declared.behaviour.Act.{Act, Assign as source_assign, Emit as source_emit, If', For', Row_of-Act, end_of-Act, more_of-Act, Row_of-Branch, end_of-Branch, more_of-Branch}
+use Rattle.pals_base.specs.declared.behaviour.Act.{Act, Assign as source_assign, Emit as source_emit, If', For'}
+use Rattle.pals_base.specs.declared.behaviour.Act.{Row_of-Act, end_of-Act, more_of-Act, Row_of-Branch, end_of-Branch}
+use Rattle.pals_base.specs.declared.behaviour.Act.{more_of-Branch}
 use Rattle.pals_base.specs.declared.behaviour.Branch.{Branch}
 use Rattle.pals_base.specs.declared.behaviour.Guard.{Guard}
-use Rattle.pals_base.specs.Tree.{Expression, Literal, Variable, PortRead, Fresh, Neg, Abs, Not, Chain, Operands, NoMore, Then, Action, Assign, Emit, If, For, Actions, Nothing, Do, Branches, NoBranch, Where, Trigger, Dispatch, Always, When}
+use Rattle.pals_base.specs.Tree.{Expression, Literal, Variable, PortRead, Fresh, Neg, Abs, Not, Chain, Operands, NoMore}
+use Rattle.pals_base.specs.Tree.{Then, Action, Assign, Emit, If, For, Actions, Nothing, Do, Branches, NoBranch, Where}
+use Rattle.pals_base.specs.Tree.{Trigger, Dispatch, Always, When}
 use Rattle.pals_base.specs.declared.behaviour.Guard.TheVariants as guard
 
 abbrev mutual

@@ -14,7 +14,8 @@ use Rattle.pals_node.specs.declared.answers.FinishEnd.{FinishEnd}
 use Rattle.pals_node.specs.declared.answers.SendEnd.{SendEnd}
 use Rattle.pals_node.specs.declared.answers.Finished.{Finished}
 use Rattle.pals_node.specs.proof.Values.{JobValue}
-use Rattle.pals_node.specs.proof.Answers.{is_early, Starts, StartEnds, Steps, StepEnds, FinishesWith, NoneRuns, SendEnds}
+use Rattle.pals_node.specs.proof.Answers.{is_early, Starts, StartEnds, Steps, StepEnds, FinishesWith, NoneRuns}
+use Rattle.pals_node.specs.proof.Answers.{SendEnds}
 use Rattle.pals_bus.specs.declared.refusals.BusError.{BusError}
 use Rattle.pals_bus.specs.declared.refusals.MessageError.{MessageError}
 use Rattle.pals_bus.specs.Values.{BusValue, Happens}

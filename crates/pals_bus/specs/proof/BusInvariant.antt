@@ -1,5 +1,6 @@
 -- What a bus keeps.
-use Rattle.std.specs.Prelude.{◌≡◌, ℕ, ◌+◌, ◌<◌, ◌≤◌, false, List, [], length, map, sum_by, Option, Some, None, is_some, if◌then◌else◌, slice_get, slice_index_or, vec_capacity}
+use Rattle.std.specs.Prelude.{◌≡◌, ℕ, ◌+◌, ◌<◌, ◌≤◌, false, List, [], length, map, sum_by, Option, Some, None, is_some}
+use Rattle.std.specs.Prelude.{if◌then◌else◌, slice_get, slice_index_or, vec_capacity}
 use Rattle.std.specs.Arc.{arc_value}
 use Rattle.pals_base.specs.declared.limits.TheConstants.{ROUNDS}
 use Rattle.pals_model.specs.declared.design.Link.{Link}

@@ -3,8 +3,10 @@ use Rattle.std.specs.Prelude.{◌≡◌, ℕ, List}
 use Rattle.bundle_designs.specs.declared.refusal.Refusal.{Refusal}
 use Rattle.bundle_designs.specs.declared.refusal.Refusal.TheVariants.{Text, Design, Memory}
 use Rattle.pals_code.specs.declared.answer.Answer.{Answer}
-use Rattle.pals_code.specs.declared.answer.Answer.TheVariants.{Done, Usage, TextRefused, DesignRefused, CodeTooLong, ReadFault, TooLong}
-use Rattle.pals_code.specs.declared.status.TheConstants.{DONE, USAGE, TEXT_REFUSED, DESIGN_REFUSED, CODE_TOO_LONG, READ_FAULT, TOO_LONG}
+use Rattle.pals_code.specs.declared.answer.Answer.TheVariants.{Done, Usage, TextRefused, DesignRefused, CodeTooLong}
+use Rattle.pals_code.specs.declared.answer.Answer.TheVariants.{ReadFault, TooLong}
+use Rattle.pals_code.specs.declared.status.TheConstants.{DONE, USAGE, TEXT_REFUSED, DESIGN_REFUSED, CODE_TOO_LONG}
+use Rattle.pals_code.specs.declared.status.TheConstants.{READ_FAULT, TOO_LONG}
 use Rattle.pals_code.specs.Texts.{usage_line, read_fault_line, too_long_line}
 
 abbrev pub status_of : Answer → ℕ

@@ -8,7 +8,8 @@ use Rattle.pals_base.specs.declared.behaviour.PortDecl.{PortDecl}
 use Rattle.pals_base.specs.declared.behaviour.VarDecl.{VarDecl}
 use Rattle.pals_base.specs.declared.behaviour.StateDecl.{StateDecl}
 use Rattle.pals_base.specs.declared.behaviour.BehaviourParts.{BehaviourParts}
-use Rattle.pals_base.specs.Tree.{Literal, Variable, PortRead, Chain, NoMore, Then, Assign, Emit, Actions, Nothing, Do, Dispatch, Edge}
+use Rattle.pals_base.specs.Tree.{Literal, Variable, PortRead, Chain, NoMore, Then, Assign, Emit, Actions, Nothing, Do}
+use Rattle.pals_base.specs.Tree.{Dispatch, Edge}
 use Rattle.pals_model.specs.declared.design.Component.{Component}
 use Rattle.pals_model.specs.declared.design.Link.{Link}
 use Rattle.pals_model.specs.declared.design.DesignParts.{DesignParts}

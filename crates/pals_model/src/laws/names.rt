@@ -1,5 +1,6 @@
 //! Laws of the names of components, in ports and links.
-ghost use Rattle.pals_model.specs.proof.CompositionLaws.Names.{NodeIsFound, FoundNodeHasPath, TargetNamesDiffer, LinkIsFound, FoundLinkHasName};
+ghost use Rattle.pals_model.specs.proof.CompositionLaws.Names.{NodeIsFound, FoundNodeHasPath, TargetNamesDiffer};
+ghost use Rattle.pals_model.specs.proof.CompositionLaws.Names.{LinkIsFound, FoundLinkHasName};
 
 /// Each component of a design is found by its path, and what a path finds has that path.
 pub fn components_have_paths()

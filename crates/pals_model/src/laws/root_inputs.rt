@@ -1,5 +1,6 @@
 //! Laws of the root in ports.
-ghost use Rattle.pals_model.specs.proof.CompositionLaws.RootInputs.{RootInputsDiffer, RootInputsAreFeeds, RootInputsInOrder, FeedHasRoot, FeedsHaveRootKind};
+ghost use Rattle.pals_model.specs.proof.CompositionLaws.RootInputs.{RootInputsDiffer, RootInputsAreFeeds};
+ghost use Rattle.pals_model.specs.proof.CompositionLaws.RootInputs.{RootInputsInOrder, FeedHasRoot, FeedsHaveRootKind};
 
 /// The root in ports are the names of the feeds, each once, in the order of their first feeds.
 pub fn root_inputs_are_feeds()

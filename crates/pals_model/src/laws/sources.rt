@@ -1,5 +1,7 @@
 //! Laws of what in ports read.
-ghost use Rattle.pals_model.specs.proof.CompositionLaws.Sources.{LinkIsSource, FeedIsSource, NothingIsSource, LinkBringsMessage, FeedBringsValue, NothingBringsAbsent};
+ghost use Rattle.pals_model.specs.proof.CompositionLaws.Sources.{LinkIsSource, FeedIsSource, NothingIsSource};
+ghost use Rattle.pals_model.specs.proof.CompositionLaws.Sources.{LinkBringsMessage, FeedBringsValue};
+ghost use Rattle.pals_model.specs.proof.CompositionLaws.Sources.{NothingBringsAbsent};
 
 /// In a design the in port of a link reads from that link, and the in port of a feed from that feed
 /// and its root in port. An in port that none goes to reads from nothing.

@@ -1,5 +1,6 @@
 -- What plans and nodes keep.
-use Rattle.std.specs.Prelude.{◌≡◌, ℕ, ◌<◌, ◌≤◌, Bool, true, false, List, length, All, Option, Some, None, vec_len, vec_capacity}
+use Rattle.std.specs.Prelude.{◌≡◌, ℕ, ◌<◌, ◌≤◌, Bool, true, false, List, length, All, Option, Some, None, vec_len}
+use Rattle.std.specs.Prelude.{vec_capacity}
 use Rattle.std.specs.Arc.{arc_value}
 use Rattle.pals_base.specs.declared.limits.TheConstants.{HOUR, RATE, ROUNDS, PORTS}
 use Rattle.pals_base.specs.declared.values.PortValue.{PortValue}

@@ -2,8 +2,12 @@
 use Rattle.std.specs.Prelude.{◌≡◌, ℕ, List, ◌⊎◌}
 use Rattle.pals_io.specs.Stream.{SinkView, after_taking, TakesPart}
 use Rattle.pals_top.specs.declared.answer.Answer.{Answer}
-use Rattle.pals_top.specs.declared.answer.Answer.TheVariants.{Done, NotSo, Usage, TextRefused, DesignRefused, ScenarioRefused, Stopped, ClockEnded, CodeTooLong, ReadFault, TooLong}
-use Rattle.pals_top.specs.declared.status.TheConstants.{DONE, NOT_SO, USAGE, TEXT_REFUSED, DESIGN_REFUSED, SCENARIO_REFUSED, STOPPED, CLOCK_ENDED, CODE_TOO_LONG, READ_FAULT, WRITE_FAULT, TOO_LONG}
+use Rattle.pals_top.specs.declared.answer.Answer.TheVariants.{Done, NotSo, Usage, TextRefused, DesignRefused}
+use Rattle.pals_top.specs.declared.answer.Answer.TheVariants.{ScenarioRefused, Stopped, ClockEnded, CodeTooLong}
+use Rattle.pals_top.specs.declared.answer.Answer.TheVariants.{ReadFault, TooLong}
+use Rattle.pals_top.specs.declared.status.TheConstants.{DONE, NOT_SO, USAGE, TEXT_REFUSED, DESIGN_REFUSED}
+use Rattle.pals_top.specs.declared.status.TheConstants.{SCENARIO_REFUSED, STOPPED, CLOCK_ENDED, CODE_TOO_LONG}
+use Rattle.pals_top.specs.declared.status.TheConstants.{READ_FAULT, WRITE_FAULT, TOO_LONG}
 use Rattle.pals_top.specs.AnswerTexts.{usage_line, read_fault_line, too_long_line}
 
 abbrev pub status_of : Answer → ℕ

@@ -1,5 +1,6 @@
 -- What the two components of a pair read and leave in a round.
-use Rattle.std.specs.Prelude.{◌≡◌, ℕ, zero, suc, ◌-◌, nat_eq, if◌then◌else◌, List, [], length, map, Option, Some, None, slice_get, slice_index_or}
+use Rattle.std.specs.Prelude.{◌≡◌, ℕ, zero, suc, ◌-◌, nat_eq, if◌then◌else◌, List, [], length, map, Option, Some, None}
+use Rattle.std.specs.Prelude.{slice_get, slice_index_or}
 use Rattle.pals_base.specs.declared.values.PortValue.{PortValue}
 use Rattle.pals_base.specs.declared.values.PortValue.TheVariants.{Absent}
 use Rattle.pals_base.specs.declared.values.Frame.{Frame}
@@ -11,7 +12,8 @@ use Rattle.pals_model.specs.declared.sources.PortSource.{PortSource}
 use Rattle.pals_model.specs.declared.rounds.Part.{Part}
 use Rattle.sync_product.specs.declared.reads.RoundInputs.{RoundInputs}
 use Rattle.sync_product.specs.declared.stage.Stage.{Stage}
-use Rattle.sync_product.specs.proof.Sizes.{frame_size, frame_size_of, part_size, part_size_of, stage_size, stage_size_of}
+use Rattle.sync_product.specs.proof.Sizes.{frame_size, frame_size_of, part_size, part_size_of, stage_size}
+use Rattle.sync_product.specs.proof.Sizes.{stage_size_of}
 use Rattle.sync_product.specs.proof.Rounds.{brought}
 use Rattle.plant_fuse.specs.declared.sides.PairedComponent.{PairedComponent}
 use Rattle.pals_model.specs.declared.sources.PortSource.TheVariants as source

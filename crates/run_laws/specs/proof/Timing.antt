@@ -1,5 +1,6 @@
 -- When the messages of a link become due, and where they are.
-use Rattle.std.specs.Prelude.{◌≡◌, ℕ, ◌+◌, ◌-◌, ◌<◌, ◌≤◌, nat_eq, Bool, true, false, if◌then◌else◌, List, [], ◌∷◌, length, All, Option, Some, None, is_some, slice_get}
+use Rattle.std.specs.Prelude.{◌≡◌, ℕ, ◌+◌, ◌-◌, ◌<◌, ◌≤◌, nat_eq, Bool, true, false, if◌then◌else◌, List, [], ◌∷◌}
+use Rattle.std.specs.Prelude.{length, All, Option, Some, None, is_some, slice_get}
 use Rattle.std.specs.Option.{option_map}
 use Rattle.pals_base.specs.declared.values.PortValue.{PortValue}
 use Rattle.pals_model.specs.declared.design.Link.{Link}

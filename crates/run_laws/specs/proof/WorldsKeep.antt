@@ -1,6 +1,7 @@
 -- What a world keeps while its events are within the bounds: where its clocks, nodes and messages stand against its time. All
 -- times and readings are nanoseconds.
-use Rattle.std.specs.Prelude.{◌≡◌, ℕ, suc, ◌+◌, ◌-◌, ◌*◌, ◌<◌, ◌≤◌, max, nat_eq, nat_lt, ◌&&◌, Bool, true, false, cond, List, length, Option, Some, None, is_some, slice_index_or}
+use Rattle.std.specs.Prelude.{◌≡◌, ℕ, suc, ◌+◌, ◌-◌, ◌*◌, ◌<◌, ◌≤◌, max, nat_eq, nat_lt, ◌&&◌, Bool, true, false, cond}
+use Rattle.std.specs.Prelude.{List, length, Option, Some, None, is_some, slice_index_or}
 use Rattle.std.specs.List.{count_by}
 use Rattle.pals_base.specs.declared.values.Gamma.{Gamma}
 use Rattle.pals_base.specs.declared.values.PortValue.{PortValue}

@@ -1,5 +1,6 @@
 -- What contracts see of the monitors of several formulas.
-use Rattle.std.specs.Prelude.{◌≡◌, ℕ, ◌+◌, ◌<◌, Bool, List, [], ◌∷◌, ◌++◌, length, map, All, Option, slice_index_or, refl}
+use Rattle.std.specs.Prelude.{◌≡◌, ℕ, ◌+◌, ◌<◌, Bool, List, [], ◌∷◌, ◌++◌, length, map, All, Option, slice_index_or}
+use Rattle.std.specs.Prelude.{refl}
 use Rattle.std.specs.Coded.{Coded, code_by, coded×, coded_list, coded_option}
 use Rattle.pals_base.specs.declared.values.Frame.{Frame}
 use Rattle.pals_model.specs.declared.design.DesignParts.{DesignParts}

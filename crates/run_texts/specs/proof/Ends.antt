@@ -1,5 +1,6 @@
 -- What private functions answer of how the nodes of a run ended. The theorem cites none of it.
-use Rattle.std.specs.Prelude.{◌≡◌, ◌≢◌, ◌⊎◌, ℕ, ◌<◌, Bool, if◌then◌else◌, List, [], ◌++◌, length, map, Option, Some, None, slice_get}
+use Rattle.std.specs.Prelude.{◌≡◌, ◌≢◌, ◌⊎◌, ℕ, ◌<◌, Bool, if◌then◌else◌, List, [], ◌++◌, length, map, Option, Some}
+use Rattle.std.specs.Prelude.{None, slice_get}
 use Rattle.pals_base.specs.declared.values.NodeNo.{NodeNo}
 use Rattle.pals_model.specs.RoundTexts.{line_end, text_of}
 use Rattle.pals_report.specs.Runs.{clock_end_line}

@@ -1,7 +1,8 @@
 -- Worked codes.
 use Rattle.std.specs.Prelude.{pos, [], ◌∷◌, Some, None}
 use Rattle.pals_base.specs.declared.values.Frame.{Frame}
-use Rattle.step_code.specs.declared.instr.Instr.TheVariants.{Push, Load, Store, Port, Add, Sub, Lt, Gt, Jump, JumpZero, LoopStart, LoopNext, Emit, End}
+use Rattle.step_code.specs.declared.instr.Instr.TheVariants.{Push, Load, Store, Port, Add, Sub, Lt, Gt, Jump, JumpZero}
+use Rattle.step_code.specs.declared.instr.Instr.TheVariants.{LoopStart, LoopNext, Emit, End}
 use Rattle.step_code.specs.declared.instr.CodeParts.{CodeParts}
 
 -- adds an input and 1 to a variable, and gives it

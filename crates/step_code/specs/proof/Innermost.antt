@@ -1,5 +1,6 @@
 -- For each place the loop with the highest start in whose body it lies.
-use Rattle.std.specs.Prelude.{◌≡◌, ℕ, ◌<◌, nat_lt, Bool, false, not, List, [], ◌∷◌, length, filter, Option, Some, None, slice_get}
+use Rattle.std.specs.Prelude.{◌≡◌, ℕ, ◌<◌, nat_lt, Bool, false, not, List, [], ◌∷◌, length, filter, Option, Some, None}
+use Rattle.std.specs.Prelude.{slice_get}
 use Rattle.step_code.specs.declared.instr.Instr.{Instr}
 use Rattle.step_code.specs.declared.loops.LoopSpan.{LoopSpan}
 use Rattle.step_code.specs.Loops.{loops_below, around}

@@ -1,5 +1,6 @@
 -- The two counters over three rounds, the first of them three times, with one replica at fault, and with two.
-use Rattle.std.specs.Prelude.{◌≡◌, ℕ, zero, suc, ℤ, pos, true, false, List, [], ◌∷◌, ◌++◌, codes, map, flat_map, slice_index_or}
+use Rattle.std.specs.Prelude.{◌≡◌, ℕ, zero, suc, ℤ, pos, true, false, List, [], ◌∷◌, ◌++◌, codes, map, flat_map}
+use Rattle.std.specs.Prelude.{slice_index_or}
 use Rattle.pals_base.specs.declared.values.PortValue.TheVariants.{Present}
 use Rattle.pals_base.specs.declared.values.Frame.{Frame}
 use Rattle.pals_base.specs.Steps.{upwards}

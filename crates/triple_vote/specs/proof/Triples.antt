@@ -1,5 +1,6 @@
 -- What stands for the three replicas, and what is voted of it.
-use Rattle.std.specs.Prelude.{◌≡◌, ℕ, suc, ◌<◌, nat_lt, Bool, true, if◌then◌else◌, List, [], length, map, All, find, Some, slice_get, slice_index_or}
+use Rattle.std.specs.Prelude.{◌≡◌, ℕ, suc, ◌<◌, nat_lt, Bool, true, if◌then◌else◌, List, [], length, map, All, find}
+use Rattle.std.specs.Prelude.{Some, slice_get, slice_index_or}
 use Rattle.pals_base.specs.declared.values.PortValue.{PortValue}
 use Rattle.pals_base.specs.declared.values.Frame.{Frame}
 use Rattle.pals_model.specs.declared.design.Link.{Link}
@@ -14,7 +15,8 @@ use Rattle.sync_product.specs.declared.stage.Stage.{Stage}
 use Rattle.sync_product.specs.proof.Sizes.{stage_size, stage_sizes, message_sizes}
 use Rattle.sync_product.specs.proof.Rounds.{frames_of}
 use Rattle.triple_vote.specs.declared.layer.Layer.{Layer}
-use Rattle.triple_vote.specs.Replicas.{is_replicated, copies_of, Voted, for_replicas, for_receivers, is_fault, fault_or, vote_of}
+use Rattle.triple_vote.specs.Replicas.{is_replicated, copies_of, Voted, for_replicas, for_receivers, is_fault, fault_or}
+use Rattle.triple_vote.specs.Replicas.{vote_of}
 use Rattle.triple_vote.specs.proof.Layers.{lengths, tap_sizes, HasRoom, is_there, IsMade}
 
 -- ---- by the number of the replica

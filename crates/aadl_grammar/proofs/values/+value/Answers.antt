@@ -1,6 +1,7 @@
 use Rattle.std.proofs.Common.{◌+◌, ◌∙◌, ◌∷◌, [], ◌++◌, ap, sym, refl, arith}
 use Rattle.aadl_grammar.specs.proof.Reading.{here}
-use Rattle.aadl_grammar.proofs.SymbolRows.{takes_row, deep_row, omits_unless, begins_as, enters_as, before_closer, misses_at, along, exits, no_reads, too_deep, flag_runs, only_takes}
+use Rattle.aadl_grammar.proofs.SymbolRows.{takes_row, deep_row, omits_unless, begins_as, enters_as, before_closer}
+use Rattle.aadl_grammar.proofs.SymbolRows.{misses_at, along, exits, no_reads, too_deep, flag_runs, only_takes}
 use Rattle.aadl_grammar.proofs.Written.{nothing, then, marked, respelled, shorter, flagged}
 use Rattle.aadl_tree.specs.Parts.{plain}
 use Rattle.aadl_tree.specs.Values.{value_parts, values_parts, association_parts, associations_parts}

@@ -10,7 +10,9 @@ use Rattle.aadl_tree.proofs.ActionViews.{view-out-choice, view-out-loop}
 use Rattle.aadl_print.proofs.Appends.{printed_append, next_written, last_written, closed}
 use Rattle.aadl_print.proofs.Views.{view-out-actions, view-out-block}
 use Rattle.aadl_print.proofs.actions.+action.Goals as goal
-use Rattle.aadl_print.proofs.actions.+action.Goals.{print_block-in-Some+in_ok-print_actions, print_block-in_default, print_choice-in-Some+in_ok-mark-3+in_ok-print_actions-3, print_choice-in_default}
+use Rattle.aadl_print.proofs.actions.+action.Goals.{print_block-in-Some+in_ok-print_actions, print_block-in_default}
+use Rattle.aadl_print.proofs.actions.+action.Goals.{print_choice-in-Some+in_ok-mark-3+in_ok-print_actions-3}
+use Rattle.aadl_print.proofs.actions.+action.Goals.{print_choice-in_default}
 
 pub print_actions-loop-action-preserved : goal.print_actions-loop-action-preserved
 print_actions-loop-action-preserved t c =

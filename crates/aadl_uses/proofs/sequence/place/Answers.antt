@@ -2,7 +2,8 @@ use Rattle.std.proofs.Common.{◌∙◌, ap, sym, arith}
 use Rattle.std.specs.List.{list_all}
 use Rattle.aadl_uses.specs.proof.Orders.{is_there}
 use Rattle.aadl_uses.proofs.Sequences.{placed_new, placed_not, misses_by}
-use Rattle.aadl_uses.proofs.sequence.place.Goals.{else-number-len-via-then-number-len+else-are_there, else-number-len-via-else-number-len}
+use Rattle.aadl_uses.proofs.sequence.place.Goals.{else-number-len-via-then-number-len+else-are_there}
+use Rattle.aadl_uses.proofs.sequence.place.Goals.{else-number-len-via-else-number-len}
 use Rattle.aadl_uses.proofs.sequence.place.Goals as goal
 
 pub returns-in_ok-insert : goal.returns-in_ok-insert

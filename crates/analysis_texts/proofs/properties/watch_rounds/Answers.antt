@@ -1,4 +1,5 @@
-use Rattle.std.proofs.Common.{rules, refl, ◌≡◌, ◌<◌, ◌+◌, ◌++◌, length, take, drop, IfSome, is_some, sym, ap, ◌∙◌, subst, arith}
+use Rattle.std.proofs.Common.{rules, refl, ◌≡◌, ◌<◌, ◌+◌, ◌++◌, length, take, drop, IfSome, is_some, sym, ap, ◌∙◌}
+use Rattle.std.proofs.Common.{subst, arith}
 use Rattle.list_lemmas.proofs.Lists.{take-written_whole}
 use Rattle.pals_model.specs.Composition.{comp}
 use Rattle.pals_model.specs.Inputs.{values_at}

@@ -13,11 +13,14 @@ use Rattle.aadl_tree.specs.proof.NameViews.{identifier_view, reference_view}
 use Rattle.aadl_tree.specs.proof.ExpressionViews.{expression_view}
 use Rattle.std.specs.Prelude.{option_map}
 use Rattle.aadl_tree.specs.Actions.{actions, choose}
-use Rattle.aadl_tree.specs.proof.ActionViews.{action_view, actions_view, block_view, mores_view, elsifs_view, otherwise_of as listed_otherwise}
+use Rattle.aadl_tree.specs.proof.ActionViews.{action_view, actions_view, block_view, mores_view, elsifs_view}
+use Rattle.aadl_tree.specs.proof.ActionViews.{otherwise_of as listed_otherwise}
 use Rattle.aadl_tree.proofs.ActionViews.{view-Assign, view-Send, view-If, view-For, view-out-choice, view-out-loop}
 use Rattle.annex_resolve.specs.Scopes.{entry_named}
 use Rattle.annex_resolve.proofs.Views.{view-out-actions, view-out-block}
-use Rattle.annex_resolve.proofs.ActionLevels.{assigned, sent, same_action, one_action, next_action, all_actions, no_actions, some_actions, same_block, branch_read, one_branch, next_branch, chosen, looped}
+use Rattle.annex_resolve.proofs.ActionLevels.{assigned, sent, same_action, one_action, next_action, all_actions}
+use Rattle.annex_resolve.proofs.ActionLevels.{no_actions, some_actions, same_block, branch_read, one_branch}
+use Rattle.annex_resolve.proofs.ActionLevels.{next_branch, chosen, looped}
 use Rattle.annex_resolve.proofs.actions.+action.Goals as goal
 
 pub resolve_action-returns-in_ok-add_if-in-Assign : goal.resolve_action-returns-in_ok-add_if-in-Assign

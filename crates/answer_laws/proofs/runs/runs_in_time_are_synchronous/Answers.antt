@@ -1,4 +1,5 @@
-use Rattle.answer_laws.proofs.RunAnswers.{RunLaws, one_answer_in_time, none_is_stopped, done_in_time, answers_as_sync, done_within_bounds}
+use Rattle.answer_laws.proofs.RunAnswers.{RunLaws, one_answer_in_time, none_is_stopped, done_in_time, answers_as_sync}
+use Rattle.answer_laws.proofs.RunAnswers.{done_within_bounds}
 use Rattle.answer_laws.proofs.runs.runs_in_time_are_synchronous.Goals as goal
 
 pub returns : goal.returns

@@ -1,6 +1,8 @@
 use Rattle.std.proofs.Common.{◌≡◌, ℕ, ◌+◌, ◌*◌, ◌∷◌, ◌++◌, length}
-use Rattle.aadl_tree.specs.Expressions.{factor_parts, factors_parts, term_parts, terms_parts, relation_parts, relations_parts}
-use Rattle.aadl_tree.specs.proof.ExpressionViews.{factor_view, factors_view, term_view, terms_view, relation_view, relations_view}
+use Rattle.aadl_tree.specs.Expressions.{factor_parts, factors_parts, term_parts, terms_parts, relation_parts}
+use Rattle.aadl_tree.specs.Expressions.{relations_parts}
+use Rattle.aadl_tree.specs.proof.ExpressionViews.{factor_view, factors_view, term_view, terms_view, relation_view}
+use Rattle.aadl_tree.specs.proof.ExpressionViews.{relations_view}
 use Rattle.aadl_tree.specs.proof.Maps.{kept_place}
 use Rattle.aadl_tree.specs.declared.limits.TheConstants.{GREATEST_NESTING}
 use Rattle.aadl_grammar.specs.proof.Symbols as s

@@ -1,4 +1,5 @@
-use Rattle.std.proofs.Common.{◌≡◌, ◌∙◌, map, length, sym, ap, subst, Ok, Err, arith, rules, pos, ◌+ℤ◌, ◌≤ℤ◌, ◌<ℤ◌, to_z, of_z, w64}
+use Rattle.std.proofs.Common.{◌≡◌, ◌∙◌, map, length, sym, ap, subst, Ok, Err, arith, rules, pos, ◌+ℤ◌, ◌≤ℤ◌, ◌<ℤ◌, to_z}
+use Rattle.std.proofs.Common.{of_z, w64}
 use Rattle.std.proofs.lemmas.Int.{ints, to_z-of_z}
 use mir.Val.{SFits}
 use Rattle.pals_base.specs.Actions.{Effect, act, acts, act_first, for_each, numbers}

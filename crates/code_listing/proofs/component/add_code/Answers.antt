@@ -6,7 +6,8 @@ use Rattle.step_code.specs.Paths.{weight_of}
 use Rattle.step_code.specs.Capped.{capped}
 use Rattle.code_listing.specs.Listings.{number_line, state_lines, initial_line, instr_lines, code_lines}
 use Rattle.code_listing.specs.Numbers.{NumberFits, EntriesFit}
-use Rattle.code_listing.proofs.Lines.{line_alone, lines_behind, line_behind, lines_last, begun_last, three_behind, code_fits}
+use Rattle.code_listing.proofs.Lines.{line_alone, lines_behind, line_behind, lines_last, begun_last, three_behind}
+use Rattle.code_listing.proofs.Lines.{code_fits}
 use Rattle.code_listing.proofs.component.add_code.Goals as goal
 
 pub returns-clause-ok : goal.returns-clause-ok

@@ -5,7 +5,8 @@ use Rattle.aadl_tree.specs.declared.expressions.MultiplyOperator.{MultiplyOperat
 use Rattle.aadl_tree.specs.declared.expressions.Factor.{Factor}
 use Rattle.aadl_tree.specs.declared.expressions.Term.{Term}
 use Rattle.aadl_tree.specs.declared.expressions.Relation.{Relation}
-use Rattle.aadl_tree.specs.proof.ExpressionViews.{primary_view, factor_view, factors_view, term_view, terms_view, relation_view, relations_view}
+use Rattle.aadl_tree.specs.proof.ExpressionViews.{primary_view, factor_view, factors_view, term_view, terms_view}
+use Rattle.aadl_tree.specs.proof.ExpressionViews.{relation_view, relations_view}
 use Rattle.aadl_tree.specs.proof.Maps.{kept_place}
 use Rattle.aadl_tree.proofs.ExpressionViews.{view-Group, view-out-sum, view-out-relation, view-out-expression}
 use Rattle.aadl_names.specs.AnnexNames.{factor_uses, factors_uses, term_uses, terms_uses, relation_uses, relations_uses}

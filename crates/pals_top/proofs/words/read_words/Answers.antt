@@ -1,8 +1,13 @@
 use Rattle.std.proofs.Common.{inl, inr, ◌≡◌, ◌∷◌, [], ap, ◌∙◌, sym, subst, arith}
 use Rattle.std.proofs.lemmas.Bool.Decides.{nat_tests}
 use Rattle.pals_top.specs.Words.{is_plain, form, rooted_form, IsRead}
-use Rattle.pals_top.proofs.Forms.{form_rooted, form_none, form_unplain, form_long, is_same, no_items, two_items, three_items}
-use Rattle.pals_top.proofs.words.read_words.Goals.{in_default-via-then-words-lt1, in_default-via-in-len2+else-is_plain, in_default-via-in-len3-4+else-is_plain-2, in_default-via-in-len3-4+then-is_plain-2+else-is_plain-3, in_default-via-in-len3-4+then-is_plain-2+then-is_plain-3+else-is_plain-4, in_default-via-else-words-lt1+else-words-lt2+else-words-lt3+else-words-lt4}
+use Rattle.pals_top.proofs.Forms.{form_rooted, form_none, form_unplain, form_long, is_same, no_items, two_items}
+use Rattle.pals_top.proofs.Forms.{three_items}
+use Rattle.pals_top.proofs.words.read_words.Goals.{in_default-via-then-words-lt1, in_default-via-in-len2+else-is_plain}
+use Rattle.pals_top.proofs.words.read_words.Goals.{in_default-via-in-len3-4+else-is_plain-2}
+use Rattle.pals_top.proofs.words.read_words.Goals.{in_default-via-in-len3-4+then-is_plain-2+else-is_plain-3}
+use Rattle.pals_top.proofs.words.read_words.Goals.{in_default-via-in-len3-4+then-is_plain-2+then-is_plain-3+else-is_plain-4}
+use Rattle.pals_top.proofs.words.read_words.Goals.{in_default-via-else-words-lt1+else-words-lt2+else-words-lt3+else-words-lt4}
 use Rattle.pals_top.proofs.words.read_words.Goals as goal
 
 pub returns-in-len2 : goal.returns-in-len2

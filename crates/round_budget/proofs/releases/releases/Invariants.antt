@@ -1,6 +1,5 @@
 use Rattle.std.proofs.Common.{◌≡◌, map, take}
-use Rattle.round_budget.specs.Budgets.{releases_in}
-use Rattle.round_budget.specs.Budgets.{numbers}
+use Rattle.round_budget.specs.Budgets.{releases_in, numbers}
 use Rattle.round_budget.specs.proof.Values.{release_value}
 use Rattle.round_budget.proofs.releases.releases.Given as goal
 

@@ -1,7 +1,6 @@
 use Rattle.std.proofs.Common.{◌≡◌, ◌*◌, ◌≤◌, ◌^◌, take}
 use Rattle.std.specs.List.{sum_by}
-use Rattle.round_budget.specs.Budgets.{most_of}
-use Rattle.round_budget.specs.Budgets.{numbers}
+use Rattle.round_budget.specs.Budgets.{most_of, numbers}
 use Rattle.round_budget.proofs.sums.total.Given as goal
 
 -- the sum of the first members

@@ -3,8 +3,7 @@ use Rattle.std.specs.Prelude.{IfOk}
 use Rattle.std.specs.List.{AllByRecursion as Every}
 use Rattle.pals_base.specs.Bound.{alarm}
 use Rattle.round_budget.specs.Budgets as budgets
-use Rattle.round_budget.specs.Budgets.{releases, in_order, serve, by_most, line_from}
-use Rattle.round_budget.specs.Budgets.{numbers}
+use Rattle.round_budget.specs.Budgets.{releases, in_order, serve, by_most, line_from, numbers}
 use Rattle.round_budget.specs.proof.Values.{release_value, line_value, CanServe}
 use Rattle.round_budget.proofs.Servable.{all_can_serve, all_of_values}
 use Rattle.round_budget.proofs.timetables.lines.Goals as goal

@@ -1,4 +1,5 @@
-use Rattle.run_monitor.proofs.CounterProperties.{small_is_watched, up_is_watched, quiet_is_watched, two_text, one_text, are_violated}
+use Rattle.run_monitor.proofs.CounterProperties.{small_is_watched, up_is_watched, quiet_is_watched, two_text, one_text}
+use Rattle.run_monitor.proofs.CounterProperties.{are_violated}
 use Rattle.run_monitor.proofs.laws.counters_are_watched.Goals as goal
 
 pub returns : goal.returns

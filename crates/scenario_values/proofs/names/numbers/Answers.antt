@@ -1,4 +1,5 @@
-use Rattle.std.proofs.Common.{◌≡◌, ◌<◌, ◌+◌, length, take, drop, map, get_or, vec_len, string_bytes, ap, arith, subst, sym, ◌∙◌}
+use Rattle.std.proofs.Common.{◌≡◌, ◌<◌, ◌+◌, length, take, drop, map, get_or, vec_len, string_bytes, ap, arith, subst}
+use Rattle.std.proofs.Common.{sym, ◌∙◌}
 use Rattle.std.proofs.lemmas.Grind.{common_steps}
 use Rattle.scenario_values.specs.proof.NameTables.{Numbers}
 use Rattle.scenario_values.proofs.Search.{table_turn}

@@ -6,7 +6,8 @@ use Rattle.step_compiler.specs.proof.Order.{is_placed, is_awaited, may_follow, s
 use Rattle.step_compiler.proofs.Listing.{found, skipped}
 use Rattle.step_compiler.proofs.Marking.{outside_tells, awaited_tells}
 use Rattle.step_compiler.proofs.order.next_state.Goals as goal
-use Rattle.step_compiler.proofs.order.next_state.Goals.{else-item_at-via-then-item_at+else-not-item_at, else-item_at-via-else-item_at}
+use Rattle.step_compiler.proofs.order.next_state.Goals.{else-item_at-via-then-item_at+else-not-item_at}
+use Rattle.step_compiler.proofs.order.next_state.Goals.{else-item_at-via-else-item_at}
 
 both_hold : (o a p w : Bool) → o ≡ not p → a ≡ w → o ≡ true → a ≡ false → (not p && not w) ≡ true
 both_hold o a p w out aw is isnt = grind (arith, out, aw, is, isnt)

@@ -1,7 +1,7 @@
-use Rattle.std.proofs.Common.{◌≡◌, ◌∙◌, ℕ, ℤ, ◌+◌, ◌∷◌, ◌<◌, List, length, map, Some, pos, sym, ap, subst, rules, arith, slice_index_or, slice_set}
-use Rattle.std.proofs.lemmas.Int.{to_z-of_z}
+use Rattle.std.proofs.Common.{◌≡◌, ◌∙◌, ℕ, ℤ, ◌+◌, ◌∷◌, ◌<◌, List, length, map, Some, pos, sym, ap, subst, rules, arith}
+use Rattle.std.proofs.Common.{slice_index_or, slice_set}
+use Rattle.std.proofs.lemmas.Int.{to_z-of_z, ints}
 use Rattle.std.specs.Prelude.{not, slice_get, int_lt, false, if◌then◌else◌, ◌+ℤ◌}
-use Rattle.std.proofs.lemmas.Int.{ints}
 use Rattle.std.proofs.lemmas.Option.{slice_get-get_or}
 use mir.Syntax.{w64}
 use mir.Val.{SFits}

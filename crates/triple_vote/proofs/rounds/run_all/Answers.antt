@@ -7,7 +7,8 @@ use Rattle.sync_product.specs.proof.Sizes.{PartSize, frame_size, part_size, stag
 use Rattle.sync_product.specs.proof.Rounds.{frames_of, vectors}
 use Rattle.sync_product.proofs.Filling.{same_sizes}
 use Rattle.triple_vote.proofs.Sizing.{stage_within}
-use Rattle.triple_vote.proofs.Running.{run_skip, run_more, frame_by, rows_by, component_is, node_within, part_within, part_room, stage_room, sources_within, sources_are, sources_count}
+use Rattle.triple_vote.proofs.Running.{run_skip, run_more, frame_by, rows_by, component_is, node_within, part_within}
+use Rattle.triple_vote.proofs.Running.{part_room, stage_room, sources_within, sources_are, sources_count}
 use Rattle.triple_vote.proofs.rounds.run_all.Goals as goal
 
 pub loop-node-preserved-then-not-there-node : goal.loop-node-preserved-then-not-there-node

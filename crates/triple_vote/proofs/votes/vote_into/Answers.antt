@@ -1,6 +1,5 @@
-use Rattle.std.proofs.Common.{◌≡◌, ◌∙◌, ap, ap₂, get_or}
+use Rattle.std.proofs.Common.{◌≡◌, ◌∙◌, ap, ap₂, get_or, arith}
 use Rattle.std.proofs.lemmas.Grind.{common_steps}
-use Rattle.std.proofs.Common.{arith}
 use Rattle.pals_base.specs.declared.values.PortValue.{PortValue}
 use Rattle.pals_base.specs.declared.values.PortValue.TheVariants.{Absent}
 use Rattle.triple_vote.specs.Votes.{vote}

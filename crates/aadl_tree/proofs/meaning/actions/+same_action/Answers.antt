@@ -5,7 +5,10 @@ use Rattle.aadl_tree.proofs.ActionKinds.{only_assign, only_send, only_choose, on
 use Rattle.aadl_tree.proofs.ActionViews.{view-Assign, view-Send, view-If, view-For, view-out-choice, view-out-loop}
 use Rattle.aadl_tree.proofs.Lengths.{mores-length, elsifs-length}
 use Rattle.aadl_tree.proofs.meaning.actions.+same_action.Goals as goal
-use Rattle.aadl_tree.proofs.meaning.actions.+same_action.Goals.{same_choice-then-same_expression, same_choice-else-same_expression, same_choice-then-same_actions, same_choice-else-same_actions}
+use Rattle.aadl_tree.proofs.meaning.actions.+same_action.Goals.{same_choice-then-same_expression}
+use Rattle.aadl_tree.proofs.meaning.actions.+same_action.Goals.{same_choice-else-same_expression}
+use Rattle.aadl_tree.proofs.meaning.actions.+same_action.Goals.{same_choice-then-same_actions}
+use Rattle.aadl_tree.proofs.meaning.actions.+same_action.Goals.{same_choice-else-same_actions}
 
 pub same_mores-returns-then-left-right : goal.same_mores-returns-then-left-right
 same_mores-returns-then-left-right t c =

@@ -4,12 +4,14 @@ use Rattle.std.specs.Prelude.{option_map}
 use Rattle.aadl_tree.specs.proof.ExpressionViews.{primary_view, factor_view, leading_view, term_view}
 use Rattle.aadl_tree.specs.proof.Maps.{no_place}
 use Rattle.aadl_tree.specs.declared.expressions.Factor.TheViews.{out-Sum}
-use Rattle.aadl_tree.proofs.ExpressionViews.{view-out-expression, view-out-sum, view-term, view-Whole, view-Truth, view-Named, view-Group, view-Abs, view-Not, view-Plain}
+use Rattle.aadl_tree.proofs.ExpressionViews.{view-out-expression, view-out-sum, view-term, view-Whole, view-Truth}
+use Rattle.aadl_tree.proofs.ExpressionViews.{view-Named, view-Group, view-Abs, view-Not, view-Plain}
 use Rattle.aadl_tree.proofs.Primaries.{only_whole, only_truth, only_named, only_group}
 use Rattle.aadl_tree.proofs.Factors.{only_absolute, only_negated, only_bare}
 use Rattle.aadl_tree.proofs.Lengths.{factors-length, terms-length, relations-length}
 use Rattle.aadl_tree.proofs.meaning.expressions.+same_expression.Goals as goal
-use Rattle.aadl_tree.proofs.meaning.expressions.+same_expression.Goals.{same_sum-then-same_option, same_sum-else-same_option}
+use Rattle.aadl_tree.proofs.meaning.expressions.+same_expression.Goals.{same_sum-then-same_option}
+use Rattle.aadl_tree.proofs.meaning.expressions.+same_expression.Goals.{same_sum-else-same_option}
 
 pub same_factors-returns-then-left-right : goal.same_factors-returns-then-left-right
 same_factors-returns-then-left-right t c =

@@ -1,4 +1,5 @@
-use Rattle.std.proofs.Common.{◌≡◌, ◌+◌, ◌<◌, length, true, remove, Option, Some, None, IfNone, option_map, slice_get, is_some, sym, ap, ◌∙◌, subst, rules, arith}
+use Rattle.std.proofs.Common.{◌≡◌, ◌+◌, ◌<◌, length, true, remove, Option, Some, None, IfNone, option_map, slice_get}
+use Rattle.std.proofs.Common.{is_some, sym, ap, ◌∙◌, subst, rules, arith}
 use Rattle.std.specs.List.{position}
 use Rattle.std.proofs.lemmas.Grind.{common_steps}
 use Rattle.std.proofs.lemmas.List.Edits.{length-remove}

@@ -1,4 +1,5 @@
-use Rattle.std.proofs.Common.{◌≡◌, ◌≢◌, ◌<◌, false, length, remove, Contains, Some, slice_get, sym, ap, subst, rules, tests, arith}
+use Rattle.std.proofs.Common.{◌≡◌, ◌≢◌, ◌<◌, false, length, remove, Contains, Some, slice_get, sym, ap, subst, rules}
+use Rattle.std.proofs.Common.{tests, arith}
 use Rattle.link_buffers.specs.proof.Halving.{IsFirstToFail}
 use Rattle.std.proofs.lemmas.List.Edits.{length-remove}
 use Rattle.std.proofs.lemmas.List.Quantifiers.{all_pairs_remove}

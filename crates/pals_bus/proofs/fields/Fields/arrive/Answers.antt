@@ -7,7 +7,8 @@ use Rattle.bus_machine.specs.States.{no_link}
 use Rattle.pals_node.specs.proof.Values.{NodeValue}
 use Rattle.pals_bus.specs.declared.fields.Fields.{Fields}
 use Rattle.pals_bus.proofs.Taken.{Takes, none_keeps, none_value, none_in_flight, none_holds}
-use Rattle.pals_bus.proofs.Arrivals.{Comes, node_after, reached_within, slot_reached, arrival_is, comes_by, arrive_happens, arrive_keeps_bus}
+use Rattle.pals_bus.proofs.Arrivals.{Comes, node_after, reached_within, slot_reached, arrival_is, comes_by}
+use Rattle.pals_bus.proofs.Arrivals.{arrive_happens, arrive_keeps_bus}
 use Rattle.pals_bus.proofs.fields.Fields.arrive.Goals as goal
 
 pub returns-in_err-tuple-clause-keeps : goal.returns-in_err-tuple-clause-keeps
