@@ -1,4 +1,5 @@
--- Each port has at most one connection into it, and none goes into where chains begin. So a chain is found from its end.
+-- Each port has at most one connection into it, and none goes into where chains begin. So a chain is found from its
+-- end.
 use Rattle.std.proofs.Common.{◌≡◌, ℕ, Bool, true, false, List, [], ◌∷◌, Some, slice_get, refl, sym, ap, ◌∙◌, subst, inl}
 use Rattle.std.proofs.Common.{inr}
 use Rattle.std.specs.Option.{option_and_then}

@@ -1,4 +1,5 @@
--- Where nothing is wrong with the names of a package, both ends of each connection are declared, and it may go from the one to the other.
+-- Where nothing is wrong with the names of a package, both ends of each connection are declared, and it may go from
+-- the one to the other.
 use Rattle.std.proofs.Common.{◌≡◌, ℕ, zero, suc, ◌+◌, Bool, true, false, not, ◌&&◌, nat_eq, List, [], ◌∷◌, ◌++◌, map}
 use Rattle.std.proofs.Common.{slice_get, Contains, Option, Some, None, option_map, refl, sym, ap, ◌∙◌, arith}
 use Rattle.std.specs.List.{flat_map, enumerate_from}

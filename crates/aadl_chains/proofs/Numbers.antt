@@ -1,4 +1,5 @@
--- Numbers of what has a property: of nothing, of one, of what has one of two, and of what is the same under another name.
+-- Numbers of what has a property: of nothing, of one, of what has one of two, and of what is the same under another
+-- name.
 use Rattle.std.proofs.Common.{◌≡◌, ◌⊎◌, inl, inr, ℕ, ◌+◌, ◌≤◌, min, List, [], ◌∷◌, ◌++◌, map, length, refl, sym, ap}
 use Rattle.std.proofs.Common.{subst, ◌∙◌, arith}
 use Rattle.std.specs.List.{AllByRecursion}

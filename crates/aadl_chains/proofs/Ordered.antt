@@ -1,4 +1,5 @@
--- The set of ports that reach threads, declaration after declaration in an order in which each stands behind those that it contains.
+-- The set of ports that reach threads, declaration after declaration in an order in which each stands behind those
+-- that it contains.
 use Rattle.std.proofs.Common.{◌≡◌, ◌⊎◌, inl, inr, ℕ, zero, suc, ◌+◌, ◌<◌, ◌≤◌, List, [], length, slice_get, Contains}
 use Rattle.std.proofs.Common.{Some, None, refl, sym, ap, subst, ◌∙◌, arith}
 use Rattle.std.proofs.lemmas.List.{length-map}

@@ -1,4 +1,5 @@
-//! The chains that the connections of a package make between threads, and between threads and the root: which connections are on none, where each chain comes from, and whether there are too many links.
+//! The chains that the connections of a package make between threads, and between threads and the root: which
+//! connections are on none, where each chain comes from, and whether there are too many links.
 #![tactic(auto)]
 
 pub mod ends;

@@ -1,4 +1,5 @@
--- What a stack of the machine lets stand side by side: a guard looks at the symbol on top and the terminal before it, and at symbols one below the other.
+-- What a stack of the machine lets stand side by side: a guard looks at the symbol on top and the terminal before it,
+-- and at symbols one below the other.
 use Rattle.std.proofs.Common.{◌≡◌, ℕ, Bool, true, ◌&&◌, ◌∙◌, sym, ap, subst, refl, List, [], ◌∷◌, ◌++◌}
 use Rattle.std.proofs.lemmas.List.{append-nil}
 use Rattle.std.proofs.lemmas.Bool.{eqb-true, and_from}

@@ -1,4 +1,5 @@
--- A test of symbols that holds of those that are wanted first, and stays true along the rows, holds of all that stand there.
+-- A test of symbols that holds of those that are wanted first, and stays true along the rows, holds of all that stand
+-- there.
 use Rattle.std.proofs.Common.{◌≡◌, Bool, true, false, not, ◌&&◌, ◌||◌, List, refl, subst}
 use Rattle.std.specs.Prelude.{Contains}
 use Rattle.std.specs.List.{list_all}

@@ -9,8 +9,8 @@ use Rattle.aadl_grammar.specs.proof.Machine.{class_number, kind_number}
 abbrev pub of_class : ℕ → Class → Bool
 of_class n c = n == class_number c
 
--- Behind `.` stands a word, behind `!` stands `(`, and behind `:` neither `:` nor `::`. Before `.`, an annex that is not read and `{**` stands a word. No
--- terminal is without a class.
+-- Behind `.` stands a word, behind `!` stands `(`, and behind `:` neither `:` nor `::`. Before `.`, an annex that is
+-- not read and `{**` stands a word. No terminal is without a class.
 abbrev pub may_stand_behind : ℕ → ℕ → Bool
 may_stand_behind p n =
     not (n == 105)

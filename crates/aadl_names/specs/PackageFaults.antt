@@ -1,5 +1,5 @@
--- What is wrong with the names of a whole package, one list for each sentence of the rules. What is declared twice stands
--- in a file of its own.
+-- What is wrong with the names of a whole package, one list for each sentence of the rules. What is declared twice
+-- stands in a file of its own.
 use Rattle.std.specs.Prelude.{ℕ, Bool, true, false, not, ◌&&◌, nat_eq, nat_lt, List, [], ◌∷◌, ◌++◌, map, flat_map}
 use Rattle.std.specs.Prelude.{Option, Some, None, slice_get, option_map, find, if◌then◌else◌}
 use Rattle.std.specs.List.{list_any, enumerate_from}

@@ -1,5 +1,5 @@
--- What is declared twice in a package, one list for each space of names. What a list of properties gives twice stands with
--- the properties.
+-- What is declared twice in a package, one list for each space of names. What a list of properties gives twice stands
+-- with the properties.
 use Rattle.std.specs.Prelude.{ℕ, List, [], ◌∷◌, ◌++◌, map, flat_map, Option, Some, None, if◌then◌else◌}
 use Rattle.std.specs.List.{filter_map}
 use Rattle.aadl_tree.specs.Annexes.{AnnexTree}

@@ -1,5 +1,5 @@
-//! The names of a package: what its references and the ends of its connections name, and the first name that is wrong so
-//! far. Laws: places rise along a tree, and the first of what is looked at is the first of all that is wrong.
+//! The names of a package: what its references and the ends of its connections name, and the first name that is wrong
+//! so far. Laws: places rise along a tree, and the first of what is looked at is the first of all that is wrong.
 #![tactic(auto)]
 
 pub mod connection_ends;

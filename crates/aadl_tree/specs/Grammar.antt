@@ -19,13 +19,14 @@ pub record IsBehaviour (ks : List Kind) : Type 0 where
 
 -- Below, a language is which terminals are its texts.
 
--- Some text begins with the terminals. What is behind them may be terminals that no token has, as words of any bytes: plain ones may stand in their places.
+-- Some text begins with the terminals. What is behind them may be terminals that no token has, as words of any bytes:
+-- plain ones may stand in their places.
 pub record Begins (IsText : List Kind → Type 0) (ks : List Kind) : Type 0 where
   pub more : List Kind
   pub text : IsText (ks ++ more)
 
--- How many openers are open behind a terminal, where n are open before it. The flag says that `end` stands just before, whose
--- `if` closes.
+-- How many openers are open behind a terminal, where n are open before it. The flag says that `end` stands just
+-- before, whose `if` closes.
 abbrev pub opened : ℕ → Bool → Kind → ℕ
 opened n true (mark k.If) = n - 1
 opened n false (mark k.If) = n + 1
@@ -67,8 +68,8 @@ abbrev pub place : ℕ → List Spot → ℕ
 place end [] = end
 place end (s ∷ ss) = s.at
 
--- A text of the language does not go on at this place: some text begins with the terminals before it, and none with this one too; or it is the end, and the
--- terminals are no text. Nothing before it is nested too deep.
+-- A text of the language does not go on at this place: some text begins with the terminals before it, and none with
+-- this one too; or it is the end, and the terminals are no text. Nothing before it is nested too deep.
 pub record FailsAt (IsText : List Kind → Type 0) (outer end : ℕ) (spots : List Spot) (at : ℕ) : Type 0 where
   pub seen : List Spot
   pub left : List Spot

@@ -1,4 +1,5 @@
--- The types of expressions, and what is wrong with them. None is a type that is neither Integer nor Boolean; it fits every place.
+-- The types of expressions, and what is wrong with them. None is a type that is neither Integer nor Boolean; it fits
+-- every place.
 use Rattle.std.specs.Prelude.{ℕ, Bool, true, false, not, ◌&&◌, List, [], ◌∷◌, ◌++◌, codes, Option, Some, None}
 use Rattle.std.specs.Prelude.{if◌then◌else◌}
 use Rattle.std.specs.Option.{option_and_then, is_some}

@@ -1,4 +1,5 @@
--- No answer to a bundle has the status of a read that failed, or of too many bytes: so these come exactly where that is so.
+-- No answer to a bundle has the status of a read that failed, or of too many bytes: so these come exactly where that
+-- is so.
 use Rattle.std.proofs.Common.{◌≡◌, ◌≢◌, ◌∙◌, ◌↔◌, inl, inr, ℕ, ◌-◌, ◌^◌, ◌<◌, List, length, true, false, Some, refl}
 use Rattle.std.proofs.Common.{sym, ap, arith}
 use Rattle.pals_base.specs.declared.limits.TheConstants.{BUNDLE_BYTES}

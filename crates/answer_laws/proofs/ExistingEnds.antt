@@ -1,4 +1,5 @@
--- A list of events of a loose world ends: each is a step that gives no stop, or the first that does not gives one, or is not allowed.
+-- A list of events of a loose world ends: each is a step that gives no stop, or the first that does not gives one, or
+-- is not allowed.
 use Rattle.std.proofs.Common.{◌≡◌, ◌⊎◌, inl, inr, ℕ, suc, Bool, true, false, List, [], ◌∷◌, ◌++◌, take, slice_get}
 use Rattle.std.proofs.Common.{Option, Some, None, refl, arith}
 use Rattle.std.specs.Prelude.{All}

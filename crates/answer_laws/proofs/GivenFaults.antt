@@ -1,4 +1,5 @@
--- For the law that Booleans of a scenario's runs are 0 or 1: the values that its faults give fit the kinds of their links.
+-- For the law that Booleans of a scenario's runs are 0 or 1: the values that its faults give fit the kinds of their
+-- links.
 use Rattle.std.proofs.Common.{◌≡◌, ℕ, nat_eq, ◌&&◌, false, List, [], ◌∷◌, ◌++◌, length, slice_get, All, codes, decimal}
 use Rattle.std.proofs.Common.{Option, Some, None, Result, Ok, subst}
 use Rattle.std.specs.Prelude.{filter, not}

@@ -1,4 +1,5 @@
--- For the law that Booleans of a scenario's runs are 0 or 1: the values that its inputs give fit the kinds of the root in ports.
+-- For the law that Booleans of a scenario's runs are 0 or 1: the values that its inputs give fit the kinds of the
+-- root in ports.
 use Rattle.std.proofs.Common.{◌≡◌, ℕ, zero, suc, Bool, true, false, cond, List, [], ◌∷◌, ◌++◌, length, replicate}
 use Rattle.std.proofs.Common.{slice_get, codes, decimal, Option, Some, None, Ok, sym, ap, ◌∙◌, subst}
 use Rattle.std.specs.Prelude.{bytes_eq, position, slice_index_or, slice_set, is_some}

@@ -1,8 +1,8 @@
 -- Which status comes where, of four cases that exclude each other.
 use Rattle.std.proofs.Common.{◌≡◌, ◌∙◌, ◌⊎◌, ◌↔◌, inl, inr, ℕ, ◌<◌, ◌≤◌, sym, arith}
 
--- The status by what is there: a text, a design and a scenario, each of which has the ones before it. Where all are there the
--- status is one of some.
+-- The status by what is there: a text, a design and a scenario, each of which has the ones before it. Where all are
+-- there the status is one of some.
 abbrev pub Ways : (ℕ → Type 0) → ℕ → Type 0 → Type 0 → Type 0 → Type 0
 Ways Done s text design scenario =
     (Done s × scenario) ⊎ ((s ≡ 3) × (text → ⊥)) ⊎ ((s ≡ 4) × text × (design → ⊥)) ⊎ ((s ≡ 5) × design × (scenario → ⊥))

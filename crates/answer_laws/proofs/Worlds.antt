@@ -19,8 +19,8 @@ use Rattle.pals_top.specs.proof.Code.{status_at}
 use Rattle.pals_top.specs.Loose.{run_of, IsWorldAnswer}
 
 -- ---- the ends of a run
--- its events end so, from its opening on: each is a step of the bus machine and none gives a stop; or one gives this stop; or
--- the one of this index is not allowed, for this fault, and none before it gives a stop
+-- its events end so, from its opening on: each is a step of the bus machine and none gives a stop; or one gives this
+-- stop; or the one of this index is not allowed, for this fault, and none before it gives a stop
 abbrev EventsEnd : Run → List Event → LooseEnd → Type 0
 EventsEnd run events end.All =
     (t : BusState) × (journal : List JournalEntry) × AllStep run (opening run) events t journal

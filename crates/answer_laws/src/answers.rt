@@ -1,4 +1,5 @@
-//! A bundle and a command that is no run have one answer, and so has a call. Each law is the contract of a function that does nothing.
+//! A bundle and a command that is no run have one answer, and so has a call. Each law is the contract of a function
+//! that does nothing.
 ghost use Rattle.std.specs.Prelude.{◌≡◌, ◌<◌, ◌-◌, ◌^◌, ℕ, false, List, Option, Some, IfSome};
 ghost use Rattle.pals_runs.specs.declared.commands.Command.{Command};
 ghost use Rattle.pals_top.specs.Answers.{IsCommandAnswer, IsAnswer};

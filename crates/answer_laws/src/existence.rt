@@ -1,4 +1,5 @@
-//! Each bundle has an answer of each command, and one of each that is no run. Each law is the contract of a function that does nothing.
+//! Each bundle has an answer of each command, and one of each that is no run. Each law is the contract of a function
+//! that does nothing.
 ghost use Rattle.answer_laws.specs.proof.Exists.{EachBundleHasAnAnswer, EachBundleHasOneAnswer};
 
 use crate::answers::answer_is_decided;

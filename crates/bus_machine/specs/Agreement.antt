@@ -24,8 +24,8 @@ pub record IsAtRest (run : Run) (node : ℕ) (n : NodeState) : Type 0 where
 abbrev pub reached : NodeState → Stepped
 reached n = record { frame = n.frame; tuples = n.outs }
 
--- within a round, after some of its steps: the frame and the outputs are those of these steps of the composition, and the
--- inputs are that round's
+-- within a round, after some of its steps: the frame and the outputs are those of these steps of the composition, and
+-- the inputs are that round's
 pub record IsUnderWay (run : Run) (node : ℕ) (c : Component) (n : NodeState) (steps : ℕ) : Type 0 where
   pub round : ℕ
   pub count : n.count ≡ suc round

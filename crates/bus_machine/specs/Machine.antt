@@ -76,7 +76,8 @@ after_send run s node reading =
           (enumerate_from 0 run.design.links);
     }
 
--- a message that arrives leaves the flight, and goes into its slot, is not used, or comes too early, and then the run stops
+-- a message that arrives leaves the flight, and goes into its slot, is not used, or comes too early, and then the run
+-- stops
 abbrev pub arrival : Run → BusState → LinkNo → ℕ → Arrived
 arrival run s link round =
     arrived (node_at s (link_at run.design link.0).target.0) (link_at run.design link.0).in_port round

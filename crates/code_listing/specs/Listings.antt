@@ -1,5 +1,5 @@
--- The listing of a design's step code: a text of lines, each of words with one space between each two. A line on a component
--- is indented by one space, and an instruction by two: such a line begins with one or two empty words.
+-- The listing of a design's step code: a text of lines, each of words with one space between each two. A line on a
+-- component is indented by one space, and an instruction by two: such a line begins with one or two empty words.
 use Rattle.std.specs.Prelude.{ℕ, ◌-◌, codes, decimal, List, [], ◌∷◌, ◌++◌, length, map, flat_map, zip, Option, Some}
 use Rattle.std.specs.Prelude.{None, slice_get}
 use Rattle.std.specs.List.{enumerate_from}

@@ -1,6 +1,6 @@
-//! What is wrong with the components of an instance: their dispatch and periods, the root's period and bounds, times above
-//! an hour, the types of ports and variables, and the numbers of rates, adaptors and the bound. A number that is missing or
-//! refused is none, and nothing is found on it.
+//! What is wrong with the components of an instance: their dispatch and periods, the root's period and bounds, times
+//! above an hour, the types of ports and variables, and the numbers of rates, adaptors and the bound. A number that
+//! is missing or refused is none, and nothing is found on it.
 #![tactic(auto)]
 
 pub mod adaptors;

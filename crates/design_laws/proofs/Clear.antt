@@ -12,7 +12,8 @@ use Rattle.aadl_names.proofs.Elements.{only_here}
 use Rattle.aadl_names.specs.proof.Orders.{places_of}
 use Rattle.design_laws.proofs.Placed.{Rise, rise_front, rise_back, in_front, in_back}
 
--- each of the findings stands at a place that the parts keep, and where places rise along the parts, two at one place are equal
+-- each of the findings stands at a place that the parts keep, and where places rise along the parts, two at one place
+-- are equal
 pub record Clear (parts : List (Part ℕ)) (found : List PackageFault) : Type 0 where
   pub inside : (f : PackageFault) → Contains found f → Contains (places_of parts) (place_of f)
   pub single : Rise parts → (f g : PackageFault) → Contains found f → Contains found g → place_of f ≡ place_of g → f ≡ g

@@ -1,5 +1,5 @@
--- The design of an instance of which no more is known than that a package without a fault has it: it keeps the rules of designs,
--- and it is not so that there is none.
+-- The design of an instance of which no more is known than that a package without a fault has it: it keeps the rules
+-- of designs, and it is not so that there is none.
 use Rattle.std.proofs.Common.{ℕ, subst}
 use Rattle.std.proofs.Props.{props}
 use Rattle.std.proofs.Math.Logic.{∥∥₁_elim}

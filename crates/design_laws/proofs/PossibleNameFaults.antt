@@ -1,5 +1,5 @@
--- What can be found of the names of a package, whatever its tests say: each name that is declared may be declared twice, and what
--- refers to something may refer to nothing. What a behaviour does with names counts as it is found.
+-- What can be found of the names of a package, whatever its tests say: each name that is declared may be declared
+-- twice, and what refers to something may refer to nothing. What a behaviour does with names counts as it is found.
 use Rattle.std.proofs.Common.{ℕ, List, [], ◌∷◌, ◌++◌}
 use Rattle.std.specs.Prelude.{flat_map}
 use Rattle.aadl_tree.specs.Names.{Identifier, Identifiers, identifiers, listed_in}

@@ -62,7 +62,8 @@ have_rules law tree s named i nothing =
     of_shown (λ (x : Shown). All (HasRules tree) x.threads) tree s i
     (ruling.have_rules i.flat there.used there.is_use found.declarations named law)
 
--- all threads of an instance keep the rules, where no more is known than that a package without a fault has the instance
+-- all threads of an instance keep the rules, where no more is known than that a package without a fault has the
+-- instance
 pub all_rules : ThreadLaw → (tree : PackageTree ℕ) (s : Shown) → AreNamed tree → ∥ IsShown tree s ∥₁
     → NothingFound tree s
     → All (HasRules tree) s.threads

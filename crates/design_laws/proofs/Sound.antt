@@ -7,7 +7,8 @@ use Rattle.aadl_names.specs.PackageFaults.{package_faults}
 use Rattle.aadl_uses.specs.Uses.{IsRecursive}
 use Rattle.aadl_chains.specs.Chains.{IsEndFault}
 
--- it has a root of the name, and nothing is wrong with its names, with what contains what, and with the ends of its connections
+-- it has a root of the name, and nothing is wrong with its names, with what contains what, and with the ends of its
+-- connections
 pub record IsSound (tree : PackageTree ℕ) (name : List ℕ) : Type 0 where
   pub root : ℕ
   pub is_root : root_number tree name ≡ Some root

@@ -1,5 +1,5 @@
-//! Why an instance in which nothing is found has one design, which keeps the rules of designs. Laws alone: of the names of
-//! a package, of annexes and behaviours, of rates, threads and chains, of designs, and of a whole package.
+//! Why an instance in which nothing is found has one design, which keeps the rules of designs. Laws alone: of the
+//! names of a package, of annexes and behaviours, of rates, threads and chains, of designs, and of a whole package.
 //!
 //! And why each package has an instance and the list of all that is wrong with it, or a first fault, and has one alone.
 #![tactic(auto)]

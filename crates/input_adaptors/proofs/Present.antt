@@ -75,8 +75,8 @@ present-append [] ys = refl
 present-append (Absent ∷ xs) ys = present-append xs ys
 present-append (Present v ∷ xs) ys = ap (λ vs. v ∷ vs) (present-append xs ys)
 
--- the sum and the count of the present numbers of the first i ports; the sum lies between `count` times the least and `count`
--- times the greatest number
+-- the sum and the count of the present numbers of the first i ports; the sum lies between `count` times the least and
+-- `count` times the greatest number
 pub record IsSummed (ports : List PortValue) (i : ℕ) (sum : ℤ) (count : ℕ) : Type 0 where
   pub total : sum ≡ fold ◌+ℤ◌ (pos 0) (present (take i ports))
   pub counted : count ≡ length (present (take i ports))

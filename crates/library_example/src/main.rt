@@ -68,7 +68,8 @@ fn bus_of(alloc: Global, design: Arc<Design>, scenario: &[u8], root: Text) -> Re
     Ok(Bus::new(alloc, design, codes, run.env, run.rounds, run.delays, false)?)
 }
 
-// Some rounds of two nodes: the main component is node 0, the left surface node 1, and link 3 goes from the one to the other.
+// Some rounds of two nodes: the main component is node 0, the left surface node 1, and link 3 goes from the one to
+// the other.
 fn run_nodes(alloc: Global, mut bus: Bus, text: &mut Vec<u8>) -> Result<()> {
     let sent = goes_round(&mut bus, NodeNo(0)) && goes_round(&mut bus, NodeNo(1));
     let _again = sent && arrives(&mut bus, LinkNo(3), 0) && goes_round(&mut bus, NodeNo(1));

@@ -1,4 +1,5 @@
--- A list from which an item is taken, or that gets one more, as the items between its place and an end move by one place.
+-- A list from which an item is taken, or that gets one more, as the items between its place and an end move by one
+-- place.
 use Rattle.std.proofs.Common.{◌≡◌, ℕ, zero, suc, ◌+◌, ◌<◌, ◌≤◌, List, [], ◌∷◌, ◌++◌, length, set, slice_get, insert}
 use Rattle.std.proofs.Common.{remove, Some, refl, sym, ap, ◌∙◌, arith}
 use Rattle.std.proofs.lemmas.Option.{same_Some, slice_get-get_or}
@@ -31,7 +32,8 @@ module _ {X : Type 0} where
   next_back (x ∷ z ∷ xs) zero within = refl
   next_back (x ∷ z ∷ xs) (suc n) within = next_back (z ∷ xs) n (omega arith)
 
-  -- an exchange at a place, where the item there is held and the others stand in the ring: now the next is held, or the one before
+  -- an exchange at a place, where the item there is held and the others stand in the ring: now the next is held, or
+  -- the one before
   module _ (xs : List X) (room n : ℕ) (held next : X) (ring new : Buffer X) (within : suc n < length xs)
       (put : new ≡ buffer (set ring.items n held) ring.capacity) (out : slice_get ring.items n ≡ Some next) where
     pub moved_on : ring ≡ buffer (remove xs n) room → slice_get xs n ≡ Some held

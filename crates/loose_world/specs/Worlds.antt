@@ -88,8 +88,8 @@ pub record Tells (s : BusValue) (events : List Event) (how : LooseEnd) (t : BusV
   pub runs : RunsLoosely s events how t lines
   pub told : new ≡ old ++ text_of lines
 
--- what is left if there is not enough memory: the first `done` events have happened, and none gave a stop; of the lines of what
--- they sent the first ones are added to a text
+-- what is left if there is not enough memory: the first `done` events have happened, and none gave a stop; of the
+-- lines of what they sent the first ones are added to a text
 pub record IsCutShort (s : BusValue) (events : List Event) (t : BusValue) (old new : List ℕ) : Type 0 where
   pub done : ℕ
   pub told : List (List ℕ)

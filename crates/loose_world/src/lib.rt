@@ -1,6 +1,6 @@
 //! A loose world: a list of events without time, in which messages may be lost, repeated and reordered, up to the first
-//! that gives a stop or is not allowed; and what is written of a bus that events leave. Laws: a list of loose events ends in
-//! one way; and what events leave on a bus, whatever its clocks read, is the text of their world.
+//! that gives a stop or is not allowed; and what is written of a bus that events leave. Laws: a list of loose events
+//! ends in one way; and what events leave on a bus, whatever its clocks read, is the text of their world.
 #![tactic(auto)]
 
 mod events;

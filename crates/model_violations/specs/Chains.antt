@@ -19,7 +19,8 @@ rated at name given kind None q = []
 rated at name given kind (Some p) None = []
 rated at name given kind (Some p) (Some q) = pair_findings at name given kind p q
 
--- one of the rates is missing, or they agree, and there is no adaptor: nothing is found, whatever the name and the type are
+-- one of the rates is missing, or they agree, and there is no adaptor: nothing is found, whatever the name and the
+-- type are
 abbrev pub is_plain : Option (Option Adaptor) → Option ℕ → Option ℕ → Bool
 is_plain given None q = true
 is_plain given (Some p) None = true

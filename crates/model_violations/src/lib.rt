@@ -1,5 +1,5 @@
-//! All that is wrong with an instance: threads and their behaviours, links, declarations that are in use; and the names of
-//! properties that mean nothing where they stand.
+//! All that is wrong with an instance: threads and their behaviours, links, declarations that are in use; and the
+//! names of properties that mean nothing where they stand.
 #![tactic(auto)]
 
 pub mod carriers;

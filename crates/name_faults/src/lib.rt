@@ -1,5 +1,5 @@
-//! What is wrong with the names of a package: properties and the shapes of their values, how behaviours use names, what is
-//! declared twice, and the first of all findings.
+//! What is wrong with the names of a package: properties and the shapes of their values, how behaviours use names,
+//! what is declared twice, and the first of all findings.
 #![tactic(auto)]
 
 mod behaviours;

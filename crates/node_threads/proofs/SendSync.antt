@@ -1,4 +1,5 @@
--- A course may go to other threads: what it is made of is data that it owns, and what lies under an `Arc` may be shared.
+-- A course may go to other threads: what it is made of is data that it owns, and what lies under an `Arc` may be
+-- shared.
 use denote.Param.Send.{IsSend, IsSync, sendable, struct_send, recorded_send}
 use denote.Struct.Declared as S
 use Rattle.std.proofs.Crossing.{Box-send, Box-sync, Vec-send, Vec-sync, Arc-send, Arc-sync, crosses}

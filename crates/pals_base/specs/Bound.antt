@@ -2,7 +2,8 @@
 use Rattle.std.specs.Prelude.{ℕ, ◌+◌, ◌-◌, ◌*◌, ◌/◌, min, max}
 use Rattle.pals_base.specs.declared.values.Gamma.{Gamma}
 
--- how long a node waits with its outputs, so that none arrives before its target's round begins: 0 where the network is slow enough
+-- how long a node waits with its outputs, so that none arrives before its target's round begins: 0 where the network
+-- is slow enough
 abbrev pub backoff : Gamma → ℕ
 backoff g = 2 * g.eps - g.mu_min
 
@@ -14,7 +15,8 @@ step_period t k = t / k
 abbrev pub sent_steps : Gamma → ℕ → ℕ → ℕ
 sent_steps g t k = min k (1 + (t - g.mu_max - 2 * g.eps - g.alpha_max) / step_period t k)
 
--- how long after its alarm a component of rate k may send its outputs: the backoff, or later where the last step that is sent starts later
+-- how long after its alarm a component of rate k may send its outputs: the backoff, or later where the last step that
+-- is sent starts later
 abbrev pub release_offset : Gamma → ℕ → ℕ → ℕ
 release_offset g t k = max (backoff g) ((sent_steps g t k - 1) * step_period t k)
 

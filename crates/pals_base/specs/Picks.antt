@@ -11,8 +11,8 @@ abbrev pub picked : List ℕ → List ℕ → List ℕ
 picked [] answers = []
 picked (reading ∷ later) answers = reading ∷ answers
 
--- The answers to these targets. The clock stands at its last pick, the first of the readings that are left, and gives it
--- where it is at least the target, else the first later reading that is. It ends at the first target without one.
+-- The answers to these targets. The clock stands at its last pick, the first of the readings that are left, and gives
+-- it where it is at least the target, else the first later reading that is. It ends at the first target without one.
 abbrev pub picks : List ℕ → List ℕ → List ℕ
 picks readings [] = []
 picks readings (target ∷ targets) = picked (reached readings target) (picks (reached readings target) targets)

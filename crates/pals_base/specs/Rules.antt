@@ -59,7 +59,8 @@ is_always (When e) = false
 abbrev pub ends_unguarded : List Edge → Bool
 ends_unguarded edges = fold (λ before e. is_always e.trigger) false edges
 
--- one transition at the dispatch leaves a complete state, and none leaves another state; from there one can always go on
+-- one transition at the dispatch leaves a complete state, and none leaves another state; from there one can always go
+-- on
 abbrev pub has_ways : BehaviourParts → ℕ → Bool
 has_ways b s =
     if is_complete b s then nat_eq (dispatch_count (leaving b s)) 1

@@ -90,7 +90,9 @@ impl Bus {
         requires delays { AreDelays (length (arc_value run.design).links) run.delays }
         requires codes { AreCodes (arc_value run.design) (codes_in nodes) }
         requires nodes { AreOpening (arc_value run.design) (codes_in nodes) run.rounds nodes }
-        ensures { IfOk result (λ bus. bus ≡ opening_bus (record { design = arc_value run.design; env = run.env; rounds = run.rounds; delays = run.delays }) (codes_in nodes) meeting) }
+        ensures { IfOk result (λ bus. bus ≡ opening_bus
+            (record { design = arc_value run.design; env = run.env; rounds = run.rounds; delays = run.delays })
+            (codes_in nodes) meeting) }
     {
         let values = room_for_values(alloc, &run.env)?;
         let outgoing = Outgoing::new(alloc, &run.design)?;

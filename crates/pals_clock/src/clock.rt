@@ -22,8 +22,8 @@ pub enum Clocks {
     Lists(Items<ListClock>),
 }
 
-/// A clock that is a list of readings, which don't fall and are at most `READING`. Contracts see the whole list and what is
-/// left of it: the last pick, if there is one, and the later readings.
+/// A clock that is a list of readings, which don't fall and are at most `READING`. Contracts see the whole list and
+/// what is left of it: the last pick, if there is one, and the later readings.
 #[derive(Drop)]
 pub struct ListClock {
     readings: Items<Nanos>,
@@ -55,8 +55,8 @@ impl ListClock {
         }
     }
 
-    /// All readings of the clock's list, in nanoseconds. They don't fall, none is above `READING`, and what is left is an end
-    /// of them.
+    /// All readings of the clock's list, in nanoseconds. They don't fall, none is above `READING`, and what is left
+    /// is an end of them.
     pub fn readings(&self) -> &[Nanos]
         ensures value { result.now ≡ self.now.readings }
         ensures order { IsNonDecreasing self.now.readings }

@@ -97,8 +97,8 @@ tap_lines design number tap (Some part) =
     tap_line (out_kind (slice_get design.components tap.source.0) tap.out_port) tap
     (slice_index_or part.outs (taps_before design.taps number tap.source.0) []) ∷ []
 
--- the row of a round, from the parts of those components that are shown: the round, a line for each of these components, and
--- one for each root out port of theirs
+-- the row of a round, from the parts of those components that are shown: the round, a line for each of these
+-- components, and one for each root out port of theirs
 abbrev pub row_lines : DesignParts → (ℕ → Option Part) → ℕ → List (List ℕ)
 row_lines design part_of round =
     round_line round

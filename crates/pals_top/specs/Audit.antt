@@ -21,8 +21,8 @@ abbrev pub SaysVerdict : DesignParts → Verdict → ℕ → List ℕ → Type 0
 SaysVerdict design v status text =
     (status ≡ (if is_sound v then DONE else NOT_SO)) × (text ≡ verdict_line design v ++ line_end)
 
--- the verdict on the scenario's trace. It is sound, with a number of rounds and a stop, exactly where the trace is that of a history
--- which is over: all nodes have finished so many rounds, and it stands at that stop
+-- the verdict on the scenario's trace. It is sound, with a number of rounds and a stop, exactly where the trace is
+-- that of a history which is over: all nodes have finished so many rounds, and it stands at that stop
 pub record IsAudited (design : DesignParts) (scenario : Scenario) (status : ℕ) (text : List ℕ) : Type 0 where
   pub judged : SaysVerdict design (verdict (run_of design scenario) scenario.trace) status text
   pub sound : (rounds : ℕ) (stop : Option Stop)

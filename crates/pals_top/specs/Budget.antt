@@ -13,13 +13,13 @@ use Rattle.pals_top.specs.declared.status.TheConstants.{DONE, NOT_SO}
 abbrev pub processors_of : Scenario → List Processor
 processors_of scenario = map processor_of scenario.processors
 
--- where a processor fits, its steps are in time in any number of rounds, by any numbers of instructions up to the weights of their
--- codes, and by those that the codes make
+-- where a processor fits, its steps are in time in any number of rounds, by any numbers of instructions up to the
+-- weights of their codes, and by those that the codes make
 abbrev pub FitsInTime : DesignParts → List CodeParts → Processor → Type 0
 FitsInTime design programs p = fits_on design programs p ≡ true → RespondInTime design programs p.nanos p.members
 
--- the round budgets of the scenario's processors, by the codes that are laid out for the design's behaviours; not so where a
--- processor has more to do than fits
+-- the round budgets of the scenario's processors, by the codes that are laid out for the design's behaviours; not so
+-- where a processor has more to do than fits
 pub record IsBudgeted (design : DesignParts) (scenario : Scenario) (status : ℕ) (text : List ℕ) : Type 0 where
   pub programs : List CodeParts
   pub laid_out : AreLaidOut (behaviours design) programs

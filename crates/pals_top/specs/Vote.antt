@@ -8,7 +8,8 @@ use Rattle.triple_vote.specs.Outvoted.{AreOutvoted}
 use Rattle.analysis_texts.specs.Voted.{replicated_in, faults_of}
 use Rattle.pals_top.specs.declared.status.TheConstants.{DONE}
 
--- the rows of the composition in which some components have three replicas, some of them at fault, and each reader votes
+-- the rows of the composition in which some components have three replicas, some of them at fault, and each reader
+-- votes
 pub record IsVoted (design : DesignParts) (scenario : Scenario) (status : ℕ) (text : List ℕ) : Type 0 where
   pub status_is : status ≡ DONE
   pub text_is : text ≡ vreport design scenario.env (replicated_in design scenario.replicas) (faults_of scenario.faults)

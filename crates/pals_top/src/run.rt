@@ -52,7 +52,8 @@ pub fn answer_run<R: Threads + Wait + Sync, S: Source, W: Starter, G: Gate + Syn
     root: Text,
     trace: bool,
 ) -> Result<Answer, NoMemory>
-    ensures ok { IfOk result (λ answer. IsSourceAnswer (command.Run root trace) (reading (S.shown source.old) (S.shown source.new)) (status_of answer) (text_of answer)) }
+    ensures ok { IfOk result (λ answer. IsSourceAnswer (command.Run root trace)
+        (reading (S.shown source.old) (S.shown source.new)) (status_of answer) (text_of answer)) }
     ensures err { OnErr result (GivesWithin (S.shown source.old) (S.shown source.new) BUNDLE_BYTES) }
 {
     match read_all(alloc, source, BUNDLE_BYTES) {

@@ -107,8 +107,8 @@ from_round design pairs env ins rate step source =
     slice_index_or (reading design (values_at env (step / rate)) (messages_before design pairs ins (step / rate)) rate
     source) (step % rate) Absent
 
--- a plant reads on a link from its controller what the controller's step before left; a controller reads on a link from its
--- plant what the plant's step of this number left
+-- a plant reads on a link from its controller what the controller's step before left; a controller reads on a link
+-- from its plant what the plant's step of this number left
 abbrev pub value_on : DesignParts → List Pair → Env → Inputs → ℕ → ℕ → ℕ → Option Link → PortValue
 value_on design pairs env ins rate step number None = from_round design pairs env ins rate step (source.Link number)
 value_on design pairs env ins rate step number (Some link) =

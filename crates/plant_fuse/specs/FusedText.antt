@@ -1,4 +1,5 @@
--- The report of fused composition: that of the composition, from what the components leave at the solution of the equations.
+-- The report of fused composition: that of the composition, from what the components leave at the solution of the
+-- equations.
 use Rattle.std.specs.Prelude.{◌≡◌, ℕ, suc, ◌*◌, List, map, flat_map, slice_get}
 use Rattle.std.specs.List.{enumerate_from}
 use Rattle.pals_base.specs.Steps.{upwards}

@@ -1,6 +1,6 @@
-//! Series of cases: one case that is asked again and again, with its bundle cut, with a call that fails, or with an event
-//! left out, each in turn. A line `each WHAT` in a case says which, and the answer is one line for those numbers, one after
-//! the other, at which status and first line are the same:
+//! Series of cases: one case that is asked again and again, with its bundle cut, with a call that fails, or with an
+//! event left out, each in turn. A line `each WHAT` in a case says which, and the answer is one line for those
+//! numbers, one after the other, at which status and first line are the same:
 //!
 //! - `each cut`: the first bytes of the bundle, from none to all. A line `behind TEXT` puts TEXT behind each, on a line of
 //!   its own.
@@ -10,8 +10,8 @@
 //!   the second, and at last none.
 //! - `each trace`: no series, but a run, whose rows and stop are shown, and what `audit` answers to all that it wrote.
 //!
-//! In the answer `END` is the place where the bundle ends, `_` is another place, and `..` stands for the first bytes of the
-//! answer, 8 for each write that did not fail.
+//! In the answer `END` is the place where the bundle ends, `_` is another place, and `..` stands for the first bytes
+//! of the answer, 8 for each write that did not fail.
 use crate::question::{ProgramAnswer, Transfer, ask};
 use crate::runs::Runs;
 use crate::traces::run_and_audit;

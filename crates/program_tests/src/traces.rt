@@ -1,4 +1,5 @@
-//! Runs in threads whose journals hang on the schedule: what they show under each, and what an audit answers to what they wrote.
+//! Runs in threads whose journals hang on the schedule: what they show under each, and what an audit answers to what
+//! they wrote.
 use crate::question::{Transfer, ask};
 use case_files::{asked, text_of};
 use std::alloc::Global;

@@ -19,8 +19,9 @@ abbrev pub latest_send : Run → ℕ → ℕ
 latest_send run source = let plan = plan_of run.design source in
     max (backoff run.design.gamma) ((plan.sent_steps - 1) * plan.step_period + run.design.gamma.alpha_max)
 
--- a message in transit takes longer than the greatest delay of the bounds, or was sent after the latest send within them; one that
--- comes early takes less than the least delay, or its target reads two skews more than the alarm of its round
+-- a message in transit takes longer than the greatest delay of the bounds, or was sent after the latest send within
+-- them; one that comes early takes less than the least delay, or its target reads two skews more than the alarm of
+-- its round
 abbrev pub BoundedStop : Run → List JournalEntry → Stop → Type 0
 BoundedStop run journal (stop.Missed link round reading cause) = cause ≡ InTransit
     → (at : ℕ) → sent_at run journal link.0 round ≡ Some at

@@ -80,7 +80,8 @@ copy_past run w time link copy =
 abbrev pub link_past : Run → World → ℕ → ℕ → Option EventFault
 link_past run w time link = first_of (map (copy_past run w time link) (flight_at w.bus link))
 
--- row by row, each row over all nodes; past deadlines over nodes and then over messages, link by link in order of sending
+-- row by row, each row over all nodes; past deadlines over nodes and then over messages, link by link in order of
+-- sending
 abbrev pub pass_fault : Run → World → ℕ → List ℕ → Option EventFault
 pass_fault run w time readings =
     let clocks = enumerate_from 0 readings in

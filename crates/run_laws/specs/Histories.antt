@@ -48,7 +48,8 @@ pub record ArrivesInTime (run : Run) (journal : List JournalEntry) (s : BusState
   pub is_copy : oldest round (flight_at s link) ≡ Some copy
   pub due : is_due reading copy ≡ true
 
--- an event keeps to the times of the design; a send is not before its round's release, and no message is lost or repeated
+-- an event keeps to the times of the design; a send is not before its round's release, and no message is lost or
+-- repeated
 abbrev pub IsInTime : Run → List JournalEntry → BusState → BusEvent → Type 0
 IsInTime run journal s (Start node reading) = StartsInTime run journal s node.0 reading
 IsInTime run journal s (Step node reading) = StepsInTime run journal s node.0 reading
@@ -60,7 +61,8 @@ IsInTime run journal s (Drop link round) = ⊥
 IsInTime run journal s (Repeat link round) = ⊥
 
 -- ---- histories
--- the journal and the state that events leave, one after another, from the opening on: each is allowed by the machine, and in time
+-- the journal and the state that events leave, one after another, from the opening on: each is allowed by the
+-- machine, and in time
 pub data History (run : Run) : List JournalEntry → BusState → Type 0 where
   opens : History run [] (opening run)
   goes_on : {journal : List JournalEntry} {s t : BusState} (e : BusEvent) → History run journal s → IsStep run s e t
@@ -76,8 +78,9 @@ IsStoppedOrDone run s = (s.stop ≢ None) ⊎ AllDone run s
 abbrev pub trace_of : Run → List JournalEntry → BusState → List (List ℕ)
 trace_of run journal s = report_lines run.design run.env (finished_by_all run s) ++ map (entry_line run.design) journal
 
--- the lines are the report of the rounds that all nodes have finished, and then those of the journal of a history that is over, since
--- it stands at the stop or all nodes are done. Its entries are of nodes and links of the design, with numbers within their limits
+-- the lines are the report of the rounds that all nodes have finished, and then those of the journal of a history
+-- that is over, since it stands at the stop or all nodes are done. Its entries are of nodes and links of the design,
+-- with numbers within their limits
 pub record IsTraceOf (run : Run) (lines : List (List ℕ)) (rounds : ℕ) (stop : Option Stop) : Type 0 where
   pub journal : List JournalEntry
   pub state : BusState

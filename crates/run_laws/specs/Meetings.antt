@@ -52,8 +52,8 @@ pub record IsLate (run : Run) (number round : ℕ) : Type 0 where
 abbrev pub AllDone : Run → BusState → Type 0
 AllDone run s = EachNode run (λ node. (node_at s node).phase ≡ Done)
 
--- a message that is missed, at the alarm of the round after its own, is late, and in transit; one that comes early, at the alarm of its
--- own round, has no delay, and is sent at that alarm
+-- a message that is missed, at the alarm of the round after its own, is late, and in transit; one that comes early,
+-- at the alarm of its own round, has no delay, and is sent at that alarm
 abbrev pub MeetingStop : Run → Stop → Type 0
 MeetingStop run (stop.Missed link round reading cause) =
     IsLate run link.0 round × (cause ≡ InTransit) × (reading ≡ Some (alarm run.design.period (round + 1)))

@@ -51,8 +51,8 @@ action_shown design front (entry.Drop link round) = None
 action_shown design front (entry.Repeat link round) = None
 action_shown design front (entry.Stopped why) = Some (stop_action design front why)
 
--- a line's reading is its node's pick for the action that it shows, which is the first that the lines before it don't show, and
--- it is no less than that action's target
+-- a line's reading is its node's pick for the action that it shows, which is the first that the lines before it don't
+-- show, and it is no less than that action's target
 pub record ShowsPick (run : Run) (clocks : List ClockState) (front : List JournalEntry) (e : JournalEntry)
     (t : Timed) : Type 0 where
   pub action : NodeAction

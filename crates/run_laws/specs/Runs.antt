@@ -1,4 +1,5 @@
--- Runs whose nodes keep to their clocks: each does its next action, at a reading that its clock shows, in any order of the nodes.
+-- Runs whose nodes keep to their clocks: each does its next action, at a reading that its clock shows, in any order
+-- of the nodes.
 use Rattle.std.specs.Prelude.{◌≡◌, ◌⊎◌, ℕ, ◌<◌, ◌≤◌, true, false, List, [], ◌++◌, length, map, All, Option, Some, None}
 use Rattle.std.specs.Prelude.{option_map, slice_get, slice_index_or, slice_set}
 use Rattle.std.specs.List.Sorted.{IsNonDecreasing}
@@ -50,8 +51,8 @@ abbrev pub IsLeast : Run → BusState → ℕ → Type 0
 IsLeast run s at =
     (other least : ℕ) → other < length run.design.components → target_of run s other ≡ Some least → at ≤ least
 
--- a node's clock shows this reading for a target: where nodes meet it is the target, and the least of all; a list stands at it, and
--- it is no less than the target
+-- a node's clock shows this reading for a target: where nodes meet it is the target, and the least of all; a list
+-- stands at it, and it is no less than the target
 abbrev pub Shows : Run → Clocks → BusState → ℕ → ℕ → ℕ → Type 0
 Shows run Meet s node target at = (at ≡ target) × IsLeast run s at
 Shows run (Lists clocks) s node target at = (slice_get (clock_at clocks node).left 0 ≡ Some at) × (target ≤ at)

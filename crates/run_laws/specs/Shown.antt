@@ -1,4 +1,5 @@
--- What a journal shows of a node: the readings of its starts, of its sends and of all its actions, and the last reading of its clock.
+-- What a journal shows of a node: the readings of its starts, of its sends and of all its actions, and the last
+-- reading of its clock.
 use Rattle.std.specs.Prelude.{ℕ, nat_eq, if◌then◌else◌, List, [], ◌∷◌, Option, Some, None}
 use Rattle.std.specs.List.{flat_map, fold}
 use Rattle.std.specs.Option.{unwrap_or}

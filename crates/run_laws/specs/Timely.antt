@@ -18,8 +18,8 @@ use Rattle.run_laws.specs.Meetings.{AllDone}
 use Rattle.pals_runs.specs.declared.journal.Stop.TheVariants as stop
 use Rattle.bus_machine.specs.declared.action.NodeAction.TheVariants as action
 
--- a round of a link is in time: where its target's picks reach the start of the round after it, its source's picks reach its
--- send, and that pick plus the delay is no more than the pick of the start
+-- a round of a link is in time: where its target's picks reach the start of the round after it, its source's picks
+-- reach its send, and that pick plus the delay is no more than the pick of the start
 abbrev pub IsTimely : Run → List ClockState → ℕ → ℕ → Type 0
 IsTimely run clocks number round = let link = link_at run.design number in
     (start : ℕ) → round + 1 < run.rounds → IsPickFor run clocks link.target.0 (action.Start (round + 1)) start
@@ -50,8 +50,8 @@ pub record StandsAt (run : Run) (clocks : List ClockState) (number begins : ℕ)
   pub reading_is : reading ≡ Some start
   pub is_pick : IsPickFor run clocks (link_at run.design number).target.0 (action.Start begins) start
 
--- a message that is missed, at the start of the round after its own, is not in time, and it is not lost; where it was not sent, its
--- source's picks end before its send
+-- a message that is missed, at the start of the round after its own, is not in time, and it is not lost; where it was
+-- not sent, its source's picks end before its send
 pub record MissesInput (run : Run) (clocks : List ClockState) (number round : ℕ) (reading : Option ℕ)
     (cause : Cause) : Type 0 where
   pub stands : StandsAt run clocks number (round + 1) reading
@@ -60,7 +60,8 @@ pub record MissesInput (run : Run) (clocks : List ClockState) (number round : �
   pub unsent : cause ≡ NotSent → (at : ℕ)
       → IsPickFor run clocks (link_at run.design number).source.0 (action.Send round) at → ⊥
 
--- one that comes early is of the round that its target is to start, or of a later one, and it was due by the pick of that very start
+-- one that comes early is of the round that its target is to start, or of a later one, and it was due by the pick of
+-- that very start
 pub record ComesEarly (run : Run) (clocks : List ClockState) (begins number round : ℕ)
     (reading : Option ℕ) : Type 0 where
   pub stands : StandsAt run clocks number begins reading

@@ -1,4 +1,5 @@
--- What a line of a journal says of a design: the entry that it tells, the event of that entry, its node and its reading.
+-- What a line of a journal says of a design: the entry that it tells, the event of that entry, its node and its
+-- reading.
 use Rattle.std.specs.Prelude.{ℕ, List, Option, Some, None, is_some, option_map, option_and_then, Bool, true}
 use Rattle.pals_base.specs.declared.values.NodeNo.{NodeNo}
 use Rattle.pals_base.specs.declared.values.LinkNo.{LinkNo}

@@ -21,7 +21,8 @@ use Rattle.run_laws.specs.Runs.{Runs, HasEnded, lists_in}
 use Rattle.run_texts.specs.declared.told.RunReport.{RunReport}
 use Rattle.run_texts.specs.declared.told.RunReport.TheVariants.{Completed, Stopped, ClockEnded}
 
--- the nodes have kept to clocks with these lists from the opening of a run on, in some order, and this is what they have left
+-- the nodes have kept to clocks with these lists from the opening of a run on, in some order, and this is what they
+-- have left
 pub record Course (run : Run) (clocks : Clocks) : Type 0 where
   pub later : Clocks
   pub lists : lists_in later ≡ lists_in clocks
@@ -34,7 +35,8 @@ abbrev pub journal_text : Run → List JournalEntry → List ℕ
 journal_text run journal = text_of (map (entry_line run.design) journal)
 
 -- ---- all nodes are done
--- the rows of all rounds, which are those of the composition, and in a trace the journal; an audit finds such a trace sound
+-- the rows of all rounds, which are those of the composition, and in a trace the journal; an audit finds such a trace
+-- sound
 pub record IsCompletedRun (run : Run) (clocks : Clocks) (trace : Bool) (text : List ℕ) : Type 0 where
   pub course : Course run clocks
   pub done : AllDone run course.state
@@ -58,7 +60,8 @@ EndsAt run Meet s node goal = ⊥
 EndsAt run (Lists lists) s node goal =
     (ended : HasEnded run lists s node) × (target (plan_of run.design node) ended.0 ≡ goal)
 
--- each node is done or its list has ended, and the first whose list has ended is named, with the target that it waits for
+-- each node is done or its list has ended, and the first whose list has ended is named, with the target that it waits
+-- for
 pub record IsEndedRun (run : Run) (clocks : Clocks) (text : List ℕ) : Type 0 where
   pub course : Course run clocks
   pub going : course.state.stop ≡ None

@@ -9,8 +9,8 @@ use Rattle.pals_model.specs.Inputs.{rate_of}
 abbrev pub component_cells : Component → ℕ
 component_cells c = 1 + 2 * c.rate + length c.behaviour.vars
 
--- what one round leaves: for each component 1, twice its rate and its variables; for each link and each root out port the rate
--- of its source
+-- what one round leaves: for each component 1, twice its rate and its variables; for each link and each root out port
+-- the rate of its source
 abbrev pub round_cells : DesignParts → ℕ
 round_cells design =
     sum_by component_cells design.components + sum_by (λ (link : Link). rate_of design link.source.0) design.links

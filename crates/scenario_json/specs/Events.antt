@@ -32,7 +32,8 @@ word_of name =
     else if bytes_eq name (codes "drop") then Some Drop else if bytes_eq name (codes "repeat") then Some
     Repeat else None
 
--- time stands still in a loose world, and nothing is lost or doubled in another; the events of other commands may be any
+-- time stands still in a loose world, and nothing is lost or doubled in another; the events of other commands may be
+-- any
 abbrev pub is_usual : Command → EventWord → Bool
 is_usual (World root true) Pass = false
 is_usual (World root false) Drop = false

@@ -228,7 +228,8 @@ parts_by code low high false false le small closed ends starts =
     (stay_low code low high k m (innermost code low) le small closed refl ends at)
     (stay_high code low high k m (innermost code high) le refl starts at))))
 
--- bodies part two places exactly where the innermost one round the lower ends by the higher, or that round the higher starts from the lower on
+-- bodies part two places exactly where the innermost one round the lower ends by the higher, or that round the higher
+-- starts from the lower on
 pub parts_bodies : (code : List Instr) (low high : ℕ) → low ≤ high → high < length code → AreClosed code low
     → (ends_by (innermost code low) high || starts_from (innermost code high) low) ≡ not (stays code low high)
 parts_bodies code low high le small closed =

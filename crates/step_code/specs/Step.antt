@@ -11,7 +11,8 @@ use Rattle.step_code.specs.declared.instr.Instr.{Instr}
 use Rattle.pals_base.specs.declared.behaviour.Op.TheVariants as op
 use Rattle.step_code.specs.declared.instr.Instr.TheVariants as code
 
--- where an instruction leads: on to a place with a stack, slots and outputs, to the end of the step, to a trap, or nowhere
+-- where an instruction leads: on to a place with a stack, slots and outputs, to the end of the step, to a trap, or
+-- nowhere
 pub data Next : Type 0 where
   Goes : (place : ℕ) (stack slots : List ℤ) (outs : List PortValue) → Next
   Ends : (state : ℕ) (slots : List ℤ) (outs : List PortValue) → Next

@@ -37,7 +37,8 @@ pub record IsBlockOrder (b : BehaviourParts) (order : List ℕ) : Type 0 where
   pub all : (state : ℕ) → state < length b.states → Contains order state
 
 -- ---- the code
--- the blocks stand one behind the other in that order, from 0 on; a complete state is entered at its dispatch transition
+-- the blocks stand one behind the other in that order, from 0 on; a complete state is entered at its dispatch
+-- transition
 pub record IsLaidOut (b : BehaviourParts) (code : CodeParts) : Type 0 where
   pub order : List ℕ
   pub is_order : IsBlockOrder b order

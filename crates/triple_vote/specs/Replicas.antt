@@ -1,5 +1,5 @@
--- The composition with three replicas of some components, whose messages each reader votes on. Replicas are numbered from 0
--- here, and from 1 in faults.
+-- The composition with three replicas of some components, whose messages each reader votes on. Replicas are numbered
+-- from 0 here, and from 1 in faults.
 use Rattle.std.specs.Prelude.{ℕ, zero, suc, nat_eq, ◌&&◌, Bool, false, if◌then◌else◌, List, [], length, map, find}
 use Rattle.std.specs.Prelude.{replicate, Option, None, Some, slice_get, slice_index_or}
 use Rattle.pals_base.specs.declared.values.PortValue.{PortValue}
@@ -36,8 +36,8 @@ abbrev pub source_in : Option Link → ℕ
 source_in None = 0
 source_in (Some link) = link.source.0
 
--- after some rounds: for each component the frame of each of its replicas, and for each link the tuple that each replica of
--- its target received in the last round
+-- after some rounds: for each component the frame of each of its replicas, and for each link the tuple that each
+-- replica of its target received in the last round
 pub record Voted : Type 0 where
   pub frames : List (List Frame)
   pub received : List (List (List PortValue))

@@ -1,5 +1,5 @@
--- The report of rounds that are voted on: that of the composition, with a line for each replica of a component in place of the
--- component's line.
+-- The report of rounds that are voted on: that of the composition, with a line for each replica of a component in
+-- place of the component's line.
 use Rattle.std.specs.Prelude.{ℕ, suc, codes, decimal, Bool, if◌then◌else◌, List, ◌∷◌, ◌++◌, map, flat_map, slice_get}
 use Rattle.std.specs.List.{enumerate_from}
 use Rattle.pals_base.specs.declared.values.PortValue.{PortValue}

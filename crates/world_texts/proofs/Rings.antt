@@ -1,4 +1,5 @@
--- What a ring comes to: its codes are short, its sum is below what 64 bits hold, and it stands in the parts of the last round.
+-- What a ring comes to: its codes are short, its sum is below what 64 bits hold, and it stands in the parts of the
+-- last round.
 use Rattle.std.proofs.Common.{◌≡◌, ◌∙◌, ℕ, zero, suc, ◌+◌, ◌-◌, ◌*◌, ◌<◌, ◌≤◌, List, [], ◌∷◌, length, map, fold, Option}
 use Rattle.std.proofs.Common.{Some, None, slice_get, pos, ◌+ℤ◌, ◌≤ℤ◌, refl, sym, ap, ap₂, subst, arith, lit≤}
 use Rattle.std.proofs.Common.{FitsSigned, w64, to_z, of_z}

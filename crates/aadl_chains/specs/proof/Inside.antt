@@ -34,8 +34,8 @@ abbrev pub outer_end : Direction → Wire → Option PortPlace
 outer_end directions.In wire = wire.source
 outer_end directions.Out wire = wire.target
 
--- Connections lead from an in port of an implementation to a thread's in port, or to its out port from a thread's out port: the port is
--- the thread's own, or is joined to such a port of a subcomponent.
+-- Connections lead from an in port of an implementation to a thread's in port, or to its out port from a thread's out
+-- port: the port is the thread's own, or is joined to such a port of a subcomponent.
 pub data Reaches (tree : PackageTree ℕ) (d : Direction) : ℕ → ℕ → Type 0 where
   of_thread : {n port : ℕ} → is_thread_at tree n ≡ true → is_way d (is_in_at tree n port) ≡ true → Reaches tree d n port
   of_inner : {n port : ℕ} (s p m : ℕ) (wire : Wire) → is_thread_at tree n ≡ false → Contains (wires_at tree n) wire

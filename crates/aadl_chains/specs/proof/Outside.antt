@@ -1,4 +1,5 @@
--- Ports of implementations that connections join to threads or to the root's ports outside, at some place where they stand.
+-- Ports of implementations that connections join to threads or to the root's ports outside, at some place where they
+-- stand.
 use Rattle.std.specs.Prelude.{◌≡◌, ◌⊎◌, ℕ, Bool, false, ◌||◌, nat_eq, List, Option, Some, None, Contains, if◌then◌else◌}
 use Rattle.aadl_tree.specs.declared.declarations.Direction.{Direction}
 use Rattle.aadl_tree.specs.Declarations.{PackageTree}
@@ -16,8 +17,9 @@ abbrev pub opposite : Direction → Direction
 opposite directions.In = directions.Out
 opposite directions.Out = directions.In
 
--- Connections lead to an in port of an implementation from a thread's out port or a root in port, or lead on from its out port to a
--- thread's in port or a root out port: the port is the root's, or a connection around the implementation joins it to such a port.
+-- Connections lead to an in port of an implementation from a thread's out port or a root in port, or lead on from its
+-- out port to a thread's in port or a root out port: the port is the root's, or a connection around the
+-- implementation joins it to such a port.
 pub data LeadsOut (tree : PackageTree ℕ) (root : ℕ) (d : Direction) : ℕ → ℕ → Type 0 where
   of_root : {n port : ℕ} → n ≡ root → LeadsOut tree root d n port
   of_own : {n port : ℕ} (k s q : ℕ) (wire : Wire) → Contains (wires_at tree k) wire

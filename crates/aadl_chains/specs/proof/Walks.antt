@@ -1,4 +1,5 @@
--- The walk back from an in port: from one component up to the next around it, until a connection between two subcomponents, or the root.
+-- The walk back from an in port: from one component up to the next around it, until a connection between two
+-- subcomponents, or the root.
 use Rattle.std.specs.Prelude.{◌≡◌, ℕ, true, List, [], ◌∷◌, Option, Some, None}
 use Rattle.aadl_tree.specs.Declarations.{PackageTree}
 use Rattle.aadl_names.specs.declared.site.PortPlace.{PortPlace}
@@ -18,7 +19,8 @@ pub record Crossing : Type 0 where
   pub sub : ℕ
   pub port : ℕ
 
--- where the walk ends: at a port into which no connection goes, at a port of the root, by the last connection that was passed, or at a crossing
+-- where the walk ends: at a port into which no connection goes, at a port of the root, by the last connection that
+-- was passed, or at a crossing
 pub data Climb : Type 0 where
   nowhere : Climb
   at_root : Option ℕ → ℕ → Climb

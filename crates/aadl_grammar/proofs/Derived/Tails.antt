@@ -129,7 +129,8 @@ abbrev pub distinct : List Class → Bool
 distinct [] = true
 distinct (c ∷ cs) = not (among (class_number c) cs) && distinct cs
 
--- What may stand behind the symbols, one behind another, decides where each ends; the first list is what may not stand behind all of them.
+-- What may stand behind the symbols, one behind another, decides where each ends; the first list is what may not
+-- stand behind all of them.
 abbrev pub settled : List Class → List Symbol → Bool
 settled outer [] = true
 settled outer (x ∷ f) = apart (first_of f) (tail x) && ((not (nullable f) || covers (tail x) outer) && settled outer f)

@@ -93,8 +93,8 @@ fate_after outer None at more = syntax_at at
 fate_after outer (Some wanted) at more =
     if nat_lt GREATEST_NESTING (outer + depth wanted) then deep_at at else more wanted
 
--- What comes of the terminals where the stack is wanted. The first number is how many openers are open outside, and the second is
--- the end of the text.
+-- What comes of the terminals where the stack is wanted. The first number is how many openers are open outside, and
+-- the second is the end of the text.
 unfoldable pub fate : ℕ → ℕ → Stack → List Spot → Fate
 fate outer end wanted [] = if ends wanted then finished else syntax_at end
 fate outer end wanted (x ∷ xs) = fate_after outer (step wanted x.kind) x.at (λ next. fate outer end next xs)

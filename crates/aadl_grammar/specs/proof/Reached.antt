@@ -12,7 +12,8 @@ use Rattle.aadl_tree.specs.declared.mark.Mark.TheVariants as k
 abbrev pub is_word : Mark → Bool
 is_word m = list_all is_ascii_lowercase (mark_text m)
 
--- The symbol is wanted first, or behind a terminal that another such symbol begins with. Behind a `{**` the inside of an annex begins.
+-- The symbol is wanted first, or behind a terminal that another such symbol begins with. Behind a `{**` the inside of
+-- an annex begins.
 pub data Stands (first : List Symbol) : Symbol → Type 0 where
   at_first : (x : Symbol) → Contains first x → Stands first x
   later : (x y : Symbol) (row : Row) → Stands first x → Contains (rows x) row → row.first ≢ the k.AnnexOpen

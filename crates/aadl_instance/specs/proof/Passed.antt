@@ -28,7 +28,8 @@ use Rattle.aadl_chains.specs.declared.walks.ChainStart.TheVariants as begins
 abbrev pub paths_of : List (Vec ℕ Global) → List (List ℕ)
 paths_of threads = map (λ path. reverse path.items) threads
 
--- What is known of a package in which the lines before find nothing, of an order of its declarations, and of the paths of its threads.
+-- What is known of a package in which the lines before find nothing, of an order of its declarations, and of the
+-- paths of its threads.
 pub record IsSettled (tree : PackageTree ℕ) (keys : List ℕ) (root : ℕ) (paths : List (List ℕ)) : Type 0 where
   pub sequence : IsOrder (containment tree) keys
   pub declared : AreDeclared tree

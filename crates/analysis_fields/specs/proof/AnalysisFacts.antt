@@ -9,7 +9,8 @@ use Rattle.analysis_fields.specs.declared.limits.TheConstants.{REPLICAS}
 use Rattle.analysis_fields.specs.declared.processors.Processor.{Processor}
 use Rattle.analysis_fields.specs.Replicas.{source_in, is_among, copies_at}
 
--- a replica of a component sends one value for each of its steps, on a link that goes out from it, to a replica of the target
+-- a replica of a component sends one value for each of its steps, on a link that goes out from it, to a replica of
+-- the target
 pub record IsFaultOf (design : DesignParts) (replicas : List NodeNo) (f : RoundFault) : Type 0 where
   pub source : source_in (slice_get design.links f.fault.link.0) ≡ f.fault.source.0
   pub replicated : is_among replicas f.fault.source.0 ≡ true

@@ -1,5 +1,5 @@
--- That each Boolean is 0 or 1 in each run that a scenario gives: of the composition, of rounds that are voted on, of fused
--- composition, and of the bus.
+-- That each Boolean is 0 or 1 in each run that a scenario gives: of the composition, of rounds that are voted on, of
+-- fused composition, and of the bus.
 use Rattle.std.specs.Prelude.{◌≡◌, ℕ, List, Some, slice_get}
 use Rattle.pals_model.specs.declared.design.Component.{Component}
 use Rattle.pals_model.specs.declared.design.Link.{Link}

@@ -1,4 +1,5 @@
--- What `run` answers to a bundle. Which of several answers comes, the order decides in which the nodes act; a run in time has one.
+-- What `run` answers to a bundle. Which of several answers comes, the order decides in which the nodes act; a run in
+-- time has one.
 use Rattle.std.specs.Prelude.{◌≡◌, ◌≢◌, ◌⊎◌, ℕ, Bool, true, false, List, [], ◌∷◌, ◌++◌, Some, None}
 use Rattle.pals_clock.specs.declared.clock.Clocks.TheVariants.{Meet}
 use Rattle.pals_model.specs.declared.design.DesignParts.{DesignParts}
@@ -61,7 +62,8 @@ ShowsRounds run true text =
 abbrev pub IsSynchronous : DesignParts → Scenario → Bool → ℕ → List ℕ → Type 0
 IsSynchronous design scenario trace status text = (status ≡ DONE) × ShowsRounds (run_of design scenario) trace text
 
--- where the picks of each node reach its last target, as where nodes meet, it is done with the rounds of the composition
+-- where the picks of each node reach its last target, as where nodes meet, it is done with the rounds of the
+-- composition
 abbrev pub DoneInTime : Type 0
 DoneInTime = InRunAnswers (λ design scenario trace status text. AreShort design → IsInTime design scenario
     → AllPicked (run_of design scenario) scenario.clocks → IsSynchronous design scenario trace status text)
@@ -86,8 +88,8 @@ abbrev pub DoneTracesAreSound : Type 0
 DoneTracesAreSound = InRunAnswers (λ design scenario trace status text. trace ≡ true → status ≡ DONE
     → verdict (run_of design scenario) (lines_of text) ≡ Sound scenario.rounds None)
 
--- and the text of a run that stopped, with its stop: the rows of some rounds of the composition, and then a journal, whose last line
--- is the stop
+-- and the text of a run that stopped, with its stop: the rows of some rounds of the composition, and then a journal,
+-- whose last line is the stop
 pub record IsStoppedTrace (run : Run) (text : List ℕ) : Type 0 where
   pub rows : ℕ
   pub why : Stop

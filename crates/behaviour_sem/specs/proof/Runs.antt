@@ -28,7 +28,8 @@ abbrev pub Runs : Result (Unit {0}) EarlyEnd → (Frame → List Bool → List P
 Runs result meant inputs before after =
     Left result (effect_of after) (meant (seen before.0.items inputs) (fresh inputs) before.1)
 
--- a run with this answer of the first branch whose guard is true, if there is one, goes from these values to those as is meant
+-- a run with this answer of the first branch whose guard is true, if there is one, goes from these values to those as
+-- is meant
 abbrev pub RunsFirst : Result Bool EarlyEnd → Branches → StepInputs → Values → Values → Type 0
 RunsFirst result branches inputs before after =
     (otherwise : Result Effect Trap)

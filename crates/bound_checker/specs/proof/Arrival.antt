@@ -1,4 +1,5 @@
--- When the messages of a round are sent and arrive, and when rounds start. Times are nanoseconds of the world, readings those of a node's clock.
+-- When the messages of a round are sent and arrive, and when rounds start. Times are nanoseconds of the world,
+-- readings those of a node's clock.
 use Rattle.std.specs.Prelude.{ℕ, ◌+◌, ◌-◌, ◌*◌, ◌<◌, ◌≤◌, max}
 use Rattle.pals_base.specs.declared.values.Gamma.{Gamma}
 use Rattle.pals_base.specs.Bound.{step_period, sent_steps, release, alarm}
@@ -14,8 +15,8 @@ pub record IsStarted (g : Gamma) (t round : ℕ) (time reading : ℕ) : Type 0 w
   pub due : alarm t round ≤ reading
   pub prompt : time < alarm t round + g.eps
 
--- a node of rate k sends its message of a round: its clock reads the release, and it does not wait longer than it has to
--- for the clock or for the last step that is sent, which starts in time and executes for at most alpha_max
+-- a node of rate k sends its message of a round: its clock reads the release, and it does not wait longer than it has
+-- to for the clock or for the last step that is sent, which starts in time and executes for at most alpha_max
 pub record IsSent (g : Gamma) (t k round : ℕ) (finished time reading : ℕ) : Type 0 where
   pub clock : IsNear g time reading
   pub due : release g t k round ≤ reading

@@ -3,7 +3,8 @@ use Rattle.std.specs.Prelude.{◌≡◌, ℕ, ◌+◌, ◌*◌, ◌%◌, ◌≤�
 use Rattle.std.specs.Int.{◌∣◌}
 use Rattle.pals_base.specs.declared.limits.TheConstants.{HOUR}
 
--- d divides a and b, and what divides the same multiple of both divides that multiple of d; with n = 1: each common divisor divides d
+-- d divides a and b, and what divides the same multiple of both divides that multiple of d; with n = 1: each common
+-- divisor divides d
 pub record IsGreatestDivisor (a b d : ℕ) : Type 0 where
   pub left : d ∣ a
   pub right : d ∣ b

@@ -16,7 +16,8 @@ use Rattle.code_listing.specs.Listings.{listing}
 use Rattle.code_listing.specs.Numbers.{AllFit}
 
 -- ---- what is told
--- a component: its path and rate, its ports and variables, the names of its states, the number of the initial one, and its code
+-- a component: its path and rate, its ports and variables, the names of its states, the number of the initial one,
+-- and its code
 pub record ToldComponent : Type 0 where
   pub path : List ℕ
   pub rate : ℕ

@@ -1,4 +1,5 @@
--- What lists of properties say of components: the period and the dispatch, by the numbers of declarations and subcomponents.
+-- What lists of properties say of components: the period and the dispatch, by the numbers of declarations and
+-- subcomponents.
 use Rattle.std.specs.Prelude.{ℕ, Bool, List, [], map, codes, Option, Some, None, option_map, slice_get}
 use Rattle.std.specs.Option.{option_and_then, option_or}
 use Rattle.aadl_tree.specs.Values.{Association, Associations}

@@ -32,7 +32,8 @@ pub record HasWords (tree : PackageTree ℕ) : Type 0 where
 abbrev pub Differ : List SpelledName → Type 0
 Differ xs = AllPairs (λ (x y : SpelledName). same_name x.name y.name ≡ false) xs
 
--- among the ports, subcomponents and connections of an implementation, and among the ports and variables, and the states, of a thread's
+-- among the ports, subcomponents and connections of an implementation, and among the ports and variables, and the
+-- states, of a thread's
 pub record NamesDiffer (tree : PackageTree ℕ) (x : Implementation ℕ) : Type 0 where
   pub members : Differ (port_entries (ports_of tree x) ++ member_entries x)
   pub values : (b : ℕ × AnnexTree ℕ) → slice_get (behaviours x.annexes) 0 ≡ Some b → is_thread x.category ≡ true

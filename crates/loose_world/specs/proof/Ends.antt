@@ -13,8 +13,8 @@ IsOneLeft end.All s t journal more = (s ≡ t) × (journal ≡ more)
 IsOneLeft (end.Stopped why) s t journal more = (s ≡ t) × (journal ≡ more)
 IsOneLeft (end.Refused index fault) s t journal more = ⊤
 
--- two ends are one: in both all events are steps, or the same stop is given, or the same event is not allowed, for the same
--- fault; and what they leave is one
+-- two ends are one: in both all events are steps, or the same stop is given, or the same event is not allowed, for
+-- the same fault; and what they leave is one
 pub record AreOneEnd (how other : LooseEnd) (s t : BusState) (journal more : List JournalEntry) : Type 0 where
   pub end : how ≡ other
   pub left : IsOneLeft how s t journal more

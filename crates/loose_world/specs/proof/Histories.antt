@@ -39,12 +39,14 @@ abbrev pub Undergoes : BusValue → Event → BusValue → Type 0
 Undergoes s e t = Rests s e t ⊎ Makes s e t
 
 -- ---- a list of events
--- a bus undergoes them in order from the opening of a run on, and these lines are told; the codes of the nodes do not matter
+-- a bus undergoes them in order from the opening of a run on, and these lines are told; the codes of the nodes do not
+-- matter
 pub record IsLeftBy (run : Run) (events : List Event) (t : BusValue) (lines : List (List ℕ)) : Type 0 where
   pub programs : List CodeParts
   pub undergone : InTurn Undergoes (opening_bus run programs false) events t lines
 
--- a bus is of this run; the journal leads from the run's opening to where the bus stands; and the bus agrees with the composition
+-- a bus is of this run; the journal leads from the run's opening to where the bus stands; and the bus agrees with the
+-- composition
 pub record IsReplayed (run : Run) (t : BusValue) : Type 0 where
   pub run_is : t.run ≡ run
   pub replays : Replays run t.journal t.state

@@ -10,8 +10,9 @@ use Rattle.loose_world.specs.declared.events.LooseEnd.{LooseEnd}
 use Rattle.loose_world.specs.Worlds.{RunsLoosely}
 use Rattle.loose_world.specs.proof.Histories.{IsReplayed}
 
--- however a list of loose events ends, the journal leads to where the bus stands: behind all events, where each happens without
--- a stop; behind the event that gives a stop, up to which the journal goes; and before the event that is not allowed
+-- however a list of loose events ends, the journal leads to where the bus stands: behind all events, where each
+-- happens without a stop; behind the event that gives a stop, up to which the journal goes; and before the event that
+-- is not allowed
 abbrev pub JournalReplays : Type 0
 JournalReplays =
     (run : Run) (programs : List CodeParts) (events : List Event) (how : LooseEnd) (t : BusValue)

@@ -18,7 +18,8 @@ abbrev pub senders : List Event → List ℕ
 senders [] = []
 senders (e ∷ events) = with_sender (sender e) (senders events)
 
--- a round of a node has just been sent: on each link from the node a copy is in flight, the oldest with this round's message
+-- a round of a node has just been sent: on each link from the node a copy is in flight, the oldest with this round's
+-- message
 pub record HasSent (t : BusValue) (node round : ℕ) : Type 0 where
   pub count : (node_at t.state node).count ≡ round + 1
   pub copies : (link : ℕ) → Contains (links_from t.run.design node) link

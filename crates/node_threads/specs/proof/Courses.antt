@@ -1,4 +1,5 @@
--- What the nodes share under the lock: a bus with the clocks of its nodes, which are a run, and what is noted of each node.
+-- What the nodes share under the lock: a bus with the clocks of its nodes, which are a run, and what is noted of each
+-- node.
 use Rattle.std.specs.Prelude.{◌≡◌, ◌⊎◌, ℕ, ◌<◌, ◌≤◌, Bool, true, false, List, [], length, map, Option, Some, None}
 use Rattle.std.specs.Prelude.{slice_index_or}
 use Rattle.pals_base.specs.declared.limits.TheConstants.{READING, ROUNDS}
@@ -139,7 +140,8 @@ abbrev pub HasSent : BusValue → Clocks → ℕ → ℕ → Type 0
 HasSent b Meet node rounds = Unit {0}
 HasSent b (Lists lists) node rounds = (rounds ≤ sent_rounds (node_at b.state node)) ⊎ HasEnded b.run lists b.state node
 
--- where a link goes to a node, its source has sent the round before the one that this node is to start, or its list has ended
+-- where a link goes to a node, its source has sent the round before the one that this node is to start, or its list
+-- has ended
 abbrev pub IsSentOn : CourseValue → ℕ → Link → Type 0
 IsSentOn c node link = link.target.0 ≡ node → HasSent c.bus c.clocks link.source.0 (node_at c.bus.state node).count
 

@@ -29,8 +29,8 @@ pub record EndsFit (b : BusValue) (clocks : Clocks) (ends : List NodeEnd) : Type
   pub closed : (node : ℕ) → slice_get ends node ≡ Some end.Closed
       → (other : ℕ) × (slice_get ends other ≡ Some end.Memory)
 
--- what comes out of a run: the run is the one that went in; the clocks have come to some place in the same lists; the bus is where
--- the events of a run that keeps to them lead; and the ends fit
+-- what comes out of a run: the run is the one that went in; the clocks have come to some place in the same lists; the
+-- bus is where the events of a run that keeps to them lead; and the ends fit
 pub record IsOutcome (old : BusValue) (clocks : Clocks) (new : BusValue) (ends : List NodeEnd) : Type 0 where
   pub run : new.run ≡ old.run
   pub rules : IsRunOf new.run

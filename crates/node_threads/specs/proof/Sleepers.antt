@@ -35,7 +35,8 @@ IsAbove run s hour node = (least : ℕ) → target_of run s node ≡ Some least 
 abbrev pub IsHourOver : CourseValue → ℕ → Type 0
 IsHourOver c hour = (node : ℕ) → node < length c.bus.run.design.components → IsAbove c.bus.run c.bus.state hour node
 
--- a node that goes on waits: where nodes meet for the hour of its target, and else for its sources, before it starts a round
+-- a node that goes on waits: where nodes meet for the hour of its target, and else for its sources, before it starts
+-- a round
 pub record Waits (c : CourseValue) (hour node : ℕ) : Type 0 where
   pub is_open : IsOpen c node
   pub meets : c.bus.meeting ≡ true → IsAbove c.bus.run c.bus.state hour node

@@ -36,8 +36,8 @@ SolutionGoesOn =
     → ArePairs design pairs →
     IsFused design pairs env (suc rounds) ins → IsFused design pairs env rounds (first_rounds design rounds ins)
 
--- each step goes on from the frame before it, at the vector that it reads, and leaves what it makes: so the steps can be made one
--- after the other
+-- each step goes on from the frame before it, at the vector that it reads, and leaves what it makes: so the steps can
+-- be made one after the other
 abbrev pub StepsAreMade : Type 0
 StepsAreMade =
     (design : DesignParts) (pairs : List Pair) (env : Env) (rounds : ℕ) (ins : Inputs) (node : ℕ) (c : Component)
@@ -79,7 +79,8 @@ abbrev pub WithoutPairs : Type 0
 WithoutPairs = (design : DesignParts) (env : Env) (rounds : ℕ) (ins : Inputs) → IsDesign design →
     IsFused design [] env rounds ins → fused design [] rounds ins ≡ comp design env rounds
 
--- states that follow one another stand where the solution does, and their parts are what the components leave in each round
+-- states that follow one another stand where the solution does, and their parts are what the components leave in each
+-- round
 abbrev pub StatesFollow : Type 0
 StatesFollow =
     (design : DesignParts) (pairs : List Pair) (env : Env) (at : ℕ → FuseState) (rounds : ℕ) (ins : Inputs)

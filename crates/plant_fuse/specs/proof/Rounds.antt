@@ -42,7 +42,8 @@ abbrev pub left_in : DesignParts → Configuration → Inputs → Left
 left_in design before vectors node port step = place_at (rows_in design before vectors node) port step
 
 -- ---- what a step of the round reads, where components leave such values
--- what the source of a link left in the step before; that of the first step is the last place of the link's message before
+-- what the source of a link left in the step before; that of the first step is the last place of the link's message
+-- before
 abbrev pub left_before_by : DesignParts → Configuration → Left → ℕ → Link → ℕ → PortValue
 left_before_by design before left number link zero =
     slice_index_or (slice_index_or before.messages number []) (rate_of design link.source.0 - 1) Absent

@@ -31,7 +31,8 @@ seat_of side = record { partner = side.partner; component = side.wired.component
 abbrev pub brought_at : RoundInputs → Seat → ℕ → PortSource → PortValue
 brought_at round seat step source = slice_index_or (brought round seat.component.rate source) step Absent
 
--- on a link from the partner the value in the row that it left last, and before its first row the last place of the link's message
+-- on a link from the partner the value in the row that it left last, and before its first row the last place of the
+-- link's message
 abbrev pub from_partner : RoundInputs → ℕ → ℕ → Link → Option (List PortValue) → PortValue
 from_partner round rate number link None =
     slice_index_or (slice_index_or round.messages.now number []) (rate - 1) Absent

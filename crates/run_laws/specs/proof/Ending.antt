@@ -36,8 +36,8 @@ abbrev pub EachGoesOn : Type 0
 EachGoesOn = InRuns (λ run clocks journal s. IsEnding run clocks journal)
 
 -- ---- none goes on without end
--- in each round a component starts and finishes each of its steps and sends once, and each link brings one message; and a stop has a
--- line of its own
+-- in each round a component starts and finishes each of its steps and sends once, and each link brings one message;
+-- and a stop has a line of its own
 abbrev pub most_lines : Run → ℕ
 most_lines run =
     run.rounds * (sum_by (λ (c : Component). 2 * c.rate + 1) run.design.components + length run.design.links) + 1

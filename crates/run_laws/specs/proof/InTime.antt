@@ -30,7 +30,8 @@ abbrev pub IsAfterAlarm : Run → ℕ → ℕ → Type 0
 IsAfterAlarm run number round = let source = (link_at run.design number).source.0 in
     round < run.rounds → 0 < (plan_of run.design source).release_offset + delay_of run.delays number round
 
--- each message is in time for the start that takes it, and none is due at a start of its own round, or of an earlier one
+-- each message is in time for the start that takes it, and none is due at a start of its own round, or of an earlier
+-- one
 abbrev pub InTime : Run → Clocks → Type 0
 InTime run Meet = EachLink run (λ number. (round : ℕ) → (IsLate run number round → ⊥) × IsAfterAlarm run number round)
 InTime run (Lists clocks) =
@@ -53,8 +54,8 @@ EndsFirst run Meet s node goal = ⊥
 EndsFirst run (Lists clocks) s node goal =
     (first : IsFirstEnded run clocks s node) × (target (plan_of run.design node) first.ended.0 ≡ goal)
 
--- two runs with the same lists whose nodes have come to their ends are both done, or the same node ends first in both, at the same
--- target
+-- two runs with the same lists whose nodes have come to their ends are both done, or the same node ends first in
+-- both, at the same target
 abbrev pub EndsAreOne : Type 0
 EndsAreOne =
     (run : Run) (one two : Clocks) (journal more : List JournalEntry) (s t : BusState) → IsRunOf run

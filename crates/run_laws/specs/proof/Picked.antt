@@ -15,7 +15,8 @@ use Rattle.run_laws.specs.EachRun.{EachNode}
 use Rattle.run_laws.specs.Picked.{IsPrefix, picks_of, LinesAre}
 
 -- ---- of a node
--- its actions so far were done at its list's picks for them; its clock has picked for these, and at most for the next one
+-- its actions so far were done at its list's picks for them; its clock has picked for these, and at most for the next
+-- one
 pub record IsPicked (plan : Plan) (rounds : ℕ) (clock : ClockState) (n : NodeState) (shown : List ℕ) : Type 0 where
   pub done : ℕ
   pub follows : Follows plan done n

@@ -1,4 +1,5 @@
--- What the verdict says of the trace of a run: the report of the rounds that all nodes have finished, and then the journal.
+-- What the verdict says of the trace of a run: the report of the rounds that all nodes have finished, and then the
+-- journal.
 use Rattle.std.specs.Prelude.{◌≡◌, ℕ, ◌≤◌, All}
 use Rattle.pals_base.specs.declared.limits.TheConstants.{ROUNDS, READING}
 use Rattle.pals_clock.specs.declared.clock.Clocks.{Clocks}

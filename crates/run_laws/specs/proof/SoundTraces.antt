@@ -28,8 +28,9 @@ abbrev pub StopShowsTime : Run → Stop → Type 0
 StopShowsTime run (stop.Missed link round reading cause) = ShowsFrom reading (alarm run.design.period (round + 1))
 StopShowsTime run (stop.Early link round reading) = ShowsFrom reading 0
 
--- an event of a clock shows a reading: a start no less than its round's alarm, a step than its own time, a send than its round's
--- release, and a missed start than the alarm of the round after the message's; and no entry is of a message that is lost or repeated
+-- an event of a clock shows a reading: a start no less than its round's alarm, a step than its own time, a send than
+-- its round's release, and a missed start than the alarm of the round after the message's; and no entry is of a
+-- message that is lost or repeated
 abbrev pub ShowsTime : Run → JournalEntry → Type 0
 ShowsTime run (entry.Arrive link round reading result) = ShowsFrom reading 0
 ShowsTime run (entry.Start node round reading) = ShowsFrom reading (alarm run.design.period round)

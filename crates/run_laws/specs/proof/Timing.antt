@@ -59,7 +59,8 @@ abbrev pub copies : ℕ → List FlightCopy → ℕ
 copies round [] = 0
 copies round (c ∷ cs) = one_if (is_of round c) + copies round cs
 
--- where the message of a round is that its source has sent: once in flight, in its slot, taken by a start, or taken by an early stop
+-- where the message of a round is that its source has sent: once in flight, in its slot, taken by a start, or taken
+-- by an early stop
 pub data Whereabouts (round count : ℕ) (slot : Option (List PortValue)) (flying : ℕ) (taken : Option ℕ) : Type 0 where
   in_flight : flying ≡ 1 → count ≤ round + 1 → (count ≡ round + 1 → slot ≡ None)
       → Whereabouts round count slot flying taken

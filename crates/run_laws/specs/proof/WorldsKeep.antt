@@ -1,5 +1,5 @@
--- What a world keeps while its events are within the bounds: where its clocks, nodes and messages stand against its time. All
--- times and readings are nanoseconds.
+-- What a world keeps while its events are within the bounds: where its clocks, nodes and messages stand against its
+-- time. All times and readings are nanoseconds.
 use Rattle.std.specs.Prelude.{◌≡◌, ℕ, suc, ◌+◌, ◌-◌, ◌*◌, ◌<◌, ◌≤◌, max, nat_eq, nat_lt, ◌&&◌, Bool, true, false, cond}
 use Rattle.std.specs.Prelude.{List, length, Option, Some, None, is_some, slice_index_or}
 use Rattle.std.specs.List.{count_by}
@@ -35,7 +35,8 @@ pub record RunsSince (g : Gamma) (alarm time since : ℕ) : Type 0 where
   pub prompt : since < alarm + g.eps
   pub past : since ≤ time
 
--- what it is to send is finished since a moment, at most the longest execution after the last step that is sent could start
+-- what it is to send is finished since a moment, at most the longest execution after the last step that is sent could
+-- start
 pub record IsReadySince (g : Gamma) (alarm time ready : ℕ) : Type 0 where
   pub prompt : ready < alarm + g.eps + g.alpha_max
   pub past : ready ≤ time
@@ -50,8 +51,8 @@ pub record KeepsNode (g : Gamma) (plan : Plan) (n : NodeState) (time since ready
   pub unsent : may_send plan n ≡ true → IsReadySince g (step_alarm plan n (plan.sent_steps - 1)) time ready
 
 -- ---- what a node has sent
--- a message of a round went into flight at a moment: not before its release was due, and not later than a node waits for its
--- clock, or for the last step that is sent
+-- a message of a round went into flight at a moment: not before its release was due, and not later than a node waits
+-- for its clock, or for the last step that is sent
 pub record IsSentAt (g : Gamma) (plan : Plan) (round time moment : ℕ) : Type 0 where
   pub due : alarm plan.period round + plan.release_offset < moment + g.eps
   pub prompt : moment < alarm plan.period round + g.eps
@@ -79,13 +80,14 @@ waits count slot round = nat_eq count (round + 1) && is_some slot
 abbrev pub taken : ℕ → ℕ → Bool
 taken count round = nat_lt (round + 1) count
 
--- a message that the source has sent is in one place: in flight, in the slot, or taken; one that it has not sent is in none
+-- a message that the source has sent is in one place: in flight, in the slot, or taken; one that it has not sent is
+-- in none
 abbrev pub IsOnce : ℕ → Option (List PortValue) → ℕ → List FlightCopy → ℕ → Type 0
 IsOnce count slot sent flight round =
     copies round flight + one_if (waits count slot round) + one_if (taken count round) ≡ one_if (nat_lt round sent)
 
--- read case by case: one copy is in flight, and its target has not yet started the next round; or the message is in the slot
--- of the target that has started its round; or the target has started the next round
+-- read case by case: one copy is in flight, and its target has not yet started the next round; or the message is in
+-- the slot of the target that has started its round; or the target has started the next round
 pub record Flies (count : ℕ) (slot : Option (List PortValue)) (flight : List FlightCopy) (round : ℕ) : Type 0 where
   pub one_copy : copies round flight ≡ 1
   pub not_in_slot : waits count slot round ≡ false

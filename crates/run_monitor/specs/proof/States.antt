@@ -49,7 +49,8 @@ pub record StandsFor (m : MonitorState) (h : List (List Frame)) : Type 0 where
   pub kept : HasKept m.begun m.forms m.kept h
 
 -- ---- what it has seen
--- the frame of a component that it saw last is that of this row: each form that reads the component has what it says of it
+-- the frame of a component that it saw last is that of this row: each form that reads the component has what it says
+-- of it
 pub record HasSeen (m : MonitorState) (row : List Frame) (node : ℕ) : Type 0 where
   pub each : (k : ℕ) (f : Formula) → slice_get m.forms k ≡ Some f → reads f node ≡ true
       → bit_at m.seen k ≡ further None row f
@@ -78,7 +79,8 @@ pub record AdvancesBy (old new : MonitorState) (answer : Bool) (h : List (List F
   pub stands : StandsFor new (h ++ row ∷ [])
   pub answer_is : answer ≡ holds (whole old) (h ++ row ∷ []) (length h)
 
--- for whatever history it stood for, and whatever row has the frames that it saw at the components that its formula names
+-- for whatever history it stood for, and whatever row has the frames that it saw at the components that its formula
+-- names
 pub record Advances (old new : MonitorState) (answer : Bool) : Type 0 where
   pub forms : new.forms ≡ old.forms
   pub said_is : answer ≡ said new

@@ -6,7 +6,8 @@ use Rattle.scenario_json.specs.declared.scenario.Scenario.{Scenario}
 use Rattle.scenario_json.specs.Scenarios.{Means}
 use Rattle.plant_fuse.specs.Fused.{ArePairs}
 
--- both of a pair are there, at one rate, the plant is linked to its controller alone, and no component stands in two pairs
+-- both of a pair are there, at one rate, the plant is linked to its controller alone, and no component stands in two
+-- pairs
 abbrev pub PairsCanBeFused : Type 0
 PairsCanBeFused =
     (bytes : List ℕ) (command : Command) (design : DesignParts) (scenario : Scenario)

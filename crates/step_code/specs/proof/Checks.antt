@@ -46,7 +46,8 @@ pub record AreSet (old new : List (Option ℕ)) (places : List ℕ) (h : ℕ) : 
   pub kept : (p : ℕ) → ¬ Member places p → slice_get new p ≡ slice_get old p
   pub count : length new ≡ length old
 
--- an instruction finds its operands, no place to which it leads has another height, and each later one has this one from now on
+-- an instruction finds its operands, no place to which it leads has another height, and each later one has this one
+-- from now on
 pub record PassesOn (old new : List (Option ℕ)) (p : ℕ) (i : Instr) (h : ℕ) : Type 0 where
   pub enough : takes i ≤ h
   pub same : ¬ Clashes old (ways p i) (after h i)

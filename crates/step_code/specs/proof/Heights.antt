@@ -54,7 +54,8 @@ abbrev pub Member : {A : Type 0} → List A → A → Type 0
 Member [] x = ⊥
 Member (y ∷ ys) x = (y ≡ x) ⊎ Member ys x
 
--- a path of n instructions from an entry, each of which finds its operands and leads to a later place, comes to a place with a height
+-- a path of n instructions from an entry, each of which finds its operands and leads to a later place, comes to a
+-- place with a height
 abbrev pub Reaches : List Instr → List (Option ℕ) → ℕ → ℕ → ℕ → Type 0
 Reaches code entries zero p h = Member entries (Some p) × (h ≡ 0)
 Reaches code entries (suc n) p h =

@@ -8,7 +8,8 @@ use Rattle.pals_base.specs.Fire.{HasShape, fire}
 use Rattle.step_code.specs.declared.instr.CodeParts.{CodeParts}
 use Rattle.step_code.specs.proof.Exec.{Leaves, exec, has_entry}
 
--- the code has the behaviour's numbers of variables and ports and an entry for exactly its complete states, and each step of it leaves what the behaviour's step leaves
+-- the code has the behaviour's numbers of variables and ports and an entry for exactly its complete states, and each
+-- step of it leaves what the behaviour's step leaves
 pub record Means (c : CodeParts) (b : BehaviourParts) : Type 0 where
   pub vars : c.vars ≡ length b.vars
   pub ins : c.ins ≡ length b.ins

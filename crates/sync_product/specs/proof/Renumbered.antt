@@ -25,8 +25,8 @@ renumbered_feed to feed = record feed { target = renumbered to feed.target }
 abbrev pub renumbered_tap : (ℕ → ℕ) → Tap → Tap
 renumbered_tap to tap = record tap { source = renumbered to tap.source }
 
--- the components of one design have other numbers in the other: component n of the one is component `to n` of the other,
--- and the links and the feeds of the other are those of the one, in whatever order
+-- the components of one design have other numbers in the other: component n of the one is component `to n` of the
+-- other, and the links and the feeds of the other are those of the one, in whatever order
 pub record IsRenumbered (to : ℕ → ℕ) (a b : DesignParts) : Type 0 where
   pub period : b.period ≡ a.period
   pub gamma : b.gamma ≡ a.gamma

@@ -45,7 +45,8 @@ opening_value design codes env rounds = record {
   sent_at = map (λ (_ : Component). []) design.components;
 }
 
--- what every world keeps: its run is one of a design, its nodes do not meet, no stop stands, and its times are within the bounds
+-- what every world keeps: its run is one of a design, its nodes do not meet, no stop stands, and its times are within
+-- the bounds
 pub record KeepsWorld (v : WorldValue) : Type 0 where
   pub rules : IsRunOf v.bus.run
   pub few : v.bus.run.rounds ≤ ROUNDS

@@ -4,7 +4,8 @@ use Rattle.std.specs.Prelude.{Some, slice_get, slice_set, slice_index_or}
 use Rattle.pals_runs.specs.declared.pairs.VoteFault.{VoteFault}
 use Rattle.triple_vote.specs.Replicas.{is_fault}
 
--- a link has nine places: of a replica of its source and one of its target, both numbered from 1; so the first place is 4
+-- a link has nine places: of a replica of its source and one of its target, both numbered from 1; so the first place
+-- is 4
 abbrev pub place : ℕ → ℕ → ℕ → ℕ
 place l replica target = l * 9 + replica * 3 + target
 

@@ -14,7 +14,8 @@ use Rattle.pals_model.specs.Inputs.{rate_of, values_at}
 use Rattle.pals_runs.specs.declared.pairs.VoteFault.{VoteFault}
 use Rattle.triple_vote.specs.Replicas.{Voted, vopening, vnext, vshown_by}
 
--- a design, which of its components have replicas, what stands after some rounds, and what the root out ports showed in the last
+-- a design, which of its components have replicas, what stands after some rounds, and what the root out ports showed
+-- in the last
 pub record VotedState : Type 0 where
   pub design : DesignParts
   pub replicated : List Bool

@@ -1,5 +1,5 @@
--- Schedules: all clocks show the time, each step starts at its alarm and takes the least time, and each message goes out as
--- soon as it may and takes the least time.
+-- Schedules: all clocks show the time, each step starts at its alarm and takes the least time, and each message goes
+-- out as soon as it may and takes the least time.
 use Rattle.std.specs.Prelude.{◌≡◌, ◌≢◌, ℕ, suc, ◌+◌, ◌-◌, ◌*◌, ◌/◌, ◌%◌, ◌<◌, ◌≤◌, max, nat_eq, if◌then◌else◌, List, []}
 use Rattle.std.specs.Prelude.{◌∷◌, ◌++◌, length, replicate, flat_map, position, Option, Some, None}
 use Rattle.pals_base.specs.Bound.{alarm}

@@ -4,7 +4,8 @@ use Rattle.pals_runs.specs.declared.pairs.VoteFault.{VoteFault}
 use Rattle.analysis_texts.proofs.VotedRows.{HasVoted}
 use Rattle.analysis_texts.proofs.replicas.rows.Given as goal
 
--- the product has voted, and the text has the rows, over the rounds before this one; and there is a value for each root in port
+-- the product has voted, and the text has the rows, over the rounds before this one; and there is a value for each
+-- root in port
 abbrev pub invariant-loop-round : goal.invariant-loop-round
 invariant-loop-round l = record {
   design : l.product.design ≡ l.fn.product.design;
