@@ -45,11 +45,11 @@ use Rattle.pals_model.specs.contracts.design.DesignParts.{the_field as design_pa
 use Rattle.pals_model.specs.contracts.design.Design.{the_field as design}
 use Rattle.bus_machine.specs.contracts.plan.Plan.{the_field as plan}
 use Rattle.pals_node.specs.contracts.plan.NodePlan.{the_field as node_plan}
-use Rattle.pals_node.specs.contracts.fields.Fields.{the_field as node_fields, the_type as node_fields_type}
+use Rattle.pals_node.specs.contracts.fields.NodeFields.{the_field as node_fields, the_type as node_fields_type}
 use Rattle.pals_node.specs.contracts.node.Node.{the_field as node}
 use Rattle.pals_bus.specs.contracts.node_list.NodeList.{the_field as node_list}
 use Rattle.pals_bus.specs.contracts.node_list.NodeList.TheInside.{the_type as node_list_inside}
-use Rattle.pals_bus.specs.contracts.fields.Fields.{the_field as bus_fields}
+use Rattle.pals_bus.specs.contracts.fields.BusFields.{the_field as bus_fields}
 use Rattle.pals_bus.specs.contracts.bus.Bus.{the_field as bus}
 use Rattle.node_threads.specs.contracts.course.SharedRun.{the_field as course}
 use Rattle.node_threads.specs.contracts.locked.Locked.{the_field as locked}

@@ -22,7 +22,7 @@ use Rattle.bus_machine.specs.States.{BusState, no_link, node_at, flight_at}
 use Rattle.bus_machine.specs.Machine.{Arrive, arrival, early_stop}
 use Rattle.bus_machine.specs.Replay.{Replays, goes_on, stop_entry}
 use Rattle.pals_node.specs.proof.Values.{NodeValue, with_state}
-use Rattle.pals_bus.specs.declared.fields.Fields.{Fields}
+use Rattle.pals_bus.specs.declared.fields.BusFields.{BusFields}
 use Rattle.pals_bus.specs.proof.Values.{node_value}
 use Rattle.pals_bus.specs.Values.{Happens}
 use Rattle.pals_bus.specs.proof.BusInvariant.{Keeps, owed, run_of, state_of, value_of, copies_in}
@@ -43,7 +43,7 @@ wide_slots None port n count within = absurd (omega (arith, within))
 wide_slots (Some c) port n count within = let is = count c refl in omega (arith, is, within)
 
 -- the target of a link has a slot for it
-pub has_slot : (f : Fields) (link : ℕ) → Keeps f → link < length (arc_value f.design).links
+pub has_slot : (f : BusFields) (link : ℕ) → Keeps f → link < length (arc_value f.design).links
     → (slice_index_or (arc_value f.design).links link no_link).in_port
     < length (node_at (state_of f) (slice_index_or (arc_value f.design).links link no_link).target.0).slots
 has_slot f link keeps within =
@@ -70,7 +70,7 @@ owed_same n m port round tuple is =
     ap₂ (λ p b. (if is_some (running_step p) then 1 else 0) + (if b then 0 else 1))
     (ap (λ (s : NodeState). s.phase) is ∙ kept.1) (ap (λ (s : NodeState). s.sent) is ∙ kept.0)
 
-pub owed_arrived : (f : Fields) (node : ℕ) (m : NodeValue) (port round : ℕ) (tuple : List PortValue) → Keeps f
+pub owed_arrived : (f : BusFields) (node : ℕ) (m : NodeValue) (port round : ℕ) (tuple : List PortValue) → Keeps f
     → node < length f.nodes
     → m ≡ with_state (node_value (value_of f) node) (received (node_at (state_of f) node) port round tuple)
     → sum_by owed (slice_set f.nodes node m) ≡ sum_by owed f.nodes
@@ -87,14 +87,14 @@ tuple_there : (o : Option FlightCopy) (tuple : List PortValue)
 tuple_there None tuple is = absurd (cc)
 tuple_there (Some copy) tuple is = cc
 
-tuple_is : (f t : Fields) (link : LinkNo) (round : ℕ) (tuple : List PortValue) → Takes f t link round (Some tuple)
+tuple_is : (f t : BusFields) (link : LinkNo) (round : ℕ) (tuple : List PortValue) → Takes f t link round (Some tuple)
     → tuple ≡ arriving round (flight_at (state_of f) link.0)
 tuple_is f t link round tuple takes =
     tuple_there (oldest round (slice_index_or f.flights link.0 no_flight).copies) tuple takes.taken
     ∙ ap (λ (copies : List FlightCopy). arriving round copies) (sym (flight_is f.flights link.0))
 
 -- a message was taken, and came to its target
-pub record Comes (f t g : Fields) (link : LinkNo) (round : ℕ) (reading : Option ℕ) (tuple : List PortValue)
+pub record Comes (f t g : BusFields) (link : LinkNo) (round : ℕ) (reading : Option ℕ) (tuple : List PortValue)
     (m : NodeValue) : Type 0 where
   pub takes : Takes f t link round (Some tuple)
   pub node :
@@ -111,7 +111,7 @@ pub record Comes (f t g : Fields) (link : LinkNo) (round : ℕ) (reading : Optio
       ≡ f.journal.items ++ (entry.Arrive link round reading (arrival (run_of f) (state_of f) link round)
       ∷ stop_entry (early_stop link round reading (arrival (run_of f) (state_of f) link round)))
 
-abbrev come : Fields → Fields → Fields → ℕ → NodeValue → Fields
+abbrev come : BusFields → BusFields → BusFields → ℕ → NodeValue → BusFields
 come f t g target m =
     record f {
       nodes = slice_set f.nodes target m;
@@ -121,15 +121,15 @@ come f t g target m =
       journal = g.journal;
     }
 
-come_is : (f t g : Fields) (link : LinkNo) (round : ℕ) (reading : Option ℕ) (tuple : List PortValue) (m : NodeValue)
+come_is : (f t g : BusFields) (link : LinkNo) (round : ℕ) (reading : Option ℕ) (tuple : List PortValue) (m : NodeValue)
     → Comes f t g link round reading tuple m
     → g ≡ come f t g (slice_index_or (arc_value f.design).links link.0 no_link).target.0 m
 come_is f t g link round reading tuple m comes =
     let target = (slice_index_or (arc_value f.design).links link.0 no_link).target.0 in
-    comes.others ∙ ap (λ (k : Fields). let u : Fields =
+    comes.others ∙ ap (λ (k : BusFields). let u : BusFields =
     record k { nodes = slice_set k.nodes target m; stop = g.stop; journal = g.journal } in u) comes.takes.others
 
-pub arrive_happens : (f t g : Fields) (link : LinkNo) (round : ℕ) (reading : Option ℕ) (tuple : List PortValue)
+pub arrive_happens : (f t g : BusFields) (link : LinkNo) (round : ℕ) (reading : Option ℕ) (tuple : List PortValue)
     (m : NodeValue) → Keeps f → f.stop ≡ None → link.0 < length (arc_value f.design).links
     → Comes f t g link round reading tuple m
     → Happens (value_of f) (Arrive link round reading) (value_of g)
@@ -159,7 +159,7 @@ one_stop : (o : Option Stop) → length (stop_entry o) ≤ 1
 one_stop None = omega arith
 one_stop (Some why) = omega arith
 
-pub arrive_keeps_bus : (f t g : Fields) (link : LinkNo) (round : ℕ) (reading : Option ℕ) (tuple : List PortValue)
+pub arrive_keeps_bus : (f t g : BusFields) (link : LinkNo) (round : ℕ) (reading : Option ℕ) (tuple : List PortValue)
     (m : NodeValue) → Keeps f → link.0 < length (arc_value f.design).links → Comes f t g link round reading tuple m
     → Happens (value_of f) (Arrive link round reading) (value_of g)
     → length f.journal.items + sum_by owed f.nodes + 2 ≤ vec_capacity g.journal → Keeps g
@@ -173,7 +173,7 @@ arrive_keeps_bus f t g link round reading tuple m keeps within comes happens roo
     let inside : target < length f.nodes = omega (arith, count, there) in
     let is = come_is f t g link round reading tuple m comes in
     let step : Happens (value_of f) (Arrive link round reading) (value_of (come f t g target m)) =
-    subst (λ (k : Fields). Happens (value_of f) (Arrive link round reading) (value_of k)) is happens in
+    subst (λ (k : BusFields). Happens (value_of f) (Arrive link round reading) (value_of k)) is happens in
     let sent : m.state.sent ≡ (node_at s target).sent = ap (λ (k : NodeValue). k.state.sent) comes.node
     ∙ received_sent (node_at s target) the_link.in_port round tuple in
     let less = owed_arrived f target m the_link.in_port round tuple keeps inside comes.node in
@@ -218,17 +218,17 @@ node_after nodes target port round tuple =
     with_state (node_of nodes target) (received (node_of nodes target).state port round tuple)
 
 -- the node that a message comes to is there
-pub reached_within : (f t : Fields) (link : LinkNo) (round : ℕ) (tuple : Option (List PortValue)) (target : ℕ) → Keeps f
+pub reached_within : (f t : BusFields) (link : LinkNo) (round : ℕ) (tuple : Option (List PortValue)) (target : ℕ) → Keeps f
     → link.0 < length (arc_value f.design).links → Takes f t link round tuple
     → target ≡ (slice_index_or (arc_value f.design).links link.0 no_link).target.0 → target < length t.nodes
 reached_within f t link round tuple target keeps within takes target_is =
     let count = keeps.nodes.count in
     let there = target_within (arc_value f.design) link.0 keeps.design within in
-    let nodes : length t.nodes ≡ length f.nodes = ap (λ (k : Fields). length k.nodes) takes.others in
+    let nodes : length t.nodes ≡ length f.nodes = ap (λ (k : BusFields). length k.nodes) takes.others in
     omega (arith, nodes, count, there, target_is)
 
 -- the node, as it stands then
-node_reached : (f t : Fields) (link : LinkNo) (round : ℕ) (tuple : Option (List PortValue)) (target : ℕ) → Keeps f
+node_reached : (f t : BusFields) (link : LinkNo) (round : ℕ) (tuple : Option (List PortValue)) (target : ℕ) → Keeps f
     → link.0 < length (arc_value f.design).links → Takes f t link round tuple
     → target ≡ (slice_index_or (arc_value f.design).links link.0 no_link).target.0
     → node_of t.nodes target
@@ -237,11 +237,11 @@ node_reached f t link round tuple target keeps within takes target_is =
     let goal = (slice_index_or (arc_value f.design).links link.0 no_link).target.0 in
     let count = keeps.nodes.count in
     let there = target_within (arc_value f.design) link.0 keeps.design within in
-    let nodes : t.nodes ≡ f.nodes = ap (λ (k : Fields). k.nodes) takes.others in
+    let nodes : t.nodes ≡ f.nodes = ap (λ (k : BusFields). k.nodes) takes.others in
     ap₂ (λ (ns : List NodeValue) (k : ℕ). node_of ns k) nodes target_is
     ∙ node_is f goal keeps (omega (arith, count, there))
 
-pub slot_reached : (f t : Fields) (link : LinkNo) (round : ℕ) (tuple : Option (List PortValue))
+pub slot_reached : (f t : BusFields) (link : LinkNo) (round : ℕ) (tuple : Option (List PortValue))
     (target port : ℕ) → Keeps f
     → link.0 < length (arc_value f.design).links → Takes f t link round tuple
     → target ≡ (slice_index_or (arc_value f.design).links link.0 no_link).target.0
@@ -254,7 +254,7 @@ slot_reached f t link round tuple target port keeps within takes target_is port_
     omega (arith, slots, room, port_is)
 
 -- what the node answers is what the machine says
-pub arrival_is : (f t : Fields) (link : LinkNo) (round : ℕ) (tuple : Option (List PortValue)) (target port : ℕ)
+pub arrival_is : (f t : BusFields) (link : LinkNo) (round : ℕ) (tuple : Option (List PortValue)) (target port : ℕ)
     (result : Arrived) → Keeps f → link.0 < length (arc_value f.design).links → Takes f t link round tuple
     → target ≡ (slice_index_or (arc_value f.design).links link.0 no_link).target.0
     → port ≡ (slice_index_or (arc_value f.design).links link.0 no_link).in_port
@@ -264,7 +264,7 @@ arrival_is f t link round tuple target port result keeps within takes target_is 
     answers ∙ ap₂ (λ (k : NodeValue) (p : ℕ). arrived k.state p round)
     (node_reached f t link round tuple target keeps within takes target_is) port_is
 
-pub comes_by : (f t g : Fields) (link : LinkNo) (round : ℕ) (reading : Option ℕ) (tuple : List PortValue)
+pub comes_by : (f t g : BusFields) (link : LinkNo) (round : ℕ) (reading : Option ℕ) (tuple : List PortValue)
     (target port : ℕ)
     (result : Arrived) (first : List JournalEntry) → Keeps f → link.0 < length (arc_value f.design).links
     → Takes f t link round (Some tuple) → target ≡ (slice_index_or (arc_value f.design).links link.0 no_link).target.0
@@ -287,12 +287,12 @@ comes_by f t g link round reading tuple target port result first keeps within ta
     ∙ ap (early_stop link round reading) said in
     let before : List JournalEntry → Arrived → Option Stop → List JournalEntry = λ js a o. js
     ++ (entry.Arrive link round reading a ∷ stop_entry o) in
-    let journal : t.journal.items ≡ f.journal.items = ap (λ (k : Fields). k.journal.items) takes.others in
+    let journal : t.journal.items ≡ f.journal.items = ap (λ (k : BusFields). k.journal.items) takes.others in
     record {
       takes = takes;
       node = ap₂ (λ (k : NodeValue) (p : ℕ). with_state k (received k.state p round tuple)) here port_is;
       others =
-          same ∙ ap (λ (k : ℕ). let u : Fields =
+          same ∙ ap (λ (k : ℕ). let u : BusFields =
           record t { nodes = slice_set t.nodes k m; stop = g.stop; journal = g.journal } in u) target_is;
       stop = stops;
       told =

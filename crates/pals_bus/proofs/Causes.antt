@@ -15,7 +15,7 @@ use Rattle.bus_machine.specs.LinkEvents.{is_in_flight}
 use Rattle.bus_machine.specs.States.{no_link, node_at}
 use Rattle.bus_machine.specs.Stops.{cause_of, rounds_sent_on, sent_rounds}
 use Rattle.pals_node.specs.proof.Values.{NodeValue}
-use Rattle.pals_bus.specs.declared.fields.Fields.{Fields}
+use Rattle.pals_bus.specs.declared.fields.BusFields.{BusFields}
 use Rattle.pals_bus.specs.proof.BusInvariant.{Keeps, copies_in, copies_in_option, run_of, state_of}
 use Rattle.pals_bus.proofs.NodeChanges.{node_here}
 
@@ -38,7 +38,7 @@ copies_got (flight ∷ flights) (suc link) = copies_got flights link
 abbrev cause_by : Bool → Bool → Cause
 cause_by sent flying = if sent then (if flying then InTransit else Lost) else NotSent
 
-pub cause_told : (f : Fields) (link round source sent : ℕ) (n : NodeValue) (flying : Bool) → Keeps f
+pub cause_told : (f : BusFields) (link round source sent : ℕ) (n : NodeValue) (flying : Bool) → Keeps f
     → 0 < length f.nodes → source ≡ (slice_index_or (arc_value f.design).links link no_link).source.0
     → n ≡ slice_index_or f.nodes source n → sent ≡ sent_rounds n.state
     → flying ≡ is_in_flight round (copies_in_option (slice_get f.flights link))

@@ -20,7 +20,7 @@ use Rattle.link_buffers.proofs.Order.{entry_from_test}
 use Rattle.bus_machine.specs.LinkEvents.{is_in_flight}
 use Rattle.bus_machine.specs.States.{flight_at, link_at, no_link}
 use Rattle.pals_model.specs.Flights.{is_of}
-use Rattle.pals_bus.specs.declared.fields.Fields.{Fields}
+use Rattle.pals_bus.specs.declared.fields.BusFields.{BusFields}
 use Rattle.pals_bus.specs.Values.{BusValue}
 use Rattle.pals_bus.specs.proof.BusInvariant.{Keeps, value_of}
 use Rattle.pals_bus.specs.proof.Absent.{no_queue}
@@ -81,7 +81,7 @@ due_counts q e xs true is = kept_counts q e xs is
 due_counts q e xs false is = dropped_counts q e xs is
 
 -- as many entries of a queue are due as copies are in flight
-pub counts_at_first : (f : Fields) (node reading : ℕ) (queue : QueueState) → Keeps f
+pub counts_at_first : (f : BusFields) (node reading : ℕ) (queue : QueueState) → Keeps f
     → queue ≡ slice_index_or f.queues node no_queue → (e : DueEntry)
     → count_by (is_entry e) (filter (is_due_at reading) queue.entries)
     ≡ (if is_due_at reading e then flying (value_of f) node e else 0)
@@ -95,7 +95,7 @@ counts_at_first f node reading queue keeps is e =
     (sym (flight_is f.flights e.link.0)))
 
 -- all messages that are due stand in the queue
-pub left_at_first : (f : Fields) (node reading : ℕ) (queue : QueueState) (due : List DueEntry) → Keeps f
+pub left_at_first : (f : BusFields) (node reading : ℕ) (queue : QueueState) (due : List DueEntry) → Keeps f
     → queue ≡ slice_index_or f.queues node no_queue → AreDueEntries queue reading due
     → AreLeft (value_of f) node reading due
 left_at_first f node reading queue due keeps is are = record {
@@ -316,7 +316,7 @@ there_some b node reading [] counts due =
 there_some b node reading (e ∷ entries) counts due = omega arith
 
 -- some entry of the queue is due just if some message is
-pub due_by_queue : (f : Fields) (node reading : ℕ) (queue : QueueState) → Keeps f
+pub due_by_queue : (f : BusFields) (node reading : ℕ) (queue : QueueState) → Keeps f
     → queue ≡ slice_index_or f.queues node no_queue
     → length (value_of f).state.flights ≡ length (value_of f).run.design.links
     → (count : ℕ) → count ≡ count_by (is_due_at reading) queue.entries → (0 < count) ↔ HasDue (value_of f) node reading

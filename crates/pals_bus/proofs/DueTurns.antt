@@ -13,7 +13,7 @@ use Rattle.bus_machine.specs.LinkEvents.{is_in_flight}
 use Rattle.bus_machine.specs.States.{BusState, flight_at, link_at}
 use Rattle.bus_machine.specs.Machine.{Arrive, arrival, early_stop}
 use Rattle.bus_machine.specs.Replay.{entries, stop_entry}
-use Rattle.pals_bus.specs.declared.fields.Fields.{Fields}
+use Rattle.pals_bus.specs.declared.fields.BusFields.{BusFields}
 use Rattle.pals_bus.specs.Values.{BusValue, Happens}
 use Rattle.pals_bus.specs.proof.BusInvariant.{Keeps, owed, run_of, state_of, value_of}
 use Rattle.pals_bus.specs.proof.Queues.{is_copy_of}
@@ -23,14 +23,14 @@ use Rattle.pals_bus.proofs.DueEntries.{if_some, copy_there, link_there}
 use Rattle.pals_bus.proofs.DueSteps.{first_flies, first_in_flight, is_next, left_after}
 
 -- the first messages have arrived, and the others are left
-pub record Arriving (first now : Fields) (node reading at : ℕ) (due : List DueEntry) : Type 0 where
+pub record Arriving (first now : BusFields) (node reading at : ℕ) (due : List DueEntry) : Type 0 where
   pub keeps : Keeps now
   pub going : now.stop ≡ None
   pub takes : TakesDue node reading (value_of first) (value_of now)
   pub left : AreLeft (value_of now) node reading (drop at due)
   pub room : length now.journal.items + sum_by owed now.nodes + (length due - at) + 4 ≤ vec_capacity now.journal
 
-pub flights_many : (f : Fields) → Keeps f → length (state_of f).flights ≡ length (arc_value f.design).links
+pub flights_many : (f : BusFields) → Keeps f → length (state_of f).flights ≡ length (arc_value f.design).links
 flights_many f keeps = length-map f.flights (λ (k : FlightState). k.copies) ∙ keeps.flight_count
 
 pub next_left : (due : List DueEntry) (at : ℕ) (message : DueEntry) → at < length due
@@ -49,21 +49,21 @@ first_link b node reading x rest many left =
     let found = copy_there (flight_at b.state x.link.0) x parts.1 in
     link_there b x.link.0 found.0 found.1 many found.2
 
-left_now : (first now : Fields) (node reading at : ℕ) (due : List DueEntry) (message : DueEntry)
+left_now : (first now : BusFields) (node reading at : ℕ) (due : List DueEntry) (message : DueEntry)
     → Arriving first now node reading at due → at < length due → message ≡ slice_index_or due at message
     → AreLeft (value_of now) node reading (message ∷ drop (at + 1) due)
 left_now first now node reading at due message so_far within is =
     subst (AreLeft (value_of now) node reading) (next_left due at message within is) so_far.left
 
 -- the next message is in flight on a link of the design
-pub message_link : (first now : Fields) (node reading at : ℕ) (due : List DueEntry) (message : DueEntry)
+pub message_link : (first now : BusFields) (node reading at : ℕ) (due : List DueEntry) (message : DueEntry)
     → Arriving first now node reading at due → at < length due → message ≡ slice_index_or due at message
     → message.link.0 < length (arc_value now.design).links
 message_link first now node reading at due message so_far within is =
     first_link (value_of now) node reading message (drop (at + 1) due) (flights_many now so_far.keeps)
     (left_now first now node reading at due message so_far within is)
 
-pub message_flies : (first now : Fields) (node reading at : ℕ) (due : List DueEntry) (message : DueEntry)
+pub message_flies : (first now : BusFields) (node reading at : ℕ) (due : List DueEntry) (message : DueEntry)
     → Arriving first now node reading at due → at < length due → message ≡ slice_index_or due at message
     → is_in_flight message.round (flight_at (state_of now) message.link.0) ≡ true
 message_flies first now node reading at due message so_far within is =
@@ -71,7 +71,7 @@ message_flies first now node reading at due message so_far within is =
     (left_now first now node reading at due message so_far within is)
 
 -- so its arrival happens
-pub arrives : (now next : Fields) (message : DueEntry) (reading : ℕ) (result : Option Arrived)
+pub arrives : (now next : BusFields) (message : DueEntry) (reading : ℕ) (result : Option Arrived)
     → is_in_flight message.round (flight_at (state_of now) message.link.0) ≡ true
     → IfSome result (λ arrived.
     Happens (value_of now) (Arrive message.link message.round (Some reading)) (value_of next)
@@ -83,7 +83,7 @@ arrives now next message reading None flies some none = absurd (false≢true (sy
 arrives now next message reading (Some arrived) flies some none = some.0
 
 -- it is the next one
-pub takes_more : (first now next : Fields) (node reading at : ℕ) (due : List DueEntry) (message : DueEntry)
+pub takes_more : (first now next : BusFields) (node reading at : ℕ) (due : List DueEntry) (message : DueEntry)
     → Arriving first now node reading at due → at < length due → message ≡ slice_index_or due at message
     → Happens (value_of now) (Arrive message.link message.round (Some reading)) (value_of next)
     → TakesDue node reading (value_of first) (value_of next)
@@ -113,7 +113,7 @@ longer_by_one b c message reading happens going =
     let stop = one_entry why none in
     omega (arith, all, stop)
 
-pub arriving_more : (first now next : Fields) (node reading at : ℕ) (due : List DueEntry) (message : DueEntry)
+pub arriving_more : (first now next : BusFields) (node reading at : ℕ) (due : List DueEntry) (message : DueEntry)
     → Arriving first now node reading at due → at < length due → message ≡ slice_index_or due at message
     → Happens (value_of now) (Arrive message.link message.round (Some reading)) (value_of next) → Keeps next
     → next.stop ≡ None → sum_by owed next.nodes ≡ sum_by owed now.nodes

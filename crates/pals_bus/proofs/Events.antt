@@ -12,7 +12,7 @@ use Rattle.bus_machine.specs.States.{BusState}
 use Rattle.bus_machine.specs.Machine.{BusEvent, is_allowed, after}
 use Rattle.bus_machine.specs.Replay.{Replays, goes_on, entries}
 use Rattle.pals_node.specs.proof.Values.{NodeValue, with_state}
-use Rattle.pals_bus.specs.declared.fields.Fields.{Fields}
+use Rattle.pals_bus.specs.declared.fields.BusFields.{BusFields}
 use Rattle.pals_bus.specs.Values.{BusValue, Happens}
 use Rattle.pals_bus.specs.proof.Values.{codes_in, node_value}
 use Rattle.pals_bus.specs.proof.BusInvariant.{AreNodes, HasRooms, Keeps, copies_in, owed, run_of, state_of, value_of}
@@ -22,7 +22,7 @@ use Rattle.pals_bus.proofs.NodeChanges.{states, states-set, codes-set, same_node
 use Rattle.pals_bus.proofs.Rooms.{rooms_kept}
 
 -- what contracts see of a bus where one node, the flights, the stop and the journal have changed
-abbrev pub changed : Fields → ℕ → NodeValue → List FlightState → Option Stop → List JournalEntry → BusValue
+abbrev pub changed : BusFields → ℕ → NodeValue → List FlightState → Option Stop → List JournalEntry → BusValue
 changed f node m flights stop journal = record (value_of f) {
   codes = codes_in (slice_set f.nodes node m);
   state = record { nodes = states (slice_set f.nodes node m); flights = copies_in flights; stop = stop };
@@ -30,7 +30,7 @@ changed f node m flights stop journal = record (value_of f) {
 }
 
 -- an event that changes one node
-pub node_happens : (f : Fields) (e : BusEvent) (node : ℕ) (m : NodeValue) (s : NodeState) (flights : List FlightState)
+pub node_happens : (f : BusFields) (e : BusEvent) (node : ℕ) (m : NodeValue) (s : NodeState) (flights : List FlightState)
     (copies : List (List FlightCopy)) (stop : Option Stop) (journal : List JournalEntry)
     → Keeps f → f.stop ≡ None → node < length f.nodes → m ≡ with_state (node_value (value_of f) node) s
     → copies_in flights ≡ copies → is_allowed (run_of f) (state_of f) e ≡ true
@@ -55,7 +55,7 @@ node_happens f e node m s flights copies stop journal keeps going within is same
 }
 
 -- an event that changes flights alone
-pub flights_happen : (f : Fields) (e : BusEvent) (flights : List FlightState) (copies : List (List FlightCopy))
+pub flights_happen : (f : BusFields) (e : BusEvent) (flights : List FlightState) (copies : List (List FlightCopy))
     (journal : List JournalEntry)
     → f.stop ≡ None → copies_in flights ≡ copies → is_allowed (run_of f) (state_of f) e ≡ true
     → after (run_of f) (state_of f) e ≡ record (state_of f) { flights = copies }
@@ -74,7 +74,7 @@ flights_happen f e flights copies journal going same allowed after_is told = rec
 }
 
 -- what a bus keeps after an event
-pub keeps_event : (f g : Fields) (e : BusEvent) → Keeps f
+pub keeps_event : (f g : BusFields) (e : BusEvent) → Keeps f
     → g ≡ record f {
       nodes = g.nodes;
       flights = g.flights;
@@ -113,7 +113,7 @@ keeps_event f g e keeps same values nodes flights rooms queues happens place =
     subst Keeps (sym same) all
 
 -- what a bus keeps with more room, and with other values read
-pub keeps_room : (f g : Fields) → Keeps f
+pub keeps_room : (f g : BusFields) → Keeps f
     → g ≡ record f { flights = g.flights; queues = g.queues; journal = g.journal; values = g.values }
     → length g.values.items ≡ length f.values.items → length g.flights ≡ length f.flights
     → copies_in g.flights ≡ copies_in f.flights
@@ -145,7 +145,7 @@ keeps_room f g keeps same values flights copies less queues items more =
     subst Keeps (sym same) all
 
 -- and its value is as before
-pub value_room : (f g : Fields)
+pub value_room : (f g : BusFields)
     → g ≡ record f { flights = g.flights; queues = g.queues; journal = g.journal; values = g.values }
     → copies_in g.flights ≡ copies_in f.flights → g.journal.items ≡ f.journal.items → value_of g ≡ value_of f
 value_room f g same copies items =

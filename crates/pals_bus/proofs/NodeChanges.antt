@@ -23,7 +23,7 @@ use Rattle.bus_machine.specs.Plans.{component_at}
 use Rattle.bus_machine.specs.States.{no_node}
 use Rattle.bus_machine.proofs.Nodes.{finish_keeps}
 use Rattle.pals_node.specs.proof.Values.{Program, NodeValue, with_state}
-use Rattle.pals_bus.specs.declared.fields.Fields.{Fields}
+use Rattle.pals_bus.specs.declared.fields.BusFields.{BusFields}
 use Rattle.pals_bus.specs.proof.Values.{AreCodes, codes_in, no_code, code_at, node_value}
 use Rattle.pals_bus.specs.proof.BusInvariant.{IsNodeOf, AreNodes, Keeps, owed, value_of}
 use Rattle.pals_bus.specs.proof.Absent.{no_node_value}
@@ -32,7 +32,7 @@ abbrev pub states : List NodeValue → List NodeState
 states nodes = map (λ (n : NodeValue). n.state) nodes
 
 -- a node is the one that contracts see
-pub node_shown : (f : Fields) (node : ℕ) → AreNodes (arc_value f.design) f.rounds f.nodes → node < length f.nodes
+pub node_shown : (f : BusFields) (node : ℕ) → AreNodes (arc_value f.design) f.rounds f.nodes → node < length f.nodes
     → slice_index_or f.nodes node no_node_value ≡ node_value (value_of f) node
 node_shown f node are within =
     let n = slice_index_or f.nodes node no_node_value in
@@ -45,11 +45,11 @@ node_shown f node are within =
     ∙ ap₂ (λ (r : ℕ) (s : NodeState).
     record { program = (node_value (value_of f) node).program; rounds = r; state = s }) is.rounds_are (sym state)
 
-pub node_is : (f : Fields) (node : ℕ) → Keeps f → node < length f.nodes
+pub node_is : (f : BusFields) (node : ℕ) → Keeps f → node < length f.nodes
     → slice_index_or f.nodes node no_node_value ≡ node_value (value_of f) node
 node_is f node keeps within = node_shown f node keeps.nodes within
 
-pub node_here : (f : Fields) (node : ℕ) (n : NodeValue) → Keeps f → node < length f.nodes
+pub node_here : (f : BusFields) (node : ℕ) (n : NodeValue) → Keeps f → node < length f.nodes
     → n ≡ slice_index_or f.nodes node n → n ≡ node_value (value_of f) node
 node_here f node n keeps within is =
     is ∙ get_or_default f.nodes node n no_node_value within ∙ node_is f node keeps within
@@ -107,7 +107,7 @@ nodes-set design rounds nodes at m are within same = record {
 }
 
 -- a node whose state alone has changed
-pub same_node : (f : Fields) (node : ℕ) (m : NodeValue) (s : NodeState) → Keeps f → node < length f.nodes
+pub same_node : (f : BusFields) (node : ℕ) (m : NodeValue) (s : NodeState) → Keeps f → node < length f.nodes
     → m ≡ with_state (node_value (value_of f) node) s → IsSameNode (slice_index_or f.nodes node no_node_value) m
 same_node f node m s keeps within is =
     let here = node_is f node keeps within in

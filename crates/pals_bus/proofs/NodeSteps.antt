@@ -21,7 +21,7 @@ use Rattle.bus_machine.proofs.Nodes.{finish_keeps}
 use Rattle.pals_node.specs.declared.answers.StartEnd.TheVariants as start
 use Rattle.pals_node.specs.proof.Values.{NodeValue, JobValue, with_state}
 use Rattle.pals_node.specs.proof.Answers.{Starts, StartEnds, Steps, Finishes}
-use Rattle.pals_bus.specs.declared.fields.Fields.{Fields}
+use Rattle.pals_bus.specs.declared.fields.BusFields.{BusFields}
 use Rattle.pals_bus.specs.proof.Values.{node_value}
 use Rattle.pals_bus.specs.Values.{Happens}
 use Rattle.pals_bus.specs.proof.Answers.{StartsRound, MissesMessage, StepsOn}
@@ -38,7 +38,7 @@ use Rattle.pals_bus.proofs.AfterEvents.{step_after, finish_allowed, finish_after
 use Rattle.pals_bus.proofs.NodeTurns.{turn_shown}
 
 -- ---- any of them
-node_event : (f g : Fields) (e : BusEvent) (node : ℕ) (m : NodeValue) (s : NodeState) → Keeps f → f.stop ≡ None
+node_event : (f g : BusFields) (e : BusEvent) (node : ℕ) (m : NodeValue) (s : NodeState) → Keeps f → f.stop ≡ None
     → node < length f.nodes → m ≡ with_state (node_value (value_of f) node) s
     → g ≡ record f { nodes = slice_set f.nodes node m; journal = g.journal }
     → is_allowed (run_of f) (state_of f) e ≡ true → after (run_of f) (state_of f) e ≡ with_node (state_of f) node s
@@ -48,7 +48,7 @@ node_event f g e node m s keeps going within is same allowed after_is told =
     (node_happens f e node m s f.flights (copies_in f.flights) f.stop g.journal.items keeps going within is refl
     allowed after_is told)
 
-node_keeps : (f g : Fields) (e : BusEvent) (node : ℕ) (m : NodeValue) (s : NodeState) → Keeps f → node < length f.nodes
+node_keeps : (f g : BusFields) (e : BusEvent) (node : ℕ) (m : NodeValue) (s : NodeState) → Keeps f → node < length f.nodes
     → m ≡ with_state (node_value (value_of f) node) s
     → g ≡ record f { nodes = slice_set f.nodes node m; journal = g.journal }
     → HasRooms (arc_value f.design).links (slice_set f.nodes node m) f.flights
@@ -56,9 +56,9 @@ node_keeps : (f g : Fields) (e : BusEvent) (node : ℕ) (m : NodeValue) (s : Nod
     → Happens (value_of f) e (value_of g)
     → length g.journal.items + sum_by owed (slice_set f.nodes node m) ≤ vec_capacity g.journal → Keeps g
 node_keeps f g e node m s keeps within is same rooms queues happens place =
-    let h : Fields = record f { nodes = slice_set f.nodes node m; journal = g.journal } in
+    let h : BusFields = record f { nodes = slice_set f.nodes node m; journal = g.journal } in
     let step : Happens (value_of f) e (value_of h) =
-    subst (λ (k : Fields). Happens (value_of f) e (value_of k)) same happens in
+    subst (λ (k : BusFields). Happens (value_of f) e (value_of k)) same happens in
     let all : Keeps h = record {
       design = keeps.design;
       outgoing = keeps.outgoing;
@@ -81,7 +81,7 @@ pub longer : (new old : List JournalEntry) (x : JournalEntry) → new ≡ old ++
 longer new old x is = ap length is ∙ length-append old (x ∷ [])
 
 -- ---- Start
-pub start_happens : (f g : Fields) (node : NodeNo) (reading : Option ℕ) (m : NodeValue)
+pub start_happens : (f g : BusFields) (node : NodeNo) (reading : Option ℕ) (m : NodeValue)
     (values : List PortValue) (round : ℕ)
     (job : JobValue) → Keeps f → f.stop ≡ None → node.0 < length f.nodes
     → Starts (node_value (value_of f) node.0) values reading m job → round ≡ (node_at (state_of f) node.0).count
@@ -112,7 +112,7 @@ start_happens f g node reading m values round job keeps going within starts roun
           (sym (turn_shown f g node.0 m (started plan (values_at f.env n.count) n) keeps within all.state same)) all;
     }
 
-pub start_keeps : (f g : Fields) (node : NodeNo) (reading : Option ℕ) (m : NodeValue)
+pub start_keeps : (f g : BusFields) (node : NodeNo) (reading : Option ℕ) (m : NodeValue)
     (values : List PortValue) (round : ℕ)
     (job : JobValue) → Keeps f → node.0 < length f.nodes → Starts (node_value (value_of f) node.0) values reading m job
     → g ≡ record f { nodes = slice_set f.nodes node.0 m; journal = g.journal }
@@ -135,7 +135,7 @@ start_keeps f g node reading m values round job keeps within starts same told ha
     queue_room) happens.happens (omega (arith, more, size, place, capacity))
 
 -- ---- a start that misses a message
-pub start_misses : (f g : Fields) (node : NodeNo) (reading : Option ℕ) (port : ℕ) (why : Stop) → Keeps f → f.stop ≡ None
+pub start_misses : (f g : BusFields) (node : NodeNo) (reading : Option ℕ) (port : ℕ) (why : Stop) → Keeps f → f.stop ≡ None
     → StartEnds (node_value (value_of f) node.0) reading (start.Missed port)
     → why ≡ missed_stop (run_of f) (state_of f) node reading (link_into (arc_value f.design) node.0 port)
     → g ≡ record f { stop = Some why; journal = g.journal }
@@ -163,18 +163,18 @@ start_misses f g node reading port why keeps going misses is same told =
       });
       port = port;
       misses = misses;
-      stops = ap (λ (k : Fields). k.stop) same;
+      stops = ap (λ (k : BusFields). k.stop) same;
     }
 
-pub miss_keeps : (f g : Fields) (node : NodeNo) (reading : Option ℕ) (why : Stop) → Keeps f
+pub miss_keeps : (f g : BusFields) (node : NodeNo) (reading : Option ℕ) (why : Stop) → Keeps f
     → MissesMessage (value_of f) node reading (value_of g) why → g ≡ record f { stop = Some why; journal = g.journal }
     → g.journal.items ≡ f.journal.items ++ entry.Stopped why ∷ []
     → length f.journal.items + sum_by owed f.nodes + 4 ≤ vec_capacity f.journal
     → vec_capacity g.journal ≡ vec_capacity f.journal → Keeps g
 miss_keeps f g node reading why keeps misses same told place capacity =
-    let h : Fields = record f { stop = Some why; journal = g.journal } in
+    let h : BusFields = record f { stop = Some why; journal = g.journal } in
     let step : Happens (value_of f) (Start node reading) (value_of h) =
-    subst (λ (k : Fields). Happens (value_of f) (Start node reading) (value_of k)) same misses.happens in
+    subst (λ (k : BusFields). Happens (value_of f) (Start node reading) (value_of k)) same misses.happens in
     let size = longer g.journal.items f.journal.items (entry.Stopped why) told in
     let all : Keeps h = record {
       design = keeps.design;
@@ -194,7 +194,7 @@ miss_keeps f g node reading why keeps misses same told place capacity =
     subst Keeps (sym same) all
 
 -- ---- Step
-pub step_happens : (f g : Fields) (node : NodeNo) (reading : Option ℕ) (m : NodeValue) (job : JobValue) → Keeps f
+pub step_happens : (f g : BusFields) (node : NodeNo) (reading : Option ℕ) (m : NodeValue) (job : JobValue) → Keeps f
     → f.stop ≡ None → node.0 < length f.nodes → Steps (node_value (value_of f) node.0) reading m job
     → g ≡ record f { nodes = slice_set f.nodes node.0 m; journal = g.journal }
     → g.journal.items ≡ f.journal.items ++ entry.Step node job.work.round job.work.step reading ∷ []
@@ -220,14 +220,14 @@ step_happens f g node reading m job keeps going within steps same told =
     }
 
 -- a node that had not sent before has not now
-pub unsent_before : (f : Fields) (node : ℕ) (m : NodeValue) → Keeps f → node < length f.nodes
+pub unsent_before : (f : BusFields) (node : ℕ) (m : NodeValue) → Keeps f → node < length f.nodes
     → m.state.sent ≡ (node_at (state_of f) node).sent → m.state.sent ≡ false
     → (slice_index_or f.nodes node no_node_value).state.sent ≡ false
 unsent_before f node m keeps within same unsent =
     ap (λ (k : NodeValue). k.state.sent) (node_is f node keeps within) ∙ sym same ∙ unsent
 
 -- the room of its links is as before
-same_rooms : (f : Fields) (node : ℕ) (m : NodeValue) → Keeps f → node < length f.nodes
+same_rooms : (f : BusFields) (node : ℕ) (m : NodeValue) → Keeps f → node < length f.nodes
     → m.state.sent ≡ (node_at (state_of f) node).sent
     → HasRooms (arc_value f.design).links (slice_set f.nodes node m) f.flights
 same_rooms f node m keeps within same =
@@ -238,14 +238,14 @@ same_rooms f node m keeps within same =
     (subst (λ k. (slice_index_or f.nodes k no_node_value).state.sent ≡ false) (sym from)
     (unsent_before f node m keeps within same unsent)))
 
-same_queues : (f : Fields) (node : ℕ) (m : NodeValue) → Keeps f → node < length f.nodes
+same_queues : (f : BusFields) (node : ℕ) (m : NodeValue) → Keeps f → node < length f.nodes
     → m.state.sent ≡ (node_at (state_of f) node).sent
     → AreQueues (arc_value f.design).links (slice_set f.nodes node m) f.flights f.queues
 same_queues f node m keeps within same =
     queues-set (arc_value f.design).links f.nodes f.flights f.queues node m keeps.queues within
     (unsent_before f node m keeps within same)
 
-pub step_keeps : (f g : Fields) (node : NodeNo) (reading : Option ℕ) (m : NodeValue) (job : JobValue) → Keeps f
+pub step_keeps : (f g : BusFields) (node : NodeNo) (reading : Option ℕ) (m : NodeValue) (job : JobValue) → Keeps f
     → node.0 < length f.nodes → Steps (node_value (value_of f) node.0) reading m job
     → g ≡ record f { nodes = slice_set f.nodes node.0 m; journal = g.journal }
     → g.journal.items ≡ f.journal.items ++ entry.Step node job.work.round job.work.step reading ∷ []
@@ -262,7 +262,7 @@ step_keeps f g node reading m job keeps within steps same told happens place cap
     (omega (arith, more, size, place, capacity))
 
 -- ---- Finish
-pub finish_happens : (f g : Fields) (node : NodeNo) (m : NodeValue) (step round : ℕ) → Keeps f → f.stop ≡ None
+pub finish_happens : (f g : BusFields) (node : NodeNo) (m : NodeValue) (step round : ℕ) → Keeps f → f.stop ≡ None
     → node.0 < length f.nodes → Finishes (node_value (value_of f) node.0) m step
     → round ≡ round_of (node_at (state_of f) node.0)
     → g ≡ record f { nodes = slice_set f.nodes node.0 m; journal = g.journal }
@@ -277,7 +277,7 @@ finish_happens f g node m step round keeps going within finishes round_is same t
     (told ∙ ap (λ r. f.journal.items ++ entry.Finish node r ∷ []) round_is)
 
 -- the node owes one entry less
-pub finish_room : (f : Fields) (node : ℕ) (m : NodeValue) (step : ℕ) → Keeps f → node < length f.nodes
+pub finish_room : (f : BusFields) (node : ℕ) (m : NodeValue) (step : ℕ) → Keeps f → node < length f.nodes
     → Finishes (node_value (value_of f) node) m step → sum_by owed (slice_set f.nodes node m) + 1 ≡ sum_by owed f.nodes
 finish_room f node m step keeps within finishes =
     let n = node_value (value_of f) node in
@@ -285,7 +285,7 @@ finish_room f node m step keeps within finishes =
     (owed_finished n (plan_of (arc_value f.design) node) f.rounds step m finishes.0
     (ap (λ (k : NodeValue). k.state) finishes.1) ∙ ap owed (sym (node_is f node keeps within)))
 
-pub finish_keeps_bus : (f g : Fields) (node : NodeNo) (m : NodeValue) (step round : ℕ) → Keeps f
+pub finish_keeps_bus : (f g : BusFields) (node : NodeNo) (m : NodeValue) (step round : ℕ) → Keeps f
     → node.0 < length f.nodes → Finishes (node_value (value_of f) node.0) m step
     → g ≡ record f { nodes = slice_set f.nodes node.0 m; journal = g.journal }
     → g.journal.items ≡ f.journal.items ++ entry.Finish node round ∷ []

@@ -29,7 +29,7 @@ use Rattle.bus_machine.specs.States.{Run, BusState, opening, no_node}
 use Rattle.bus_machine.specs.Replay.{Replays, opens}
 use Rattle.bus_machine.specs.declared.plan.Plan.{Plan}
 use Rattle.pals_node.specs.proof.Values.{NodeValue, Program, program_of, opening_value}
-use Rattle.pals_bus.specs.declared.fields.Fields.{Fields}
+use Rattle.pals_bus.specs.declared.fields.BusFields.{BusFields}
 use Rattle.pals_bus.specs.proof.Values.{AreCodes, codes_in, code_at, no_code, opening_bus}
 use Rattle.pals_bus.specs.proof.BusInvariant.{AreNodes, HasRooms, Keeps, copies_in, owed, run_of, state_of, value_of}
 use Rattle.pals_bus.specs.proof.LinksFrom.{AreOutgoing}
@@ -152,7 +152,7 @@ opening_one design done rounds nodes code n are is =
     }
 
 -- ---- the fields of a bus before the first event
-pub record IsOpening (f : Fields) (all : List CodeParts) : Type 0 where
+pub record IsOpening (f : BusFields) (all : List CodeParts) : Type 0 where
   pub design : IsDesign (arc_value f.design)
   pub outgoing : AreOutgoing (length (arc_value f.design).components) (arc_value f.design).links f.outgoing
   pub rounds : (1 ≤ f.rounds) × (f.rounds ≤ ROUNDS)
@@ -166,7 +166,7 @@ pub record IsOpening (f : Fields) (all : List CodeParts) : Type 0 where
   pub journal : f.journal.items ≡ []
   pub closed : f.closed ≡ false
 
-state_open : (f : Fields) (all : List CodeParts) → IsOpening f all → state_of f ≡ opening (run_of f)
+state_open : (f : BusFields) (all : List CodeParts) → IsOpening f all → state_of f ≡ opening (run_of f)
 state_open f all is =
     let flights : copies_in f.flights ≡ map (λ (_ : Link). no_copies) (arc_value f.design).links =
     ap copies_in is.flights ∙ copies_open (arc_value f.design).links in
@@ -175,7 +175,7 @@ state_open f all is =
     ∙ ap₂ (λ (cs : List (List FlightCopy)) (o : Option Stop). record (opening (run_of f)) { flights = cs; stop = o })
     flights is.stop
 
-pub opening_keeps : (f : Fields) (all : List CodeParts) → IsOpening f all → Keeps f
+pub opening_keeps : (f : BusFields) (all : List CodeParts) → IsOpening f all → Keeps f
 opening_keeps f all is =
     let links = (arc_value f.design).links in
     let owes = owed_open (arc_value f.design) all f.rounds f.nodes is.nodes in
@@ -200,7 +200,7 @@ opening_keeps f all is =
       place = omega (arith, owes, none);
     }
 
-pub opening_shows : (f : Fields) (all : List CodeParts) → IsOpening f all
+pub opening_shows : (f : BusFields) (all : List CodeParts) → IsOpening f all
     → value_of f ≡ opening_bus (run_of f) all f.meeting
 opening_shows f all is =
     ap₂ (λ (cs : List CodeParts) (s : BusState). record (value_of f) { codes = cs; state = s })
@@ -236,7 +236,7 @@ nodes_anew design rounds old new are is =
     }
 
 -- the run of a bus, of parts that are the same
-pub run_anew : (f : Fields) (design : DesignParts) (env : Env) (delays : Delays) → design ≡ arc_value f.design
+pub run_anew : (f : BusFields) (design : DesignParts) (env : Env) (delays : Delays) → design ≡ arc_value f.design
     → env ≡ f.env → delays ≡ f.delays
     → ◌≡◌ {A = Run} (record { design = design; env = env; rounds = f.rounds; delays = delays }) (run_of f)
 run_anew f design env delays design_is env_is delays_is =

@@ -19,7 +19,7 @@ use Rattle.bus_machine.specs.States.{no_link, flight_at}
 use Rattle.bus_machine.specs.Machine.{Repeat}
 use Rattle.bus_machine.specs.Replay.{Replays, goes_on}
 use Rattle.pals_node.specs.proof.Values.{NodeValue}
-use Rattle.pals_bus.specs.declared.fields.Fields.{Fields}
+use Rattle.pals_bus.specs.declared.fields.BusFields.{BusFields}
 use Rattle.pals_bus.specs.Values.{Happens}
 use Rattle.pals_bus.specs.proof.BusInvariant.{HasRooms, Keeps, owed, run_of, state_of, value_of, copies_in}
 use Rattle.pals_bus.specs.proof.Sending.{with_copy}
@@ -88,7 +88,7 @@ queues_repeated links nodes flights queues link copy are few within target spare
 
 -- ---- Repeat
 -- the copy is in flight once more
-pub record Repeats (f g : Fields) (link : LinkNo) (round : ℕ) (copy : FlightCopy) : Type 0 where
+pub record Repeats (f g : BusFields) (link : LinkNo) (round : ℕ) (copy : FlightCopy) : Type 0 where
   pub is_copy : oldest round (slice_index_or f.flights link.0 no_flight).copies ≡ Some copy
   pub flights : g.flights ≡ slice_set f.flights link.0 (with_copy (slice_index_or f.flights link.0 no_flight) copy)
   pub queues :
@@ -98,7 +98,7 @@ pub record Repeats (f g : Fields) (link : LinkNo) (round : ℕ) (copy : FlightCo
   pub others : g ≡ record f { flights = g.flights; queues = g.queues; journal = g.journal }
   pub told : g.journal.items ≡ f.journal.items ++ entry.Repeat link round ∷ []
 
-pub repeat_happens : (f g : Fields) (link : LinkNo) (round : ℕ) (copy : FlightCopy) → f.stop ≡ None
+pub repeat_happens : (f g : BusFields) (link : LinkNo) (round : ℕ) (copy : FlightCopy) → f.stop ≡ None
     → Repeats f g link round copy → Happens (value_of f) (Repeat link round) (value_of g)
 repeat_happens f g link round copy going repeats =
     let s = state_of f in
@@ -116,7 +116,7 @@ repeat_happens f g link round copy going repeats =
     (slice_set (copies_in f.flights) link.0 (repeated round (flight_at s link.0))) g.journal.items going copies
     (ap is_some found) refl repeats.told)
 
-pub repeat_keeps_bus : (f g : Fields) (link : LinkNo) (round : ℕ) (copy : FlightCopy) → Keeps f
+pub repeat_keeps_bus : (f g : BusFields) (link : LinkNo) (round : ℕ) (copy : FlightCopy) → Keeps f
     → link.0 < length (arc_value f.design).links → Repeats f g link round copy
     → Happens (value_of f) (Repeat link round) (value_of g)
     → 2 ≤ (slice_index_or f.flights link.0 no_flight).spare
@@ -128,15 +128,15 @@ repeat_keeps_bus f g link round copy keeps within repeats happens two wide room 
     let t = (slice_index_or links link.0 no_link).target.0 in
     let flights = slice_set f.flights link.0 (with_copy (slice_index_or f.flights link.0 no_flight) copy) in
     let queues = slice_set f.queues t (with_due (slice_index_or f.queues t no_queue) copy.due link copy.round) in
-    let h : Fields = record f { flights = flights; queues = queues; journal = g.journal } in
+    let h : BusFields = record f { flights = flights; queues = queues; journal = g.journal } in
     let is : g ≡ h =
     repeats.others
-    ∙ ap (λ (fs : List FlightState). let u : Fields =
+    ∙ ap (λ (fs : List FlightState). let u : BusFields =
     record f { flights = fs; queues = g.queues; journal = g.journal } in u) repeats.flights
-    ∙ ap (λ (qs : List QueueState). let u : Fields = record f { flights = flights; queues = qs; journal = g.journal } in
+    ∙ ap (λ (qs : List QueueState). let u : BusFields = record f { flights = flights; queues = qs; journal = g.journal } in
     u) repeats.queues in
     let step : Happens (value_of f) (Repeat link round) (value_of h) =
-    subst (λ (k : Fields). Happens (value_of f) (Repeat link round) (value_of k)) is happens in
+    subst (λ (k : BusFields). Happens (value_of f) (Repeat link round) (value_of k)) is happens in
     let size = longer g.journal.items f.journal.items (entry.Repeat link round) repeats.told in
     let flight_count = keeps.flight_count in
     let flies : link.0 < length f.flights = omega (arith, flight_count, within) in
@@ -165,7 +165,7 @@ repeat_keeps_bus f g link round copy keeps within repeats happens two wide room 
     subst Keeps (sym is) all
 
 -- the oldest copy stays with more room, and its own copy is like it
-pub oldest_kept : (f g : Fields) (at round : ℕ) (n : FlightState) (first copy : FlightCopy) → Keeps f
+pub oldest_kept : (f g : BusFields) (at round : ℕ) (n : FlightState) (first copy : FlightCopy) → Keeps f
     → at < length (arc_value f.design).links → copies_in g.flights ≡ copies_in f.flights
     → n ≡ slice_index_or f.flights at n → Some first ≡ oldest round n.copies → copy ≡ first
     → oldest round (slice_index_or g.flights at no_flight).copies ≡ Some copy

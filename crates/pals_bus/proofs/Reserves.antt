@@ -9,7 +9,7 @@ use Rattle.pals_model.specs.declared.design.Link.{Link}
 use Rattle.link_buffers.specs.proof.Flights.{FlightState}
 use Rattle.link_buffers.specs.proof.Queues.{QueueState}
 use Rattle.bus_machine.specs.States.{no_link}
-use Rattle.pals_bus.specs.declared.fields.Fields.{Fields}
+use Rattle.pals_bus.specs.declared.fields.BusFields.{BusFields}
 use Rattle.pals_bus.specs.proof.BusInvariant.{Keeps, copies_in}
 use Rattle.pals_bus.specs.proof.Sending.{NoLessRoom}
 use Rattle.pals_bus.specs.proof.Queues.{NoLessQueueRoom, entries_in}
@@ -19,7 +19,7 @@ use Rattle.pals_bus.proofs.Rooms.{no_less-set}
 use Rattle.pals_bus.proofs.Events.{keeps_room}
 use Rattle.pals_bus.proofs.Taken.{target_within}
 
-pub more_room : (f : Fields) (flights : List FlightState) (queues : List QueueState) → Keeps f
+pub more_room : (f : BusFields) (flights : List FlightState) (queues : List QueueState) → Keeps f
     → copies_in flights ≡ copies_in f.flights → NoLessRoom f.flights flights → entries_in queues ≡ entries_in f.queues
     → NoLessQueueRoom f.queues queues
     → Keeps (record f { flights = flights; queues = queues })
@@ -27,7 +27,7 @@ more_room f flights queues keeps copies less entries more =
     let count : length flights ≡ length f.flights = sym (length-map flights (λ (k : FlightState). k.copies))
     ∙ ap length copies ∙ length-map f.flights (λ (k : FlightState). k.copies) in
     let links = (arc_value f.design).links in
-    let g : Fields = record f { flights = flights; queues = queues } in
+    let g : BusFields = record f { flights = flights; queues = queues } in
     keeps_room f g keeps refl refl count copies less
     (queues_more links f.nodes flights f.queues queues
     (queues_copies links f.nodes f.flights flights f.queues keeps.queues copies) entries more) refl
@@ -68,7 +68,7 @@ queue_less queues at n queue within is more k =
     queue_more queues at k queue within (omega (arith, spare, more))
 
 -- room on one link, and in the queue of its target
-pub message_room : (f : Fields) (ls : List Link) (link : LinkNo) (n flight : FlightState) (q queue : QueueState)
+pub message_room : (f : BusFields) (ls : List Link) (link : LinkNo) (n flight : FlightState) (q queue : QueueState)
     → Keeps f → ls ≡ (arc_value f.design).links → link.0 < length (arc_value f.design).links
     → n ≡ slice_index_or f.flights link.0 n → flight.copies ≡ n.copies → n.spare ≤ flight.spare
     → q ≡ slice_index_or f.queues (slice_index_or ls link.0 no_link).target.0 q → queue.entries ≡ q.entries

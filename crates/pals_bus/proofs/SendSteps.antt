@@ -15,7 +15,7 @@ use Rattle.link_buffers.specs.proof.Flights.{FlightState}
 use Rattle.link_buffers.specs.proof.Queues.{QueueState}
 use Rattle.bus_machine.specs.LinkEvents.{sent_copy}
 use Rattle.bus_machine.specs.States.{link_at, no_link}
-use Rattle.pals_bus.specs.declared.fields.Fields.{Fields}
+use Rattle.pals_bus.specs.declared.fields.BusFields.{BusFields}
 use Rattle.pals_bus.specs.proof.Sending.{is_from, place_of, HasRoomFor, with_copy, AreSent}
 use Rattle.pals_bus.specs.proof.Queues.{AreQueuesAmid, with_due}
 use Rattle.pals_bus.specs.proof.LinksFrom.{no_numbers}
@@ -27,7 +27,7 @@ use Rattle.pals_bus.proofs.Sendings.{place_next, place_within, sent_other, sent_
 use Rattle.pals_bus.proofs.Taken.{target_within}
 
 -- the first links have their messages, and the others are left
-pub record Sending (first now : Fields) (node round : ℕ) (reading : Option ℕ) (messages left : List (List PortValue))
+pub record Sending (first now : BusFields) (node round : ℕ) (reading : Option ℕ) (messages left : List (List PortValue))
     (number : ℕ) : Type 0 where
   pub sent : AreSent node (arc_value first.design).links first.delays round reading messages number
       first.flights now.flights
@@ -36,14 +36,14 @@ pub record Sending (first now : Fields) (node round : ℕ) (reading : Option ℕ
   pub others : now ≡ record first { flights = now.flights; queues = now.queues }
 
 -- what a send begins with
-pub record CanSend (f : Fields) (node : ℕ) (messages : List (List PortValue)) : Type 0 where
+pub record CanSend (f : BusFields) (node : ℕ) (messages : List (List PortValue)) : Type 0 where
   pub design : IsDesign (arc_value f.design)
   pub flights : length f.flights ≡ length (arc_value f.design).links
   pub nodes : length f.nodes ≡ length (arc_value f.design).components
   pub count : length messages ≡ length (filter (is_from node) (arc_value f.design).links)
 
 -- the next link is not the node's
-pub sending_other : (first now : Fields) (node round : ℕ) (reading : Option ℕ) (messages left : List (List PortValue))
+pub sending_other : (first now : BusFields) (node round : ℕ) (reading : Option ℕ) (messages left : List (List PortValue))
     (number : ℕ) → Sending first now node round reading messages left number
     → number < length (arc_value first.design).links
     → is_from node (slice_index_or (arc_value first.design).links number no_link) ≡ false
@@ -68,7 +68,7 @@ same_head : {X : Type 0} (x y : X) (xs ys : List X) → ◌≡◌ {A = List X} (
 same_head x y xs ys is = (cc, cc)
 
 -- the next link is the node's, and its message goes into flight
-pub sending_one : (first now : Fields) (node round : ℕ) (reading : Option ℕ)
+pub sending_one : (first now : BusFields) (node round : ℕ) (reading : Option ℕ)
     (messages left rest : List (List PortValue))
     (link : LinkNo) (tuple : List PortValue) (flight : FlightState) (queue : QueueState) → CanSend first node messages
     → Sending first now node round reading messages left link.0 → link.0 < length (arc_value first.design).links
@@ -118,7 +118,7 @@ sending_one first now node round reading messages left rest link tuple flight qu
           amid_one node links first.nodes now.flights now.queues link copy flight queue so_far.queues within flies
           (eqb-true here.source.0 node from) target (ap (λ (f : FlightState). f.copies) flight_is) queue_is;
       others =
-          ap (λ (k : Fields). let u : Fields =
+          ap (λ (k : BusFields). let u : BusFields =
           record k {
             flights = slice_set now.flights link.0 flight;
             queues = slice_set now.queues here.target.0 queue;
@@ -126,7 +126,7 @@ sending_one first now node round reading messages left rest link tuple flight qu
     }
 
 -- ---- the loop
-pub sending_more : (first now next : Fields) (node round : ℕ) (reading : Option ℕ)
+pub sending_more : (first now next : BusFields) (node round : ℕ) (reading : Option ℕ)
     (messages left rest : List (List PortValue)) (link : LinkNo) (tuple : List PortValue) (copy : FlightCopy)
     → CanSend first node messages → Sending first now node round reading messages left link.0
     → link.0 < length (arc_value first.design).links
@@ -143,21 +143,21 @@ sending_more first now next node round reading messages left rest link tuple cop
     let t = (slice_index_or (arc_value first.design).links link.0 no_link).target.0 in
     let flight = with_copy (slice_index_or now.flights link.0 no_flight) copy in
     let queue = with_due (slice_index_or now.queues t no_queue) copy.due link copy.round in
-    let h : Fields = record now
+    let h : BusFields = record now
     { flights = slice_set now.flights link.0 flight; queues = slice_set now.queues t queue } in
     let same : next ≡ h =
     others
-    ∙ ap (λ (fs : List FlightState). let u : Fields = record now { flights = fs; queues = next.queues } in u) flights
-    ∙ ap (λ (qs : List QueueState). let u : Fields =
+    ∙ ap (λ (fs : List FlightState). let u : BusFields = record now { flights = fs; queues = next.queues } in u) flights
+    ∙ ap (λ (qs : List QueueState). let u : BusFields =
     record now { flights = slice_set now.flights link.0 flight; queues = qs } in u) queues in
     let all : Sending first h node round reading messages rest (link.0 + 1) =
     sending_one first now node round reading messages left rest link tuple flight queue can so_far within from head
     (ap (with_copy (slice_index_or now.flights link.0 no_flight)) is)
     (ap (λ (k : FlightCopy). with_due (slice_index_or now.queues t no_queue) k.due link k.round) is) in
-    subst (λ (k : Fields). Sending first k node round reading messages rest (link.0 + 1)) (sym same) all
+    subst (λ (k : BusFields). Sending first k node round reading messages rest (link.0 + 1)) (sym same) all
 
 -- the link has room for its message
-pub sending_room : (first now : Fields) (node round : ℕ) (reading : Option ℕ) (messages left : List (List PortValue))
+pub sending_room : (first now : BusFields) (node round : ℕ) (reading : Option ℕ) (messages left : List (List PortValue))
     (number : ℕ) → Sending first now node round reading messages left number
     → HasRoomFor node (length (arc_value first.design).links) (arc_value first.design).links first.flights
     → number < length (arc_value first.design).links
@@ -171,7 +171,7 @@ sending_room first now node round reading messages left number so_far room withi
     let same : (slice_index_or now.flights number no_flight).spare ≡ (slice_index_or first.flights number no_flight).spare = ap (λ (f : FlightState). f.spare) (so_far.sent.others number (omega arith)) in
     omega (arith, here, same)
 
-pub sending_queue_room : (first now : Fields) (node round : ℕ) (reading : Option ℕ)
+pub sending_queue_room : (first now : BusFields) (node round : ℕ) (reading : Option ℕ)
     (messages left : List (List PortValue))
     (number : ℕ) → Sending first now node round reading messages left number
     → number < length (arc_value first.design).links
@@ -183,7 +183,7 @@ sending_queue_room first now node round reading messages left number so_far with
     (eqb-true (slice_index_or (arc_value first.design).links number no_link).source.0 node from)
 
 -- a message is left for the link
-pub message_left : (first now : Fields) (node round : ℕ) (reading : Option ℕ) (messages left : List (List PortValue))
+pub message_left : (first now : BusFields) (node round : ℕ) (reading : Option ℕ) (messages left : List (List PortValue))
     (number : ℕ) → CanSend first node messages → Sending first now node round reading messages left number
     → number < length (arc_value first.design).links
     → is_from node (slice_index_or (arc_value first.design).links number no_link) ≡ true → 1 ≤ length left
@@ -197,7 +197,7 @@ message_left first now node round reading messages left number can so_far within
 
 -- ---- the next link from the node
 -- the numbers that the code reads are those of the fields as they were
-pub own_links : (first now : Fields) (node round : ℕ) (reading : Option ℕ)
+pub own_links : (first now : BusFields) (node round : ℕ) (reading : Option ℕ)
     (messages left : List (List PortValue)) (at : ℕ)
     (ns all : List LinkNo)
     → Reaches (Sending first now node round reading messages left) node at (arc_value first.design).links
@@ -210,19 +210,19 @@ own_links first now node round reading messages left at ns all so_far all_are lt
     let numbers = slice_index_or first.outgoing node no_numbers in
     let going = Sending first now node round reading messages left in
     let same : ns ≡ numbers = are
-    ∙ ap (λ (k : Fields). slice_index_or k.outgoing node no_numbers) so_far.holds.others in
+    ∙ ap (λ (k : BusFields). slice_index_or k.outgoing node no_numbers) so_far.holds.others in
     subst (λ (k : List LinkNo). IsAt going node at links numbers (slice_index_or k at no_link_no)) (sym same)
     (reaches_next going node at links numbers
     (λ k within other so_far. sending_other first now node round reading messages left k so_far within other) so_far
     (subst (λ (k : List LinkNo). at < length k) all_are lt))
 
 -- it has a delay of at most an hour
-pub sending_delay : (first now : Fields) (node round : ℕ) (reading : Option ℕ) (messages left : List (List PortValue))
+pub sending_delay : (first now : BusFields) (node round : ℕ) (reading : Option ℕ) (messages left : List (List PortValue))
     (number : ℕ) → Sending first now node round reading messages left number
     → AreDelays (length (arc_value first.design).links) first.delays → number < length (arc_value first.design).links
     → (number < length now.delays.lists) × (delay_of now.delays number round ≤ HOUR)
 sending_delay first now node round reading messages left number so_far are within =
-    subst (λ (k : Fields). (number < length k.delays.lists) × (delay_of k.delays number round ≤ HOUR))
+    subst (λ (k : BusFields). (number < length k.delays.lists) × (delay_of k.delays number round ≤ HOUR))
     (sym so_far.others)
     (let each = are.each in
     let inside : number < length first.delays.lists = omega (arith, each, within) in
@@ -232,7 +232,7 @@ sending_delay first now node round reading messages left number so_far are withi
     (inside, is.within (min round (length list - 1)) 0 (omega (arith, some))))
 
 -- its flight, itself and the queue of its target are there
-pub sending_places : (first now : Fields) (node round : ℕ) (reading : Option ℕ) (messages left : List (List PortValue))
+pub sending_places : (first now : BusFields) (node round : ℕ) (reading : Option ℕ) (messages left : List (List PortValue))
     (number : ℕ) → CanSend first node messages → Sending first now node round reading messages left number
     → number < length (arc_value first.design).links
     → (number < length now.flights)
@@ -245,13 +245,13 @@ sending_places first now node round reading messages left number can so_far with
     let nodes = can.nodes in
     let there = target_within (arc_value first.design) number can.design within in (
       omega (arith, same, many, within),
-      subst (λ (k : Fields). (number < length (arc_value k.design).links)
+      subst (λ (k : BusFields). (number < length (arc_value k.design).links)
           × ((link_at (arc_value k.design) number).target.0 < length now.queues)) (sym so_far.others)
           (within, omega (arith, queues_count, nodes, there)),
     )
 
 -- once all links of the node are done
-pub sending_all : (first now : Fields) (node round : ℕ) (reading : Option ℕ)
+pub sending_all : (first now : BusFields) (node round : ℕ) (reading : Option ℕ)
     (messages left : List (List PortValue)) (at : ℕ)
     (all : List LinkNo)
     → Reaches (Sending first now node round reading messages left) node at (arc_value first.design).links

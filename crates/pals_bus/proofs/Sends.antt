@@ -19,7 +19,7 @@ use Rattle.bus_machine.specs.Machine.{Send, flight_after_send}
 use Rattle.bus_machine.specs.Replay.{Replays, goes_on}
 use Rattle.pals_node.specs.proof.Values.{NodeValue}
 use Rattle.pals_node.specs.proof.Answers.{Sends}
-use Rattle.pals_bus.specs.declared.fields.Fields.{Fields}
+use Rattle.pals_bus.specs.declared.fields.BusFields.{BusFields}
 use Rattle.pals_bus.specs.proof.Values.{node_value}
 use Rattle.pals_bus.specs.Values.{Happens}
 use Rattle.pals_bus.specs.proof.BusInvariant.{Keeps, owed, run_of, state_of, value_of}
@@ -34,7 +34,7 @@ use Rattle.pals_bus.proofs.Events.{node_happens}
 use Rattle.pals_bus.proofs.NodeSteps.{longer}
 
 -- the round was not sent before
-unsent_node : (f : Fields) (node : ℕ) (reading : Option ℕ) (m : NodeValue) (messages : List (List PortValue)) → Keeps f
+unsent_node : (f : BusFields) (node : ℕ) (reading : Option ℕ) (m : NodeValue) (messages : List (List PortValue)) → Keeps f
     → node < length f.nodes → Sends (node_value (value_of f) node) reading m messages
     → (slice_index_or f.nodes node no_node_value).state.sent ≡ false
 unsent_node f node reading m messages keeps within sends =
@@ -42,7 +42,7 @@ unsent_node f node reading m messages keeps within sends =
     ∙ is_unsent (plan_of (arc_value f.design) node) (node_at (state_of f) node) sends.may
 
 -- what the messages need
-pub send_room : (f : Fields) (node : ℕ) (reading : Option ℕ) (m : NodeValue)
+pub send_room : (f : BusFields) (node : ℕ) (reading : Option ℕ) (m : NodeValue)
     (messages : List (List PortValue)) → Keeps f
     → node < length f.nodes → Sends (node_value (value_of f) node) reading m messages
     → HasRoomFor node (length (arc_value f.design).links) (arc_value f.design).links f.flights
@@ -50,7 +50,7 @@ send_room f node reading m messages keeps within sends =
     room_of (arc_value f.design).links f.nodes f.flights node (length (arc_value f.design).links) keeps.rooms
     (unsent_node f node reading m messages keeps within sends)
 
-pub send_queues : (f : Fields) (node : ℕ) (reading : Option ℕ) (m : NodeValue)
+pub send_queues : (f : BusFields) (node : ℕ) (reading : Option ℕ) (m : NodeValue)
     (messages : List (List PortValue)) → Keeps f
     → node < length f.nodes → Sends (node_value (value_of f) node) reading m messages
     → AreQueuesAmid node 0 (arc_value f.design).links (slice_set f.nodes node m) f.flights f.queues
@@ -58,7 +58,7 @@ send_queues f node reading m messages keeps within sends =
     queues_amid (arc_value f.design).links f.nodes f.flights f.queues node m keeps.queues within
     (unsent_node f node reading m messages keeps within sends) (ap (λ (k : NodeValue). k.state.sent) sends.state)
 
-pub send_count : (f : Fields) (node : ℕ) (reading : Option ℕ) (m : NodeValue) (messages : List (List PortValue))
+pub send_count : (f : BusFields) (node : ℕ) (reading : Option ℕ) (m : NodeValue) (messages : List (List PortValue))
     → Sends (node_value (value_of f) node) reading m messages
     → length messages ≡ length (filter (is_from node) (arc_value f.design).links)
 send_count f node reading m messages sends =
@@ -67,7 +67,7 @@ send_count f node reading m messages sends =
     ∙ length-map (filter (is_from node) (arc_value f.design).links) (λ (l : Link). l.out_port)
 
 -- the node owes one entry less
-pub send_owes : (f : Fields) (node : ℕ) (reading : Option ℕ) (m : NodeValue)
+pub send_owes : (f : BusFields) (node : ℕ) (reading : Option ℕ) (m : NodeValue)
     (messages : List (List PortValue)) → Keeps f
     → node < length f.nodes → Sends (node_value (value_of f) node) reading m messages
     → sum_by owed (slice_set f.nodes node m) + 1 ≡ sum_by owed f.nodes
@@ -77,7 +77,7 @@ send_owes f node reading m messages keeps within sends =
     (owed_sent n f.rounds m (is_unsent (plan_of (arc_value f.design) node) n.state sends.may)
     (ap (λ (k : NodeValue). k.state) sends.state) ∙ ap owed (sym (node_is f node keeps within)))
 
-pub send_happens : (f g : Fields) (node : NodeNo) (reading : Option ℕ) (m : NodeValue)
+pub send_happens : (f g : BusFields) (node : NodeNo) (reading : Option ℕ) (m : NodeValue)
     (messages : List (List PortValue))
     (round : ℕ) → Keeps f → f.stop ≡ None → node.0 < length f.nodes
     → Sends (node_value (value_of f) node.0) reading m messages
@@ -104,7 +104,7 @@ send_happens f g node reading m messages round keeps going within sends round_is
     sends.may refl
     (told ∙ ap (λ r. f.journal.items ++ entry.Send node r reading ∷ []) round_is))
 
-pub send_keeps_bus : (f g : Fields) (node : NodeNo) (reading : Option ℕ) (m : NodeValue)
+pub send_keeps_bus : (f g : BusFields) (node : NodeNo) (reading : Option ℕ) (m : NodeValue)
     (messages : List (List PortValue))
     (round : ℕ) → Keeps f → node.0 < length f.nodes → Sends (node_value (value_of f) node.0) reading m messages
     → AreSent node.0 (arc_value f.design).links f.delays round reading messages (length (arc_value f.design).links)
@@ -116,10 +116,10 @@ pub send_keeps_bus : (f g : Fields) (node : NodeNo) (reading : Option ℕ) (m : 
 send_keeps_bus f g node reading m messages round keeps within sends are queues same told happens capacity =
     let links = (arc_value f.design).links in
     let n = node_value (value_of f) node.0 in
-    let h : Fields = record f
+    let h : BusFields = record f
     { nodes = slice_set f.nodes node.0 m; flights = g.flights; queues = g.queues; journal = g.journal } in
     let step : Happens (value_of f) (Send node reading) (value_of h) =
-    subst (λ (k : Fields). Happens (value_of f) (Send node reading) (value_of k)) same happens in
+    subst (λ (k : BusFields). Happens (value_of f) (Send node reading) (value_of k)) same happens in
     let sent : m.state.sent ≡ true = ap (λ (k : NodeValue). k.state.sent) sends.state in
     let less = send_owes f node.0 reading m messages keeps within sends in
     let size = longer g.journal.items f.journal.items (entry.Send node round reading) told in

@@ -22,7 +22,7 @@ use Rattle.bus_machine.specs.States.{no_link, flight_at}
 use Rattle.bus_machine.specs.Machine.{Drop}
 use Rattle.bus_machine.specs.Replay.{Replays, goes_on}
 use Rattle.pals_node.specs.proof.Values.{NodeValue}
-use Rattle.pals_bus.specs.declared.fields.Fields.{Fields}
+use Rattle.pals_bus.specs.declared.fields.BusFields.{BusFields}
 use Rattle.pals_bus.specs.Values.{Happens}
 use Rattle.pals_bus.specs.proof.BusInvariant.{Keeps, owed, run_of, state_of, value_of, copies_in}
 use Rattle.pals_bus.specs.proof.Sending.{NoLessRoom}
@@ -88,7 +88,7 @@ as_many old new at copies is =
     ∙ length-map old (λ (k : FlightState). k.copies)
 
 -- a message was asked for: its flight and the queue of its target may have changed, and nothing else
-pub record Takes (f g : Fields) (link : LinkNo) (round : ℕ) (tuple : Option (List PortValue)) : Type 0 where
+pub record Takes (f g : BusFields) (link : LinkNo) (round : ℕ) (tuple : Option (List PortValue)) : Type 0 where
   pub taken : tuple ≡ option_map (λ (copy : FlightCopy). copy.tuple)
       (oldest round (slice_index_or f.flights link.0 no_flight).copies)
   pub copies : copies_in g.flights
@@ -97,7 +97,7 @@ pub record Takes (f g : Fields) (link : LinkNo) (round : ℕ) (tuple : Option (L
   pub room : NoLessRoom f.flights g.flights
   pub others : g ≡ record f { flights = g.flights; queues = g.queues }
 
-pub same_count : (f g : Fields) (link : LinkNo) (round : ℕ) (tuple : Option (List PortValue))
+pub same_count : (f g : BusFields) (link : LinkNo) (round : ℕ) (tuple : Option (List PortValue))
     → Takes f g link round tuple
     → length g.flights ≡ length f.flights
 same_count f g link round tuple takes =
@@ -108,29 +108,29 @@ no_copy : (o : Option FlightCopy) → None ≡ option_map (λ (copy : FlightCopy
 no_copy None is = refl
 no_copy (Some copy) is = absurd (cc)
 
-pub none_found : (f g : Fields) (link : LinkNo) (round : ℕ) → Takes f g link round None
+pub none_found : (f g : BusFields) (link : LinkNo) (round : ℕ) → Takes f g link round None
     → oldest round (slice_index_or f.flights link.0 no_flight).copies ≡ None
 none_found f g link round takes = no_copy (oldest round (slice_index_or f.flights link.0 no_flight).copies) takes.taken
 
-pub none_in_flight : (f g : Fields) (link : LinkNo) (round : ℕ) → Takes f g link round None
+pub none_in_flight : (f g : BusFields) (link : LinkNo) (round : ℕ) → Takes f g link round None
     → is_in_flight round (flight_at (state_of f) link.0) ≡ false
 none_in_flight f g link round takes =
     ap (is_in_flight round) (flight_is f.flights link.0) ∙ ap is_some (none_found f g link round takes)
 
-same_copies : (f g : Fields) (link : LinkNo) (round : ℕ) → Takes f g link round None
+same_copies : (f g : BusFields) (link : LinkNo) (round : ℕ) → Takes f g link round None
     → copies_in g.flights ≡ copies_in f.flights
 same_copies f g link round takes =
     takes.copies ∙ sym (none_taken f.flights link.0 round (none_found f g link round takes))
 
-pub none_value : (f g : Fields) (link : LinkNo) (round : ℕ) → Takes f g link round None → value_of g ≡ value_of f
+pub none_value : (f g : BusFields) (link : LinkNo) (round : ℕ) → Takes f g link round None → value_of g ≡ value_of f
 none_value f g link round takes =
     ap value_of takes.others
     ∙ ap (λ (cs : List (List FlightCopy)). record (value_of f) { state = record (state_of f) { flights = cs } })
     (same_copies f g link round takes)
 
-pub none_keeps : (f g : Fields) (link : LinkNo) (round : ℕ) → Keeps f → Takes f g link round None → Keeps g
+pub none_keeps : (f g : BusFields) (link : LinkNo) (round : ℕ) → Keeps f → Takes f g link round None → Keeps g
 none_keeps f g link round keeps takes =
-    let h : Fields = record f { flights = g.flights; queues = g.queues } in
+    let h : BusFields = record f { flights = g.flights; queues = g.queues } in
     subst Keeps (sym takes.others)
     (keeps_room f h keeps refl refl (same_count f g link round None takes) (same_copies f g link round takes)
     takes.room takes.queues refl (omega arith))
@@ -147,14 +147,14 @@ some_flies : (o : Option FlightCopy) (tuple : List PortValue)
 some_flies None tuple is = absurd (cc)
 some_flies (Some copy) tuple is = refl
 
-pub some_in_flight : (f g : Fields) (link : LinkNo) (round : ℕ) (tuple : List PortValue)
+pub some_in_flight : (f g : BusFields) (link : LinkNo) (round : ℕ) (tuple : List PortValue)
     → Takes f g link round (Some tuple)
     → is_in_flight round (flight_at (state_of f) link.0) ≡ true
 some_in_flight f g link round tuple takes =
     ap (is_in_flight round) (flight_is f.flights link.0)
     ∙ some_flies (oldest round (slice_index_or f.flights link.0 no_flight).copies) tuple takes.taken
 
-pub copies_left : (f g : Fields) (link : LinkNo) (round : ℕ) (tuple : Option (List PortValue))
+pub copies_left : (f g : BusFields) (link : LinkNo) (round : ℕ) (tuple : Option (List PortValue))
     → Takes f g link round tuple
     → copies_in g.flights ≡ slice_set (copies_in f.flights) link.0
     (without_oldest round (flight_at (state_of f) link.0))
@@ -162,28 +162,28 @@ copies_left f g link round tuple takes =
     takes.copies ∙ ap (λ (copies : List FlightCopy).
     slice_set (copies_in f.flights) link.0 (without_oldest round copies)) (sym (flight_is f.flights link.0))
 
-pub drop_happens : (f t g : Fields) (link : LinkNo) (round : ℕ) (tuple : List PortValue) → f.stop ≡ None
+pub drop_happens : (f t g : BusFields) (link : LinkNo) (round : ℕ) (tuple : List PortValue) → f.stop ≡ None
     → Takes f t link round (Some tuple) → g ≡ record t { journal = g.journal }
     → g.journal.items ≡ f.journal.items ++ entry.Drop link round ∷ []
     → Happens (value_of f) (Drop link round) (value_of g)
 drop_happens f t g link round tuple going takes same told =
-    let h : Fields = record f { flights = t.flights; queues = t.queues; journal = g.journal } in
-    let is : g ≡ h = same ∙ ap (λ (k : Fields). let u : Fields = record k { journal = g.journal } in u) takes.others in
+    let h : BusFields = record f { flights = t.flights; queues = t.queues; journal = g.journal } in
+    let is : g ≡ h = same ∙ ap (λ (k : BusFields). let u : BusFields = record k { journal = g.journal } in u) takes.others in
     subst (Happens (value_of f) (Drop link round)) (sym (ap value_of is))
     (flights_happen f (Drop link round) t.flights
     (slice_set (copies_in f.flights) link.0 (without_oldest round (flight_at (state_of f) link.0))) g.journal.items
     going (copies_left f t link round (Some tuple) takes) (some_in_flight f t link round tuple takes) refl told)
 
-pub drop_keeps : (f t g : Fields) (link : LinkNo) (round : ℕ) (tuple : List PortValue) → Keeps f
+pub drop_keeps : (f t g : BusFields) (link : LinkNo) (round : ℕ) (tuple : List PortValue) → Keeps f
     → Takes f t link round (Some tuple) → g ≡ record t { journal = g.journal }
     → g.journal.items ≡ f.journal.items ++ entry.Drop link round ∷ []
     → Happens (value_of f) (Drop link round) (value_of g)
     → length f.journal.items + sum_by owed f.nodes + 1 ≤ vec_capacity g.journal → Keeps g
 drop_keeps f t g link round tuple keeps takes same told happens room =
-    let h : Fields = record f { flights = t.flights; queues = t.queues; journal = g.journal } in
-    let is : g ≡ h = same ∙ ap (λ (k : Fields). let u : Fields = record k { journal = g.journal } in u) takes.others in
+    let h : BusFields = record f { flights = t.flights; queues = t.queues; journal = g.journal } in
+    let is : g ≡ h = same ∙ ap (λ (k : BusFields). let u : BusFields = record k { journal = g.journal } in u) takes.others in
     let step : Happens (value_of f) (Drop link round) (value_of h) =
-    subst (λ (k : Fields). Happens (value_of f) (Drop link round) (value_of k)) is happens in
+    subst (λ (k : BusFields). Happens (value_of f) (Drop link round) (value_of k)) is happens in
     let size = longer g.journal.items f.journal.items (entry.Drop link round) told in
     let all : Keeps h = record {
       design = keeps.design;
@@ -220,7 +220,7 @@ taken_copies flights at round n flight within is same =
     (is ∙ get_or_default flights at n no_flight within))
 
 -- the flight and the queue after the calls that take a message
-pub queues_left : (f : Fields) (ls : List Link) (link : LinkNo) (round : ℕ) (copy : FlightCopy)
+pub queues_left : (f : BusFields) (ls : List Link) (link : LinkNo) (round : ℕ) (copy : FlightCopy)
     (n m flight : FlightState) (q queue : QueueState) → Keeps f → ls ≡ (arc_value f.design).links
     → link.0 < length (arc_value f.design).links
     → n ≡ slice_index_or f.flights link.0 n → Some copy ≡ oldest round n.copies → m ≡ slice_index_or f.flights link.0 m

@@ -9,12 +9,12 @@ ghost use Rattle.bus_machine.specs.States.{no_link, flight_at};
 ghost use Rattle.pals_bus.specs.Values.{Happens};
 ghost use Rattle.pals_bus.specs.proof.BusInvariant.{Keeps, owed, run_of, state_of, value_of};
 
-use crate::fields::Fields;
+use crate::fields::BusFields;
 use pals_base::{LinkNo, Nanos};
 use pals_model::Link;
 use pals_runs::{Arrived, JournalEntry, Stop};
 
-impl Fields {
+impl BusFields {
     /// A link's message of a round arrives, where no stop stands and the journal has room for it and
     /// for a stop. It takes no memory.
     pub fn arrive(&mut self, link: LinkNo, round: u32, reading: Option<Nanos>) -> Option<Arrived>

@@ -12,7 +12,7 @@ ghost use Rattle.pals_model.specs.Flights.{oldest};
 ghost use Rattle.pals_bus.specs.proof.Values.{opening_bus, codes_in, AreCodes};
 ghost use Rattle.pals_bus.specs.proof.Openings.{AreOpening};
 
-use crate::fields::Fields;
+use crate::fields::BusFields;
 use crate::node_list::NodeList;
 use crate::opening::{empty_flights, empty_queues, fresh_nodes, opening_nodes, room_for_values};
 use crate::outgoing::Outgoing;
@@ -30,7 +30,7 @@ use step_code::Code;
 /// machine, and the journal. The journal replays to the state, so the nodes, slots and flights agree
 /// with the composition. A refused call leaves it as it was.
 pub struct Bus {
-    pub(crate) fields: Fields,
+    pub(crate) fields: BusFields,
 }
 
 impl Drop for Bus {
@@ -105,7 +105,7 @@ impl Bus {
             delays,
         } = run;
         Ok(Bus {
-            fields: Fields {
+            fields: BusFields {
                 alloc,
                 design,
                 outgoing,

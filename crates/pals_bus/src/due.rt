@@ -6,7 +6,7 @@ ghost use Rattle.pals_bus.specs.proof.BusInvariant.{Keeps, owed, value_of};
 ghost use Rattle.pals_bus.specs.proof.Queues.{AreDueEntries};
 
 use crate::bus::Bus;
-use crate::fields::Fields;
+use crate::fields::BusFields;
 use crate::refusals::{BusError, DueEnd};
 use link_buffers::{DueEntry, DueQueue};
 use pals_base::{Nanos, NoMemory, NodeNo};
@@ -43,7 +43,7 @@ impl Bus {
     }
 }
 
-impl Fields {
+impl BusFields {
     // The messages that are due to a node arrive, up to the first that comes too early. It takes no
     // memory.
     fn arrive_all(&mut self, due: &[DueEntry], node: NodeNo, reading: Nanos) -> Option<Stop>

@@ -23,7 +23,7 @@ use std::sync::Arc;
 
 /// What a bus is of, the links from each node, its nodes and flights, the queue of each node's messages
 /// that become due, its journal, and room for the values of a round.
-pub struct Fields {
+pub struct BusFields {
     pub alloc: Global,
     pub design: Arc<Design>,
     pub outgoing: Outgoing,
@@ -41,9 +41,9 @@ pub struct Fields {
 }
 
 // By hand, so that a bus let go is one call, which the crates above cite.
-impl Drop for Fields {
+impl Drop for BusFields {
     fn drop(self) {
-        let Fields {
+        let BusFields {
             alloc: _,
             design: _,
             outgoing: _,
@@ -62,7 +62,7 @@ impl Drop for Fields {
     }
 }
 
-impl Fields {
+impl BusFields {
     /// Makes room in the journal for the entries of one event, and for those that the nodes owe.
     #[tactic(auto, using(crate::proofs::NodeChanges::all_owed))]
     pub fn reserve_entries(&mut self) -> Result<(), NoMemory>

@@ -14,7 +14,7 @@ ghost use Rattle.pals_bus.specs.proof.Messages.{IsRoundSent, flight_on, target_o
 ghost use Rattle.pals_bus.specs.proof.Messages.{copies_without};
 ghost use Rattle.pals_bus.specs.proof.LinksFrom.{AreOutgoing};
 
-use crate::fields::Fields;
+use crate::fields::BusFields;
 use link_buffers::{DueEntry, DueQueue, Flight};
 use pals_base::limits::PORTS;
 use pals_base::{Items, LinkNo, Nanos, NoMemory, NodeNo, Tuple};
@@ -54,7 +54,7 @@ pub fn reserve_queues(
     Ok(())
 }
 
-impl Fields {
+impl BusFields {
     /// Puts the messages of a node's round into flight, one on each link from it, in order. They
     /// become due after the link's delay, where the round is sent at a reading. It takes no memory.
     pub fn send_messages(

@@ -24,7 +24,7 @@ mod target_list;
 
 pub use answers::{LooseFault, Meet};
 pub use bus::Bus;
-pub use fields::Fields;
+pub use fields::BusFields;
 pub use loose::apply_loose;
 pub use node_list::NodeList;
 pub use outgoing::Outgoing;

@@ -11,14 +11,14 @@ ghost use Rattle.bus_machine.specs.States.{no_link};
 ghost use Rattle.bus_machine.specs.Stops.{link_into, cause_of, sent_rounds};
 ghost use Rattle.pals_bus.specs.proof.BusInvariant.{Keeps, run_of, state_of, copies_in_option};
 
-use crate::fields::Fields;
+use crate::fields::BusFields;
 use link_buffers::Flight;
 use pals_base::{LinkNo, Nanos, NodeNo};
 use pals_model::Link;
 use pals_node::Node;
 use pals_runs::{Cause, Stop};
 
-impl Fields {
+impl BusFields {
     /// The stop of a start that misses the message of the link into a port.
     pub fn missed_stop(&self, node: NodeNo, port: u32, reading: Option<Nanos>) -> Stop
         requires keeps { Keeps self.now }

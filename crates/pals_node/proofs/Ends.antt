@@ -12,7 +12,7 @@ use Rattle.pals_runs.specs.declared.journal.Phase.TheVariants.{Running, Holding}
 use Rattle.bus_machine.specs.declared.plan.Plan.{Plan}
 use Rattle.bus_machine.specs.Nodes.{at_rest}
 use Rattle.bus_machine.specs.NodeEvents.{fired, finished, finished_with}
-use Rattle.pals_node.specs.declared.fields.Fields.{Fields}
+use Rattle.pals_node.specs.declared.fields.NodeFields.{NodeFields}
 use Rattle.std.proofs.lemmas.Option.{slice_get-get_or, get_or_from_slice_get}
 use Rattle.pals_node.specs.proof.Values.{Program, job_value, job_at}
 use Rattle.pals_node.specs.proof.NodeInvariants.{IsProgram, AreTuples, HasRound, IsOpen, PhaseKeeps, HasMessageRoom}
@@ -35,7 +35,7 @@ outs_keep at count places values tuples are =
     }
 
 -- between two rounds a node waits for the next one, or is done
-pub rests : (plan : Plan) (f : Fields) (b : Bool) → f.sent ≡ true → f.count ≤ f.rounds → nat_eq f.count f.rounds ≡ b
+pub rests : (plan : Plan) (f : NodeFields) (b : Bool) → f.sent ≡ true → f.count ≤ f.rounds → nat_eq f.count f.rounds ≡ b
     → PhaseKeeps plan f (at_rest b)
 rests plan f true sent most is = (sent, eqb-true f.count f.rounds is)
 rests plan f false sent most is = (
@@ -45,7 +45,7 @@ rests plan f false sent most is = (
 )
 
 -- the step of the job that is out is the machine's
-pub ends_as_finished : (plan : Plan) (f : Fields) (rounds step : ℕ) (result : Fired)
+pub ends_as_finished : (plan : Plan) (f : NodeFields) (rounds step : ℕ) (result : Fired)
     → result ≡ fired plan step (state_of f)
     → finished_with plan rounds step (state_of f) result (with_places step result.outs f.outs)
     ≡ finished plan rounds step (state_of f)
@@ -53,32 +53,32 @@ ends_as_finished plan f rounds step result is =
     ap (λ (r : Fired). finished_with plan rounds step (state_of f) r (with_places step r.outs f.outs)) is
 
 -- after the last step a round is at rest, or held until it is sent
-pub after_keeps : (plan : Plan) (f : Fields) (sent : Bool) → f.sent ≡ sent → f.count ≤ f.rounds → HasRound plan f
+pub after_keeps : (plan : Plan) (f : NodeFields) (sent : Bool) → f.sent ≡ sent → f.count ≤ f.rounds → HasRound plan f
     → PhaseKeeps plan f (if sent then at_rest (nat_eq f.count f.rounds) else Holding)
 after_keeps plan f true is most round = rests plan f (nat_eq f.count f.rounds) is most refl
 after_keeps plan f false is most round = (round, is)
 
 -- ---- a step that is made
 -- what the code left is what the machine's step leaves
-pub record IsMade (f : Fields) (step : ℕ) (frame : Frame) (outs : List PortValue) : Type 0 where
+pub record IsMade (f : NodeFields) (step : ℕ) (frame : Frame) (outs : List PortValue) : Type 0 where
   pub fired_is : (let made : Fired = record { frame = frame; outs = outs } in made)
       ≡ fired (arc_value f.plan).plan step (state_of f)
   pub shape : HasShape (arc_value f.plan).plan.behaviour frame
   pub count_is : length outs ≡ length (arc_value f.plan).plan.behaviour.outs
 
 -- a node that runs a step is in its round
-pub runs_open : (f : Fields) (step : ℕ) → Keeps f → f.phase ≡ Running step → IsOpen (arc_value f.plan).plan f step
+pub runs_open : (f : NodeFields) (step : ℕ) → Keeps f → f.phase ≡ Running step → IsOpen (arc_value f.plan).plan f step
 runs_open f step keeps runs = subst (PhaseKeeps (arc_value f.plan).plan f) runs keeps.phase_keeps
 
 -- the inputs of that step
-pub inputs_size : (f : Fields) (step : ℕ) (d : List PortValue) → IsOpen (arc_value f.plan).plan f step
+pub inputs_size : (f : NodeFields) (step : ℕ) (d : List PortValue) → IsOpen (arc_value f.plan).plan f step
     → length (slice_index_or f.vectors step d) ≡ length (arc_value f.plan).plan.behaviour.ins
 inputs_size f step d round =
     let count = round.round.vectors.count_is in
     let within = round.within in
     round.round.vectors.places_are step d (omega arith)
 
-pub makes : (f : Fields) (step : ℕ) (frame : Frame) (outs : List PortValue) → Keeps f → f.phase ≡ Running step
+pub makes : (f : NodeFields) (step : ℕ) (frame : Frame) (outs : List PortValue) → Keeps f → f.phase ≡ Running step
     → exec (arc_value f.plan).code f.frame (slice_index_or f.vectors step [])
     ≡ Leaves (record { frame = frame; outs = outs }) → IsMade f step frame outs
 makes f step frame outs keeps runs left =
@@ -96,7 +96,7 @@ makes f step frame outs keeps runs left =
 
 -- ---- what stays
 -- all that a node keeps, except its phase
-pub record KeepsRest (f : Fields) : Type 0 where
+pub record KeepsRest (f : NodeFields) : Type 0 where
   pub program : IsProgram (arc_value f.plan)
   pub rounds : f.rounds ≤ ROUNDS
   pub count : f.count ≤ f.rounds
@@ -107,7 +107,7 @@ pub record KeepsRest (f : Fields) : Type 0 where
   pub row : length f.row.items ≡ (arc_value f.plan).code.outs
   pub spare : HasMemory (arc_value f.plan).code f.spare
 
-pub keeps_on : (old new : Fields) → KeepsRest old
+pub keeps_on : (old new : NodeFields) → KeepsRest old
     → new ≡ record old { phase = new.phase; outs = new.outs; parts = new.parts; next_part = new.next_part }
     → PhaseKeeps (arc_value old.plan).plan new new.phase → Keeps new
 keeps_on old new rest same phase =
@@ -131,7 +131,7 @@ keeps_on old new rest same phase =
     subst Keeps (sym same) all
 
 -- ---- the job that is out
-pub input_at : (f : Fields) (step : ℕ) (inputs : List PortValue) → IsOpen (arc_value f.plan).plan f step
+pub input_at : (f : NodeFields) (step : ℕ) (inputs : List PortValue) → IsOpen (arc_value f.plan).plan f step
     → inputs ≡ slice_index_or f.vectors step inputs → inputs ≡ slice_index_or f.vectors step []
 input_at f step inputs round is =
     let count = round.round.vectors.count_is in
@@ -139,7 +139,7 @@ input_at f step inputs round is =
     is ∙ sym (get_or_from_slice_get f.vectors step (slice_index_or f.vectors step inputs) []
     (slice_get-get_or f.vectors step inputs (omega arith)))
 
-pub job_is : (f : Fields) (step : ℕ) (program : Program) (inputs : List PortValue)
+pub job_is : (f : NodeFields) (step : ℕ) (program : Program) (inputs : List PortValue)
     → IsOpen (arc_value f.plan).plan f step
     → program ≡ arc_value f.plan → inputs ≡ slice_index_or f.vectors step inputs
     → job_value program (f.count - 1) step f.frame inputs ≡ job_at (value_of f) step

@@ -5,7 +5,7 @@ use Rattle.pals_base.specs.declared.values.Frame.{Frame}
 use Rattle.pals_base.specs.Fire.{HasShape}
 use Rattle.pals_runs.specs.declared.journal.Phase.TheVariants.{Running}
 use Rattle.step_vm.specs.proof.Rooms.{IsRoomOf}
-use Rattle.pals_node.specs.declared.fields.Fields.{Fields}
+use Rattle.pals_node.specs.declared.fields.NodeFields.{NodeFields}
 use Rattle.pals_node.specs.declared.memory.Memory.{Memory}
 use Rattle.pals_node.specs.proof.Values.{Program, JobValue, job_at}
 use Rattle.pals_node.specs.proof.Memories.{HasSizes, IsMemoryFor, IsLeft}
@@ -15,7 +15,7 @@ use Rattle.pals_node.proofs.Ends.{runs_open, inputs_size}
 pub sizes : (p : Program) (frame : Frame) → IsProgram p → HasShape p.plan.behaviour frame → HasSizes p.code frame
 sizes p frame rules shape = record { vars = shape.vars ∙ sym rules.means.vars; held = shape.held ∙ sym rules.means.ins }
 
-pub memory_left : (f : Fields) (step : ℕ) (job : JobValue) (memory : Memory) → Keeps f → f.phase ≡ Running step
+pub memory_left : (f : NodeFields) (step : ℕ) (job : JobValue) (memory : Memory) → Keeps f → f.phase ≡ Running step
     → job ≡ job_at (value_of f) step → IsLeft job f.frame f.row.items memory
     → IsMemoryFor (arc_value f.plan).code memory
 memory_left f step job memory keeps runs is left =

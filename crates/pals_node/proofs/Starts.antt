@@ -17,7 +17,7 @@ use Rattle.bus_machine.specs.declared.plan.Input.{Input}
 use Rattle.bus_machine.specs.declared.plan.Plan.{Plan}
 use Rattle.bus_machine.specs.Nodes.{brought, vectors_of}
 use Rattle.bus_machine.specs.NodeEvents.{started}
-use Rattle.pals_node.specs.declared.fields.Fields.{Fields}
+use Rattle.pals_node.specs.declared.fields.NodeFields.{NodeFields}
 use Rattle.pals_node.specs.proof.Values.{NodeValue, with_state, job_value}
 use Rattle.pals_node.specs.proof.NodeInvariants.{IsPlan, AreTuples, IsPartRoom, state_of, value_of}
 use Rattle.pals_node.proofs.Places.{no_message}
@@ -58,7 +58,7 @@ part_room plan part frame outs = record {
 }
 
 -- ---- the value
-abbrev started_value : Fields → List (Option (List PortValue)) → List (List PortValue) → List (List PortValue)
+abbrev started_value : NodeFields → List (Option (List PortValue)) → List (List PortValue) → List (List PortValue)
     → List Part → NodeValue
 started_value f slots vectors outs parts =
     with_state (value_of f) (record (state_of f) {
@@ -71,7 +71,7 @@ started_value f slots vectors outs parts =
       parts = parts;
     })
 
-pub starts_value : (f : Fields) (env : List PortValue) (vectors outs : List (List PortValue)) (parts : List Part)
+pub starts_value : (f : NodeFields) (env : List PortValue) (vectors outs : List (List PortValue)) (parts : List Part)
     → vectors ≡ vectors_of (arc_value f.plan).plan env f.slots
     → outs ≡ replicate (length (arc_value f.plan).plan.behaviour.outs) (replicate (arc_value f.plan).plan.rate Absent)
     → parts ≡ f.parts.items
@@ -83,7 +83,7 @@ starts_value f env vectors outs parts is_vectors is_outs is_parts =
     (vectors_of (arc_value f.plan).plan env f.slots) o p) is_outs is_parts
 
 -- the job of the first step
-pub first_job : (f : Fields) (vectors : List (List PortValue)) (inputs : List PortValue) → 0 < length vectors
+pub first_job : (f : NodeFields) (vectors : List (List PortValue)) (inputs : List PortValue) → 0 < length vectors
     → inputs ≡ slice_index_or vectors 0 inputs
     → job_value (arc_value f.plan) f.count 0 f.frame inputs
     ≡ job_value (arc_value f.plan) (f.count + 1 - 1) 0 f.frame (slice_index_or vectors 0 [])

@@ -32,7 +32,7 @@ use step_vm::Room;
 
 /// What a node stands at, the room for its steps, what its last start reserved, and the memory of the
 /// last job that came back.
-pub struct Fields {
+pub struct NodeFields {
     pub alloc: Global,
     pub plan: Arc<NodePlan>,
     pub rounds: u32,
@@ -52,9 +52,9 @@ pub struct Fields {
 }
 
 // By hand, so that a node let go is one call, which the crates above cite.
-impl Drop for Fields {
+impl Drop for NodeFields {
     fn drop(self) {
-        let Fields {
+        let NodeFields {
             alloc: _,
             plan: _,
             rounds: _,
@@ -75,9 +75,9 @@ impl Drop for Fields {
     }
 }
 
-impl Fields {
+impl NodeFields {
     /// A node before its first round.
-    pub fn new(alloc: Global, plan: Arc<NodePlan>, rounds: u32) -> Result<Fields, NoMemory>
+    pub fn new(alloc: Global, plan: Arc<NodePlan>, rounds: u32) -> Result<NodeFields, NoMemory>
         requires some { 1 ≤ rounds }
         requires most { rounds ≤ ROUNDS }
         ensures value { IfOk result (λ f. value_of f ≡ opening_value (arc_value plan) rounds) }
@@ -89,7 +89,7 @@ impl Fields {
         let slots = empty_slots(alloc, plan.plan.inputs.as_slice())?;
         let room = Room::for_code(alloc, &plan.code)?;
         let row = vec![in alloc; PortValue::Absent; outs]?;
-        Ok(Fields {
+        Ok(NodeFields {
             alloc,
             plan,
             rounds,

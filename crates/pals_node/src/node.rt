@@ -13,7 +13,7 @@ ghost use Rattle.pals_node.specs.proof.Answers.{is_early, Starts, StartEnds, Ste
 ghost use Rattle.pals_node.specs.proof.Answers.{FinishesHere, NoneRuns, Sends, SendEnds};
 
 use crate::answers::{FinishEnd, Finished, SendEnd, StartEnd, StepEnd};
-use crate::fields::Fields;
+use crate::fields::NodeFields;
 use crate::job::{Done, Job, StepStart};
 use crate::plan::NodePlan;
 use crate::targets::{next_in_round, next_send, next_start};
@@ -31,7 +31,7 @@ use std::sync::Arc;
 /// A node of a run. Contracts see its plan with its code, the number of rounds, and what it stands
 /// at. A refused call leaves it as it was.
 pub struct Node {
-    fields: Fields,
+    fields: NodeFields,
 }
 
 impl Drop for Node {
@@ -64,7 +64,7 @@ impl Node {
         ensures { IfOk result (λ node. node ≡ opening_value (arc_value plan) rounds) }
     {
         Ok(Node {
-            fields: Fields::new(alloc, plan, rounds)?,
+            fields: NodeFields::new(alloc, plan, rounds)?,
         })
     }
 

@@ -15,7 +15,7 @@ use Rattle.bus_machine.specs.NodeEvents.{running_step}
 use Rattle.bus_machine.specs.States.{Run, BusState}
 use Rattle.bus_machine.specs.Replay.{Replays}
 use Rattle.pals_node.specs.proof.Values.{NodeValue}
-use Rattle.pals_bus.specs.declared.fields.Fields.{Fields}
+use Rattle.pals_bus.specs.declared.fields.BusFields.{BusFields}
 use Rattle.pals_bus.specs.Values.{BusValue}
 use Rattle.pals_bus.specs.proof.Values.{codes_in}
 use Rattle.pals_bus.specs.proof.Absent.{no_node_value, no_flight}
@@ -31,13 +31,13 @@ abbrev pub copies_in_option : Option FlightState → List FlightCopy
 copies_in_option None = []
 copies_in_option (Some flight) = flight.copies
 
-abbrev pub state_of : Fields → BusState
+abbrev pub state_of : BusFields → BusState
 state_of f = record { nodes = map (λ n. n.state) f.nodes; flights = copies_in f.flights; stop = f.stop }
 
-abbrev pub run_of : Fields → Run
+abbrev pub run_of : BusFields → Run
 run_of f = record { design = arc_value f.design; env = f.env; rounds = f.rounds; delays = f.delays }
 
-abbrev pub value_of : Fields → BusValue
+abbrev pub value_of : BusFields → BusValue
 value_of f = record {
   run = run_of f;
   codes = codes_in f.nodes;
@@ -48,7 +48,7 @@ value_of f = record {
 }
 
 -- ---- its nodes
-abbrev pub node_in : Fields → ℕ → NodeValue
+abbrev pub node_in : BusFields → ℕ → NodeValue
 node_in f node = slice_index_or f.nodes node no_node_value
 
 -- a node is the design's, of as many rounds, and its code means what its component does
@@ -74,7 +74,7 @@ abbrev pub owed : NodeValue → ℕ
 owed n = (if is_some (running_step n.state.phase) then 1 else 0) + (if n.state.sent then 0 else 1)
 
 -- ---- the whole
-pub record Keeps (f : Fields) : Type 0 where
+pub record Keeps (f : BusFields) : Type 0 where
   pub design : IsDesign (arc_value f.design)
   pub outgoing : AreOutgoing (length (arc_value f.design).components) (arc_value f.design).links f.outgoing
   pub rounds : (1 ≤ f.rounds) × (f.rounds ≤ ROUNDS)

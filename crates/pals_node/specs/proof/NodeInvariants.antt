@@ -18,7 +18,7 @@ use Rattle.bus_machine.specs.declared.plan.Plan.{Plan}
 use Rattle.pals_base.specs.Steps.{with_places}
 use Rattle.bus_machine.specs.Nodes.{NodeState}
 use Rattle.bus_machine.specs.NodeEvents.{finished, finished_with}
-use Rattle.pals_node.specs.declared.fields.Fields.{Fields}
+use Rattle.pals_node.specs.declared.fields.NodeFields.{NodeFields}
 use Rattle.pals_node.specs.proof.Values.{Program, NodeValue, with_state}
 use Rattle.pals_node.specs.proof.Memories.{HasMemory}
 
@@ -56,7 +56,7 @@ pub record AreTuples (count places : ℕ) (tuples : List (List PortValue)) : Typ
   pub places_are : All (λ tuple. length tuple ≡ places) tuples
 
 -- what a round in hand has
-pub record HasRound (plan : Plan) (f : Fields) : Type 0 where
+pub record HasRound (plan : Plan) (f : NodeFields) : Type 0 where
   pub begun : 1 ≤ f.count
   pub vectors : AreTuples plan.rate (length plan.behaviour.ins) f.vectors
   pub outs : AreTuples (length plan.behaviour.outs) plan.rate f.outs
@@ -72,13 +72,13 @@ HasPartRoom plan None = ⊥
 HasPartRoom plan (Some part) = IsPartRoom plan part
 
 -- a step is to be finished, so a part is to come
-pub record IsOpen (plan : Plan) (f : Fields) (steps : ℕ) : Type 0 where
+pub record IsOpen (plan : Plan) (f : NodeFields) (steps : ℕ) : Type 0 where
   pub within : steps < plan.rate
   pub round : HasRound plan f
   pub part : HasPartRoom plan f.next_part
   pub place : vec_len f.parts < vec_capacity f.parts
 
-abbrev pub PhaseKeeps : Plan → Fields → Phase → Type 0
+abbrev pub PhaseKeeps : Plan → NodeFields → Phase → Type 0
 PhaseKeeps plan f Waiting = (f.sent ≡ true) × (f.count < f.rounds)
 PhaseKeeps plan f (Running step) = IsOpen plan f step
 PhaseKeeps plan f (Between steps) = IsOpen plan f steps × (0 < steps)
@@ -91,7 +91,7 @@ HasMessageRoom plan true messages = Unit {0}
 HasMessageRoom plan false None = ⊥
 HasMessageRoom plan false (Some messages) = AreTuples (length plan.out_links) plan.rate messages
 
-pub record Keeps (f : Fields) : Type 0 where
+pub record Keeps (f : NodeFields) : Type 0 where
   pub program : IsProgram (arc_value f.plan)
   pub rounds : f.rounds ≤ ROUNDS
   pub count : f.count ≤ f.rounds
@@ -104,7 +104,7 @@ pub record Keeps (f : Fields) : Type 0 where
   pub spare : HasMemory (arc_value f.plan).code f.spare
 
 -- what contracts see of a node's fields
-abbrev pub state_of : Fields → NodeState
+abbrev pub state_of : NodeFields → NodeState
 state_of f = record {
   count = f.count;
   phase = f.phase;
@@ -116,16 +116,16 @@ state_of f = record {
   parts = f.parts.items;
 }
 
-abbrev pub value_of : Fields → NodeValue
+abbrev pub value_of : NodeFields → NodeValue
 value_of f = record { program = arc_value f.plan; rounds = f.rounds; state = state_of f }
 
 -- ---- the end of a step
 -- a node whose step is finished
-abbrev pub finished_value : Fields → ℕ → NodeValue
+abbrev pub finished_value : NodeFields → ℕ → NodeValue
 finished_value f step = with_state (value_of f) (finished (arc_value f.plan).plan f.rounds step (state_of f))
 
 -- a step of a round is made: its frame and its row of outputs stand in the fields
-pub record IsStepMade (f : Fields) (step : ℕ) : Type 0 where
+pub record IsStepMade (f : NodeFields) (step : ℕ) : Type 0 where
   pub plan : IsPlan (arc_value f.plan).plan
   pub count : f.count ≤ f.rounds
   pub made : IsOpen (arc_value f.plan).plan f step
@@ -133,7 +133,7 @@ pub record IsStepMade (f : Fields) (step : ℕ) : Type 0 where
   pub row : length f.row.items ≡ length (arc_value f.plan).plan.behaviour.outs
 
 -- what a node stands at after it
-abbrev pub ended_at : Plan → Fields → ℕ → NodeState
+abbrev pub ended_at : Plan → NodeFields → ℕ → NodeState
 ended_at plan f step =
     finished_with plan f.rounds step (state_of f) (record { frame = f.frame; outs = f.row.items })
     (with_places step f.row.items f.outs)

@@ -4,7 +4,7 @@ use Rattle.pals_base.specs.declared.values.PortValue.{PortValue}
 use Rattle.bus_machine.specs.Nodes.{vectors_of}
 use Rattle.pals_base.specs.declared.values.Frame.{Frame}
 use Rattle.pals_runs.specs.declared.journal.Phase.TheVariants.{Running}
-use Rattle.pals_node.specs.declared.fields.Fields.{Fields}
+use Rattle.pals_node.specs.declared.fields.NodeFields.{NodeFields}
 use Rattle.pals_node.specs.declared.fields.RoundRoom.{RoundRoom}
 use Rattle.pals_node.specs.proof.Values.{Program, JobValue, job_value}
 use Rattle.pals_base.specs.declared.values.PortValue.TheVariants.{Absent}
@@ -31,7 +31,7 @@ first_job_of program round frame env slots =
     job_value program round 0 frame (slice_index_or (vectors_of program.plan env slots) 0 [])
 
 -- a node that runs the first step of its next round, with what was reserved for it
-abbrev pub begun_with : Fields → RoundRoom → Fields
+abbrev pub begun_with : NodeFields → RoundRoom → NodeFields
 begun_with f room = record f {
   count = f.count + 1;
   phase = Running 0;

@@ -2,7 +2,7 @@ use Rattle.std.proofs.Common.{◌≡◌, ◌∙◌, ◌∷◌, [], ◌++◌, Non
 use Rattle.std.specs.Prelude.{vec_capacity}
 use Rattle.std.proofs.lemmas.Grind.{common_steps}
 use Rattle.pals_runs.specs.declared.journal.JournalEntry.TheVariants as entry
-use Rattle.pals_bus.specs.declared.fields.Fields.{Fields}
+use Rattle.pals_bus.specs.declared.fields.BusFields.{BusFields}
 use Rattle.pals_bus.proofs.NodeEnds.{journal_shows}
 use Rattle.pals_bus.proofs.Taken.{Takes, none_keeps, none_value, drop_happens, drop_keeps}
 use Rattle.pals_bus.proofs.bus.Bus.drop_message.Goals as goal
@@ -49,7 +49,7 @@ invariant_of-self-2 c =
     let link = c.args.link in
     let round = c.args.round in
     let lost = c.in-Some-take_message._lost in
-    let g : Fields = record t { journal = c.push_reserved.new.self } in
+    let g : BusFields = record t { journal = c.push_reserved.new.self } in
     let going : old.stop ≡ None = grind (arith, common_steps) in
     let says = c.take_message.ensures in
     let asked : Takes f t link round c.take_message.result =
@@ -63,9 +63,9 @@ invariant_of-self-2 c =
     let takes : Takes f t link round (Some lost) = subst (Takes f t link round) c.in-Some-take_message.is asked in
     let told =
     c.push_reserved.ensures.items
-    ∙ ap (λ (k : Fields). k.journal.items ++ entry.Drop link round ∷ []) says.others in
-    let capacity = c.push_reserved.ensures.capacity ∙ ap (λ (k : Fields). vec_capacity k.journal) says.others in
+    ∙ ap (λ (k : BusFields). k.journal.items ++ entry.Drop link round ∷ []) says.others in
+    let capacity = c.push_reserved.ensures.capacity ∙ ap (λ (k : BusFields). vec_capacity k.journal) says.others in
     let room = c.in_ok-reserve_entries.ensures.room in
     drop_keeps f t g link round lost c.reserve_entries.ensures.keeps takes refl told
-    (drop_happens f t g link round lost (ap (λ (k : Fields). k.stop) c.reserve_entries.ensures.others ∙ going) takes
+    (drop_happens f t g link round lost (ap (λ (k : BusFields). k.stop) c.reserve_entries.ensures.others ∙ going) takes
     refl told) (omega (arith, room, capacity))

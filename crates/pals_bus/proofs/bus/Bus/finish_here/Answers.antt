@@ -2,7 +2,7 @@ use Rattle.std.proofs.Common.{List, ap, arith}
 use Rattle.std.proofs.lemmas.Grind.{common_steps}
 use Rattle.pals_runs.specs.declared.journal.JournalEntry.TheVariants as entry
 use Rattle.pals_node.specs.proof.Values.{NodeValue}
-use Rattle.pals_bus.specs.declared.fields.Fields.{Fields}
+use Rattle.pals_bus.specs.declared.fields.BusFields.{BusFields}
 use Rattle.pals_bus.proofs.NodeTurns.{Turned}
 use Rattle.pals_bus.proofs.NodeEnds.{Stands, finishes}
 use Rattle.pals_bus.proofs.bus.Bus.finish_here.Goals as goal
@@ -12,7 +12,7 @@ invariant_of-self-2 c =
     let v = c.args.self.now in
     let f = c.self.inside.fields in
     let round = c.round_in_hand-round.result in
-    let g : Fields = record f { nodes = c.finish_here.new.self; journal = c.push_reserved.new.self } in
+    let g : BusFields = record f { nodes = c.finish_here.new.self; journal = c.push_reserved.new.self } in
     let stands : Stands v f c.args.node.0 =
     record {
       shows = c.self.view_is;
@@ -21,7 +21,7 @@ invariant_of-self-2 c =
       within = c.requires;
     } in
     let turned : Turned f g c.args.node.0 (entry.Finish c.args.node round) = record {
-      same = ap (λ (ns : List NodeValue). let u : Fields = record g { nodes = ns } in u) c.in-Ok.ensures.others;
+      same = ap (λ (ns : List NodeValue). let u : BusFields = record g { nodes = ns } in u) c.in-Ok.ensures.others;
       told = c.push_reserved.ensures.items;
       capacity = c.push_reserved.ensures.capacity;
     } in
@@ -33,7 +33,7 @@ returns-clause-ok c =
     let v = c.args.self.now in
     let f = c.self.inside.fields in
     let round = c.round_in_hand-round.result in
-    let g : Fields = record f { nodes = c.finish_here.new.self; journal = c.push_reserved.new.self } in
+    let g : BusFields = record f { nodes = c.finish_here.new.self; journal = c.push_reserved.new.self } in
     let stands : Stands v f c.args.node.0 =
     record {
       shows = c.self.view_is;
@@ -42,7 +42,7 @@ returns-clause-ok c =
       within = c.requires;
     } in
     let turned : Turned f g c.args.node.0 (entry.Finish c.args.node round) = record {
-      same = ap (λ (ns : List NodeValue). let u : Fields = record g { nodes = ns } in u) c.in-Ok.ensures.others;
+      same = ap (λ (ns : List NodeValue). let u : BusFields = record g { nodes = ns } in u) c.in-Ok.ensures.others;
       told = c.push_reserved.ensures.items;
       capacity = c.push_reserved.ensures.capacity;
     } in

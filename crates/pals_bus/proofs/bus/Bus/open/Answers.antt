@@ -3,7 +3,7 @@ use Rattle.pals_model.specs.declared.design.DesignParts.{DesignParts}
 use Rattle.pals_model.specs.declared.design.Link.{Link}
 use Rattle.pals_model.specs.Rules.{IsDesign}
 use Rattle.pals_node.specs.proof.Values.{NodeValue}
-use Rattle.pals_bus.specs.declared.fields.Fields.{Fields}
+use Rattle.pals_bus.specs.declared.fields.BusFields.{BusFields}
 use Rattle.pals_bus.specs.proof.Absent.{no_flight, no_queue}
 use Rattle.pals_bus.specs.proof.LinksFrom.{AreOutgoing}
 use Rattle.pals_bus.specs.proof.Values.{codes_in}
@@ -12,7 +12,7 @@ use Rattle.pals_bus.proofs.bus.Bus.open.Goals as goal
 
 pub invariant_of-result : goal.invariant_of-result
 invariant_of-result c =
-    let f : Fields = record {
+    let f : BusFields = record {
       alloc = c.args.alloc;
       design = c.args.run.design;
       outgoing = c.in_ok-outgoing.outgoing;
@@ -50,7 +50,7 @@ invariant_of-result c =
 
 pub returns : goal.returns
 returns c =
-    let f : Fields = record {
+    let f : BusFields = record {
       alloc = c.args.alloc;
       design = c.args.run.design;
       outgoing = c.in_ok-outgoing.outgoing;

@@ -6,7 +6,7 @@ use Rattle.pals_base.specs.declared.values.PortValue.{PortValue}
 use Rattle.pals_model.specs.declared.flight.FlightCopy.{FlightCopy}
 use Rattle.pals_runs.specs.declared.journal.JournalEntry.TheVariants as entry
 use Rattle.bus_machine.specs.Machine.{Repeat}
-use Rattle.pals_bus.specs.declared.fields.Fields.{Fields}
+use Rattle.pals_bus.specs.declared.fields.BusFields.{BusFields}
 use Rattle.pals_bus.specs.Values.{BusValue, Happens}
 use Rattle.pals_bus.specs.proof.BusInvariant.{value_of}
 use Rattle.pals_bus.proofs.NodeEnds.{room_shows}
@@ -22,7 +22,7 @@ invariant_of-self-2 c =
     let round = c.args.round in
     let first : FlightCopy = c.in-Some-flight_oldest.oldest.now in
     let copy : FlightCopy = record { round = first.round; due = first.due; tuple = c.in_ok-tuple.tuple } in
-    let g : Fields = record s { journal = c.push_reserved.new.self } in
+    let g : BusFields = record s { journal = c.push_reserved.new.self } in
     let going : old.stop ≡ None = grind (arith, common_steps) in
     let same : copy ≡ first =
     ap (λ (ports : List PortValue). let u : FlightCopy =
@@ -37,15 +37,15 @@ invariant_of-self-2 c =
           c.index.ensures c.in-Some-flight_oldest.ensures same;
       flights = adds.flights;
       queues = adds.queues;
-      others = ap (λ (k : Fields). let u : Fields = record k { journal = g.journal } in u) adds.others;
+      others = ap (λ (k : BusFields). let u : BusFields = record k { journal = g.journal } in u) adds.others;
       told =
           c.push_reserved.ensures.items
-          ∙ ap (λ (k : Fields). k.journal.items ++ entry.Repeat link round ∷ []) adds.others;
+          ∙ ap (λ (k : BusFields). k.journal.items ++ entry.Repeat link round ∷ []) adds.others;
     } in
     let within : link.0 < length (arc_value f.design).links =
-    subst (λ (k : Fields). link.0 < length (arc_value k.design).links) (sym more.others) there in
-    let happens = repeat_happens f g link round copy (ap (λ (k : Fields). k.stop) more.others ∙ going) repeats in
-    let capacity = c.push_reserved.ensures.capacity ∙ ap (λ (k : Fields). vec_capacity k.journal) adds.others in
+    subst (λ (k : BusFields). link.0 < length (arc_value k.design).links) (sym more.others) there in
+    let happens = repeat_happens f g link round copy (ap (λ (k : BusFields). k.stop) more.others ∙ going) repeats in
+    let capacity = c.push_reserved.ensures.capacity ∙ ap (λ (k : BusFields). vec_capacity k.journal) adds.others in
     let room = c.in_ok-reserve_message.ensures.entries in
     repeat_keeps_bus f g link round copy more.keeps within repeats happens c.in_ok-reserve_message.ensures.room
     c.in_ok-reserve_message.ensures.queue (omega (arith, capacity, room))
@@ -59,7 +59,7 @@ returns-clause-ok c =
     let round = c.args.round in
     let first : FlightCopy = c.in-Some-flight_oldest.oldest.now in
     let copy : FlightCopy = record { round = first.round; due = first.due; tuple = c.in_ok-tuple.tuple } in
-    let g : Fields = record s { journal = c.push_reserved.new.self } in
+    let g : BusFields = record s { journal = c.push_reserved.new.self } in
     let going : old.stop ≡ None = grind (arith, common_steps) in
     let same : copy ≡ first =
     ap (λ (ports : List PortValue). let u : FlightCopy =
@@ -74,11 +74,11 @@ returns-clause-ok c =
           c.index.ensures c.in-Some-flight_oldest.ensures same;
       flights = adds.flights;
       queues = adds.queues;
-      others = ap (λ (k : Fields). let u : Fields = record k { journal = g.journal } in u) adds.others;
+      others = ap (λ (k : BusFields). let u : BusFields = record k { journal = g.journal } in u) adds.others;
       told =
           c.push_reserved.ensures.items
-          ∙ ap (λ (k : Fields). k.journal.items ++ entry.Repeat link round ∷ []) adds.others;
+          ∙ ap (λ (k : BusFields). k.journal.items ++ entry.Repeat link round ∷ []) adds.others;
     } in
-    let happens = repeat_happens f g link round copy (ap (λ (k : Fields). k.stop) more.others ∙ going) repeats in
+    let happens = repeat_happens f g link round copy (ap (λ (k : BusFields). k.stop) more.others ∙ going) repeats in
     subst (λ (b : BusValue). Happens b (Repeat link round) (value_of g))
     (room_shows old f more.others more.copies more.items ∙ c.self.view_is) happens

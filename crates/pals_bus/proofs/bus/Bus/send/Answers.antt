@@ -1,6 +1,6 @@
 use Rattle.std.proofs.Common.{refl, arith}
 use Rattle.std.proofs.lemmas.Grind.{common_steps}
-use Rattle.pals_bus.specs.declared.fields.Fields.{Fields}
+use Rattle.pals_bus.specs.declared.fields.BusFields.{BusFields}
 use Rattle.pals_bus.proofs.NodeEnds.{Stands, IsSent, sends, send_place, send_room}
 use Rattle.pals_bus.proofs.bus.Bus.send.Goals as goal
 
@@ -40,7 +40,7 @@ invariant_of-self-2 c =
     let f = c.self.inside.fields in
     let s = c.send_messages.new.self in
     let round = c.round_in_hand-round.result in
-    let g : Fields = record s { journal = c.push_reserved.new.self } in
+    let g : BusFields = record s { journal = c.push_reserved.new.self } in
     let stands : Stands v f c.args.node.0 =
     record {
       shows = c.self.view_is;
@@ -66,7 +66,7 @@ returns-clause-ok c =
     let f = c.self.inside.fields in
     let s = c.send_messages.new.self in
     let round = c.round_in_hand-round.result in
-    let g : Fields = record s { journal = c.push_reserved.new.self } in
+    let g : BusFields = record s { journal = c.push_reserved.new.self } in
     let stands : Stands v f c.args.node.0 =
     record {
       shows = c.self.view_is;

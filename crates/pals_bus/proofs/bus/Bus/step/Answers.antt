@@ -3,7 +3,7 @@ use Rattle.std.proofs.lemmas.Grind.{common_steps}
 use Rattle.pals_runs.specs.declared.journal.JournalEntry.TheVariants as entry
 use Rattle.pals_node.specs.proof.Values.{NodeValue}
 use Rattle.pals_node.specs.proof.Answers.{StepEnds}
-use Rattle.pals_bus.specs.declared.fields.Fields.{Fields}
+use Rattle.pals_bus.specs.declared.fields.BusFields.{BusFields}
 use Rattle.pals_bus.proofs.NodeTurns.{Turned}
 use Rattle.pals_bus.proofs.NodeEnds.{reserved, refuses, steps}
 use Rattle.pals_bus.proofs.bus.Bus.step.Goals as goal
@@ -25,13 +25,13 @@ invariant_of-self-2 c =
     let old = c.self.inside.fields in
     let f = c.reserve_entries.new.self in
     let job = c.in-Ok.job in
-    let g : Fields = record f { nodes = c.step.new.self; journal = c.push_reserved.new.self } in
+    let g : BusFields = record f { nodes = c.step.new.self; journal = c.push_reserved.new.self } in
     let room = c.reserve_entries.ensures in
     let going : old.stop ≡ None = grind (arith, common_steps) in
     let stands =
     reserved v old f c.args.node.0 c.self.view_is going c.requires.node room.others room.items room.keeps in
     let turned : Turned f g c.args.node.0 (entry.Step c.args.node job.work.round job.work.step c.args.reading) = record {
-      same = ap (λ (ns : List NodeValue). let u : Fields = record g { nodes = ns } in u) c.in-Ok.ensures.others;
+      same = ap (λ (ns : List NodeValue). let u : BusFields = record g { nodes = ns } in u) c.in-Ok.ensures.others;
       told =
           c.push_reserved.ensures.items
           ∙ ap₂ (λ r k. f.journal.items ++ entry.Step c.args.node r k c.args.reading ∷ []) c.round.ensures
@@ -47,13 +47,13 @@ returns-clause-ok c =
     let old = c.self.inside.fields in
     let f = c.reserve_entries.new.self in
     let job = c.in-Ok.job in
-    let g : Fields = record f { nodes = c.step.new.self; journal = c.push_reserved.new.self } in
+    let g : BusFields = record f { nodes = c.step.new.self; journal = c.push_reserved.new.self } in
     let room = c.reserve_entries.ensures in
     let going : old.stop ≡ None = grind (arith, common_steps) in
     let stands =
     reserved v old f c.args.node.0 c.self.view_is going c.requires.node room.others room.items room.keeps in
     let turned : Turned f g c.args.node.0 (entry.Step c.args.node job.work.round job.work.step c.args.reading) = record {
-      same = ap (λ (ns : List NodeValue). let u : Fields = record g { nodes = ns } in u) c.in-Ok.ensures.others;
+      same = ap (λ (ns : List NodeValue). let u : BusFields = record g { nodes = ns } in u) c.in-Ok.ensures.others;
       told =
           c.push_reserved.ensures.items
           ∙ ap₂ (λ r k. f.journal.items ++ entry.Step c.args.node r k c.args.reading ∷ []) c.round.ensures

@@ -6,14 +6,14 @@ use Rattle.pals_base.specs.declared.limits.TheConstants.{HOUR}
 use Rattle.pals_model.specs.declared.flight.FlightCopy.{FlightCopy}
 use Rattle.pals_model.specs.Delays.{delay_of}
 use Rattle.bus_machine.specs.States.{link_at}
-use Rattle.pals_bus.specs.declared.fields.Fields.{Fields}
+use Rattle.pals_bus.specs.declared.fields.BusFields.{BusFields}
 use Rattle.pals_bus.specs.proof.Absent.{no_link_no, no_queue}
 use Rattle.pals_bus.specs.proof.LinksFrom.{no_numbers}
 use Rattle.pals_bus.specs.proof.Queues.{with_due}
 use Rattle.pals_bus.proofs.NextLinks.{reaches_more}
 use Rattle.pals_bus.proofs.SendSteps.{CanSend, Sending, own_links, sending_all, sending_delay, sending_more}
 use Rattle.pals_bus.proofs.SendSteps.{sending_places, sending_room, sending_queue_room, message_left}
-use Rattle.pals_bus.proofs.fields.Fields.send_messages.Goals as goal
+use Rattle.pals_bus.proofs.fields.BusFields.send_messages.Goals as goal
 
 pub unreachable-requires : goal.unreachable-requires
 unreachable-requires c =
@@ -156,7 +156,7 @@ add_message-requires-clause-queue c =
     c.links_from-at-end.result.now c.loop-at.invariant c.links_from-at-end.ensures c.loop-at-test.true
     c.links_from.ensures in
     let link = slice_index_or c.links_from.result.now c.loop-at.at no_link_no in
-    subst (λ (k : Fields). 1
+    subst (λ (k : BusFields). 1
     ≤ (slice_index_or now.queues (link_at (arc_value k.design) link.0).target.0 no_queue).spare)
     (sym here.holds.others)
     (sending_queue_room first now node c.args.round c.args.reading c.args.messages left link.0 here.holds
@@ -187,11 +187,11 @@ loop-at-preserved c =
     let tuple = c.in-Some.tuple in
     let rest = into_iter_items c.next.new.self in
     let copy : FlightCopy = record { round = round; due = c.due_at-due.result; tuple = tuple } in
-    let delay = c.delay.ensures ∙ ap (λ (k : Fields). delay_of k.delays link.0 round) here.holds.others in
+    let delay = c.delay.ensures ∙ ap (λ (k : BusFields). delay_of k.delays link.0 round) here.holds.others in
     let due = c.due_at-due.ensures ∙ ap (λ (d : ℕ). option_map (λ (sent : ℕ). sent + d) reading) delay in
     let is = ap (λ (o : Option ℕ). let u : FlightCopy = record { round = round; due = o; tuple = tuple } in u) due in
     let queues =
-    subst (λ (k : Fields). next.queues
+    subst (λ (k : BusFields). next.queues
     ≡ slice_set now.queues (link_at (arc_value k.design) link.0).target.0
     (with_due (slice_index_or now.queues (link_at (arc_value k.design) link.0).target.0 no_queue) copy.due link
     copy.round)) here.holds.others adds.queues in

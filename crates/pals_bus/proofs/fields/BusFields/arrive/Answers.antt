@@ -5,11 +5,11 @@ use Rattle.pals_model.specs.declared.design.DesignParts.{DesignParts}
 use Rattle.pals_model.specs.declared.design.Link.{Link}
 use Rattle.bus_machine.specs.States.{no_link}
 use Rattle.pals_node.specs.proof.Values.{NodeValue}
-use Rattle.pals_bus.specs.declared.fields.Fields.{Fields}
+use Rattle.pals_bus.specs.declared.fields.BusFields.{BusFields}
 use Rattle.pals_bus.proofs.Taken.{Takes, none_keeps, none_value, none_in_flight, none_holds}
 use Rattle.pals_bus.proofs.Arrivals.{Comes, node_after, reached_within, slot_reached, arrival_is, comes_by}
 use Rattle.pals_bus.proofs.Arrivals.{arrive_happens, arrive_keeps_bus}
-use Rattle.pals_bus.proofs.fields.Fields.arrive.Goals as goal
+use Rattle.pals_bus.proofs.fields.BusFields.arrive.Goals as goal
 
 pub returns-in_err-tuple-clause-keeps : goal.returns-in_err-tuple-clause-keeps
 returns-in_err-tuple-clause-keeps c =
@@ -60,7 +60,7 @@ arrive-result-requires-clause-node c =
     } in
     let links =
     c.links.ensures.value ∙ ap (λ (d : DesignParts). d.links) c.deref.ensures
-    ∙ ap (λ (k : Fields). (arc_value k.design).links) says.others in
+    ∙ ap (λ (k : BusFields). (arc_value k.design).links) says.others in
     let target =
     c.end_of-target.ensures.node ∙ ap (λ (ls : List Link). (slice_index_or ls link.0 no_link).target.0) links in
     reached_within f t link c.args.round c.take_message.result c.end_of-target.result.0 c.requires.keeps c.requires.link
@@ -82,7 +82,7 @@ arrive-result-requires-clause-port c =
     } in
     let links =
     c.links.ensures.value ∙ ap (λ (d : DesignParts). d.links) c.deref.ensures
-    ∙ ap (λ (k : Fields). (arc_value k.design).links) says.others in
+    ∙ ap (λ (k : BusFields). (arc_value k.design).links) says.others in
     let target =
     c.end_of-target.ensures.node ∙ ap (λ (ls : List Link). (slice_index_or ls link.0 no_link).target.0) links in
     let port =
@@ -100,7 +100,7 @@ returns-clause-keeps c =
     let at = c.end_of-target.result.0 in
     let port = c.end_of-target.result.1 in
     let m = node_after t.nodes at port round tuple in
-    let g : Fields = record t
+    let g : BusFields = record t
     { nodes = c.arrive-result.new.self; stop = c.early_stop-stop.result; journal = c.tell_stop.new.journal } in
     let says = c.take_message.ensures in
     let asked : Takes f t link round c.take_message.result =
@@ -114,13 +114,13 @@ returns-clause-keeps c =
     let takes : Takes f t link round (Some tuple) = subst (Takes f t link round) c.in_ok-tuple.was asked in
     let links =
     c.links.ensures.value ∙ ap (λ (d : DesignParts). d.links) c.deref.ensures
-    ∙ ap (λ (k : Fields). (arc_value k.design).links) says.others in
+    ∙ ap (λ (k : BusFields). (arc_value k.design).links) says.others in
     let target_is =
     c.end_of-target.ensures.node ∙ ap (λ (ls : List Link). (slice_index_or ls link.0 no_link).target.0) links in
     let port_is =
     c.end_of-target.ensures.port ∙ ap (λ (ls : List Link). (slice_index_or ls link.0 no_link).in_port) links in
     let others : g ≡ record t { nodes = slice_set t.nodes at m; stop = g.stop; journal = g.journal } =
-    ap (λ (ns : List NodeValue). let u : Fields = record g { nodes = ns } in u) c.arrive-result.ensures.others in
+    ap (λ (ns : List NodeValue). let u : BusFields = record g { nodes = ns } in u) c.arrive-result.ensures.others in
     let comes : Comes f t g link round c.args.reading tuple m =
     comes_by f t g link round c.args.reading tuple at port c.arrive-result.result c.push_reserved.new.self.items
     c.requires.keeps c.requires.link takes target_is port_is
@@ -131,7 +131,7 @@ returns-clause-keeps c =
     c.requires.link comes in
     let capacity =
     c.tell_stop.ensures.capacity ∙ c.push_reserved.ensures.capacity
-    ∙ ap (λ (k : Fields). vec_capacity k.journal) says.others in
+    ∙ ap (λ (k : BusFields). vec_capacity k.journal) says.others in
     let room = c.requires.room in
     arrive_keeps_bus f t g link round c.args.reading tuple m c.requires.keeps c.requires.link comes happens
     (omega (arith, capacity, room))
@@ -146,7 +146,7 @@ returns-clause-some c =
     let at = c.end_of-target.result.0 in
     let port = c.end_of-target.result.1 in
     let m = node_after t.nodes at port round tuple in
-    let g : Fields = record t
+    let g : BusFields = record t
     { nodes = c.arrive-result.new.self; stop = c.early_stop-stop.result; journal = c.tell_stop.new.journal } in
     let says = c.take_message.ensures in
     let asked : Takes f t link round c.take_message.result =
@@ -160,13 +160,13 @@ returns-clause-some c =
     let takes : Takes f t link round (Some tuple) = subst (Takes f t link round) c.in_ok-tuple.was asked in
     let links =
     c.links.ensures.value ∙ ap (λ (d : DesignParts). d.links) c.deref.ensures
-    ∙ ap (λ (k : Fields). (arc_value k.design).links) says.others in
+    ∙ ap (λ (k : BusFields). (arc_value k.design).links) says.others in
     let target_is =
     c.end_of-target.ensures.node ∙ ap (λ (ls : List Link). (slice_index_or ls link.0 no_link).target.0) links in
     let port_is =
     c.end_of-target.ensures.port ∙ ap (λ (ls : List Link). (slice_index_or ls link.0 no_link).in_port) links in
     let others : g ≡ record t { nodes = slice_set t.nodes at m; stop = g.stop; journal = g.journal } =
-    ap (λ (ns : List NodeValue). let u : Fields = record g { nodes = ns } in u) c.arrive-result.ensures.others in
+    ap (λ (ns : List NodeValue). let u : BusFields = record g { nodes = ns } in u) c.arrive-result.ensures.others in
     let comes : Comes f t g link round c.args.reading tuple m =
     comes_by f t g link round c.args.reading tuple at port c.arrive-result.result c.push_reserved.new.self.items
     c.requires.keeps c.requires.link takes target_is port_is

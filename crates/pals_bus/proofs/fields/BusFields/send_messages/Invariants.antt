@@ -4,7 +4,7 @@ use Rattle.std.specs.Vec.Iter.{into_iter_items}
 use Rattle.pals_bus.specs.proof.LinksFrom.{no_numbers}
 use Rattle.pals_bus.proofs.NextLinks.{Reaches}
 use Rattle.pals_bus.proofs.SendSteps.{Sending}
-use Rattle.pals_bus.proofs.fields.Fields.send_messages.Given as goal
+use Rattle.pals_bus.proofs.fields.BusFields.send_messages.Given as goal
 
 -- the first links from the node have their messages, and the others are left
 abbrev pub invariant-loop-at : goal.invariant-loop-at

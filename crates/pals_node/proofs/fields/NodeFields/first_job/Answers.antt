@@ -7,7 +7,7 @@ use Rattle.bus_machine.specs.Nodes.{vectors_of}
 use Rattle.pals_node.specs.proof.Values.{Program, job_value}
 use Rattle.pals_node.specs.proof.NodeInvariants.{AreTuples}
 use Rattle.pals_node.proofs.Starts.{vectors_are}
-use Rattle.pals_node.proofs.fields.Fields.first_job.Goals as goal
+use Rattle.pals_node.proofs.fields.NodeFields.first_job.Goals as goal
 
 pub new-requires-clause-inputs : goal.new-requires-clause-inputs
 new-requires-clause-inputs c =

@@ -4,7 +4,7 @@ use Rattle.bus_machine.specs.declared.plan.Plan.{Plan}
 use Rattle.pals_node.specs.proof.Values.{Program}
 use Rattle.pals_node.specs.proof.NodeInvariants.{AreTuples, PhaseKeeps}
 use Rattle.pals_node.proofs.Ends.{outs_keep, after_keeps}
-use Rattle.pals_node.proofs.fields.Fields.end_step.Goals as goal
+use Rattle.pals_node.proofs.fields.NodeFields.end_step.Goals as goal
 
 pub returns-then-step-deref-clause-keeps : goal.returns-then-step-deref-clause-keeps
 returns-then-step-deref-clause-keeps c =

@@ -1,5 +1,5 @@
 use Rattle.pals_bus.proofs.DueTurns.{Arriving}
-use Rattle.pals_bus.proofs.fields.Fields.arrive_all.Given as goal
+use Rattle.pals_bus.proofs.fields.BusFields.arrive_all.Given as goal
 
 -- the first messages have arrived
 abbrev pub invariant-loop-message : goal.invariant-loop-message

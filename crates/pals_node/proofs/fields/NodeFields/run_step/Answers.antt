@@ -8,7 +8,7 @@ use Rattle.pals_node.specs.proof.Values.{Program}
 use Rattle.pals_node.proofs.Ends.{runs_open, makes, keeps_on}
 use Rattle.std.proofs.lemmas.List.{with_items_is}
 use Rattle.std.proofs.lemmas.Option.{slice_get-get_or, get_or_from_slice_get}
-use Rattle.pals_node.proofs.fields.Fields.run_step.Goals as goal
+use Rattle.pals_node.proofs.fields.NodeFields.run_step.Goals as goal
 
 pub end_step-requires : goal.end_step-requires
 end_step-requires c =

@@ -1,10 +1,10 @@
 use Rattle.std.proofs.Common.{◌∙◌, ◌<◌, length, ap, arith}
 use Rattle.pals_model.specs.declared.design.DesignParts.{DesignParts}
 use Rattle.link_buffers.specs.proof.Queues.{QueueState}
-use Rattle.pals_bus.specs.declared.fields.Fields.{Fields}
+use Rattle.pals_bus.specs.declared.fields.BusFields.{BusFields}
 use Rattle.pals_bus.specs.proof.BusInvariant.{copies_in}
 use Rattle.pals_bus.proofs.Reserves.{flight_copies, message_room}
-use Rattle.pals_bus.proofs.fields.Fields.reserve_message.Goals as goal
+use Rattle.pals_bus.proofs.fields.BusFields.reserve_message.Goals as goal
 
 pub returns-in_err-reserve-2-clause-keeps : goal.returns-in_err-reserve-2-clause-keeps
 returns-in_err-reserve-2-clause-keeps c =
@@ -47,6 +47,6 @@ returns-clause-copies c =
     let count = c.requires.keeps.flight_count in
     let link = c.requires.link in
     let flies : c.args.link.0 < length f.flights = omega (arith, count, link) in
-    ap (λ (k : Fields). copies_in k.flights) c.reserve_entries.ensures.others
+    ap (λ (k : BusFields). copies_in k.flights) c.reserve_entries.ensures.others
     ∙ flight_copies f.flights c.args.link.0 c.index_mut.result.now c.reserve.new.self flies c.index_mut.ensures.value
     c.reserve.ensures.copies

@@ -3,13 +3,13 @@ use Rattle.std.specs.Arc.{arc_value}
 use Rattle.pals_base.specs.declared.values.LinkNo.{LinkNo}
 use Rattle.pals_model.specs.declared.design.DesignParts.{DesignParts}
 use Rattle.pals_model.specs.declared.design.Link.{Link}
-use Rattle.pals_bus.specs.declared.fields.Fields.{Fields}
+use Rattle.pals_bus.specs.declared.fields.BusFields.{BusFields}
 use Rattle.pals_bus.specs.proof.LinksFrom.{links_from}
 use Rattle.pals_bus.specs.proof.Queues.{HasQueueRoomFor, HasQueueRoomOn}
 use Rattle.pals_bus.specs.proof.Sending.{HasRoomFor, HasRoomOn}
 use Rattle.pals_bus.proofs.LinksFrom.{numbers_within, room_for, queue_room_for}
 use Rattle.pals_bus.proofs.Reserves.{more_room, held}
-use Rattle.pals_bus.proofs.fields.Fields.reserve_round.Goals as goal
+use Rattle.pals_bus.proofs.fields.BusFields.reserve_round.Goals as goal
 
 pub returns-in_err-reserve_links-clause-keeps : goal.returns-in_err-reserve_links-clause-keeps
 returns-in_err-reserve_links-clause-keeps c =
@@ -50,7 +50,7 @@ returns-clause-room c =
     (subst (λ (ns : List LinkNo). HasRoomOn ns c.reserve_links.new.flights) numbers
     c.in_ok-reserve_links.ensures.room) in
     held c.reserve_entries.result
-    (subst (λ (k : Fields). HasRoomFor node (length (arc_value k.design).links) (arc_value k.design).links
+    (subst (λ (k : BusFields). HasRoomFor node (length (arc_value k.design).links) (arc_value k.design).links
     k.flights) (sym c.reserve_entries.ensures.others) room)
 
 pub returns-clause-queues : goal.returns-clause-queues
@@ -68,5 +68,5 @@ returns-clause-queues c =
     let room =
     queue_room_for node links queues (subst (λ (ns : List LinkNo). HasQueueRoomOn ns links queues) numbers on) in
     held c.reserve_entries.result
-    (subst (λ (k : Fields). HasQueueRoomFor node (arc_value k.design).links k.queues)
+    (subst (λ (k : BusFields). HasQueueRoomFor node (arc_value k.design).links k.queues)
     (sym c.reserve_entries.ensures.others) room)

@@ -3,7 +3,7 @@ use Rattle.pals_base.specs.Fire.{Fired}
 use Rattle.pals_node.specs.proof.Values.{JobValue, IsResult}
 use Rattle.pals_node.proofs.Ends.{runs_open, makes, keeps_on}
 use Rattle.pals_node.proofs.Memories.{memory_left}
-use Rattle.pals_node.proofs.fields.Fields.take_step.Goals as goal
+use Rattle.pals_node.proofs.fields.NodeFields.take_step.Goals as goal
 
 pub end_step-requires : goal.end_step-requires
 end_step-requires c =

@@ -7,7 +7,7 @@ use Rattle.pals_node.specs.proof.Memories.{HasMemory}
 use Rattle.pals_node.specs.proof.Rounds.{empty_part}
 use Rattle.pals_node.specs.proof.NodeInvariants.{Keeps, AreTuples, PhaseKeeps, IsPartRoom, value_of}
 use Rattle.pals_node.proofs.Starts.{absent_are, vectors_are, part_room, starts_value}
-use Rattle.pals_node.proofs.fields.Fields.start.Goals as goal
+use Rattle.pals_node.proofs.fields.NodeFields.start.Goals as goal
 
 pub returns-clause-ok : goal.returns-clause-ok
 returns-clause-ok c =
