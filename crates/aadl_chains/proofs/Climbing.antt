@@ -1,4 +1,5 @@
--- The walk back as the code makes it is that over paths with the innermost subcomponent first.
+-- The walk back that the code makes, on paths from the outside in, is the walk back of the definitions, on paths
+-- from the inside out.
 use Rattle.std.proofs.Common.{◌≡◌, ◌⊎◌, inl, inr, ℕ, zero, suc, ◌+◌, ◌<◌, ◌≤◌, false, nat_eq, List, [], ◌∷◌, ◌++◌, take}
 use Rattle.std.proofs.Common.{reverse, length, slice_get, get_or, Option, Some, None, option_map, refl, sym, ap, subst}
 use Rattle.std.proofs.Common.{◌∙◌, arith}

@@ -1,4 +1,4 @@
--- The walk back from an in port of a thread: chains that end there come the way that it goes.
+-- What the walk back from an in port of a thread passes is a chain to that port.
 use Rattle.std.proofs.Common.{◌≡◌, ◌⊎◌, inl, inr, ℕ, List, [], ◌∷◌, Contains, Option, Some, None, refl, sym, ap, subst}
 use Rattle.std.proofs.Common.{◌∙◌}
 use Rattle.std.proofs.lemmas.List.Elements.{Contains-append_right}

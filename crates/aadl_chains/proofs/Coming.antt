@@ -1,4 +1,4 @@
--- A chain to an in port comes the way that the walk back from there goes.
+-- Each chain to an in port is the one that the walk back from this port passes.
 use Rattle.std.proofs.Common.{◌≡◌, ◌⊎◌, inl, inr, ℕ, Bool, true, false, not, List, [], ◌∷◌, slice_get, Contains, Option}
 use Rattle.std.proofs.Common.{Some, refl, sym, ap, subst, ◌∙◌}
 use Rattle.std.proofs.lemmas.Bool.{true≢false, and_parts}

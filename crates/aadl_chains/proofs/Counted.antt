@@ -1,4 +1,4 @@
--- The number of targets of links tells whether there are more links than a limit.
+-- The number of targets of links is above a limit where, and only where, there are more links than the limit allows.
 use Rattle.std.proofs.Common.{◌≡◌, ◌⊎◌, inl, inr, ◌↔◌, ℕ, suc, ◌+◌, ◌<◌, ◌≤◌, Bool, true, false, not, min, List, []}
 use Rattle.std.proofs.Common.{◌∷◌, map, length, slice_get, get_or, All, AllPairs, Option, Some, None, option_map, refl}
 use Rattle.std.proofs.Common.{sym, ap, subst, ◌∙◌, arith}

@@ -1,5 +1,4 @@
--- The set of ports that lead out, declaration after declaration in an order in which each stands before those that it
--- contains.
+-- Ports that lead out of implementations, found declaration by declaration, those that contain others first.
 use Rattle.std.proofs.Common.{◌≡◌, ◌⊎◌, inl, inr, ℕ, zero, suc, ◌+◌, ◌<◌, ◌≤◌, false, nat_eq, List, [], ◌∷◌, length}
 use Rattle.std.proofs.Common.{slice_get, Contains, Some, None, refl, sym, ap, subst, ◌∙◌, arith}
 use Rattle.std.specs.List.{IsDistinct, AllByRecursion}

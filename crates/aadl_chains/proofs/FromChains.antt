@@ -1,4 +1,5 @@
--- What the ends of a connection lead to, where it is on a chain at some place.
+-- If a connection is on a chain at some place, its ends lead to where a chain begins and where one ends. For the
+-- faults at ends.
 use Rattle.std.proofs.Common.{◌≡◌, inl, inr, ℕ, zero, suc, Bool, true, false, not, List, [], ◌∷◌, slice_get, Contains}
 use Rattle.std.proofs.Common.{Some, refl, sym, ap, subst, ◌∙◌}
 use Rattle.std.proofs.lemmas.Option.{same_Some}

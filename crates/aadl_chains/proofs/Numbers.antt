@@ -1,5 +1,4 @@
--- Numbers of what has a property: of nothing, of one, of what has one of two, and of what is the same under another
--- name.
+-- Counts of what has a property, up to a limit: of none, of one, of two properties together, and under other names.
 use Rattle.std.proofs.Common.{◌≡◌, ◌⊎◌, inl, inr, ℕ, ◌+◌, ◌≤◌, min, List, [], ◌∷◌, ◌++◌, map, length, refl, sym, ap}
 use Rattle.std.proofs.Common.{subst, ◌∙◌, arith}
 use Rattle.std.specs.List.{AllByRecursion}

@@ -1,4 +1,4 @@
--- A connection of an implementation in use whose ends lead to where chains begin and end is on a chain at some place.
+-- If the ends of a connection in use lead to where chains begin and end, the connection is on a chain at some place.
 use Rattle.std.proofs.Common.{◌≡◌, inl, inr, ℕ, zero, suc, Bool, true, false, List, [], ◌∷◌, ◌++◌, map, slice_get}
 use Rattle.std.proofs.Common.{Contains, Option, Some, None, option_map, refl, sym, ap, subst, ◌∙◌}
 use Rattle.std.specs.Option.{option_and_then}

@@ -1,5 +1,4 @@
--- The set of ports that reach threads, declaration after declaration in an order in which each stands behind those
--- that it contains.
+-- Ports that lead to threads below, found declaration by declaration, those that are contained first.
 use Rattle.std.proofs.Common.{◌≡◌, ◌⊎◌, inl, inr, ℕ, zero, suc, ◌+◌, ◌<◌, ◌≤◌, List, [], length, slice_get, Contains}
 use Rattle.std.proofs.Common.{Some, None, refl, sym, ap, subst, ◌∙◌, arith}
 use Rattle.std.proofs.lemmas.List.{length-map}

@@ -1,4 +1,5 @@
--- What the walk back rests on, from what lines 2 and 4 say.
+-- If lines 2 and 4 of the rules find nothing at connections, these are sound, which is what the walk back rests on.
+-- For `descend`, `trace_back` and `trace_tap`.
 use Rattle.std.proofs.Common.{◌≡◌, ℕ, slice_get, Contains, Some, option_map, sym, ap, subst, ◌∙◌}
 use Rattle.std.specs.Option.{option_and_then}
 use Rattle.std.proofs.lemmas.Option.{same_Some, slice_get-map}

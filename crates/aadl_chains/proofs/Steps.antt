@@ -1,4 +1,5 @@
--- Connections between ports, and what is known of them where nothing is wrong with names.
+-- The first connection into a port, what it comes from, and that a second one is none where nothing is wrong. Each
+-- step of a walk back passes such a connection.
 use Rattle.std.proofs.Common.{◌≡◌, ◌⊎◌, inl, inr, ℕ, zero, suc, ◌+◌, ◌<◌, ◌≤◌, Bool, true, false, cond, nat_lt, List}
 use Rattle.std.proofs.Common.{[], ◌∷◌, slice_get, Contains, Option, Some, None, refl, sym, ap, subst, ◌∙◌, arith}
 use Rattle.std.specs.List.{position_from}

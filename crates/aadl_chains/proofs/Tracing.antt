@@ -1,4 +1,5 @@
--- What the walks up and down find, put together.
+-- The walk up from an in port and the walk down from where it turns give the chain to the port. For `trace_back` and
+-- `trace_tap`.
 use Rattle.std.proofs.Common.{◌≡◌, ℕ, false, List, [], ◌∷◌, reverse, Option, Some, None, refl, sym, ap, subst, ◌∙◌}
 use Rattle.std.proofs.lemmas.Option.{same_Some}
 use Rattle.aadl_tree.specs.Declarations.{PackageTree}

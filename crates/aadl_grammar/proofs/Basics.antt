@@ -1,4 +1,4 @@
--- Both parts of a list that is not empty, and a test that fails.
+-- Lists that are equal and not empty have equal heads and equal tails; a test and its negation do not both hold.
 use Rattle.std.proofs.Common.{◌≡◌, Bool, true, false, not, List, ◌∷◌}
 
 pub not_both : (a : Bool) → not a ≡ true → a ≡ true → ⊥

@@ -1,3 +1,4 @@
+-- The tree that each row of the table builds, by kinds of symbols.
 pub mod Values
 pub mod Expressions
 pub mod Actions

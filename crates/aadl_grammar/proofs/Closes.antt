@@ -1,4 +1,5 @@
--- No terminal inside a behaviour annex has its end in it.
+-- No terminal inside a behaviour annex has the end `**}` of the annex in it. For the claim that canonical text is
+-- read back.
 use Rattle.std.proofs.Common.{◌≡◌, ℕ, suc, ◌+◌, Bool, true, false, cond, not, ◌&&◌, ◌||◌, ◌==◌, ◌∙◌, sym, ap, refl}
 use Rattle.std.proofs.Common.{List, [], ◌∷◌, ◌++◌, append_assoc, length, length-append, arith, Option, Some, None}
 use Rattle.std.proofs.Common.{nat_eq}

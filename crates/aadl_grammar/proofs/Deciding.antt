@@ -1,4 +1,5 @@
--- One terminal decides how a symbol begins.
+-- At most one row of a symbol fits a terminal, so one terminal decides how a symbol begins: the claim
+-- `one_terminal_decides`.
 use Rattle.std.proofs.Common.{◌≡◌, true, not, ◌==◌, sym, ap, List, [], ◌∷◌, eq-eqb}
 use Rattle.std.proofs.lemmas.Bool.{or_left, or_right}
 use Rattle.std.specs.Cmp.{first_so, second_so}

@@ -1,3 +1,4 @@
+-- What the stack machine can take: derivations, the trees that belong to them, and why there is only one.
 pub mod Tails
 pub mod Settled
 pub mod Derivations

@@ -1,3 +1,5 @@
+-- Where the stack machine gets with a list of terminals, and what this says of the two languages, packages and
+-- behaviours.
 pub mod Shifts
 pub mod Nesting
 pub mod Walks

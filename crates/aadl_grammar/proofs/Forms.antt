@@ -1,4 +1,5 @@
--- Two forms of guards, each by a check of the table's rows.
+-- Two kinds of invariants of stacks, on what comes behind and before a terminal, each proved by a check of all rows
+-- of the table.
 use Rattle.std.proofs.Common.{◌≡◌, ℕ, Bool, true, false, not, ◌&&◌, ◌||◌, ◌==◌, ◌∙◌, ap, refl, List, [], ◌∷◌, inl, inr}
 use Rattle.std.proofs.lemmas.Bool.{or_left}
 use Rattle.std.specs.Cmp.{first_so, second_so}

@@ -1,5 +1,5 @@
--- What a stack of the machine lets stand side by side: a guard looks at the symbol on top and the terminal before it,
--- and at symbols one below the other.
+-- Invariants of the machine's stack: which symbols may be on top behind a terminal, and which one below the other.
+-- For which terminals may be neighbours.
 use Rattle.std.proofs.Common.{◌≡◌, ℕ, Bool, true, ◌&&◌, ◌∙◌, sym, ap, subst, refl, List, [], ◌∷◌, ◌++◌}
 use Rattle.std.proofs.lemmas.List.{append-nil}
 use Rattle.std.proofs.lemmas.Bool.{eqb-true, and_from}

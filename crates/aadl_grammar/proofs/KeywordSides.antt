@@ -1,5 +1,5 @@
--- A test of symbols that holds of those that are wanted first, and stays true along the rows, holds of all that stand
--- there.
+-- No keywords can come but the listed ones, outside of annexes and inside: an invariant of all symbols that can be
+-- wanted there.
 use Rattle.std.proofs.Common.{◌≡◌, Bool, true, false, not, ◌&&◌, ◌||◌, List, refl, subst}
 use Rattle.std.specs.Prelude.{Contains}
 use Rattle.std.specs.List.{list_all}

@@ -1,4 +1,4 @@
--- A way to each keyword, outside of annexes and inside.
+-- Each listed keyword can come: a way through the table to it, outside of annexes and inside.
 use Rattle.std.proofs.Common.{◌≡◌, ℕ, Bool, true, ◌&&◌, List, [], ◌∷◌, refl}
 use Rattle.std.specs.Prelude.{Contains}
 use Rattle.std.specs.List.{list_all}

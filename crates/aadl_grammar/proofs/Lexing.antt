@@ -1,4 +1,4 @@
--- From each byte on a text has tokens or a first fault.
+-- Each text has tokens or a first lexical fault: the claim `tokens_or_fault`.
 use Rattle.std.proofs.Common.{◌≡◌, ◌⊎◌, inl, inr, ℕ, zero, suc, ◌+◌, ◌<◌, ◌≤◌, Bool, true, false, cond, List, [], ◌∷◌}
 use Rattle.std.proofs.Common.{◌++◌, length, take, drop, Option, Some, None, arith, refl, nat_eq, nat_le, ◌&&◌}
 use Rattle.std.proofs.lemmas.Bool.{cases_lt}

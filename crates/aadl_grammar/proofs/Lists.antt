@@ -1,4 +1,4 @@
--- Values and properties, one more of them; and words that come first.
+-- Lists of values and of properties that grow by one item, as the loops of parsers read them.
 use Rattle.std.proofs.Common.{◌≡◌, ℕ, ◌+◌, ◌<◌, ◌∙◌, sym, ap, List, [], ◌∷◌, ◌++◌, length, append_assoc, arith}
 use Rattle.std.specs.Prelude.{Result}
 use Rattle.std.proofs.lemmas.List.{append-nil}

@@ -1,4 +1,5 @@
--- What follows a terminal in a canonical text does not go on with it.
+-- In a canonical text the byte behind a terminal never continues the terminal's token. For the claim that canonical
+-- text is read back.
 use Rattle.std.proofs.Common.{◌≡◌, ℕ, Bool, true, false, ◌&&◌, ◌||◌, refl, List, [], ◌∷◌, ◌++◌, get_or, inl, inr}
 use Rattle.std.specs.Prelude.{codes, if◌then◌else◌}
 use Rattle.std.specs.Char.{is_ascii_alphabetic}

@@ -1,4 +1,5 @@
--- Each terminal of a package may stand behind the one before it.
+-- Any two neighbours among the terminals of a package may stand side by side. For the claim that canonical text is
+-- read back.
 use Rattle.std.proofs.Common.{◌≡◌, ℕ, Bool, true, false, not, ◌||◌, ◌==◌, refl, List, [], ◌∷◌}
 use Rattle.std.proofs.lemmas.Bool.{and_from}
 use Rattle.aadl_tree.specs.declared.mark.Mark.{Mark}

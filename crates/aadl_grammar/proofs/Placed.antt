@@ -1,4 +1,4 @@
--- A tree is fixed by what is left without its places, and by its places.
+-- A tree is fixed by itself without places and by its places. For the claim that tokens spell one tree with places.
 pub mod Shapes
 pub mod Order
 pub mod Names

@@ -1,3 +1,4 @@
+-- How a tree is spelled does not depend on its places, by kinds of trees.
 pub mod Alike
 pub mod Values
 pub mod Expressions

@@ -1,4 +1,4 @@
--- One more name that qualifies a reference.
+-- A reference whose names are read one by one: the loop of `reference` adds one more name.
 use Rattle.std.proofs.Common.{◌≡◌, ◌∙◌, ap, sym, List, [], ◌∷◌, ◌++◌, map, flat_map, append_assoc}
 use Rattle.aadl_tree.specs.declared.mark.Mark.TheVariants as k
 use Rattle.aadl_tree.specs.declared.names.Identifier.{Identifier}

@@ -1,4 +1,5 @@
--- The canonical text of a tree has that tree, except for its places.
+-- The canonical text of a tree is read as the same tree, except for its places: the claim
+-- `canonical_text_is_read_back`.
 use Rattle.std.proofs.Common.{◌≡◌, ◌∙◌, ℕ, ◌<◌, Bool, false, sym, ap, subst, refl, List, [], ◌∷◌, length, arith}
 use Rattle.std.proofs.lemmas.List.{append-nil}
 use Rattle.aadl_lex.specs.declared.token.Token.{Token}

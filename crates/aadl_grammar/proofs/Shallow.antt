@@ -1,4 +1,5 @@
--- What means nothing can be left out, and nothing nests deeper.
+-- A tree's terminals without those that mean nothing nest no deeper than with them. For the claim that canonical
+-- text is read back.
 use Rattle.std.proofs.Common.{◌≡◌, ℕ, ◌≤◌, Bool, true, false, ap, subst, refl, List, [], ◌∷◌, ◌++◌, inl, inr, arith}
 use Rattle.aadl_tree.specs.declared.mark.Mark.TheVariants as k
 use Rattle.aadl_tree.specs.Terminals.{Kind, mark}

@@ -1,4 +1,5 @@
--- What may stand side by side in a text of the grammar.
+-- Rules of which terminals may stand side by side in a text of the grammar, by their numbers. For the claim that
+-- canonical text is read back.
 use Rattle.std.specs.Prelude.{ℕ, ◌≡◌, ◌==◌, Bool, true, not, ◌&&◌, ◌||◌, List, [], ◌∷◌}
 use Rattle.aadl_tree.specs.declared.mark.Mark.TheVariants as k
 use Rattle.aadl_tree.specs.Terminals.{Kind}

@@ -1,4 +1,5 @@
--- The terminals that a text has.
+-- Which terminals a text can have, by whether it is read inside an annex or outside. What a tree keeps of such
+-- terminals is such terminals again.
 use Rattle.std.proofs.Common.{◌≡◌, ℕ, ◌≤◌, Bool, true, false, ◌==◌, ◌∙◌, sym, ap, subst, refl, List, [], ◌∷◌, ◌++◌}
 use Rattle.std.proofs.Common.{Some, None, inl, inr}
 use Rattle.std.specs.Prelude.{codes, pos, if◌then◌else◌}

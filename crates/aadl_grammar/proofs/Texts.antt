@@ -1,4 +1,4 @@
--- A text has a tree, or a first fault.
+-- Each text has a tree or a first fault: the claim `tree_or_fault`.
 use Rattle.std.proofs.Common.{◌≡◌, ◌⊎◌, inl, inr, ℕ, sym, subst, List, [], ◌∷◌, length, refl}
 use Rattle.aadl_lex.specs.declared.token.Token.{Token}
 use Rattle.aadl_lex.specs.Tokens.{AreTokensOf}

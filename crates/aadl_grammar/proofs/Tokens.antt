@@ -1,4 +1,5 @@
--- Each terminal, where nothing that follows goes on with it, is read as itself.
+-- The text of a terminal is lexed as this terminal's token, where nothing behind it continues it. For the claim that
+-- canonical text is read back.
 use Rattle.std.proofs.Common.{◌≡◌, ℕ, ◌<◌, Bool, true, false, ◌&&◌, ◌||◌, ◌∙◌, sym, ap, refl, List, [], ◌∷◌, ◌++◌}
 use Rattle.std.proofs.Common.{length, length-append, get_or, arith, Some}
 use Rattle.std.specs.Prelude.{codes, pos, if◌then◌else◌}

@@ -1,4 +1,4 @@
--- What parts are read one behind the other, and that what is read ends no earlier.
+-- How what parsers read one after the other goes together to the parts of one tree. For the proofs of parsers.
 use Rattle.std.proofs.Common.{◌≡◌, ℕ, Bool, true, false, ◌<◌, ◌≤◌, ◌∙◌, sym, ap, subst, refl, List, [], ◌∷◌, ◌++◌}
 use Rattle.std.proofs.Common.{length, arith, inl, inr, map, flat_map, append_assoc}
 use Rattle.std.proofs.lemmas.List.{append-nil}

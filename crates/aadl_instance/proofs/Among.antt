@@ -1,4 +1,4 @@
--- The numbers of ports among those that go as they do, as they are counted.
+-- A port's number among the ports of its type that go the same way, in or out, as the code counts them.
 use Rattle.std.proofs.Common.{◌≡◌, ◌⊎◌, inl, inr, ℕ, ◌+◌, ◌<◌, ◌≤◌, Bool, true, false, cond, List, [], ◌∷◌, ◌++◌}
 use Rattle.std.proofs.Common.{length, map, take, get_or, slice_get, count_by, Some, None, refl, sym, ap, subst, ◌∙◌}
 use Rattle.std.proofs.Common.{arith}

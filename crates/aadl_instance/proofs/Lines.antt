@@ -1,4 +1,4 @@
--- The first fault by lines, where nothing is found in the lines before.
+-- A fault found in a line of the rules is the first one if the lines before find nothing.
 use Rattle.std.proofs.Common.{◌≡◌, ◌⊎◌, inl, inr, ℕ, zero, suc, ◌+◌, ◌-◌, ◌<◌, ◌≤◌, false, List, [], ◌∷◌, get_or}
 use Rattle.std.proofs.Common.{Contains, Some, None, Result, Ok, Err, MatchResult, refl, sym, ap, subst, ◌∙◌, arith}
 use Rattle.std.proofs.lemmas.Bool.{cases_order}

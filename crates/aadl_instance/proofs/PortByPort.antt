@@ -1,4 +1,4 @@
--- Links, feeds and taps, found thread by thread and port by port.
+-- The loops over threads and ports find all links, feeds and taps, in the order of what they go into.
 use Rattle.std.proofs.Common.{◌≡◌, ◌⊎◌, inl, inr, ℕ, ◌+◌, ◌<◌, ◌≤◌, true, false, ◌&&◌, ◌||◌, nat_lt, List, [], ◌∷◌}
 use Rattle.std.proofs.Common.{◌++◌, length, reverse, slice_get, get_or, Contains, AllPairs, Some, refl, sym, ap, subst}
 use Rattle.std.proofs.Common.{◌∙◌, arith}

@@ -1,4 +1,4 @@
--- What is known of a package that has no fault, and its instance.
+-- A package without a fault has threads and chains as its instance shows them. For `instance_of`.
 use Rattle.std.proofs.Common.{◌≡◌, ◌⊎◌, inl, inr, ℕ, ◌<◌, ◌≤◌, List, [], ◌∷◌, length, get_or, map, reverse, codes, Some}
 use Rattle.std.proofs.Common.{Vec, Global, refl, sym, ap, subst, ◌∙◌, All}
 use Rattle.std.specs.Prelude.{IsSome}

@@ -1,4 +1,4 @@
--- What a thread may have only a limited number of.
+-- How many variables and states a thread has, of which it may have only a limited number.
 use Rattle.std.specs.Prelude.{ℕ, List, length, Option, Some, None}
 use Rattle.aadl_tree.specs.Annexes.{AnnexTree}
 use Rattle.aadl_tree.specs.Declarations.{Implementation}

@@ -1,4 +1,4 @@
--- The tokens of a text stand one behind the other within the text.
+-- The tokens of a text stand one behind the other within the text: the claim `tokens_in_order`.
 use Rattle.std.proofs.Common.{◌≡◌, ℕ, zero, suc, ◌+◌, ◌<◌, ◌≤◌, List, [], ◌∷◌, ◌++◌, length, drop, take, arith, subst}
 use Rattle.std.proofs.lemmas.List.{length-drop, length-take-le}
 use Rattle.std.specs.List.{All}

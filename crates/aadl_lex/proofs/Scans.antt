@@ -1,4 +1,4 @@
--- How far a piece reaches, byte by byte.
+-- Loops over bytes that measure digits, make a number of them or look for the end of an annex: one step.
 use Rattle.std.proofs.Common.{◌≡◌, ℕ, suc, ◌+◌, ◌-◌, ◌*◌, ◌<◌, ◌≤◌, Bool, true, false, cond, ◌&&◌, ◌||◌, List, [], ◌∷◌}
 use Rattle.std.proofs.Common.{length, drop, get_or, arith, refl, drop-cons, add-one, Some, None, leb-true, nat_eq}
 use Rattle.std.proofs.Common.{nat_le}

@@ -1,4 +1,5 @@
--- What stands at the front of a text is spelled as its class says.
+-- What a rule takes from the front of a text is spelled as its class of tokens says. For the claim that tokens are
+-- as written.
 use Rattle.std.proofs.Common.{◌≡◌, ℕ, zero, suc, ◌+◌, ◌<◌, ◌≤◌, Bool, true, false, cond, ◌&&◌, ◌||◌, ◌==◌, ◌∙◌, sym, ap}
 use Rattle.std.proofs.Common.{ap₂, subst, refl, List, [], ◌∷◌, ◌++◌, length, map, take, drop, get_or, arith, Option}
 use Rattle.std.proofs.Common.{Some, None, nat_eq, nat_le}

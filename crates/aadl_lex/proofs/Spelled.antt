@@ -1,4 +1,4 @@
--- The tokens of a text are spelled as their classes say.
+-- The tokens of a text are spelled as their classes say: the claim `tokens_are_as_written`.
 use Rattle.std.proofs.Common.{◌≡◌, ℕ, zero, suc, ◌+◌, ◌-◌, ◌<◌, ◌≤◌, Bool, true, false, ◌∙◌, sym, ap, subst, refl, List}
 use Rattle.std.proofs.Common.{[], ◌∷◌, ◌++◌, append_assoc, append-nil, length, take, drop, arith, Some, None, nat_eq}
 use Rattle.std.specs.Prelude.{codes, if◌then◌else◌}

@@ -1,4 +1,5 @@
--- What is declared twice among the ports of a type and beside them: enough of it has the first of it.
+-- Enough of what is declared twice among ports and beside them has the first finding of it all. For the claim
+-- `first_of_all`.
 use Rattle.std.proofs.Common.{◌≡◌, ◌⊎◌, ℕ, ◌+◌, Bool, true, false, cond, ◌&&◌, ◌||◌, nat_eq, nat_lt, List, [], ◌∷◌}
 use Rattle.std.proofs.Common.{◌++◌, Contains, Option, Some, None, refl, sym, ap, ◌∙◌, subst, inl, inr, suc, add-zero}
 use Rattle.std.proofs.Common.{arith}

@@ -1,4 +1,4 @@
--- What is in a list.
+-- What is a member of a list of one and of a list of lists, and which item passes a test if any does.
 use Rattle.std.proofs.Common.{◌≡◌, ◌⊎◌, Bool, true, false, ◌||◌, List, [], ◌∷◌, ◌++◌, Contains, refl, sym, subst, inl}
 use Rattle.std.proofs.Common.{inr, lit<, zero, suc, arith}
 use Rattle.std.specs.List.{list_any, flat_map}

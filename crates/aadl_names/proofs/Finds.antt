@@ -1,4 +1,4 @@
--- Findings one behind the other.
+-- Loops that keep the first finding so far: one turn, and the end.
 use Rattle.std.proofs.Common.{◌≡◌, ◌<◌, ◌≤◌, ◌+◌, ℕ, ◌∙◌, sym, ap, refl, List, [], ◌∷◌, ◌++◌, Option, length, drop}
 use Rattle.std.proofs.Common.{get_or, arith, Result, Ok, Err}
 use Rattle.std.proofs.lemmas.Grind.{common_steps}

@@ -1,4 +1,4 @@
--- The first of a list, with one more item.
+-- Loops that look for the first item that passes a test, or that make a table of members: one turn, and the end.
 use Rattle.std.proofs.Common.{◌≡◌, ℕ, ◌+◌, ◌<◌, ◌≤◌, Bool, cond, List, [], ◌∷◌, ◌++◌, length, Option, Some, None, refl}
 use Rattle.std.proofs.Common.{sym, ap, ◌∙◌, arith, add-zero, map, take, get_or, zero, suc, length-append, Result, Ok}
 use Rattle.std.proofs.Common.{Err, IfOk}

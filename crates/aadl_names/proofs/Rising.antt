@@ -1,4 +1,4 @@
--- Places rise along parts that are written at spots that rise.
+-- The places in a tree that a text has rise from part to part: the claim `places_rise`.
 use Rattle.std.proofs.Common.{inl, inr, ℕ, ◌+◌, ◌<◌, ◌≤◌, Bool, false, List, [], ◌∷◌, ◌++◌, length, All, Contains, refl}
 use Rattle.std.proofs.Common.{subst, arith}
 use Rattle.std.proofs.lemmas.List.Elements.{All-append, All-cons, All-nil}

@@ -1,4 +1,4 @@
--- What a number stands for among a package's declarations, where they are stored.
+-- The code's declaration, subcomponent or port of a number is the one that has this number in the package.
 use denote.Ref.{Bor}
 use Rattle.std.proofs.Common.{◌≡◌, ◌∙◌, ℕ, List, Option, Some, None, refl, sym, ap, map}
 use Rattle.std.specs.Prelude.{slice_get, option_map, option_copied}

@@ -1,4 +1,5 @@
--- Declarations have a terminal at least, and what a category does.
+-- Each declaration takes at least one terminal, and what the machine does at a category. For the loops of the
+-- parser.
 use Rattle.std.proofs.Common.{◌≡◌, ◌<◌, List, [], ◌∷◌, length, refl}
 use Rattle.aadl_tree.specs.declared.declarations.Category.{Category}
 use Rattle.aadl_tree.specs.declared.declarations.Category.TheVariants as categories

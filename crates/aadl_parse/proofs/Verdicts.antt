@@ -1,4 +1,4 @@
--- What the machine's fate of a package says of its text.
+-- From the fate of a package's terminals to the answer of parsing: its only tree, or its fault.
 use Rattle.std.proofs.Common.{◌≡◌, sym, ℕ, ◌<◌, ◌∙◌, ap, subst, refl, List, [], ◌∷◌, length, drop, arith, zero, suc}
 use Rattle.std.specs.Prelude.{◌≢◌, IfErr, Result, Ok, Err}
 use Rattle.std.specs.Result.{IsErrAnd}

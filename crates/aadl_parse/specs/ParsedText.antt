@@ -1,4 +1,4 @@
--- What becomes of a text.
+-- What parsing answers of a text: its only tree, or its fault with a place.
 use Rattle.std.specs.Prelude.{ℕ, ◌≡◌, ◌≢◌, List}
 use Rattle.std.specs.Str.{IsUtf8}
 use Rattle.aadl_lex.specs.Tokens.{IsFaultOf}

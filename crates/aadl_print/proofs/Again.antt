@@ -1,4 +1,4 @@
--- The canonical text of a tree that some text has is read as that tree, and has no fault.
+-- What is printed of a tree is read as the same tree and has no fault. For `is_read_back`.
 use Rattle.std.proofs.Common.{◌≡◌, ◌∙◌, ℕ, Bool, true, sym, ap, subst, List}
 use Rattle.std.specs.Prelude.{◌≢◌, IsTrue}
 use Rattle.std.proofs.Math.Bool.{Bool-set}

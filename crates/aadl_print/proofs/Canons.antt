@@ -1,4 +1,4 @@
--- What is written of a tree is its canonical text.
+-- What the printer has written at its end is the canonical text of the tree.
 use Rattle.std.proofs.Common.{◌≡◌, ◌∙◌, ℕ, Bool, true, false, refl, ap, List, [], ◌∷◌, ◌++◌, append_assoc}
 use Rattle.std.specs.Prelude.{◌||◌, if◌then◌else◌}
 use Rattle.aadl_tree.specs.Terminals.{Kind}

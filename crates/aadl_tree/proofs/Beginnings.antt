@@ -1,4 +1,4 @@
--- A word is among the marks that begin as it does.
+-- A keyword or symbol is found among those that begin with its first byte. For the look-up of marks.
 use Rattle.std.proofs.Common.{◌≡◌, ◌==◌, ◌<◌, ℕ, Bool, true, false, cond, refl, ap, sym, List, [], ◌∷◌, length, Some}
 use Rattle.std.proofs.Common.{None, zero, suc, arith}
 use Rattle.std.specs.Prelude.{slice_index, ◌↔◌, IsTrue}

@@ -1,4 +1,4 @@
--- The spelling of a transition, and its canonical text.
+-- The spelling of an example transition, and its canonical text: the claim `counting_is_spelled`.
 use Rattle.std.proofs.Common.{◌≡◌, [], ◌∷◌, refl, inl, inr}
 use Rattle.std.specs.Fmt.{digits}
 use Rattle.aadl_tree.specs.declared.mark.Mark.TheVariants as k

@@ -1,4 +1,5 @@
--- What a factor is, by what it stands for.
+-- Which factor of an expression a plain factor stands for: absolute, negated or bare. For the comparison of
+-- expressions.
 use Rattle.std.proofs.Common.{◌≡◌, ◌∙◌, ℕ, ap, sym, Box, Global}
 use Rattle.aadl_tree.specs.declared.expressions.Factor.{Factor, Abs, Not, Plain}
 use Rattle.aadl_tree.specs.declared.expressions.Factor.TheOpen.{Factor-F}

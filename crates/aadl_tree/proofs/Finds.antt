@@ -1,4 +1,4 @@
--- Finding, one element at a time.
+-- A search through a list: one element more that is not the wanted one.
 use Rattle.std.proofs.Common.{◌≡◌, ℕ, ◌+◌, ◌<◌, Bool, cond, false, refl, ◌∙◌, List, length, get_or, drop, Some, add-one}
 use Rattle.std.proofs.Common.{drop-cons}
 use Rattle.std.specs.List.{find}

@@ -1,4 +1,4 @@
--- Lists that mean the same are as long.
+-- Trees with the same meaning have lists of the same length. For the comparison of trees.
 use Rattle.std.proofs.Common.{◌≡◌, suc, List, [], ◌∷◌, length, refl, ap}
 use Rattle.aadl_tree.specs.declared.values.Value.{Value}
 use Rattle.aadl_tree.specs.declared.values.Association.{Association}

@@ -1,4 +1,5 @@
--- Spellings, part for part.
+-- Spellings of parts one behind the other, and of one part less. For the claims `kept_is_spelled` and
+-- `parts_are_spelled_in_turn`.
 use Rattle.std.proofs.Common.{◌≡◌, ℕ, ◌∙◌, sym, ap, subst, refl, List, [], ◌∷◌, ◌++◌, inl, inr}
 use Rattle.aadl_tree.specs.Terminals.{Kind, Spot, kinds_of}
 use Rattle.aadl_tree.specs.Parts.{Part, token, may, extra_kinds, Spells, HaveKinds, Written, kept}

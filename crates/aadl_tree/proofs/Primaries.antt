@@ -1,4 +1,5 @@
--- What an operand is, by what it stands for.
+-- Which operand of an expression a plain operand stands for: a number, a truth value, a name or a group. For the
+-- comparison of expressions.
 use Rattle.std.proofs.Common.{◌≡◌, ◌∙◌, ℕ, ℤ, Bool, Box, Global, ap, sym}
 use Rattle.aadl_tree.specs.declared.names.Identifier.{Identifier}
 use Rattle.aadl_tree.specs.declared.expressions.Factor.{Factor}

@@ -1,4 +1,5 @@
--- The trees that source trees stand for with some places, moved, are those with the places that the map makes of them.
+-- Plain trees with their places mapped are the trees that are made with the mapped places, by kinds of trees. For
+-- the claim that places can be dropped.
 pub mod Names
 pub mod Values
 pub mod Expressions

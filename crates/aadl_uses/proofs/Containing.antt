@@ -1,4 +1,4 @@
--- The containment of a package by numbers is that of its subcomponents.
+-- The containment of a package, as a graph of numbers, agrees with what its subcomponents name.
 use Rattle.std.proofs.Common.{◌≡◌, ◌↔◌, ℕ, zero, suc, ◌<◌, Bool, true, false, List, [], ◌∷◌, ◌++◌, map, Option, Some}
 use Rattle.std.proofs.Common.{None, option_map, length, get_or, slice_get, Contains, refl, sym, ap, subst, ◌∙◌, arith}
 use Rattle.std.proofs.Common.{if◌then◌else◌, codes, Result, Ok, Err, IfOk}

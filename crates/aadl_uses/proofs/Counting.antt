@@ -1,4 +1,5 @@
--- What stands below a declaration stands below its first subcomponents, or below the next one.
+-- Marked declarations are counted subcomponent by subcomponent: what stands below a declaration stands below its
+-- first subcomponents, or below one of the next.
 use Rattle.std.proofs.Common.{◌≡◌, ℕ, ◌+◌, ◌<◌, ◌≤◌, Bool, true, false, ◌&&◌, ◌||◌, nat_eq, nat_lt, min, List, [], ◌∷◌}
 use Rattle.std.proofs.Common.{◌++◌, length, map, Option, Some, None, get_or, slice_get, refl, sym, ap, ◌∙◌, subst}
 use Rattle.std.proofs.Common.{arith, inl, inr, ◌⊎◌}

@@ -1,4 +1,5 @@
--- The port that an end names, by what was looked up before.
+-- The port that an end of a connection names, with one word or two, by look-ups of ports and subcomponents that were
+-- made before.
 use Rattle.std.proofs.Common.{◌≡◌, ℕ, List, Option, Some, None, Result, Ok, Err, IfOk, slice_get, option_map, sym, ap}
 use Rattle.std.proofs.Common.{◌∙◌}
 use Rattle.std.specs.Option.{option_and_then}

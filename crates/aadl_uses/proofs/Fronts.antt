@@ -1,4 +1,5 @@
--- What is known of declarations, one after the other, each behind those that it contains.
+-- Values of declarations that are known to be right for the first ones of a sequence, in which each stands behind
+-- those that it contains.
 use Rattle.std.proofs.Common.{◌≡◌, ℕ, ◌+◌, ◌<◌, ◌≤◌, List, length, Some, None, get_or, set, slice_get, sym, ap, ◌∙◌}
 use Rattle.std.proofs.Common.{subst, arith, inl, inr, ◌⊎◌, get_or-set_other, get_or-set_same}
 use Rattle.std.proofs.lemmas.Bool.{cases_order, cases_lt}

@@ -1,4 +1,4 @@
--- Lists of paths that grow, and that they are all that lead to what is marked.
+-- Lists of paths that grow by one subcomponent after another, and in the end have all paths to marked declarations.
 use Rattle.std.proofs.Common.{◌≡◌, ℕ, ◌+◌, ◌<◌, ◌≤◌, Bool, List, [], ◌∷◌, ◌++◌, length, map, take, get_or, Contains}
 use Rattle.std.proofs.Common.{refl, sym, ap, ◌∙◌, append_assoc}
 use Rattle.std.proofs.lemmas.List.{take_more, take_all, map-append}

@@ -1,4 +1,4 @@
--- The paths to threads.
+-- The paths that are listed are those of all threads below a root.
 use Rattle.std.proofs.Common.{◌≡◌, ◌↔◌, ℕ, ◌<◌, Bool, List, ◌∷◌, length, map, reverse, Some, Contains, Result, Ok, Err}
 use Rattle.std.proofs.Common.{IfOk, sym, ap, ◌∙◌, subst}
 use Rattle.std.specs.Option.{option_and_then}

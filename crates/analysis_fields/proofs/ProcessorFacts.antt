@@ -1,4 +1,5 @@
--- Processors keep what their reader looks at.
+-- For AnalysisFacts: each processor that was read has a time for an instruction, and serves components of the
+-- design.
 use Rattle.std.proofs.Common.{◌≡◌, ℕ, zero, suc, ◌<◌, ◌≤◌, ◌+◌, Bool, true, false, ◌&&◌, cond, List, [], ◌∷◌, ◌++◌}
 use Rattle.std.proofs.Common.{length, map, get_or, codes, Result, Ok, Option, Some, None, All, replicate, refl, ap, ◌∙◌}
 use Rattle.std.proofs.Common.{subst, arith}

@@ -1,4 +1,4 @@
--- What reaches is a way, and what a way leads to is reached.
+-- One state reaches another in the tables exactly where a way of transitions leads there.
 use Rattle.std.proofs.Common.{◌≡◌, ℕ, ◌<◌, zero, suc, Bool, true, false, not, ◌&&◌, nat_eq, List, [], ◌∷◌, length, refl}
 use Rattle.std.proofs.Common.{sym, ap, ◌∙◌, subst, arith, inl, inr, ◌⊎◌}
 use Rattle.std.specs.List.{list_any, Contains}

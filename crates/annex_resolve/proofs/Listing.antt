@@ -1,4 +1,4 @@
--- What a loop over things has made of them, with one more.
+-- The list that a loop has made of the elements so far, and of one more: `map` and `flat_map`.
 use Rattle.std.proofs.Common.{◌≡◌, ℕ, ◌+◌, ◌<◌, List, [], ◌∷◌, ◌++◌, length, map, take, get_or, ap, ◌∙◌}
 use Rattle.std.specs.Prelude.{flat_map}
 use Rattle.std.proofs.lemmas.List.{map-append, append-nil}

@@ -1,4 +1,4 @@
--- A list of one name.
+-- A name that is a list of one identifier.
 use Rattle.std.proofs.Common.{◌≡◌, ◌≤◌, ◌<◌, Bool, List, [], ◌∷◌, length, get_or, codes, map, string_bytes, ap, ◌∙◌}
 use Rattle.std.proofs.Common.{arith}
 use Rattle.aadl_tree.specs.Names.{same_name}

@@ -1,5 +1,5 @@
--- No answer to a bundle has the status of a read that failed, or of too many bytes: so these come exactly where that
--- is so.
+-- The statuses of a failed read and of too many bytes come exactly where the source failed or had too many: no
+-- answer to a bundle has them.
 use Rattle.std.proofs.Common.{◌≡◌, ◌≢◌, ◌∙◌, ◌↔◌, inl, inr, ℕ, ◌-◌, ◌^◌, ◌<◌, List, length, true, false, Some, refl}
 use Rattle.std.proofs.Common.{sym, ap, arith}
 use Rattle.pals_base.specs.declared.limits.TheConstants.{BUNDLE_BYTES}

@@ -1,4 +1,4 @@
--- What the source shows and the words decide the answer of a call that is no run.
+-- A call that is no run has one answer, which its words and what its source shows decide.
 use Rattle.std.proofs.Common.{◌≡◌, ◌∙◌, inl, inr, ℕ, ◌+◌, ◌-◌, ◌^◌, ◌<◌, ◌≤◌, min, List, length, true, false, Option}
 use Rattle.std.proofs.Common.{Some, None, sym, ap, subst, arith}
 use Rattle.std.specs.Prelude.{IfSome}

@@ -1,4 +1,4 @@
--- A command that is no run and a bundle have one status, and one text.
+-- A command that is no run has one answer to a bundle: one status, and one text.
 use Rattle.std.proofs.Common.{◌≡◌, ◌∙◌, inl, inr, ℕ, true, false, List, sym, ap, subst}
 use Rattle.std.proofs.lemmas.Bool.{true≢false}
 use Rattle.pals_model.specs.declared.design.DesignParts.{DesignParts}

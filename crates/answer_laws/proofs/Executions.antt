@@ -1,4 +1,4 @@
--- An answer to a bundle of a command that needs step codes is one, if it is no run.
+-- A command that needs step codes and is no run has one answer to a bundle.
 use Rattle.std.proofs.Common.{◌≡◌, ◌∙◌, ◌⊎◌, inl, inr, ℕ, ◌<◌, false, List, length, ◌++◌, sym, ap, subst, arith}
 use Rattle.std.proofs.lemmas.Bool.{cases_lt}
 use Rattle.pals_base.specs.declared.limits.TheConstants.{INSTRUCTIONS}

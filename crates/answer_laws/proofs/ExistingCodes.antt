@@ -1,4 +1,4 @@
--- No step code is too long, or one is the first that is.
+-- Either no step code of a design is too long, or one is the first that is.
 use Rattle.std.proofs.Common.{◌⊎◌, inl, inr, ℕ, ◌<◌, ◌≤◌, length, refl, arith}
 use Rattle.std.proofs.lemmas.Bool.{cases_lt}
 use Rattle.pals_base.specs.declared.limits.TheConstants.{INSTRUCTIONS}

@@ -1,4 +1,4 @@
--- Each command makes a status and a text of a design and its scenario: one lemma for each command.
+-- For each command, a lemma that it makes a status and a text of a design and its scenario.
 use Rattle.std.proofs.Common.{ℕ, List, refl, subst}
 use Rattle.pals_model.specs.declared.design.DesignParts.{DesignParts}
 use Rattle.pals_model.specs.Rules.{IsDesign}

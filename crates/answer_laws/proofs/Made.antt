@@ -1,4 +1,4 @@
--- What each command but `run` makes of a design and its scenario is one, and of which statuses it is.
+-- Each command but `run` makes one result of a design and its scenario; and which statuses that may have.
 use Rattle.std.proofs.Common.{◌≡◌, ◌∙◌, ◌⊎◌, inl, inr, ℕ, ◌<◌, ◌≤◌, Bool, true, false, List, sym, ap, arith}
 use Rattle.std.specs.Prelude.{if◌then◌else◌}
 use Rattle.std.proofs.lemmas.Bool.{true≢false}

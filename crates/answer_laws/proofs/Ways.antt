@@ -1,4 +1,5 @@
--- Which status comes where, of four cases that exclude each other.
+-- The status that comes in each of four cases that exclude each other: no text, no design, no scenario, or all
+-- three.
 use Rattle.std.proofs.Common.{◌≡◌, ◌∙◌, ◌⊎◌, ◌↔◌, inl, inr, ℕ, ◌<◌, ◌≤◌, sym, arith}
 
 -- The status by what is there: a text, a design and a scenario, each of which has the ones before it. Where all are

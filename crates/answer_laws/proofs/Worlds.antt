@@ -1,4 +1,4 @@
--- What the events of a scenario give in a loose world is one.
+-- The events of a scenario have one result in a loose world.
 use Rattle.std.proofs.Common.{◌≡◌, ◌∙◌, inl, inr, ℕ, List, [], ◌++◌, refl, sym, ap}
 use Rattle.std.specs.Prelude.{map}
 use Rattle.pals_model.specs.declared.design.DesignParts.{DesignParts}

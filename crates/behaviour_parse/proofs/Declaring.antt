@@ -1,4 +1,4 @@
--- Declarations have a terminal at least.
+-- Each declaration of a variable, a state or a transition begins with a terminal.
 use Rattle.std.proofs.Common.{◌≡◌, ◌∙◌, ap, sym, ℕ, ◌<◌, List, [], ◌∷◌, ◌++◌, length, append_assoc, Option, Some, None}
 use Rattle.aadl_tree.specs.declared.mark.Mark.TheVariants as k
 use Rattle.aadl_tree.specs.declared.annex.VariableDeclaration.{VariableDeclaration}

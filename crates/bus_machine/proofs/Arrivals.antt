@@ -1,4 +1,5 @@
--- Each event of a link keeps the agreement; and so does each step, and each journal.
+-- The last part of the proof that runs agree with the composition: arrivals, losses and repeats keep the agreement,
+-- and so do each step, the opening and each journal.
 use Rattle.std.proofs.Common.{◌≡◌, inl, inr, ℕ, zero, suc, ◌+◌, ◌<◌, ◌≤◌, nat_eq, Bool, true, false, List, [], ◌∷◌}
 use Rattle.std.proofs.Common.{◌++◌, length, map, slice_get, Option, Some, None, All, refl, sym, ap, ap₂, ◌∙◌, subst}
 use Rattle.std.proofs.Common.{arith}

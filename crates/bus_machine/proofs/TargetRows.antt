@@ -1,4 +1,4 @@
--- The rows of targets, computed.
+-- For TargetExamples: the targets of the example nodes, computed.
 use Rattle.std.proofs.Common.{refl}
 use Rattle.bus_machine.specs.proof.TargetRows.{NodesHaveTargets}
 

@@ -1,4 +1,4 @@
--- Associations of a name, and properties in several lists.
+-- The associations of one name in a list of properties, and the first that counts in several lists.
 use Rattle.std.proofs.Common.{◌≡◌, ◌∙◌, ℕ, Bool, true, false, cond, ◌&&◌, ◌++◌, List, [], ◌∷◌, Option, Some, refl, sym}
 use Rattle.std.proofs.Common.{ap, map, rules, find}
 use Rattle.std.specs.Option.{option_or, option_and_then}

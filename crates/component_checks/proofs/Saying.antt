@@ -1,4 +1,4 @@
--- What lists say of a component, one behind the other and by numbers.
+-- For ComponentProperties: what lists of properties say of a component, one list after another, by its numbers.
 use Rattle.std.proofs.Common.{◌≡◌, ◌∙◌, ℕ, ◌+◌, ◌<◌, Bool, List, [], ◌∷◌, ◌++◌, length, take, get_or, reverse}
 use Rattle.std.proofs.Common.{append_assoc, Option, Some, None, refl, sym, ap, map}
 use Rattle.std.specs.Prelude.{flat_map, option_map, slice_get}

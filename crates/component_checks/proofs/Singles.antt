@@ -1,4 +1,4 @@
--- A list of two and more is not one text.
+-- A list of two or more texts is not a single text.
 use Rattle.std.proofs.Common.{◌≡◌, ℕ, ◌≤◌, List, [], ◌∷◌, length, None, refl, arith}
 use Rattle.aadl_tree.specs.Values.{Value, list}
 use Rattle.aadl_tree.specs.proof.ValueViews.{values_of}

@@ -1,4 +1,4 @@
--- What a package declares twice is possible.
+-- Each finding that a name is declared twice is among the possible name faults of the package.
 use Rattle.std.proofs.Common.{◌≡◌, ℕ, List, [], ◌∷◌, ◌++◌, Option, Some, None, Contains, refl, subst}
 use Rattle.std.specs.Prelude.{flat_map, slice_get}
 use Rattle.std.specs.List.{filter_map}

@@ -1,4 +1,5 @@
--- What there is of declarations that contain one another.
+-- What exists where declarations contain one another: the list of all that one reaches, an order of declarations,
+-- lists of paths.
 use Rattle.std.specs.Prelude.{◌↔◌, ℕ, Bool, List, Contains}
 use Rattle.aadl_uses.specs.proof.Graphs.{Graph, IsReached, LeadsBack}
 use Rattle.aadl_uses.specs.proof.Orders.{IsOrder}

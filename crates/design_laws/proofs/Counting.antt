@@ -1,4 +1,4 @@
--- Numbers that count, and periods on which nothing is found.
+-- The skew, ranges, rates and periods on which nothing is found are within their limits.
 use Rattle.std.proofs.Common.{◌≡◌, ◌∙◌, ℕ, ◌*◌, ◌/◌, ◌%◌, ◌≤◌, nat_le, nat_lt, nat_eq, Bool, true, false, not, cond}
 use Rattle.std.proofs.Common.{◌&&◌, List, [], ◌∷◌, Option, Some, None, refl, ap, subst, zero, suc, arith}
 use Rattle.std.specs.Option.{option_and_then}

@@ -1,4 +1,4 @@
--- Findings that are possible, or of something of another kind.
+-- Lists of findings each of which is a possible name fault, or of another kind: how they are joined.
 use Rattle.std.proofs.Common.{◌≡◌, ◌⊎◌, inl, inr, ℕ, Bool, true, false, cond, List, [], ◌∷◌, ◌++◌, map, filter, Option}
 use Rattle.std.proofs.Common.{Some, None, Contains, refl, sym, ap, subst}
 use Rattle.std.specs.Prelude.{flat_map}

@@ -1,4 +1,5 @@
--- Declarations are placed in rounds, each of which places one more.
+-- Declarations without cycles have an order in which each stands behind those that it contains: each pass places one
+-- more.
 use Rattle.std.proofs.Common.{◌≡◌, ◌⊎◌, inl, inr, ℕ, zero, suc, ◌+◌, ◌<◌, ◌≤◌, Bool, true, false, nat_eq, List, []}
 use Rattle.std.proofs.Common.{length, refl, subst, arith}
 use Rattle.std.specs.List.{list_all}

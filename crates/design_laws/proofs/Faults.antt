@@ -1,4 +1,4 @@
--- Two first faults of a package are equal.
+-- A package has at most one first fault: two of them are equal.
 use Rattle.std.proofs.Common.{◌≡◌, ◌⊎◌, inl, inr, ◌∙◌, ℕ, ◌<◌, ◌≤◌, nat_eq, cond, List, Option, Some, None, Contains}
 use Rattle.std.proofs.Common.{refl, sym, ap, ap₂, subst, arith}
 use Rattle.std.specs.Prelude.{slice_get, codes}

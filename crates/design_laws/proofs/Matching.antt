@@ -1,4 +1,4 @@
--- What is made of each of a list, where none is missing.
+-- What is made of each element of a list, where none is missing, goes with the list one by one.
 use Rattle.std.proofs.Common.{◌≡◌, ◌∙◌, ℕ, zero, suc, List, [], ◌∷◌, map, length, Option, Some, AllPairs, refl, ap}
 use Rattle.std.proofs.Common.{subst}
 use Rattle.std.specs.Prelude.{slice_get, All}

@@ -1,4 +1,4 @@
--- What a behaviour does with names.
+-- What is found of the names in a behaviour is never `Memory`, the want of memory.
 use Rattle.std.proofs.Common.{ℕ, Bool, List, Option, Some, None}
 use Rattle.aadl_tree.specs.Names.{Identifier, listed_in}
 use Rattle.aadl_tree.specs.Expressions as e

@@ -1,4 +1,4 @@
--- What is wrong with a package, and its first fault.
+-- Nothing that is found wrong with a package is `Memory`, and neither is its first fault.
 use Rattle.std.proofs.Common.{◌≡◌, inl, inr, ◌∙◌, sym, ℕ, Bool, List, [], ◌∷◌, ◌++◌, Option, Some, None}
 use Rattle.std.specs.Prelude.{◌≢◌, not}
 use Rattle.std.specs.List.{enumerate_from, filter_map}

@@ -1,4 +1,4 @@
--- Paths, and ends of chains, stand in their order one way alone.
+-- The orders of paths and of ends of chains go one way: nothing stands both before and behind another.
 use Rattle.std.proofs.Common.{◌≡◌, ◌⊎◌, inl, inr, ℕ, nat_eq, nat_lt, Bool, true, false, ◌&&◌, List, [], ◌∷◌, reverse}
 use Rattle.std.proofs.Common.{subst, arith}
 use Rattle.std.proofs.lemmas.Bool.{false≢true, ltb-true, eqb-true}

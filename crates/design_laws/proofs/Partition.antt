@@ -1,4 +1,4 @@
--- Pairs of a list, of what is made of it, and of its two halves by a test.
+-- What holds of all pairs of a list holds of its images and of the two halves that a test makes.
 use Rattle.std.proofs.Common.{◌≡◌, ◌∙◌, ℕ, zero, suc, ◌+◌, ◌<◌, Bool, true, false, not, cond, List, [], ◌∷◌, ◌++◌, map}
 use Rattle.std.proofs.Common.{AllPairs, Option, Some, refl, sym, ap, subst, arith}
 use Rattle.std.specs.Prelude.{filter, slice_get, find}

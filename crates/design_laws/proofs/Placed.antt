@@ -1,4 +1,4 @@
--- Names that stand one behind the other in the parts of a tree.
+-- Names that stand at rising places in the parts of a tree, one behind the other.
 use Rattle.std.proofs.Common.{◌≡◌, ◌∙◌, ℕ, ◌<◌, List, [], ◌∷◌, ◌++◌, Option, Some, None, Contains, refl, sym, ap, subst}
 use Rattle.std.proofs.Common.{append_assoc, arith}
 use Rattle.std.specs.Prelude.{flat_map}

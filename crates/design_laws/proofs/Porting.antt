@@ -1,4 +1,4 @@
--- The numbers of ports among those that go as they do, and of threads.
+-- The number of a port among those of its direction, and the number of a thread.
 use Rattle.std.proofs.Common.{◌≡◌, ◌∙◌, inl, inr, ◌⊎◌, ℕ, zero, suc, ◌+◌, ◌<◌, nat_eq, nat_lt, Bool, true, false, cond}
 use Rattle.std.proofs.Common.{◌&&◌, ◌||◌, List, [], ◌∷◌, length, reverse, take, Option, Some, AllPairs, Contains, refl}
 use Rattle.std.proofs.Common.{sym, ap, subst, arith}

@@ -1,4 +1,4 @@
--- A list is sorted by putting each element in its place among those behind it.
+-- Each list has a stable sort: each element is inserted among those behind it.
 use Rattle.std.proofs.Common.{◌≡◌, ◌∙◌, ap, subst, refl, ℕ, zero, suc, ◌+◌, ◌<◌, Bool, true, false, cond, not, ◌&&◌}
 use Rattle.std.proofs.Common.{List, [], ◌∷◌, length, get_or, arith}
 use Rattle.std.specs.Prelude.{filter}

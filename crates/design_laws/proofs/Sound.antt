@@ -1,4 +1,4 @@
--- A package in which the first four lines find nothing.
+-- A package that the first four lines of checks find nothing in.
 use Rattle.std.specs.Prelude.{◌≡◌, ℕ, List, [], Some}
 use Rattle.aadl_tree.specs.Declarations.{PackageTree}
 use Rattle.aadl_names.specs.declared.fault.PackageFault.{PackageFault}

@@ -1,4 +1,4 @@
--- Tests, and lists in which nothing is found.
+-- What follows where a test passes, or a list of findings is empty.
 use Rattle.std.proofs.Common.{◌≡◌, ℕ, ◌+◌, ◌<◌, ◌≤◌, zero, suc, Bool, true, false, not, cond, List, [], ◌∷◌, ◌++◌, map}
 use Rattle.std.proofs.Common.{Some, refl, ap, ◌∙◌, arith}
 use Rattle.std.specs.Prelude.{flat_map, filter, slice_get}

@@ -1,4 +1,4 @@
--- The names of the package that a text has.
+-- For PackageNames: what is known of names holds of the package of each text.
 use Rattle.std.proofs.Props.{props}
 use Rattle.std.proofs.Math.Logic.{∥∥₁_elim}
 use Rattle.aadl_tree.specs.declared.package.PackageTree as source

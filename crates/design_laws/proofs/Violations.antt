@@ -1,4 +1,4 @@
--- All findings, sorted.
+-- Each instance has the sorted list of all its findings.
 use Rattle.std.proofs.Common.{ℕ, Bool, List}
 use Rattle.aadl_tree.specs.Declarations.{PackageTree}
 use Rattle.aadl_instance.specs.Flat.{Parts, IsFlat}

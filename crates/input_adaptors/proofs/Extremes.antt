@@ -1,4 +1,5 @@
--- Where the present numbers of a group are, and the least and the greatest of them.
+-- For the law that extremes bound their group: where the present numbers of a group stand, and the least and the
+-- greatest of them.
 use Rattle.std.proofs.Common.{◌≡◌, ap, sym, subst, refl, zero, suc, ◌⊎◌, inl, inr, ℤ, ◌≤ℤ◌, List, [], ◌∷◌, arith}
 use Rattle.std.specs.Prelude.{All, Contains}
 use Rattle.std.proofs.lemmas.Int.{fold-int_max_bounds, fold-int_max_reached, fold-int_min_bounds, fold-int_min_reached}

@@ -1,4 +1,4 @@
--- Lists of ports, cut into groups.
+-- For `join_all`: a list of ports is cut into groups, and what is given after one more group.
 use Rattle.std.proofs.Common.{◌≡◌, ◌∙◌, ap, sym, ℕ, suc, ◌+◌, ◌-◌, ◌<◌, min, List, [], ◌∷◌, ◌++◌, length, take, drop}
 use Rattle.std.proofs.Common.{map, arith, append_assoc}
 use Rattle.std.proofs.lemmas.List.{take_min, drop_min}

@@ -1,4 +1,5 @@
--- A mean lies between the least and the greatest of its numbers.
+-- For the law that averages lie within their group: a mean is no less than the least of its numbers and no more than
+-- the greatest.
 use Rattle.std.proofs.Common.{◌≡◌, sym, subst, refl, ℕ, suc, ◌+◌, ℤ, pos, negsuc, ◌+ℤ◌, ◌*ℤ◌, ◌≤ℤ◌, List, [], ◌∷◌}
 use Rattle.std.proofs.Common.{length, fold, arith}
 use Rattle.std.specs.Prelude.{All, Contains}

@@ -1,4 +1,5 @@
--- The present numbers of a list of ports, and what is made of them.
+-- For the functions of `group`: the present numbers of a list of ports, and the least, greatest, latest and mean of
+-- them.
 use Rattle.std.proofs.Common.{◌≡◌, ◌∙◌, ap, sym, refl, ℕ, suc, ◌+◌, ◌<◌, ◌≤◌, ◌*◌, ◌^◌, ◌-◌, ℤ, pos, neg_ℤ, ◌+ℤ◌, ◌≤ℤ◌}
 use Rattle.std.proofs.Common.{List, [], ◌∷◌, ◌++◌, length, take, get_or, fold, Option, Some, None, arith}
 use Rattle.std.specs.List.{reduce, filter_map, last_or}

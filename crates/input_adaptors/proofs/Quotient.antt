@@ -1,4 +1,4 @@
--- Quotients towards zero, and that the mean of 64-bit numbers fits 64 bits.
+-- For `quotient`: a quotient is rounded towards zero, and the mean of 64-bit numbers fits 64 bits.
 use Rattle.std.proofs.Common.{◌≡◌, ◌∙◌, ap, ℕ, suc, ◌<◌, ◌≤◌, ◌*◌, ◌/◌, ◌^◌, ◌-◌, ℤ, pos, negsuc, neg_ℤ, ◌*ℤ◌, ◌≤ℤ◌}
 use Rattle.std.proofs.Common.{arith}
 use Rattle.std.specs.Int.RustNames.{int_div}

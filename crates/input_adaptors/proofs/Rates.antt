@@ -1,4 +1,4 @@
--- How many places an adaptor gives, and the groups that they are made of.
+-- For the laws of places: how many places an adaptor gives, and which group each of them is made of.
 use Rattle.std.proofs.Common.{◌≡◌, ◌∙◌, ap, sym, refl, ℕ, zero, suc, ◌+◌, ◌-◌, ◌*◌, ◌/◌, ◌<◌, ◌≤◌, inl, inr, ◌⊎◌, ◌%◌}
 use Rattle.std.proofs.Common.{◌||◌, Bool, true, false, if◌then◌else◌, List, [], ◌∷◌, ◌++◌, length, take, drop, map}
 use Rattle.std.proofs.Common.{Option, Some, None, arith}

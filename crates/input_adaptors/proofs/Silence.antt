@@ -1,4 +1,5 @@
--- Groups with no present number, and the last present one.
+-- For the laws of silence and of the latest: a group with no present number gives none, and the latest is the last
+-- present one.
 use Rattle.std.proofs.Common.{◌≡◌, ◌≢◌, ◌∙◌, ap, refl, ℕ, zero, suc, ◌-◌, ◌<◌, inl, inr, ℤ, List, [], ◌∷◌, length, Some}
 use Rattle.std.proofs.Common.{arith}
 use Rattle.std.specs.Prelude.{slice_get, slice_index_or, All, Contains}

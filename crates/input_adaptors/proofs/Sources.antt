@@ -1,4 +1,5 @@
--- Where the present numbers that an adaptor gives come from.
+-- For the law that numbers come from the source: each present number that an adaptor gives stands in the source's
+-- tuple.
 use Rattle.std.proofs.Common.{◌≡◌, ◌≢◌, ◌∙◌, ap, sym, subst, refl, ℕ, zero, suc, ◌-◌, ◌/◌, inl, inr, ℤ, List, [], ◌∷◌}
 use Rattle.std.proofs.Common.{length, take, drop, map, Option, Some, None}
 use Rattle.std.specs.Prelude.{flat_map, slice_index_or, slice_set, replicate, All, Contains}

@@ -1,5 +1,4 @@
--- The law of the kinds of values in fused composition, by the ranks of steps: what a step reads was left by steps of
--- lower rank.
+-- The law that fused rounds keep kinds, by the ranks of steps: what a step reads was left by steps of lower rank.
 use Rattle.std.proofs.Common.{◌≡◌, ◌∙◌, ℕ, zero, suc, ◌+◌, ◌*◌, ◌/◌, ◌%◌, ◌<◌, ◌≤◌, Bool, true, false, if◌then◌else◌}
 use Rattle.std.proofs.Common.{List, [], length, map, take, slice_get, All, Option, Some, None, refl, sym, ap, subst}
 use Rattle.std.proofs.Common.{arith}

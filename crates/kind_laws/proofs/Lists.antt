@@ -1,4 +1,4 @@
--- Elements of lists, by their places.
+-- For the laws of kinds: elements of lists, by their places.
 use Rattle.std.proofs.Common.{◌≡◌, ℕ, zero, suc, ◌+◌, ◌<◌, ◌≤◌, Bool, true, false, if◌then◌else◌, List, [], ◌∷◌, map}
 use Rattle.std.proofs.Common.{slice_index_or, All, subst, arith}
 use Rattle.std.proofs.lemmas.List.Elements.{All-nil, All-cons}

@@ -1,4 +1,5 @@
--- What in ports read fits their kinds, where messages and the values of the root in ports do.
+-- For all laws of kinds: the values that in ports read fit their kinds, if the messages and the values of the root's
+-- in ports do.
 use Rattle.std.proofs.Common.{◌≡◌, ◌∙◌, ℕ, nat_eq, List, [], ◌∷◌, length, map, slice_get, All, Option, Some, None, refl}
 use Rattle.std.proofs.Common.{sym, ap, ap₂, subst, IsTrue}
 use Rattle.std.specs.Prelude.{position, slice_index_or}

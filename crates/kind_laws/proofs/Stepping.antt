@@ -1,4 +1,4 @@
--- What steps leave fits the kinds of out ports.
+-- For the laws of fused and of voted rounds: the values that steps leave on out ports fit the kinds of these ports.
 use Rattle.std.proofs.Common.{◌≡◌, ℕ, zero, suc, ◌-◌, ◌≤◌, List, [], ◌∷◌, length, take, replicate, slice_get, All}
 use Rattle.std.proofs.Common.{Option, Some, None, refl, sym, subst, arith}
 use Rattle.std.specs.Prelude.{slice_index_or}

@@ -1,4 +1,5 @@
--- The first that passes, the least number, and how often an entry stands in a list.
+-- For this crate's laws: the oldest copy is the first of its round, the least number is in its list, and how often
+-- an entry stands in a list.
 use Rattle.std.proofs.Common.{◌≡◌, ℕ, zero, suc, ◌+◌, ◌<◌, ◌≤◌, min, Bool, true, false, not, cond, List, [], ◌∷◌, ◌++◌}
 use Rattle.std.proofs.Common.{length, get_or, filter, find, fold, All, Contains, count_by, Some, None, slice_get}
 use Rattle.std.proofs.Common.{⊎_elim, refl, sym, ap, ◌∙◌, subst, arith, length-append, length-take}

@@ -1,4 +1,4 @@
--- Where entries stand in their order.
+-- For the due queue's `add`, `remove` and `due_count`: at which place an entry stands in the order of the queue.
 use Rattle.std.proofs.Common.{◌≡◌, ◌≢◌, ℕ, ◌<◌, ◌≤◌, true, false, not, List, length, get_or, take, drop, insert, remove}
 use Rattle.std.proofs.Common.{filter, Some, slice_get, Contains, ⊎_elim, refl, sym, ap, ◌∙◌, subst, arith}
 use Rattle.std.specs.List.Sorted.{IsPartitionPoint, IsPartitionedBy}

@@ -1,4 +1,4 @@
--- The first item that passes a test.
+-- For `flight_oldest` and `flight_take`: the first item of a list that passes a test.
 use Rattle.std.proofs.Common.{◌≡◌, ℕ, ◌<◌, ◌≤◌, Bool, true, false, List, [], ◌∷◌, ◌++◌, length, get_or, Some, None}
 use Rattle.std.proofs.Common.{is_some, slice_get, find, remove, refl, ap, ◌∙◌, arith, add-one}
 use Rattle.std.specs.List.{position, position_or_len, before_first, after_first}

@@ -1,4 +1,5 @@
--- The order of due entries.
+-- The order of due entries, by due reading, link and round: it is a strict order, and two entries of which neither
+-- comes first are equal.
 use Rattle.std.proofs.Common.{◌≡◌, ℕ, ◌≤◌, true, false, ap, ◌∙◌, arith}
 use Rattle.std.proofs.lemmas.Bool.Decides.{nat_tests}
 use Rattle.link_buffers.specs.declared.queue.DueEntry.{DueEntry}

@@ -1,4 +1,5 @@
--- A list in which no item passes a test behind one that fails it.
+-- For `partition_point`: in a list where no item passes a test behind one that fails it, all pass up to one place
+-- and fail from it on.
 use Rattle.std.proofs.Common.{◌≡◌, ℕ, ◌+◌, ◌<◌, Bool, true, false, List, length, get_or, ap, ◌∙◌, arith}
 use Rattle.std.specs.List.{AllWithin}
 use Rattle.std.specs.List.Sorted.{IsPartitionedBy}

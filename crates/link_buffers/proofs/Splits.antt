@@ -1,4 +1,5 @@
--- A list in two parts: the first passes a test, and the second does not.
+-- A list whose first part passes a test and whose rest fails it: what filtering it, counting in it and inserting
+-- between the two parts give.
 use Rattle.std.proofs.Common.{◌≡◌, ℕ, zero, suc, ◌+◌, ◌-◌, ◌<◌, ◌≤◌, Bool, true, false, List, [], ◌∷◌, length, get_or}
 use Rattle.std.proofs.Common.{take, drop, filter, count_by, All, AllPairs, insert, ⊎_elim, refl, sym, ap, ◌∙◌, arith}
 use Rattle.std.specs.List.Sorted.{IsPartitionPoint}

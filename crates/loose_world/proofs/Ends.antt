@@ -1,4 +1,4 @@
--- A list of loose events ends in one way.
+-- The law of one end: a list of loose events ends in one way only, and leaves one state and one journal.
 use Rattle.std.proofs.Common.{◌≡◌, ◌∙◌, inl, inr, ℕ, zero, suc, ◌<◌, List, [], ◌∷◌, ◌++◌, length, take, slice_get, true}
 use Rattle.std.proofs.Common.{false, Some, None, refl, sym, ap, subst, arith}
 use Rattle.std.proofs.lemmas.Bool.{cases_lt}

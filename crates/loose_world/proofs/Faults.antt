@@ -1,4 +1,4 @@
--- An event that is not allowed has one fault.
+-- For the law of one end: an event that is not allowed has one fault only.
 use Rattle.std.proofs.Common.{◌≡◌, ◌∙◌, ℕ, Some, sym, ap}
 use Rattle.std.proofs.lemmas.Option.{none-some, same_Some}
 use Rattle.pals_base.specs.declared.values.NodeNo.{NodeNo}

@@ -1,4 +1,4 @@
--- What lists of events have counted.
+-- The law that events are counted: how many rounds a node has sent and finished after a list of events.
 use Rattle.std.proofs.Common.{◌≡◌, inl, inr, ℕ, zero, suc, ◌+◌, ◌*◌, ◌/◌, ◌<◌, ◌≤◌, nat_eq, false, cond, List, [], ◌∷◌}
 use Rattle.std.proofs.Common.{length, map, slice_get, Option, Some, None, refl, sym, ap, ap₂, ◌∙◌, subst, arith}
 use Rattle.std.proofs.Common.{add-zero, zero-add, mul_comm}

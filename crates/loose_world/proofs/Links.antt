@@ -1,4 +1,4 @@
--- The links from each node.
+-- For `OutLinks`: its lists are the links from each node, with as many of the design's links as were added.
 use Rattle.std.proofs.Common.{◌≡◌, ◌∙◌, inl, inr, ℕ, zero, suc, ◌+◌, ◌<◌, Bool, cond, List, [], ◌∷◌, ◌++◌, length, map}
 use Rattle.std.proofs.Common.{refl, sym, ap, subst, arith, length-append}
 use Rattle.std.specs.Prelude.{filter, nat_eq, slice_index_or}

@@ -1,4 +1,5 @@
--- The rows of the first rounds, and how many rounds the first nodes have finished.
+-- For the loops of `rounds`: the rows of the first rounds, and the most and the least number of rounds that the
+-- first nodes have finished.
 use Rattle.std.proofs.Common.{◌≡◌, ◌∙◌, ℕ, ◌+◌, ◌<◌, ◌≤◌, List, [], ◌∷◌, ◌++◌, length, map, take, fold, max, min, ap}
 use Rattle.std.proofs.Common.{add-one, zero-add, append-nil}
 use Rattle.std.specs.Prelude.{flat_map}

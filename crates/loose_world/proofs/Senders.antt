@@ -1,4 +1,4 @@
--- The lines of what is sent, event by event.
+-- For the laws of events and messages: one more event of a list, and the lines of the messages that it sends.
 use Rattle.std.proofs.Common.{◌≡◌, ℕ, List, [], ◌∷◌, ◌++◌, Option, Some, None, refl}
 use Rattle.std.specs.Prelude.{map}
 use Rattle.pals_model.specs.declared.design.DesignParts.{DesignParts}

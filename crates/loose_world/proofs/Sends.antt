@@ -1,4 +1,4 @@
--- What is in flight directly behind a send.
+-- The law that messages are told: directly behind a send, a copy of each of its messages is in flight.
 use Rattle.std.proofs.Common.{◌≡◌, ℕ, suc, ◌+◌, ◌-◌, ◌<◌, nat_eq, Bool, true, false, cond, List, [], ◌∷◌, ◌++◌, length}
 use Rattle.std.proofs.Common.{map, slice_get, Option, Some, None, All, refl, sym, ap, ap₂, ◌∙◌, subst, arith}
 use Rattle.std.specs.Prelude.{filter, find, flat_map, Contains, slice_index_or, if◌then◌else◌}

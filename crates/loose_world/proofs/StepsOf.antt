@@ -1,4 +1,4 @@
--- What happens on a bus is steps of the machine.
+-- The law that events are steps: what loose events do to a bus is a sequence of steps of the bus machine.
 use Rattle.std.proofs.Common.{◌≡◌, ◌∙◌, ℕ, List, [], ◌∷◌, ◌++◌, take, false, refl, sym, ap, subst, append_assoc}
 use Rattle.std.proofs.lemmas.List.{append-nil}
 use Rattle.step_code.specs.declared.instr.CodeParts.{CodeParts}

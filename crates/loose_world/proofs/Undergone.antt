@@ -1,4 +1,4 @@
--- What a bus undergoes: events of the machine, of which a loose world has those without a reading.
+-- For the laws of this crate: a list of loose events is one that a bus undergoes, and its journal can be replayed.
 use Rattle.std.proofs.Common.{◌≡◌, ◌∙◌, inl, inr, ℕ, List, [], ◌∷◌, ◌++◌, false, Option, Some, None, refl, sym, ap}
 use Rattle.std.proofs.Common.{subst}
 use Rattle.std.proofs.lemmas.Option.{same_Some}

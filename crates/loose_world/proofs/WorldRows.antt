@@ -1,4 +1,4 @@
--- The rows of the rounds that nodes have finished.
+-- The law that rows are told: the text has the rows of the rounds that the nodes of a bus have finished.
 use Rattle.std.proofs.Common.{◌≡◌, inl, inr, ℕ, zero, suc, ◌+◌, ◌<◌, ◌≤◌, Bool, List, [], ◌∷◌, ◌++◌, length, map}
 use Rattle.std.proofs.Common.{slice_get, Option, Some, None, All, refl, sym, ap, ap₂, ◌∙◌, arith}
 use Rattle.std.specs.Prelude.{fold, max, min, flat_map, slice_index_or, if◌then◌else◌}

@@ -1,4 +1,5 @@
--- Lists of events that go on.
+-- For `run_loose`: what the first events of a list have done, one more event, and what is left where memory is
+-- wanting.
 use Rattle.std.proofs.Common.{◌≡◌, ◌∙◌, Result, Ok, Err, OnErr, ℕ, ◌+◌, ◌<◌, List, [], ◌++◌, length, take, None, refl}
 use Rattle.std.proofs.Common.{sym, ap, append-nil}
 use Rattle.std.specs.Prelude.{slice_index_or}

@@ -1,4 +1,5 @@
--- Lists of loose events as steps of the bus machine, from the opening of a run on.
+-- Lists of loose events as steps of the bus machine, from the opening of a run on: to a state, to a stop, or to a
+-- fault.
 use Rattle.std.specs.Prelude.{◌≡◌, ℕ, false, List, [], ◌∷◌, ◌++◌, take, Some, None, slice_get}
 use Rattle.pals_runs.specs.declared.events.Event.{Event}
 use Rattle.pals_runs.specs.declared.events.EventFault.{EventFault}

@@ -1,4 +1,5 @@
--- A list of events in a loose world.
+-- What a run of a list of loose events does: all happen, one stops the run, or one is refused; and what text is told
+-- of it.
 use Rattle.std.specs.Prelude.{◌≡◌, ℕ, List, [], ◌∷◌, ◌++◌, take, Some, slice_get}
 use Rattle.pals_model.specs.declared.design.DesignParts.{DesignParts}
 use Rattle.pals_model.specs.RoundTexts.{text_of}

@@ -1,4 +1,5 @@
--- All of a list of parts, some of which may be missing.
+-- For the loops that make a design's components, links, feeds and taps: a list of options gives all of its values,
+-- or nothing where one is missing.
 use Rattle.std.proofs.Common.{◌≡◌, ◌∙◌, ℕ, ◌+◌, ◌<◌, List, [], ◌∷◌, ◌++◌, length, map, take, drop, get_or, Option, Some}
 use Rattle.std.proofs.Common.{None, refl, sym, ap}
 use Rattle.std.proofs.lemmas.List.{map-append, take-append-drop}

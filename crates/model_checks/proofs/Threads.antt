@@ -1,4 +1,5 @@
--- The threads of an instance are within the limits: the component of each is the one that stands at its path.
+-- For `design_parts`: the threads of an instance are within the limits, as the component of each is the one at its
+-- path.
 use Rattle.std.proofs.Common.{◌≡◌, ◌∙◌, ℕ, true, List, [], ◌∷◌, ◌++◌, map, reverse, Option, Some, None, refl, sym, ap}
 use Rattle.std.proofs.Common.{subst}
 use Rattle.std.specs.Prelude.{All}

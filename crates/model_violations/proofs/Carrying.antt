@@ -1,4 +1,4 @@
--- The connections that carry chains, one after the other.
+-- For `add_carriers` and `carriers_of`: the connections that carry chains, one after the other.
 use Rattle.std.proofs.Common.{◌≡◌, ◌∙◌, ℕ, ◌+◌, ◌<◌, nat_eq, ◌&&◌, ◌||◌, List, [], ◌∷◌, ◌++◌, length, map, take, get_or}
 use Rattle.std.proofs.Common.{sym, ap}
 use Rattle.std.proofs.lemmas.List.Folds.{list_any-append}

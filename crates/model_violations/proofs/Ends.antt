@@ -1,4 +1,5 @@
--- The types of the ports that a connection joins, by the numbers of what is declared.
+-- For `site_kind` and `wire_at`: the types of the two ports that a connection joins, by the numbers of what is
+-- declared.
 use Rattle.std.proofs.Common.{◌≡◌, ◌∙◌, ℕ, Some, slice_get, option_map, sym, ap}
 use Rattle.std.specs.Option.{option_and_then}
 use Rattle.std.proofs.lemmas.Option.{same_Some, slice_get-map}

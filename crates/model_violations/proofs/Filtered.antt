@@ -1,4 +1,4 @@
--- The number that a thing has among those of its kind that are left, one thing further on.
+-- For `in_port`: the number that a thing has among those that pass a test, as the list goes one thing further.
 use Rattle.std.proofs.Common.{◌≡◌, ◌∙◌, ℕ, ◌+◌, ◌<◌, ◌≤◌, Bool, true, false, cond, List, ◌∷◌, length, map, filter, drop}
 use Rattle.std.proofs.Common.{get_or, Some, None, ap, add-one}
 use Rattle.std.specs.Prelude.{slice_get}

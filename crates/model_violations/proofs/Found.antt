@@ -1,4 +1,4 @@
--- All findings, from the lists that were added one after the other.
+-- For `findings_of`: all findings of an instance, made of the lists that were added one after the other.
 use Rattle.std.proofs.Common.{◌≡◌, ◌∙◌, ℕ, Bool, List, [], ◌++◌, Option, ap}
 use Rattle.std.specs.Prelude.{flat_map}
 use Rattle.aadl_tree.specs.Declarations.{PackageTree}

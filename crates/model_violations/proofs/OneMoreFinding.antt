@@ -1,4 +1,4 @@
--- What a loop has made of the things of a kind, with one more.
+-- For loops that collect the things of one kind, as `ins_in` and `outs_in` do: what they have after one more thing.
 use Rattle.std.proofs.Common.{◌≡◌, ◌∙◌, ℕ, ◌+◌, ◌<◌, Bool, true, false, not, cond, List, [], ◌∷◌, ◌++◌, length, map}
 use Rattle.std.proofs.Common.{filter, take, drop, get_or, Option, Some, None, refl, sym, ap, arith}
 use Rattle.std.specs.Prelude.{slice_get}

@@ -1,4 +1,4 @@
--- Where nothing can be wrong between two rates, nothing is added.
+-- For `add_adaptor_findings`: two equal rates without an adaptor, or a rate that is not known, give no finding.
 use Rattle.std.proofs.Common.{◌≡◌, ◌∙◌, ℕ, nat_eq, Bool, true, false, not, cond, ◌&&◌, List, [], ◌++◌, Option, Some}
 use Rattle.std.proofs.Common.{None, refl, sym, ap}
 use Rattle.std.specs.Option.{is_some}

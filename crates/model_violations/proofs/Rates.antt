@@ -1,4 +1,4 @@
--- Rates that are not refused are 1 to 64.
+-- For `findings_of`: the rates that are not refused are from 1 to 64.
 use Rattle.std.proofs.Common.{◌≡◌, ◌∙◌, ℕ, ◌<◌, ◌≤◌, ◌/◌, nat_le, Bool, true, false, cond, ◌&&◌, List, [], ◌∷◌, map}
 use Rattle.std.proofs.Common.{fold, Option, Some, None, refl, sym, ap, arith}
 use Rattle.std.specs.Prelude.{option_map, slice_get}

@@ -1,4 +1,5 @@
--- The values of an implementation's behaviour, from the lists of its ports and variables.
+-- For `setting_of`: what is made of the lists of an implementation's ports and variables is what is made of its
+-- behaviour.
 use Rattle.std.proofs.Common.{◌≡◌, ◌∙◌, ℕ, List, ap}
 use Rattle.aadl_tree.specs.Annexes.{AnnexTree}
 use Rattle.aadl_tree.specs.Declarations.{Feature, Implementation, PackageTree}

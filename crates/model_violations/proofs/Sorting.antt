@@ -1,4 +1,4 @@
--- The order of findings is one that sorting goes by.
+-- For `in_order`: findings go before one another by place, then number, and sorting may go by that.
 use Rattle.std.specs.Cmp.{IsStrictWeakOrder}
 use Rattle.list_lemmas.proofs.Numbers.{pair_lt-asymmetric, pair_ge-transitive}
 use Rattle.model_violations.specs.Violations.{goes_before}

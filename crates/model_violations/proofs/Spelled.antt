@@ -1,4 +1,5 @@
--- A table that has the names of a list, whatever their capitals.
+-- For `first_spellings`: a table of names knows the names of the list of first spellings, and no others, whatever
+-- the capitals.
 use Rattle.std.proofs.Common.{◌≡◌, ◌∙◌, ℕ, ◌+◌, ◌<◌, ◌≤◌, Bool, true, false, cond, ◌||◌, List, [], ◌∷◌, ◌++◌, length}
 use Rattle.std.proofs.Common.{drop, get_or, Option, Some, None, refl, sym, ap}
 use Rattle.aadl_tree.specs.Names.{same_name}

@@ -1,4 +1,5 @@
--- The ports at which chains end, by the numbers that the instance gives them.
+-- What stands at the two ends of a chain: its component, the name, kind and rate of its port, by the numbers of the
+-- instance.
 use Rattle.std.specs.Prelude.{ℕ, List, [], ◌++◌, codes, filter, Option, Some, None, slice_get}
 use Rattle.std.specs.Option.{option_and_then}
 use Rattle.pals_base.specs.declared.behaviour.Kind.{Kind}

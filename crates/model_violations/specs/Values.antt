@@ -1,4 +1,5 @@
--- The ports and variables of a thread, as its behaviour has them, and what their names stand for.
+-- The ports and variables of a thread as its behaviour has them, with their first values, and what their names stand
+-- for.
 use Rattle.std.specs.Prelude.{ℕ, ℤ, pos, ◌-ℤ◌, nat_le, nat_eq, drop, not, List, ◌++◌, length, map, filter, flat_map}
 use Rattle.std.specs.Prelude.{codes, Option, Some, None, if◌then◌else◌}
 use Rattle.std.specs.List.{starts_with, enumerate_from}

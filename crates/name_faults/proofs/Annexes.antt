@@ -1,4 +1,4 @@
--- The behaviours of an implementation, one annex after the other.
+-- For `check_behaviours`: the behaviours of an implementation, one annex after the other.
 use Rattle.std.proofs.Common.{◌≡◌, ℕ, ◌+◌, ◌<◌, ◌≤◌, Bool, true, false, List, [], ◌∷◌, ◌++◌, length, drop, get_or, map}
 use Rattle.std.proofs.Common.{Option, refl, sym, ap, ◌∙◌}
 use Rattle.list_lemmas.proofs.Lists.{drop-next}

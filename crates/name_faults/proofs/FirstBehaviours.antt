@@ -1,4 +1,4 @@
--- The first behaviour among annexes.
+-- For `first_behaviour`: the first behaviour among the annexes of an implementation, if there is one.
 use Rattle.std.proofs.Common.{◌≡◌, ℕ, ◌+◌, ◌<◌, ◌≤◌, List, ◌∷◌, length, drop, get_or, map, Option, None, sym, ap, ◌∙◌}
 use Rattle.list_lemmas.proofs.Lists.{drop-next}
 use Rattle.aadl_tree.specs.declared.annex.AnnexContent as source_content

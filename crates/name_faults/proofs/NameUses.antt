@@ -1,4 +1,4 @@
--- What names stand for in a behaviour.
+-- For `check_behaviour`: what names stand for in a behaviour, in the order of their uses.
 use Rattle.std.proofs.Common.{◌≡◌, ℕ, Bool, List, ap, ◌∙◌}
 use Rattle.std.specs.List.{flat_map}
 use Rattle.aadl_tree.specs.Annexes.{Transition}

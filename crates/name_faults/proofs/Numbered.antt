@@ -1,4 +1,4 @@
--- Findings at declarations with their numbers.
+-- For the checks of all declarations: what is found at each declaration, with the declaration's number.
 use Rattle.std.proofs.Common.{◌≡◌, ℕ, ◌+◌, ◌<◌, ◌≤◌, List, [], ◌∷◌, length, drop, get_or, map, Option, Some, sym, ap}
 use Rattle.std.proofs.Common.{◌∙◌, zero, suc, arith}
 use Rattle.std.specs.Prelude.{slice_get}

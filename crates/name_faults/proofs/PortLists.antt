@@ -1,4 +1,4 @@
--- The names of the ports of types, one type after the other.
+-- For `all_port_names` and `port_roles`: the names of the ports of all types, one type after the other.
 use Rattle.std.proofs.Common.{◌≡◌, ℕ, ◌+◌, ◌<◌, Bool, true, false, cond, List, [], ◌∷◌, ◌++◌, length, take, get_or, map}
 use Rattle.std.proofs.Common.{Option, Some, None, refl, sym, ap, ◌∙◌, subst, zero, suc}
 use Rattle.aadl_tree.specs.Names.{same_name}

@@ -1,4 +1,5 @@
--- What is looked up of the implementation of a number.
+-- What stands at the number of an implementation: what is looked up of it, and of the ports that its connections
+-- join.
 use Rattle.std.proofs.Common.{◌≡◌, ◌∙◌, ℕ, Option, Some, None, refl, ap, slice_get, map, option_map}
 use Rattle.std.specs.Option.{option_and_then}
 use Rattle.list_lemmas.proofs.Options.{option_and_then_assoc}

@@ -1,4 +1,4 @@
--- The shapes of values.
+-- For the checks of shapes: which values of properties are times, small numbers or lists of texts.
 use Rattle.std.proofs.Common.{◌≡◌, ℕ, Bool, true, false, not, ◌&&◌, Option, Some, None, refl, cond, List, [], ◌∷◌}
 use Rattle.std.proofs.Common.{length, ◌≤◌, arith}
 use Rattle.std.specs.Option.{is_some}

@@ -1,4 +1,4 @@
--- What comes out of a run.
+-- For `driven` and `run_threads`: what comes out of a run of a design, and that it opens anew as fresh.
 use Rattle.std.proofs.Common.{◌≡◌, Bool, true, false, List, map, Some, refl, sym, ap, ◌∙◌, subst}
 use Rattle.std.specs.Prelude.{Result, Ok, Err, IfOk}
 use Rattle.pals_clock.specs.Clock.{ClockState}

@@ -1,4 +1,5 @@
--- The next action of a node: its target is a reading, and a start is that of the round that the node waits for.
+-- For `look` and `act`: the target of a node's next action is a reading, and a start is that of the round that the
+-- node waits for.
 use Rattle.std.proofs.Common.{◌≡◌, ◌≢◌, ℕ, ◌+◌, ◌*◌, ◌<◌, ◌≤◌, nat_lt, Bool, true, false, cond, length, Some, refl, sym}
 use Rattle.std.proofs.Common.{ap, ◌∙◌, subst, arith}
 use Rattle.std.proofs.Math.Nat.{mul-le-mul}

@@ -1,4 +1,4 @@
--- What a ready node may do.
+-- For `act`: a ready node may start, step or send, whichever is next.
 use Rattle.std.proofs.Common.{◌≡◌, ℕ, Some, ap, subst}
 use Rattle.pals_base.specs.declared.values.NodeNo.{NodeNo}
 use Rattle.bus_machine.specs.declared.action.NodeAction.{NodeAction}

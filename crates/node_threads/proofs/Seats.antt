@@ -1,4 +1,5 @@
--- Seats, and what holds of nodes so far.
+-- For the functions of `sleepers`: past the last seat there is none, and what holds of the nodes so far holds with
+-- one more.
 use Rattle.std.proofs.Common.{◌≡◌, inl, inr, ℕ, zero, suc, ◌+◌, ◌<◌, List, [], ◌∷◌, slice_get, None, refl, sym, subst}
 use Rattle.std.proofs.Common.{arith}
 use Rattle.std.proofs.lemmas.Bool.{cases_eq}

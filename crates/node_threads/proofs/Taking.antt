@@ -1,4 +1,4 @@
--- All that is due to a node that is to start arrives, and the node is still to start.
+-- For `take`: all messages that are due to a node arrive before its start, and it is still to start.
 use Rattle.std.proofs.Common.{◌≡◌, ℕ, List, Some, refl, sym, ap, ◌∙◌, subst}
 use Rattle.std.specs.Prelude.{slice_index_or}
 use Rattle.std.proofs.lemmas.Bool.{false_from_ne_true}

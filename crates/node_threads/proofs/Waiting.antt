@@ -1,4 +1,4 @@
--- When a node need not wait for its sources.
+-- For `has_sent` and `is_awaited`: when a node need not wait for the nodes that send to it.
 use Rattle.std.proofs.Common.{◌≡◌, inl, inr, ℕ, ◌+◌, ◌-◌, ◌<◌, ◌≤◌, Bool, true, false, cond, List, length, sym, ap, ◌∙◌}
 use Rattle.std.proofs.Common.{subst, arith}
 use Rattle.std.proofs.lemmas.Bool.{cases_eq}

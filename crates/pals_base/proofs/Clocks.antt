@@ -1,4 +1,4 @@
--- The picks of a clock that is a list of readings.
+-- The law that picks follow targets: the picks of a clock list never fall, and each is no less than its target.
 use Rattle.std.proofs.Common.{◌≡◌, ℕ, zero, suc, ◌<◌, ◌≤◌, true, false, cond, List, [], ◌∷◌, length, get_or, take, refl}
 use Rattle.std.proofs.Common.{ap, arith, ltb}
 use Rattle.std.specs.List.Sorted.{IsNonDecreasing}

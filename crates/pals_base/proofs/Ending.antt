@@ -1,4 +1,5 @@
--- Each step of a behaviour comes to its end.
+-- The laws that each step of a behaviour ends and that ways are short: a step that may begin comes to a complete
+-- state.
 use Rattle.std.proofs.Common.{◌≡◌, cond, ◌∙◌, ℕ, ◌<◌, zero, suc, nat_eq, nat_lt, ℤ, pos, Bool, true, false, ◌&&◌, ◌||◌}
 use Rattle.std.proofs.Common.{if◌then◌else◌, List, [], ◌∷◌, length, map, Option, Some, None, refl, sym, ap, subst}
 use Rattle.std.proofs.Common.{arith, Ok, Err}

@@ -1,4 +1,4 @@
--- Lists in which each element is related to all behind it.
+-- For `are_distinct`: lists in which each element is related to all behind it, as names in rising order are.
 use Rattle.std.proofs.Common.{◌≡◌, ℕ, zero, suc, ◌+◌, ◌-◌, ◌<◌, inl, inr, Bool, true, false, IsTrue, ◌↔◌, nat_lt, List}
 use Rattle.std.proofs.Common.{[], ◌∷◌, length, get_or, take, drop, All, AllPairs, refl, sym, ap, ◌∙◌, subst, arith}
 use Rattle.std.proofs.Common.{get_or-take, get_or-drop, length-drop, length-take-le, add-one}

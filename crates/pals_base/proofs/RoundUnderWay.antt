@@ -1,4 +1,4 @@
--- The tuples of a round whose first steps are made.
+-- The law that a round fills place by place: its tuples when the first steps are made, one more is, and all are.
 use Rattle.std.proofs.Common.{◌≡◌, ◌∙◌, ℕ, zero, suc, ◌+◌, ◌-◌, ◌<◌, List, [], ◌∷◌, ◌++◌, length, map, replicate, refl}
 use Rattle.std.proofs.Common.{sym, ap, ap₂, arith, add-zero, append_assoc, append-nil}
 use Rattle.std.proofs.Math.Seq.{set-append_seam}

@@ -1,4 +1,5 @@
--- Which states settle, a round of marks at a time.
+-- For the search for cycles: which states settle within n rounds of marks, and that one more round of marks gives
+-- those that settle within one more.
 use Rattle.std.proofs.Common.{◌≡◌, ℕ, ◌+◌, ◌<◌, ◌≤◌, zero, suc, Bool, true, ◌&&◌, ◌||◌, List, [], ◌∷◌, length, map}
 use Rattle.std.proofs.Common.{refl, ap, ap₂, sym, ◌∙◌, arith, zero-add, add-one}
 use Rattle.std.specs.List.{list_all}

@@ -1,4 +1,5 @@
--- Several steps, one after the other, and the places gathered from them.
+-- The laws of steps one after another and of halted frames: frames and outputs after several steps, and the columns
+-- gathered from them.
 use Rattle.std.proofs.Common.{◌≡◌, ◌∙◌, ℕ, zero, suc, ◌+◌, ◌<◌, List, [], ◌∷◌, ◌++◌, length, map, take, replicate, Some}
 use Rattle.std.proofs.Common.{refl, sym, ap, add-zero, zero-add, arith}
 use Rattle.std.proofs.lemmas.List.{length-map}

@@ -1,4 +1,5 @@
--- What the source's trees stand for, where they hold boxes and vectors.
+-- For functions over expressions and actions: the plain tree that a source tree stands for, where it holds boxes and
+-- vectors.
 use Rattle.std.proofs.Common.{◌≡◌, ℤ, refl, sym, ap, ◌∙◌}
 use Rattle.std.specs.declared.alloc.Global.{Global}
 use Rattle.std.specs.declared.boxed.Box.{Box}

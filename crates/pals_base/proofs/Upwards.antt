@@ -1,4 +1,4 @@
--- Counting up.
+-- The list of numbers that counts up from zero: one more number, and what is made of each.
 use Rattle.std.proofs.Common.{◌≡◌, ℕ, ◌+◌, ◌-◌, ◌<◌, zero, suc, [], ◌∷◌, ◌++◌, map, ap, ◌∙◌, sym, arith, add-one}
 use Rattle.std.proofs.Common.{zero-add}
 use Rattle.std.proofs.lemmas.List.{map-append}

@@ -1,4 +1,5 @@
--- Ways through states that are not complete: how long they can be, and whether one comes back to where it began.
+-- The law that ways are short: a way through states that are not complete is shorter than there are states, or comes
+-- back to where it began; marks tell which.
 use Rattle.std.proofs.Common.{inl, inr, ◌≡◌, ℕ, ◌<◌, ◌≤◌, zero, suc, Bool, true, false, ◌&&◌, ◌||◌, List, [], ◌∷◌}
 use Rattle.std.proofs.Common.{length, refl, ap, sym, ◌∙◌, subst, arith, ◌↔◌}
 use Rattle.std.specs.Prelude.{map}

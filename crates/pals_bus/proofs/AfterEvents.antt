@@ -1,4 +1,5 @@
--- What each event leaves, in the case that the code is in.
+-- For the calls of a node: what the bus machine leaves after each event, and when it allows it, in each case that
+-- the code is in.
 use Rattle.std.proofs.Common.{◌≡◌, ℕ, ◌-◌, ◌<◌, ◌≤◌, true, false, List, [], length, min, Option, Some, None, refl, ap}
 use Rattle.std.proofs.Common.{arith}
 use Rattle.std.specs.Prelude.{is_some, option_map, slice_index_or}

@@ -1,4 +1,4 @@
--- A message that arrives at its target.
+-- For `Fields::arrive`: a message that arrives at its target, and the bus invariant after it.
 use Rattle.std.proofs.Common.{◌≡◌, ◌∙◌, ℕ, suc, ◌+◌, ◌<◌, ◌≤◌, false, List, [], ◌∷◌, ◌++◌, length, Option, Some, None}
 use Rattle.std.proofs.Common.{is_some, refl, sym, ap, ap₂, subst, arith, append_assoc, length-append}
 use Rattle.std.specs.Prelude.{option_map, slice_set, slice_index_or, slice_get, sum_by, if◌then◌else◌, vec_capacity}

@@ -1,4 +1,4 @@
--- Why a message is missed.
+-- For `cause_of`: why a message is missed when a node starts.
 use Rattle.std.proofs.Common.{◌≡◌, ◌∙◌, inl, inr, ℕ, zero, suc, ◌<◌, nat_lt, Bool, List, [], ◌∷◌, length, refl, ap, ap₂}
 use Rattle.std.proofs.Common.{arith}
 use Rattle.std.specs.Prelude.{slice_get, slice_index_or, if◌then◌else◌}

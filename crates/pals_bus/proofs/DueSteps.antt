@@ -1,4 +1,4 @@
--- Messages that are due arrive one after the other.
+-- For `take_due`: the first due entry's message arrives, the others are left, and so on until none is due.
 use Rattle.std.proofs.Common.{◌≡◌, ◌∙◌, inl, inr, ◌⊎◌, ℕ, zero, suc, ◌+◌, ◌<◌, ◌≤◌, nat_eq, Bool, true, false, cond}
 use Rattle.std.proofs.Common.{List, [], ◌∷◌, length, Option, Some, None, is_some, refl, sym, ap, ap₂, arith}
 use Rattle.std.specs.Prelude.{count_by, slice_index_or, slice_set, if◌then◌else◌}

@@ -1,4 +1,5 @@
--- A bus while messages that are due arrive.
+-- For the loop of `arrive_all`: the bus when the first due messages have arrived and the others are left, and one
+-- more arrival.
 use Rattle.std.proofs.Common.{◌≡◌, ◌∙◌, ℕ, ◌+◌, ◌-◌, ◌<◌, ◌≤◌, Bool, true, false, List, ◌∷◌, length, drop, Option, Some}
 use Rattle.std.proofs.Common.{None, is_some, refl, sym, ap, ap₂, subst, arith, add-one, drop-cons, length-append}
 use Rattle.std.specs.Prelude.{sum_by, slice_index_or, count_by, vec_capacity, IfSome, IfNone, nat_eq}

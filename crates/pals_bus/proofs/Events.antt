@@ -1,4 +1,5 @@
--- An event of a bus, and what the bus keeps after it.
+-- What contracts see of a bus after an event that changes one node or some flights, and that the bus invariant is
+-- kept.
 use Rattle.std.proofs.Common.{◌≡◌, ◌∙◌, ℕ, ◌+◌, ◌<◌, ◌≤◌, true, List, ◌++◌, length, Option, None, refl, sym, ap, ap₂}
 use Rattle.std.proofs.Common.{subst, arith}
 use Rattle.std.specs.Prelude.{sum_by, slice_set, vec_capacity}

@@ -1,4 +1,4 @@
--- The links from each node of a design.
+-- For `Outgoing::new`: the links from each node of a design, by their numbers.
 use Rattle.std.proofs.Common.{◌≡◌, ◌∙◌, inl, inr, ℕ, zero, suc, ◌+◌, ◌<◌, ◌≤◌, Bool, true, false, cond, List, [], ◌∷◌}
 use Rattle.std.proofs.Common.{◌++◌, length, map, take, slice_get, Some, All, refl, sym, ap, subst, arith}
 use Rattle.std.specs.Prelude.{filter, slice_set, slice_index_or}

@@ -1,4 +1,4 @@
--- Events without readings: what they leave, and why they are refused.
+-- For the calls of `loose`: what an event without a reading leaves, and why one is refused.
 use Rattle.std.proofs.Common.{◌≡◌, ◌≢◌, ◌∙◌, inl, inr, ℕ, true, false, Option, Some, None, refl, ap}
 use Rattle.std.specs.Prelude.{is_some}
 use Rattle.std.proofs.lemmas.Bool.{false≢true}

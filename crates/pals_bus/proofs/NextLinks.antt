@@ -1,4 +1,5 @@
--- The links from a node one after the other, with those of other nodes between them.
+-- For the loop of `send_messages`: the links from a node one after the other, with those of other nodes between
+-- them.
 use Rattle.std.proofs.Common.{◌≡◌, ◌∙◌, ℕ, zero, suc, ◌+◌, ◌<◌, ◌≤◌, Bool, true, false, cond, List, [], ◌∷◌, length}
 use Rattle.std.proofs.Common.{map, drop, refl, sym, ap, ap₂, subst, arith, length-drop}
 use Rattle.std.specs.Prelude.{filter, slice_index_or}

@@ -1,4 +1,5 @@
--- What a call of a node leaves of a bus.
+-- For the calls of `Bus` that act on a node: what a start, step, finish or send leaves of the bus, and what a
+-- refused one does.
 use Rattle.std.proofs.Common.{◌≡◌, ◌∙◌, ℕ, ◌+◌, ◌<◌, ◌≤◌, List, [], ◌∷◌, ◌++◌, length, Option, Some, None, sym, ap}
 use Rattle.std.proofs.Common.{subst, arith}
 use Rattle.std.specs.Prelude.{sum_by, slice_set, vec_capacity}

@@ -1,4 +1,5 @@
--- A call of one node among those of a bus.
+-- For the calls of `Bus` that change one node: what contracts see of that node after the call, and the entry that is
+-- told.
 use Rattle.std.proofs.Common.{◌≡◌, ◌∙◌, ℕ, ◌<◌, [], ◌∷◌, ◌++◌, length, refl, sym, ap, subst, arith}
 use Rattle.std.specs.Prelude.{slice_set, vec_capacity}
 use Rattle.std.specs.Arc.{arc_value}

@@ -1,4 +1,4 @@
--- A message that joins or leaves a flight joins or leaves the queue of its target too.
+-- A copy that joins or leaves a flight joins or leaves the queue of its target too, so that their counts agree.
 use Rattle.std.proofs.Common.{◌≡◌, ◌≢◌, ◌∙◌, inl, inr, ℕ, suc, ◌+◌, ◌<◌, ◌≤◌, nat_eq, Bool, true, false, cond, List, []}
 use Rattle.std.proofs.Common.{◌∷◌, ◌++◌, length, Option, Some, None, refl, sym, ap, arith}
 use Rattle.std.specs.Prelude.{Contains, count_by, slice_set, slice_index_or, slice_get, ◌&&◌, if◌then◌else◌}

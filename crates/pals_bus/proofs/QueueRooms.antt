@@ -1,4 +1,4 @@
--- What the queues of due messages keep where queues, flights or nodes change.
+-- What the queues of due messages keep, and how much room they have, where queues, flights or nodes change.
 use Rattle.std.proofs.Common.{◌≡◌, ◌≢◌, ◌∙◌, inl, inr, ◌⊎◌, ℕ, zero, suc, ◌+◌, ◌*◌, ◌<◌, ◌≤◌, nat_eq, Bool, true, false}
 use Rattle.std.proofs.Common.{cond, List, [], ◌∷◌, length, Option, Some, None, refl, sym, ap, subst, arith}
 use Rattle.std.specs.Prelude.{count_by, slice_set, slice_index_or, slice_get, not, ◌&&◌, if◌then◌else◌}

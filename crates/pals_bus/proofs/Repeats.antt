@@ -1,4 +1,4 @@
--- One more copy of a message in flight.
+-- For `repeat_message`: one more copy of a message in flight, and the bus invariant after it.
 use Rattle.std.proofs.Common.{◌≡◌, ◌∙◌, inl, inr, ℕ, ◌+◌, ◌-◌, ◌<◌, ◌≤◌, nat_eq, List, [], ◌∷◌, ◌++◌, length, Option}
 use Rattle.std.proofs.Common.{Some, None, is_some, refl, sym, ap, subst, arith}
 use Rattle.std.specs.Prelude.{slice_set, slice_index_or, sum_by, vec_capacity}

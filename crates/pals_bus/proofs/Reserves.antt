@@ -1,4 +1,4 @@
--- More room for messages.
+-- For `reserve_message` and `reserve_round`: more room in a flight or a queue leaves what contracts see as it was.
 use Rattle.std.proofs.Common.{◌≡◌, ◌∙◌, ℕ, ◌<◌, ◌≤◌, List, length, Result, Ok, Err, OnOk, refl, sym, ap, arith}
 use Rattle.std.specs.Prelude.{slice_set, slice_index_or}
 use Rattle.std.specs.Arc.{arc_value}

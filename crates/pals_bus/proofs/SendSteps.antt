@@ -1,4 +1,4 @@
--- A bus while the messages of a round are sent.
+-- For the loop of `send_messages`: the bus when the first links have their messages, and one more link.
 use Rattle.std.proofs.Common.{◌≡◌, ◌∙◌, ℕ, suc, ◌+◌, ◌<◌, ◌≤◌, true, false, cond, List, [], ◌∷◌, length, drop, Option}
 use Rattle.std.proofs.Common.{sym, ap, subst, arith, drop-cons, length-drop}
 use Rattle.std.specs.Prelude.{◌-◌, filter, min, slice_set, slice_index_or}

@@ -1,4 +1,4 @@
--- The messages of a node's round, link by link.
+-- What the messages of a node's round leave in the flights, link by link, and the room that they need.
 use Rattle.std.proofs.Common.{◌≡◌, ◌≢◌, ◌∙◌, inl, inr, ℕ, zero, suc, ◌+◌, ◌<◌, ◌≤◌, nat_eq, Bool, true, false, cond}
 use Rattle.std.proofs.Common.{List, [], ◌∷◌, ◌++◌, length, map, take, drop, slice_get, Option, Some, refl, sym, ap, ap₂}
 use Rattle.std.proofs.Common.{arith, length-append}

@@ -1,4 +1,4 @@
--- A message that leaves its flight and the queue of its target.
+-- For arrivals and losses: the oldest copy of a round leaves its flight and the queue of its target.
 use Rattle.std.proofs.Common.{◌≡◌, ◌∙◌, ℕ, ◌+◌, ◌<◌, ◌≤◌, true, false, List, [], ◌∷◌, ◌++◌, length, Option, Some, None}
 use Rattle.std.proofs.Common.{is_some, refl, sym, ap, subst, arith}
 use Rattle.std.specs.Prelude.{IfNone, option_map, slice_set, slice_index_or, sum_by, vec_capacity}

@@ -1,4 +1,4 @@
--- The least of the targets of a run.
+-- For `first_of` and `meet`: which of the targets of a run is the least.
 use Rattle.std.proofs.Common.{◌≡◌, ◌∙◌, inl, inr, ℕ, ◌+◌, ◌<◌, ◌≤◌, nat_lt, true, false, List, length, Option, Some}
 use Rattle.std.proofs.Common.{None, refl, sym, ap, ap₂, subst, arith}
 use Rattle.std.specs.Prelude.{slice_index_or, slice_set}

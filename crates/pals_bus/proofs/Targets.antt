@@ -1,4 +1,4 @@
--- The reading that a node of a bus waits for.
+-- For `Bus::target` and `meet`: the reading that a node of a bus waits for stands in the list of targets.
 use Rattle.std.proofs.Common.{◌≡◌, ◌∙◌, inl, inr, ℕ, ◌<◌, List, length, map, Option, Some, None, false, is_some, refl}
 use Rattle.std.proofs.Common.{sym, ap, subst, arith}
 use Rattle.std.specs.Prelude.{slice_index_or}

@@ -1,4 +1,5 @@
--- What is left of some readings at a target.
+-- For the laws of picks: the readings of a clock list that are left from a target on, those below it being passed
+-- over.
 use Rattle.std.proofs.Common.{◌≡◌, ℕ, zero, suc, ◌<◌, ◌≤◌, List, [], ◌∷◌, ◌++◌, length, get_or, drop, fold, Option}
 use Rattle.std.proofs.Common.{Some, None, MatchOption, All, filter, nat_le, refl, ap, arith}
 use Rattle.std.specs.List.{AllWithin, HoldsAt}

@@ -1,4 +1,5 @@
--- The codes that are laid out for a design's behaviours are codes of its components.
+-- For the law that one listing means one design: the codes laid out for a design's behaviours are codes of its
+-- components.
 use Rattle.std.proofs.Common.{◌≡◌, ℕ, zero, suc, List, [], ◌∷◌, length, map, zip, Some, slice_get, All, refl, ap, ◌∙◌}
 use Rattle.std.proofs.lemmas.List.{length-map}
 use Rattle.std.proofs.lemmas.List.Elements.{All-nil, All-cons}

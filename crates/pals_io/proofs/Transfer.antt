@@ -1,4 +1,4 @@
--- What a source gave and what a sink took in several calls.
+-- For `read_all` and `write_all`: what a source gave, and what a sink took, in several calls.
 use Rattle.std.proofs.Common.{◌≡◌, ◌↔◌, ℕ, ◌+◌, ◌<◌, ◌≤◌, List, [], ◌++◌, length, take, drop, Option, Some, None, refl}
 use Rattle.std.proofs.Common.{sym, ap, ◌∙◌, subst, append_assoc, arith, length-append, length-drop}
 use Rattle.std.specs.Prelude.{IfSome, option_map}

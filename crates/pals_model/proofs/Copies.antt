@@ -1,4 +1,4 @@
--- Tuples written over one by one.
+-- For `Part::copy_from`: tuples that are overwritten with others of the same sizes, one by one.
 use Rattle.std.proofs.Common.{◌≡◌, ℕ, zero, suc, ◌+◌, ◌<◌, List, [], ◌∷◌, length, map, take, set, slice_index_or, sym}
 use Rattle.std.proofs.Common.{ap, ap₂, ◌∙◌, arith, add-one}
 use Rattle.std.proofs.lemmas.List.{length-map}

@@ -1,4 +1,4 @@
--- The first rounds of the two counters, computed.
+-- The law of two counters: their first rounds, computed.
 use Rattle.std.proofs.Common.{refl}
 use Rattle.std.specs.Fmt.{digits}
 use Rattle.pals_base.specs.Fire.{fire}

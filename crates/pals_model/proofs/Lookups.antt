@@ -1,4 +1,4 @@
--- The first element that passes a test.
+-- For laws that look up components, links and states: the first element of a list that passes a test.
 use Rattle.std.proofs.Common.{◌≡◌, ℕ, zero, suc, ◌+◌, ◌<◌, Bool, true, false, cond, List, [], ◌∷◌, slice_get, Some}
 use Rattle.std.proofs.Common.{None, All, refl, sym, ap, ◌∙◌, subst, arith, add-zero}
 use Rattle.std.specs.Prelude.{position}

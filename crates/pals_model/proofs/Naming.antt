@@ -1,4 +1,4 @@
--- Names, each once.
+-- For `root_names`: the names of the root's in ports, each listed once, with one feed more.
 use Rattle.std.proofs.Common.{◌≡◌, List, [], ◌∷◌, ◌++◌, ℕ, Bool, true, false, append_assoc, ◌∙◌}
 use Rattle.std.specs.Prelude.{bytes_eq, if◌then◌else◌}
 use Rattle.std.specs.List.{list_any}

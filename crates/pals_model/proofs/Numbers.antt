@@ -1,4 +1,4 @@
--- The numbers of those links that pass a test.
+-- For `links_from`: the numbers of those links that pass a test.
 use Rattle.std.proofs.Common.{ℕ, Bool, List, map}
 use Rattle.std.specs.Prelude.{filter}
 use Rattle.std.specs.List.{enumerate_from}

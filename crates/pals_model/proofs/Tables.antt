@@ -1,4 +1,5 @@
--- The table of sources, one in port at a time.
+-- For `add_links`, `add_feeds` and `empty_table`: the table of the sources of in ports, with one link, feed or
+-- component more.
 use Rattle.std.proofs.Common.{◌≡◌, ◌≢◌, ℕ, zero, suc, ◌+◌, ◌-◌, ◌<◌, ◌≤◌, Bool, true, false, ◌&&◌, nat_eq, cond, List}
 use Rattle.std.proofs.Common.{[], ◌∷◌, ◌++◌, length, map, drop, replicate, Some, refl, sym, ap, ap₂, ◌∙◌, arith}
 use Rattle.std.proofs.Common.{zero-add, append_assoc}

@@ -1,4 +1,4 @@
--- The values of a round, one root in port at a time.
+-- For `Env::write_values`: the values of a round, with one of the root's in ports more.
 use Rattle.std.proofs.Common.{◌≡◌, ◌≢◌, ℕ, zero, suc, ◌+◌, ◌<◌, List, [], ◌∷◌, length, set, inl, inr, refl, sym, ap}
 use Rattle.std.proofs.Common.{◌∙◌, arith, get_or-set_other, get_or-set_same}
 use Rattle.std.specs.Prelude.{slice_index_or}

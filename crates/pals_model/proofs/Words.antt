@@ -1,4 +1,4 @@
--- The bytes of words and paths.
+-- For the laws of lines and names: which bytes words and paths have, and which they have not.
 use Rattle.std.proofs.Common.{◌≡◌, ◌≢◌, ℕ, Bool, true, false, ◌&&◌, nat_le, List, [], ◌∷◌, ◌++◌, length, All, refl, sym}
 use Rattle.std.proofs.Common.{ap, ◌∙◌, subst}
 use Rattle.std.specs.Prelude.{bytes_eq}

@@ -1,4 +1,4 @@
--- The ports of components, and the types of the root in ports.
+-- The in ports and out ports of components, and the kinds of these, of feeds and of the root's in ports.
 use Rattle.std.specs.Prelude.{ℕ, bytes_eq, List, length, find, Option, Some, None, slice_get}
 use Rattle.pals_base.specs.declared.behaviour.Kind.{Kind}
 use Rattle.pals_base.specs.declared.behaviour.Kind.TheVariants.{Integer}

@@ -1,4 +1,4 @@
--- The end of a step, and what a node then keeps.
+-- For `end_step` and `finish`: what the end of a step leaves, and that the node's invariant is kept.
 use Rattle.std.proofs.Common.{◌≡◌, ◌∙◌, inl, inr, ℕ, ◌-◌, ◌≤◌, nat_eq, Bool, true, false, List, [], length}
 use Rattle.std.proofs.Common.{slice_index_or, refl, sym, ap, ap₂, subst, arith}
 use Rattle.std.specs.Prelude.{if◌then◌else◌}

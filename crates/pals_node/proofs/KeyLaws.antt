@@ -1,4 +1,4 @@
--- A key tells its instruction.
+-- For `same_instr`: two instructions with one key are equal.
 use Rattle.std.proofs.Common.{◌≡◌, ◌∙◌, refl, sym, ap}
 use Rattle.step_code.specs.declared.instr.Instr.{Instr}
 use Rattle.step_code.specs.declared.instr.Instr.TheVariants as instr

@@ -1,4 +1,4 @@
--- What is left of a job has the memory of the next one.
+-- For `take_step`: what is left of a job has the memory that the node's next job needs.
 use Rattle.std.proofs.Common.{◌≡◌, ◌∙◌, ℕ, [], sym, ap, subst, length}
 use Rattle.std.specs.Arc.{arc_value}
 use Rattle.pals_base.specs.declared.values.Frame.{Frame}

@@ -1,4 +1,4 @@
--- The plan of a design's node keeps what plans keep.
+-- For `NodePlan::new`: the plan of a node of a design keeps the plan's invariant.
 use Rattle.std.proofs.Common.{◌≡◌, ◌∙◌, ℕ, ◌+◌, ◌-◌, ◌*◌, ◌/◌, ◌<◌, ◌≤◌, nat_eq, length, All, slice_get, slice_index_or}
 use Rattle.std.proofs.Common.{ap, subst, arith}
 use Rattle.std.specs.Prelude.{max}

@@ -1,4 +1,5 @@
--- What a program that means its behaviour gives.
+-- For `job` and the ends of steps: a program that means its behaviour gives the frame and outputs of the behaviour,
+-- with their shape.
 use Rattle.std.proofs.Common.{◌≡◌, ◌∙◌, Bool, true, List, length, Option, Some, None, slice_get, refl, sym}
 use Rattle.std.specs.Prelude.{IsTrue}
 use Rattle.std.proofs.lemmas.Bool.{false≢true}

@@ -1,4 +1,4 @@
--- What a start leaves, and what a node then keeps.
+-- For `start` and `first_job`: what the start of a round leaves, and that the node's invariant is kept.
 use Rattle.std.proofs.Common.{◌≡◌, ◌∙◌, ℕ, suc, ◌+◌, ◌-◌, ◌<◌, false, List, [], ◌∷◌, length, map, replicate, Option}
 use Rattle.std.proofs.Common.{slice_index_or, refl, sym, ap, ap₂, subst, arith}
 use Rattle.std.specs.Prelude.{zip}

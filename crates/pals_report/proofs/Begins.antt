@@ -1,4 +1,4 @@
--- What a text begins with, and what is added to it.
+-- Texts that begin with another text, and texts that more is added to: for calls that write a text part by part.
 use Rattle.std.proofs.Common.{◌≡◌, Result, Ok, Err, OnOk, OnErr, ℕ, List, ◌++◌, length, drop, sym, ap, ◌∙◌, subst}
 use Rattle.std.proofs.Common.{append_assoc}
 use Rattle.std.proofs.lemmas.List.Prefix.{front_rest}

@@ -1,4 +1,4 @@
--- The taps of each source, counted one tap at a time.
+-- The places of taps and the number of taps of each source, as one more tap is counted.
 use Rattle.std.proofs.Common.{◌≡◌, ◌≢◌, ℕ, suc, ◌<◌, ◌≤◌, ◌+◌, inl, inr, Bool, true, false, nat_eq, cond, List, [], ◌∷◌}
 use Rattle.std.proofs.Common.{◌++◌, length, map, filter, take, get_or, set, sym, ap, ◌∙◌, arith, zero-add, append_assoc}
 use Rattle.std.proofs.Common.{get_or-set_same, get_or-set_other}

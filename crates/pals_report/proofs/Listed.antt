@@ -1,4 +1,4 @@
--- Lines one behind the other.
+-- A text of several lines, and a text that grows by one part after the other, are their parts joined in order.
 use Rattle.std.proofs.Common.{◌≡◌, ℕ, List, [], ◌∷◌, ◌++◌, sym, ap, ◌∙◌, append_assoc}
 use Rattle.std.proofs.lemmas.List.{append-nil}
 use Rattle.std.proofs.lemmas.Grind.{flat_map-append}

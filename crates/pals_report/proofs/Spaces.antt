@@ -1,4 +1,4 @@
--- Words with a space between each two, one more word at a time.
+-- Words that are joined with a space between each two, as one more word is added.
 use Rattle.std.proofs.Common.{◌≡◌, ℕ, ◌≤◌, ◌-◌, List, [], ◌∷◌, ◌++◌, length, map, take, drop, get_or, codes, sym, ap}
 use Rattle.std.proofs.Common.{◌∙◌, arith, append_assoc}
 use Rattle.std.specs.List.{flat_map}

@@ -1,4 +1,4 @@
--- Texts of lists, place by place.
+-- The texts of lists as one more place is written: with commas, or as variables with their values.
 use Rattle.std.proofs.Common.{◌≡◌, ℕ, ℤ, zero, suc, ◌<◌, ◌≤◌, ◌-◌, min, List, [], ◌∷◌, ◌++◌, length, map, take, drop}
 use Rattle.std.proofs.Common.{get_or, codes, refl, sym, ap, ◌∙◌, arith, append_assoc, add-one, ◌+◌}
 use Rattle.std.specs.List.{flat_map}

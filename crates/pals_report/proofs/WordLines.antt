@@ -1,4 +1,4 @@
--- Lines of the items of a list, one after the other, each with the same end.
+-- The lines of a list's items, each with the same end, as one more item is written.
 use Rattle.std.proofs.Common.{◌≡◌, ℕ, ◌+◌, ◌<◌, ◌≤◌, List, [], ◌∷◌, ◌++◌, length, map, take, get_or, sym, ap, ◌∙◌}
 use Rattle.std.proofs.Common.{append_assoc}
 use Rattle.std.specs.List.{flat_map}

@@ -1,4 +1,4 @@
--- The line of a run whose clock ends, and that of a verdict on a trace, without their line ends.
+-- The line of a run whose clock ends, and the line of the verdict on a trace, without their line ends.
 use Rattle.std.specs.Prelude.{ℕ, codes, decimal, List, [], ◌∷◌, Option, Some, None}
 use Rattle.pals_model.specs.declared.design.DesignParts.{DesignParts}
 use Rattle.pals_runs.specs.declared.journal.Stop.{Stop}

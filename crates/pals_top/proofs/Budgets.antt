@@ -1,4 +1,4 @@
--- The steps of each processor that fits are in time.
+-- On each processor whose budget fits, the steps are done in time.
 use Rattle.std.proofs.Common.{List, All}
 use Rattle.std.proofs.lemmas.List.Elements.{All-map, All-weaker}
 use Rattle.step_code.specs.declared.instr.CodeParts.{CodeParts}

@@ -1,4 +1,4 @@
--- What words are by their number, with flags or without.
+-- Which command the words of a command line are, by how many words there are and which of them are flags.
 use Rattle.std.proofs.Common.{◌≡◌, ◌⊎◌, inl, inr, ℕ, ◌+◌, ◌<◌, ◌≤◌, Bool, true, false, not, nat_eq, suc, ◌&&◌, ◌||◌}
 use Rattle.std.proofs.Common.{cond, List, [], ◌∷◌, length, codes, bytes_eq, get_or, Option, None, refl, sym, ap, ◌∙◌}
 use Rattle.std.proofs.Common.{arith}

@@ -1,4 +1,4 @@
--- What a command makes of a design and a scenario.
+-- The kinds of analyses: what each command that needs no step codes makes of a design and a scenario.
 
 pub data Analysis : Type 0 where
   -- the rounds of the synchronous composition

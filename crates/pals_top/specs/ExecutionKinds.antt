@@ -1,4 +1,4 @@
--- What a command makes of a design, its step codes and a scenario.
+-- The kinds of executions: what each command that needs step codes makes of a design, its codes and a scenario.
 use Rattle.std.specs.Prelude.{Bool}
 
 pub data Execution : Type 0 where

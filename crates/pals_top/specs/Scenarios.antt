@@ -1,4 +1,4 @@
--- Bundles whose scenario is refused.
+-- That a bundle means a design and a scenario; or that its scenario has a fault, and the text that names it.
 use Rattle.std.specs.Prelude.{◌≡◌, ◌≢◌, ℕ, List, ◌++◌, Ok, Err}
 use Rattle.pals_model.specs.declared.design.DesignParts.{DesignParts}
 use Rattle.pals_model.specs.RoundTexts.{line_end}

@@ -1,4 +1,4 @@
--- Without pairs the equations are those of the composition.
+-- Without pairs the equations of fused composition are those of the composition: the claim WithoutPairs.
 use Rattle.std.proofs.Common.{◌≡◌, ◌∙◌, ℕ, zero, suc, ◌+◌, ◌-◌, ◌*◌, ◌/◌, ◌%◌, ◌<◌, ◌≤◌, List, [], ◌∷◌, ◌++◌, length}
 use Rattle.std.proofs.Common.{map, Option, Some, None, slice_get, slice_index_or, refl, sym, ap, ap₂, subst, arith}
 use Rattle.std.proofs.lemmas.Nat.{mul-le, div-mul-add, mod-mul-add}

@@ -1,4 +1,4 @@
--- Without pairs the report is that of the composition.
+-- Without pairs the report of fused composition is that of the composition: the claim ReportWithoutPairs.
 use Rattle.std.proofs.Common.{◌≡◌, ◌∙◌, ◌++◌, ℕ, suc, ◌+◌, ◌*◌, ◌<◌, ◌≤◌, Bool, true, false, nat_eq, List, [], ◌∷◌}
 use Rattle.std.proofs.Common.{length, map, take, Option, Some, slice_get, slice_index_or, All, refl, sym, ap, ap₂}
 use Rattle.std.proofs.Common.{subst, arith}

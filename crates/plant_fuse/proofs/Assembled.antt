@@ -1,4 +1,5 @@
--- Where a fused product stands after a round.
+-- After the run of a round, what its steps have read solves the equations of the round, and so do the rows and parts
+-- of each component.
 use Rattle.std.proofs.Common.{◌≡◌, ◌∙◌, inl, inr, ℕ, zero, suc, ◌-◌, ◌<◌, ◌≤◌, Bool, true, false, nat_eq, List, [], ◌∷◌}
 use Rattle.std.proofs.Common.{length, map, Option, Some, None, slice_get, slice_index_or, refl, sym, ap, ap₂, subst}
 use Rattle.std.proofs.Common.{arith}

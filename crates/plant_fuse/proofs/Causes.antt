@@ -1,4 +1,4 @@
--- What a step reads hangs on steps of lower rank alone.
+-- What a step reads depends only on steps of lower rank.
 use Rattle.std.proofs.Common.{◌≡◌, ◌∙◌, ℕ, zero, suc, ◌+◌, ◌*◌, ◌/◌, ◌%◌, ◌<◌, ◌≤◌, Bool, true, false, List, [], ◌∷◌}
 use Rattle.std.proofs.Common.{length, map, Option, Some, None, slice_get, slice_index_or, refl, sym, ap, ap₂, subst}
 use Rattle.std.proofs.Common.{arith}

@@ -1,4 +1,5 @@
--- What is made round by round is the solution.
+-- What is made round by round stands, after any number of rounds, where the solution for these rounds does: the
+-- claim RoundsFollow.
 use Rattle.std.proofs.Common.{◌≡◌, ◌∙◌, ℕ, zero, suc, ◌+◌, ◌*◌, List, [], ◌∷◌, map, refl, sym, ap, ap₂, subst, arith}
 use Rattle.pals_base.specs.declared.values.Frame.{Frame}
 use Rattle.pals_base.specs.Fire.{initial}

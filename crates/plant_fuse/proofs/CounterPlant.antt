@@ -1,4 +1,4 @@
--- The two counters, computed.
+-- The two counters as a plant and its controller can be fused, and what they count, computed.
 use Rattle.std.proofs.Common.{◌≡◌, ℕ, [], ◌∷◌, All, None, refl, arith}
 use Rattle.std.proofs.lemmas.List.Elements.{All-nil, All-cons}
 use Rattle.pals_base.specs.Fire.{fire}

@@ -1,4 +1,4 @@
--- There is a partner, or none, for each component.
+-- The list of partners has an entry for each component: a partner, or none.
 use Rattle.std.proofs.Common.{◌≡◌, ◌∙◌, List, length, ap}
 use Rattle.std.proofs.lemmas.List.{length-map}
 use Rattle.pals_base.specs.Steps.{upwards}

@@ -1,4 +1,4 @@
--- When pairs can be fused.
+-- Which pairs of components can be fused, by the links between the two and by the other pairs.
 use Rattle.std.proofs.Common.{◌≡◌, ◌≢◌, ℕ, ◌<◌, Bool, true, false, nat_eq, List, [], ◌∷◌, length, All, refl, sym, arith}
 use Rattle.std.specs.Prelude.{not, ◌||◌, slice_index_or}
 use Rattle.std.specs.List.{list_all}

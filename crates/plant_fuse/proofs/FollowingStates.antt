@@ -1,4 +1,4 @@
--- States that follow one another stand where the solution does.
+-- States that follow one another, one round each, stand where the solution does: the claim StatesFollow.
 use Rattle.std.proofs.Common.{◌≡◌, ◌∙◌, inl, inr, ℕ, zero, suc, ◌<◌, List, sym, ap, ap₂, subst, arith}
 use Rattle.std.proofs.lemmas.Bool.{cases_lt}
 use Rattle.pals_model.specs.declared.design.DesignParts.{DesignParts}

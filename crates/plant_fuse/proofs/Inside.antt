@@ -1,4 +1,4 @@
--- What is known of a link inside a pair, and of the link that an in port reads.
+-- Links between the two components of a pair, and the link that an in port reads.
 use Rattle.std.proofs.Common.{◌≡◌, ◌≢◌, ◌∙◌, inl, inr, ℕ, ◌<◌, true, false, List, length, Option, Some, None, slice_get}
 use Rattle.std.proofs.Common.{slice_index_or, refl, sym, ap, subst}
 use Rattle.std.specs.Prelude.{nat_eq, position}

@@ -1,4 +1,5 @@
--- What components leave in each round of a solution.
+-- The parts that components leave in each round of a solution: in the last round, and in earlier ones as in the
+-- solution for fewer rounds.
 use Rattle.std.proofs.Common.{◌≡◌, ◌∙◌, ℕ, suc, ◌*◌, ◌<◌, ◌≤◌, List, [], take, drop, Some, slice_get, sym, ap, ap₂}
 use Rattle.std.proofs.Common.{arith}
 use Rattle.std.proofs.lemmas.Nat.{mul-le}

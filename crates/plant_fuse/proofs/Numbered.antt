@@ -1,4 +1,4 @@
--- Lists that are tables of a function.
+-- Lists that are tables of a function over numbers: their lengths, and their elements by place.
 use Rattle.std.proofs.Common.{◌≡◌, ◌∙◌, ℕ, zero, suc, ◌+◌, ◌<◌, ◌≤◌, List, [], ◌∷◌, length, map, Some, None, slice_get}
 use Rattle.std.proofs.Common.{slice_index_or, refl, sym, ap, ap₂, arith}
 use Rattle.std.specs.List.{enumerate_from}

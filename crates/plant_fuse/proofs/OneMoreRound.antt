@@ -1,4 +1,5 @@
--- One round more.
+-- What stands after one round more of a solution comes from what stood before by one round of the equations: the
+-- claim RoundsGoOn.
 use Rattle.std.proofs.Common.{◌≡◌, ◌∙◌, ℕ, zero, suc, ◌+◌, ◌-◌, ◌*◌, ◌/◌, ◌%◌, ◌<◌, Bool, true, false, List, [], ◌∷◌}
 use Rattle.std.proofs.Common.{length, map, take, drop, replicate, Option, Some, None, slice_get, slice_index_or, refl}
 use Rattle.std.proofs.Common.{sym, ap, ap₂, subst, arith}

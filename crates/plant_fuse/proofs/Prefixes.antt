@@ -1,4 +1,4 @@
--- The solution for one round more begins with that for fewer.
+-- The solution for one round more begins with the solution for the rounds before it: the claim SolutionGoesOn.
 use Rattle.std.proofs.Common.{◌≡◌, ◌∙◌, ℕ, zero, suc, ◌*◌, ◌<◌, ◌≤◌, List, [], ◌∷◌, map, take, Option, Some, None}
 use Rattle.std.proofs.Common.{slice_get, refl, sym, ap, subst, arith}
 use Rattle.std.proofs.lemmas.Nat.{mul-le}

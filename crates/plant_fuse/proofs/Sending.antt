@@ -1,4 +1,4 @@
--- Messages and the rows that they come from.
+-- The message of each link, and the rows of its source that it comes from.
 use Rattle.std.proofs.Common.{◌≡◌, ◌∙◌, ℕ, ◌<◌, List, Bool, length, map, slice_index_or, refl, sym, ap, ap₂}
 use Rattle.std.proofs.lemmas.Option.{slice_get_read}
 use Rattle.std.proofs.lemmas.List.{get_or-map}

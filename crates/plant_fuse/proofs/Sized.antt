@@ -1,4 +1,4 @@
--- Room for the steps of a component of a pair.
+-- The lists of a pair's component have room for its steps.
 use Rattle.std.proofs.Common.{◌≡◌, ◌∙◌, ℕ, ◌<◌, List, [], length, map, Some, slice_get, slice_index_or, sym, ap, arith}
 use Rattle.std.proofs.lemmas.List.{get_or-map, get_or_default}
 use Rattle.std.proofs.lemmas.Option.{slice_get_within, get_or_from_slice_get}

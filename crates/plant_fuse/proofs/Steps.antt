@@ -1,4 +1,4 @@
--- The steps of a solution, one after the other.
+-- The steps of a solution can be made one after the other, each from the frame before it: the claim StepsAreMade.
 use Rattle.std.proofs.Common.{◌≡◌, ◌∙◌, ℕ, zero, suc, ◌+◌, ◌*◌, ◌<◌, List, [], ◌∷◌, map, take, Some, slice_get}
 use Rattle.std.proofs.Common.{slice_index_or, ap, arith}
 use Rattle.std.proofs.lemmas.Option.{same_Some}

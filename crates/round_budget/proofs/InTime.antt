@@ -1,4 +1,4 @@
--- Why a processor is in time: while it is busy, no member has more than one step in its queue.
+-- A processor whose sum fits is in time: while it is busy, no member has more than one step in its queue.
 use Rattle.std.proofs.Common.{◌≡◌, inl, inr, ℕ, suc, ◌+◌, ◌<◌, ◌≤◌, Bool, true, false, List, [], ◌∷◌, length, map, refl}
 use Rattle.std.proofs.Common.{sym, ap, arith}
 use Rattle.std.specs.Prelude.{max, nat_eq}

@@ -1,4 +1,4 @@
--- What holds where the sum fits.
+-- What a timetable promises where the sum fits: the budget, its lines in each round, and responses in time.
 use Rattle.std.proofs.Common.{◌≡◌, ℕ, ◌≤◌, true, List}
 use Rattle.std.proofs.lemmas.Bool.{leb-true}
 use Rattle.step_code.specs.declared.instr.CodeParts.{CodeParts}

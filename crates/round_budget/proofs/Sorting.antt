@@ -1,5 +1,4 @@
--- Two lists in order with the same elements are one, where no two elements of the first stand at one place in the
--- order.
+-- Two lists in order with the same elements are equal, where no two elements of the first are equal in the order.
 use Rattle.std.proofs.Common.{◌≡◌, ◌⊎◌, inl, inr, ℕ, suc, ◌+◌, ◌<◌, ◌≤◌, Bool, true, false, cond, List, [], ◌∷◌, map}
 use Rattle.std.proofs.Common.{refl, sym, ap, ap₂, ◌∙◌, subst, arith, Less, Equal, Greater}
 use Rattle.std.specs.Prelude.{nat_eq, nat_lt, ◌==◌, ◌&&◌, ◌||◌, if◌then◌else◌, IsTrue, slice_index_or}

@@ -1,4 +1,5 @@
--- Codes that are laid out for the same behaviours are one list.
+-- Step codes that are laid out for the same behaviours are equal, so a budget has one text and one verdict:
+-- TextIsOne and VerdictIsOne.
 use Rattle.std.proofs.Common.{ap, List}
 use Rattle.step_code.specs.declared.instr.CodeParts.{CodeParts}
 use Rattle.step_compiler.proofs.LaidOutCodes.{laid_out_codes_are_one}

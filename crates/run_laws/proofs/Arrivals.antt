@@ -1,4 +1,4 @@
--- A message that arrives is kept, and keeps the time.
+-- An arrival without a fault leaves its message in the slot, and keeps what a world keeps of its time.
 use Rattle.std.proofs.Common.{◌≡◌, ◌≢◌, inl, inr, ℕ, suc, ◌+◌, ◌<◌, nat_eq, true, false, List, [], length, slice_get}
 use Rattle.std.proofs.Common.{Option, Some, None, refl, sym, ap, ap₂, ◌∙◌, subst, arith}
 use Rattle.std.specs.Prelude.{nat_lt, is_some}

@@ -1,4 +1,5 @@
--- What a meeting's stops tell, and what the bounds say of stops.
+-- What a stop tells with nodes that meet, and with any clocks the bounds that it keeps: MeetingsStop, MeetingsEnd
+-- and StopsAreBounded.
 use Rattle.std.proofs.Common.{◌≡◌, ℕ, zero, suc, ◌+◌, ◌-◌, ◌*◌, ◌/◌, ◌<◌, ◌≤◌, max, List, length, slice_get, Option}
 use Rattle.std.proofs.Common.{Some, None, refl, sym, ap, ◌∙◌, subst, arith}
 use Rattle.std.specs.Prelude.{IfSome}

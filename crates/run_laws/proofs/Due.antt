@@ -1,4 +1,5 @@
--- Where a message that is due to a node arrives, the run goes on; and what a clock that is asked does.
+-- A message that is due to a node at its clock's reading can arrive, and the run goes on; and how a list clock picks
+-- or ends.
 use Rattle.std.proofs.Common.{◌-◌, inl, inr, Bool, cond, ◌≡◌, ℕ, ◌<◌, ◌≤◌, true, List, length, Some, refl, sym, ap, ◌∙◌}
 use Rattle.std.proofs.Common.{subst, arith}
 use Rattle.std.proofs.lemmas.Option.{slice_get_within}

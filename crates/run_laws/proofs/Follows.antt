@@ -1,4 +1,4 @@
--- Where the actions of a node bring it.
+-- How each event changes how far a node has come among its actions, and what its next action is.
 use Rattle.std.proofs.Common.{◌≡◌, ◌≢◌, inl, inr, ℕ, suc, ◌+◌, ◌-◌, ◌*◌, ◌<◌, ◌≤◌, nat_eq, nat_le, nat_lt, Bool, true}
 use Rattle.std.proofs.Common.{false, ◌&&◌, ◌||◌, cond, List, slice_get, Some, refl, sym, ap, ap₂, ◌∙◌, subst, arith}
 use Rattle.std.proofs.Common.{add-one}

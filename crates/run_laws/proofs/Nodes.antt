@@ -1,4 +1,5 @@
--- A node against the time: it is never past the next round's alarm by the skew, and what it has not sent has time left.
+-- The nodes of a world against its time: none is past the next round's alarm by the skew, and what it has not sent
+-- has time left.
 use Rattle.std.proofs.Common.{◌≡◌, ◌≢◌, ◌⊎◌, inl, inr, ℕ, zero, suc, ◌+◌, ◌-◌, ◌<◌, ◌≤◌, Bool, true, false, List, []}
 use Rattle.std.proofs.Common.{◌∷◌, length, slice_get, Option, Some, None, refl, sym, ap, ◌∙◌, subst, arith}
 use Rattle.std.specs.Prelude.{max, min, not, nat_le, if◌then◌else◌, fold}

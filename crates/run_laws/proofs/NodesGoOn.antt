@@ -1,4 +1,4 @@
--- A node whose clock shows a reading for its next action can go on.
+-- A node whose clock shows a reading for its next action can do that action.
 use Rattle.std.proofs.Common.{◌≡◌, ◌⊎◌, inl, inr, ℕ, suc, ◌+◌, ◌*◌, ◌<◌, nat_eq, nat_lt, nat_le, Bool, true, false, not}
 use Rattle.std.proofs.Common.{◌&&◌, ◌||◌, cond, List, [], ◌∷◌, length, slice_get, All, Option, Some, refl, sym, ap, ◌∙◌}
 use Rattle.std.proofs.Common.{subst, arith}

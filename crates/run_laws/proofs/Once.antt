@@ -1,4 +1,4 @@
--- Each message is in one place, case by case.
+-- Each message that was sent is in one place: in flight, in its slot, or taken. The claim MessagesStandOnce.
 use Rattle.std.proofs.Common.{◌≡◌, ◌⊎◌, inl, inr, ℕ, ◌+◌, ◌<◌, ◌≤◌, nat_eq, false, List, Option, sym, ◌∙◌, arith}
 use Rattle.std.specs.Prelude.{nat_lt, is_some}
 use Rattle.std.proofs.lemmas.Bool.{and_parts, cases_Bool, cases_lt, eqb-true, lt-ltb, le-ltb, ltb-true, false≢true}

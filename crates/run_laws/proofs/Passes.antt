@@ -1,4 +1,4 @@
--- Time that passes keeps the time's facts: no last allowed time is passed, and the rest stays.
+-- Time that passes without a fault keeps what a world keeps of its time: no last allowed time is passed.
 use Rattle.std.proofs.Common.{◌≡◌, ℕ, ◌+◌, ◌-◌, ◌<◌, ◌≤◌, true, List, [], ◌∷◌, length, map, slice_get, Option, Some}
 use Rattle.std.proofs.Common.{None, refl, sym, ◌∙◌, subst, arith}
 use Rattle.std.specs.Prelude.{nat_lt, nat_le, is_some, slice_index_or}

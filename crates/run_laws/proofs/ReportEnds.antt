@@ -1,4 +1,4 @@
--- Behind the report of a design the verdict is that on the journal.
+-- Where a design's report stands before lines of a journal, the verdict on the whole is the verdict on those lines.
 use Rattle.std.proofs.Common.{◌≡◌, ℕ, ◌+◌, ◌*◌, ◌/◌, Bool, true, false, not, cond, List, [], ◌∷◌, ◌++◌, length, take}
 use Rattle.std.proofs.Common.{drop, All, None, refl, ap, ap₂, ◌∙◌, arith}
 use Rattle.std.specs.Prelude.{is_some}

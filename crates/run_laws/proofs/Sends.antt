@@ -1,4 +1,5 @@
--- A send keeps the time: its messages go into flight within what the bound allows.
+-- A send without a fault keeps what a world keeps of its time: its messages go into flight no later than the bounds
+-- allow.
 use Rattle.std.proofs.Common.{◌≡◌, ◌≢◌, inl, inr, ℕ, suc, ◌+◌, ◌-◌, ◌<◌, ◌≤◌, nat_eq, Bool, true, false, List, [], ◌∷◌}
 use Rattle.std.proofs.Common.{◌++◌, length, Option, Some, refl, sym, ap, ◌∙◌, subst, arith, length-append}
 use Rattle.std.specs.Prelude.{max, nat_lt, if◌then◌else◌, slice_index_or, slice_set}

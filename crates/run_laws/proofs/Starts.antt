@@ -1,4 +1,4 @@
--- A start misses nothing, and keeps the time.
+-- A start without a fault misses no message, and keeps what a world keeps of its time.
 use Rattle.std.proofs.Common.{◌≡◌, inl, inr, ℕ, zero, suc, ◌+◌, ◌-◌, ◌<◌, ◌≤◌, nat_eq, Bool, true, false, List, [], ◌∷◌}
 use Rattle.std.proofs.Common.{length, map, slice_get, Option, Some, None, refl, sym, ap, ap₂, ◌∙◌, subst, arith}
 use Rattle.std.specs.Prelude.{nat_lt, is_some, is_none, position, zip, option_map, if◌then◌else◌, slice_index_or}

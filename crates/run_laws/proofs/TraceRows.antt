@@ -1,4 +1,5 @@
--- The rows of traces, computed.
+-- A trace of one round of the two counters is judged sound, and changed ones are judged wrong: the claim
+-- TracesAreJudged, computed.
 use Rattle.std.proofs.Common.{refl}
 use Rattle.std.specs.Fmt.{digits}
 use Rattle.pals_base.specs.Fire.{fire}

@@ -1,4 +1,4 @@
--- The rows of worlds, computed.
+-- Worlds of the two counters: refused events, and the earliest and latest that the bounds allow, computed.
 use Rattle.std.proofs.Common.{refl}
 use Rattle.std.specs.Fmt.{digits}
 use Rattle.pals_base.specs.Fire.{fire}

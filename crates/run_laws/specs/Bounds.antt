@@ -1,4 +1,5 @@
--- What a stop says of the bounds, with any clocks.
+-- What a stop, with any clocks, says of the bounds: how late or early the message's delay and its source's send
+-- were.
 use Rattle.std.specs.Prelude.{◌≡◌, ℕ, ◌+◌, ◌-◌, ◌*◌, ◌<◌, ◌≤◌, max, List, Option, Some, slice_get}
 use Rattle.pals_base.specs.Bound.{alarm, backoff}
 use Rattle.pals_model.specs.Delays.{delay_of}

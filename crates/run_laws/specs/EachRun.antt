@@ -1,4 +1,4 @@
--- What holds in each run, of each of its nodes and of each of its links.
+-- What it is to hold of each node, or of each link, of a run.
 use Rattle.std.specs.Prelude.{ℕ, ◌<◌, length}
 use Rattle.bus_machine.specs.States.{Run}
 

@@ -1,4 +1,4 @@
--- Forms that stand behind their parts.
+-- Forms in an order in which each stands behind its parts, as one more form is added.
 use Rattle.std.proofs.Common.{◌≡◌, ◌∙◌, ◌⊎◌, inl, inr, ℕ, zero, suc, ◌+◌, ◌<◌, true, List, [], ◌∷◌, ◌++◌, length, Some}
 use Rattle.std.proofs.Common.{slice_get, refl, sym, ap, ap₂, subst, arith, length-append, append_assoc}
 use Rattle.std.specs.Prelude.{Result, IfOk}

@@ -1,4 +1,4 @@
--- Several monitors go on side by side.
+-- Several monitors go on by a row of frames, one monitor after another.
 use Rattle.std.proofs.Common.{◌≡◌, ◌∙◌, inl, inr, ℕ, zero, suc, ◌+◌, ◌<◌, ◌≤◌, Bool, false, not, cond, List, [], ◌∷◌}
 use Rattle.std.proofs.Common.{◌++◌, length, map, All, get_or, slice_set, Option, Some, None, position, refl, sym, ap}
 use Rattle.std.proofs.Common.{ap₂, subst, arith, eq-or-lt_of_le, add-one}

@@ -1,4 +1,4 @@
--- The words of time go on from round to round, and what they say.
+-- How the operators of past time go on from one round to the next.
 use Rattle.std.proofs.Common.{◌≡◌, ◌∙◌, inl, inr, ℕ, zero, suc, ◌+◌, ◌-◌, ◌<◌, ◌≤◌, Bool, true, false, ◌&&◌, ◌||◌, []}
 use Rattle.std.proofs.Common.{◌∷◌, ◌++◌, refl, sym, ap, ap₂, arith, eq-or-lt_of_le, ◌↔◌}
 use Rattle.std.specs.List.{list_any, list_all}

@@ -1,4 +1,4 @@
--- Bits that are written one after the other.
+-- A list of bits as its bits are written one after the other.
 use Rattle.std.proofs.Common.{◌≡◌, ◌≢◌, ◌∙◌, inl, inr, ℕ, zero, suc, ◌+◌, ◌<◌, ◌≤◌, Bool, not, ◌&&◌, ◌||◌, List, []}
 use Rattle.std.proofs.Common.{◌∷◌, length, Some, slice_get, slice_set, refl, sym, ap, ap₂, arith, eq-or-lt_of_le}
 use Rattle.run_monitor.specs.declared.forms.FlatForm.{FlatForm}

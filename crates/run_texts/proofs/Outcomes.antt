@@ -1,4 +1,4 @@
--- What is told of a bus that has come to its end is told of its run.
+-- What is told of a bus that has come to its end holds of the bus's run.
 use Rattle.std.proofs.Common.{◌≡◌, ◌≢◌, ◌∙◌, inl, inr, ℕ, ◌<◌, ◌≤◌, Bool, List, [], length, ◌++◌, Option, Some, None}
 use Rattle.std.proofs.Common.{slice_get, refl, sym, ap, subst, arith, if◌then◌else◌}
 use Rattle.std.specs.Prelude.{Result, Ok, Err, IfOk}

@@ -1,4 +1,4 @@
--- How much a run leaves.
+-- How many cells the rounds of a run leave: for components, links and root out ports, by rates and variables.
 use Rattle.std.specs.Prelude.{ℕ, ◌+◌, ◌*◌, length, sum_by}
 use Rattle.pals_model.specs.declared.design.Component.{Component}
 use Rattle.pals_model.specs.declared.design.Link.{Link}

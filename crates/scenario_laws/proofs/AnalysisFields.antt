@@ -1,4 +1,5 @@
--- What the fields of analyses are read as.
+-- Reading the fields of analyses (properties, replicas, faults, plants, processors) has no fault `Memory`: for the
+-- claim that bytes mean a scenario or have a first fault.
 use Rattle.std.proofs.Common.{ℕ, zero, suc, ◌+◌, List, [], ◌∷◌, Option, Some, None}
 use Rattle.std.specs.Prelude.{option_and_then, codes, decimal, length, map, Result}
 use Rattle.serde_json.specs.Data.{Data}

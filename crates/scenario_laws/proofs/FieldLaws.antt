@@ -1,4 +1,5 @@
--- What the fields of a scenario keep that was read.
+-- A scenario that was read suits its design: its events and trace are short, its events are those of its world, and
+-- its pairs can be fused.
 use Rattle.std.proofs.Common.{ℕ, ◌≤◌, true, false, List, [], length, codes, Ok, refl, sym, arith}
 use Rattle.std.proofs.lemmas.Bool.{false≢true}
 use Rattle.serde_json.specs.Find.{get}

@@ -1,4 +1,4 @@
--- The fields of a scenario that was read, one after another.
+-- Where a scenario was read, each of its fields was read with success: for the laws of what such a scenario keeps.
 use Rattle.std.proofs.Common.{◌≡◌, inl, inr, ℕ, Bool, true, false, List, [], ◌∷◌, length, codes, Option, Some, None}
 use Rattle.std.proofs.Common.{Result, Ok, Err, replicate, refl, subst}
 use Rattle.std.specs.Prelude.{find, not}

@@ -1,4 +1,4 @@
--- What names of a scenario name.
+-- A name in a scenario that is taken for a component or a link has the number of one in the design.
 use Rattle.std.proofs.Common.{◌≡◌, ℕ, ◌<◌, List, length, Ok, bytes_eq}
 use Rattle.scenario_values.proofs.Search.{within}
 use Rattle.pals_model.specs.declared.design.DesignParts.{DesignParts}

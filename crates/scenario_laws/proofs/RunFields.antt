@@ -1,4 +1,5 @@
--- What the fields of a run are read as.
+-- Reading the fields of a run (inputs, delays, clocks, events, trace) has no fault `Memory`: for the claim that
+-- bytes mean a scenario or have a first fault.
 use Rattle.std.proofs.Common.{ℕ, Bool, true, false, List, [], ◌∷◌}
 use Rattle.std.specs.Prelude.{option_and_then, codes, decimal, length, Ok, if◌then◌else◌}
 use Rattle.serde_json.specs.Data.{Data}

@@ -1,4 +1,5 @@
--- What values and names are read as.
+-- Reading JSON values and names has no fault `Memory`: for the claim that bytes mean a scenario or have a first
+-- fault.
 use Rattle.std.proofs.Common.{ℕ, ℤ, Bool, true, false, List}
 use Rattle.std.specs.Prelude.{pos, negsuc, Ok, is_some, if◌then◌else◌}
 use Rattle.serde_json.specs.Data.{Data}

@@ -1,4 +1,4 @@
--- What was passed on the way to a value that was read.
+-- Where reading ended with a value, each of its steps succeeded: what that says of tests, ranges and list elements.
 use Rattle.std.proofs.Common.{◌≡◌, ℕ, ◌≤◌, ℤ, pos, negsuc, Bool, true, false, ◌&&◌, List, [], ◌∷◌, Option, Some, None}
 use Rattle.std.proofs.Common.{Result, Ok, Err, refl, subst, arith}
 use Rattle.std.specs.Prelude.{nat_le}

@@ -1,4 +1,4 @@
--- Looking a name up, place by place.
+-- Looking a name up in a list of names: what is found, and that the tables of names find the same.
 use Rattle.std.proofs.Common.{◌≡◌, ℕ, suc, ◌<◌, ◌+◌, Bool, true, false, cond, List, [], ◌∷◌, length, map, drop, get_or}
 use Rattle.std.proofs.Common.{Some, None, slice_get, refl, sym, ap, ◌∙◌, arith, bytes_eq, string_bytes, String, Global}
 use Rattle.std.proofs.Common.{BTreeMap}

@@ -1,4 +1,4 @@
--- What names of a scenario name in a design, or that nothing has them.
+-- The numbers of the component and the link that have a name in a design, or that nothing has it.
 use Rattle.std.specs.Prelude.{ℕ, bytes_eq, List, position, Result}
 use Rattle.pals_base.specs.declared.values.NodeNo.{NodeNo}
 use Rattle.pals_base.specs.declared.values.LinkNo.{LinkNo}

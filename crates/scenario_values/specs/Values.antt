@@ -1,4 +1,4 @@
--- JSON values as what fields ask for.
+-- What JSON values have to be for the fields of a scenario: lists, objects, numbers in a range.
 use Rattle.std.specs.Prelude.{String, string_bytes, ℕ, ◌^◌, ◌-◌, nat_le, ℤ, pos, negsuc, int_le, Bool, ◌&&◌, List, []}
 use Rattle.std.specs.Prelude.{◌∷◌, length, Option, option_map, option_and_then, is_some, Result, Ok, Err, if◌then◌else◌}
 use Rattle.std.specs.declared.alloc.Global.{Global}

@@ -1,4 +1,4 @@
--- That rules 1, 6 and 4 find nothing at a place, as far as jumps and loops go.
+-- What holds of jumps and loops at a place where rules 1, 4 and 6 of the verifier find nothing.
 use Rattle.std.specs.Prelude.{◌≡◌, ℕ, ◌+◌, ◌<◌, ◌≤◌, true, List, length, Some, slice_get}
 use Rattle.step_code.specs.declared.instr.Instr.{Instr}
 use Rattle.step_code.specs.declared.instr.Instr.TheVariants.{Store, Jump, JumpZero, LoopStart, LoopNext, End}

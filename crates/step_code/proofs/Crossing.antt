@@ -1,4 +1,4 @@
--- Which jumps part bodies, by the innermost loops of the two places alone.
+-- Whether a jump crosses the border of a loop's body, told by the innermost loops of its two places alone.
 use Rattle.std.proofs.Common.{◌≡◌, ◌∙◌, ℕ, zero, suc, ◌<◌, ◌≤◌, Bool, true, false, ◌&&◌, ◌||◌, if◌then◌else◌, cond}
 use Rattle.std.proofs.Common.{List, [], ◌∷◌, length, Option, Some, None, refl, sym, ap, subst, ⊎_elim, arith, nat_lt}
 use Rattle.std.proofs.Common.{nat_eq, slice_index_or}

@@ -1,4 +1,4 @@
--- A step of verified code leaves something.
+-- Each step of verified code leaves a frame and outputs: its run is over, and it is not stuck.
 use Rattle.std.proofs.Common.{◌≡◌, ◌∙◌, inl, inr, ℕ, zero, suc, ◌+◌, ◌≤◌, ℤ, pos, true, List, [], ◌∷◌, length, map}
 use Rattle.std.proofs.Common.{replicate, Option, Some, None, refl, sym, ap, subst, ⊎_elim, arith, length-append}
 use Rattle.std.specs.Prelude.{slice_get}

@@ -1,4 +1,4 @@
--- The heights that the entries give.
+-- The stack heights that the verifier starts with: 0 at each entry of the code, and none elsewhere.
 use Rattle.std.proofs.Common.{◌≡◌, ◌∙◌, inl, ℕ, ◌+◌, ◌<◌, ◌≤◌, List, [], ◌∷◌, ◌++◌, length, Option, Some, None, sym, ap}
 use Rattle.std.proofs.Common.{subst, ⊎_elim, arith, take, slice_index_or}
 use Rattle.std.specs.Prelude.{slice_get, slice_set}

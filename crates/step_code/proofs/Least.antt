@@ -1,4 +1,4 @@
--- The least bad entry.
+-- The verifier's search for bad entries finds the least of them.
 use Rattle.std.proofs.Common.{◌≡◌, ◌∙◌, ℕ, ◌+◌, ◌<◌, Bool, true, false, ◌&&◌, ◌||◌, List, [], ◌∷◌, ◌++◌, length, Option}
 use Rattle.std.proofs.Common.{Some, None, refl, sym, ap, arith, take, slice_index_or, nat_eq}
 use Rattle.std.proofs.lemmas.List.{take_more}

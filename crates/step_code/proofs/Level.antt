@@ -1,4 +1,4 @@
--- Code whose rules find nothing is never stuck.
+-- Code at which the rules find nothing never gets stuck, by what holds wherever its run stands.
 use Rattle.std.proofs.Common.{◌≡◌, ◌∙◌, inl, inr, ℕ, zero, suc, ◌+◌, ◌-◌, ◌<◌, ◌≤◌, ℤ, pos, ◌+ℤ◌, Bool, true, false}
 use Rattle.std.proofs.Common.{if◌then◌else◌, List, [], ◌∷◌, length, Option, Some, None, refl, sym, subst, ⊎_elim, arith}
 use Rattle.std.specs.Prelude.{not, slice_get, slice_set, int_lt, Result, Ok, Err}

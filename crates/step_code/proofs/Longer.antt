@@ -1,4 +1,4 @@
--- A run that is over is the same with more instructions allowed, and how many it has left.
+-- A run that is over stays the same when more instructions are allowed, and so does the number that it has made.
 use Rattle.std.proofs.Common.{◌≡◌, ◌∙◌, ℕ, zero, suc, ◌+◌, ◌<◌, ℤ, List, refl, sym, ap, subst, arith}
 use Rattle.std.specs.Prelude.{slice_get}
 use Rattle.pals_base.specs.declared.values.PortValue.{PortValue as Value}

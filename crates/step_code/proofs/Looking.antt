@@ -1,4 +1,5 @@
--- What the verifier knows while it goes through the places.
+-- What the verifier knows before each place: the places below are clean, the heights are those of paths, and the bad
+-- entry is the least.
 use Rattle.std.proofs.Common.{◌≡◌, ◌∙◌, ℕ, ◌<◌, ◌≤◌, Bool, true, List, length, Option, Some, None, sym, ap, subst}
 use Rattle.std.proofs.Common.{arith}
 use Rattle.std.proofs.lemmas.Bool.Decides.{nat_tests}

@@ -1,4 +1,5 @@
--- What the rules give of jumps and loops, and that a run is over.
+-- Nested code: what each jump and loop instruction does to the loops round a place; and what it is for a run to be
+-- over.
 use Rattle.std.specs.Prelude.{◌≡◌, ◌≢◌, ℕ, ◌+◌, ◌<◌, ℤ, List, [], ◌∷◌, length, Some, slice_get}
 use Rattle.step_code.specs.declared.instr.Instr.{Instr}
 use Rattle.step_code.specs.declared.instr.Instr.TheVariants.{Store, Jump, JumpZero, LoopStart, LoopNext, End}

@@ -1,4 +1,4 @@
--- What the verifier knows behind a place.
+-- The stack heights that the verifier holds once it is past a place are those that paths from places below it give.
 use Rattle.std.proofs.Common.{◌≡◌, ◌∙◌, ℕ, zero, suc, ◌+◌, ◌<◌, ◌≤◌, Bool, true, false, ◌||◌, List, length, Option}
 use Rattle.std.proofs.Common.{Some, None, option_to_list, sym, ap, subst, ⊎_elim, arith, slice_index_or}
 use Rattle.std.specs.Prelude.{not, nat_lt, if◌then◌else◌, Result, Ok, Err, IfErr, OnOk, slice_get}

@@ -1,4 +1,4 @@
--- What it says of an instruction that a rule finds nothing there.
+-- What holds of an instruction at which no rule of the verifier finds anything.
 use Rattle.std.proofs.Common.{◌≡◌, ◌∙◌, ℕ, ◌<◌, Bool, true, false, ◌&&◌, ◌||◌, IsTrue, List, length, Some, refl, sym}
 use Rattle.std.proofs.Common.{ap, nat_lt}
 use Rattle.std.specs.Prelude.{not, slice_get}

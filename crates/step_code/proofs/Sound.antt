@@ -1,4 +1,4 @@
--- Verified code is clean, level and fed, as the laws take it.
+-- Verified code is nested, level and fed, which the proofs of the laws presuppose.
 use Rattle.std.proofs.Common.{◌≡◌, ◌∙◌, ℕ, zero, suc, ◌+◌, ◌<◌, ◌≤◌, true, false, List, [], ◌∷◌, length, Option, Some}
 use Rattle.std.proofs.Common.{None, refl, sym, ap, ⊎_elim, arith, nat_eq, nat_lt}
 use Rattle.std.specs.Prelude.{ℤ, not, slice_get}

@@ -1,4 +1,5 @@
--- What the rules give of heights, slots and ports, and that a run is not stuck.
+-- Level code, whose stack heights agree and suffice, and fed code, whose slots and ports are there; and what it is
+-- for a run not to be stuck.
 use Rattle.std.specs.Prelude.{◌≡◌, ℕ, ◌<◌, ◌≤◌, List, Option, Some, slice_get}
 use Rattle.step_code.specs.declared.instr.Instr.{Instr}
 use Rattle.step_code.specs.Paths.{onward}

@@ -1,4 +1,4 @@
--- What verified code keeps.
+-- What holds at each place and entry of verified code: loops closed, instructions known, entries good.
 use Rattle.std.proofs.Common.{◌≡◌, ◌∙◌, ℕ, ◌<◌, Bool, true, false, ◌&&◌, ◌||◌, List, [], ◌∷◌, length, Option, Some}
 use Rattle.std.proofs.Common.{refl, sym, ap, ⊎_elim, nat_eq, nat_lt}
 use Rattle.std.specs.Prelude.{slice_get}

@@ -1,4 +1,4 @@
--- How many instructions a behaviour takes: those of all its transitions.
+-- How many instructions the code of a behaviour has, by its expressions, actions and transitions.
 use Rattle.std.specs.Prelude.{ℕ, ◌+◌, List, [], ◌∷◌}
 use Rattle.pals_base.specs.declared.behaviour.BehaviourParts.{BehaviourParts}
 use Rattle.pals_base.specs.declared.behaviour.Op.{Op}

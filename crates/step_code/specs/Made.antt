@@ -1,4 +1,4 @@
--- How many instructions a step of code makes.
+-- How many instructions a step makes when the code runs.
 use Rattle.std.specs.Prelude.{ℕ, zero, suc, ℤ, pos, List, [], ◌++◌, map, replicate, Option, Some, None, slice_get}
 use Rattle.pals_base.specs.declared.values.Trap.{Trap}
 use Rattle.pals_base.specs.declared.values.Frame.{Frame}

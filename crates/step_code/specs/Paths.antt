@@ -1,4 +1,4 @@
--- The ways that instructions leave, and the weights of paths.
+-- To which places an instruction may lead, and how many instructions the heaviest path makes.
 use Rattle.std.specs.Prelude.{ℕ, zero, suc, ◌+◌, ◌*◌, max, Bool, true, false, if◌then◌else◌, List, [], ◌∷◌, ◌++◌}
 use Rattle.std.specs.Prelude.{length, map, Option, Some, None, option_to_list, slice_get}
 use Rattle.step_code.specs.declared.instr.Instr.{Instr}

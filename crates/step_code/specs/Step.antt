@@ -1,4 +1,4 @@
--- What one instruction does.
+-- What one instruction does to the place, the stack, the slots and the out ports.
 use Rattle.std.specs.Prelude.{ℕ, ◌+◌, ℤ, pos, ◌+ℤ◌, int_lt, Bool, not, if◌then◌else◌, List, [], ◌∷◌, Option, Some, None}
 use Rattle.std.specs.Prelude.{Result, Ok, Err, slice_get, slice_set}
 use Rattle.pals_base.specs.declared.values.Trap.{Trap}

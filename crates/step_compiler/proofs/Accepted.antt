@@ -1,4 +1,5 @@
--- The loops and jumps of code that was laid out.
+-- In compiled code, loops that start inside a part end inside it, so that jumps of the part stay within the loops
+-- round them.
 use Rattle.std.proofs.Common.{◌≡◌, ◌∙◌, ◌⊎◌, ℕ, zero, suc, ◌+◌, ◌<◌, ◌≤◌, ℤ, pos, Bool, true, false, ◌&&◌}
 use Rattle.std.proofs.Common.{if◌then◌else◌, List, [], ◌∷◌, ◌++◌, length, Option, Some, None, refl, sym, ap, subst}
 use Rattle.std.proofs.Common.{⊎_elim, arith, nat_lt}

@@ -1,4 +1,4 @@
--- The order of blocks is the one that is searched for, and there is no other.
+-- The order of blocks that is searched for is as the definition asks, and no other is.
 use Rattle.std.proofs.Common.{◌≡◌, ◌∙◌, inl, inr, ℕ, zero, suc, ◌+◌, ◌<◌, ◌≤◌, Bool, true, false, List, [], ◌∷◌, ◌++◌}
 use Rattle.std.proofs.Common.{length, take, Option, Some, None, Contains, slice_get, refl, sym, ap, ap₂, subst, arith}
 use Rattle.std.specs.Prelude.{not, ◌&&◌, nat_eq}

@@ -1,4 +1,4 @@
--- What an order of blocks keeps while it grows.
+-- What holds of an order of blocks while it grows by one state after the other.
 use Rattle.std.proofs.Common.{◌≡◌, ◌∙◌, inl, inr, ℕ, zero, suc, ◌+◌, ◌<◌, ◌≤◌, Bool, true, false, ◌||◌, if◌then◌else◌}
 use Rattle.std.proofs.Common.{List, [], ◌∷◌, ◌++◌, length, refl, sym, ap, subst, ⊎_elim, arith, add-one, append-nil}
 use Rattle.std.proofs.Common.{nat_eq}

@@ -1,4 +1,5 @@
--- Where the compiled code of transitions and blocks closes its loops, and at which places none is under way.
+-- At which places of the compiled code no loop is under way and the stack is empty: where transitions and blocks
+-- begin.
 use Rattle.std.proofs.Common.{◌≡◌, ◌∙◌, inl, inr, ⊎_elim, ℕ, ◌+◌, ◌-◌, ◌<◌, ◌≤◌, Bool, true, false, ◌||◌, if◌then◌else◌}
 use Rattle.std.proofs.Common.{List, [], ◌∷◌, ◌++◌, length, refl, sym, ap, subst, arith, nat_eq}
 use Rattle.std.specs.Prelude.{filter, fold}

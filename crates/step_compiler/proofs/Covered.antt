@@ -1,4 +1,4 @@
--- Each state's block is placed in the end.
+-- The order of blocks that is searched for has each state in the end.
 use Rattle.std.proofs.Common.{◌≡◌, ◌∙◌, inl, inr, ℕ, zero, suc, ◌+◌, ◌<◌, ◌≤◌, Bool, true, false, ◌&&◌, ◌||◌, not}
 use Rattle.std.proofs.Common.{if◌then◌else◌, List, [], ◌∷◌, ◌++◌, length, Option, Some, None, slice_index_or, refl, sym}
 use Rattle.std.proofs.Common.{ap, subst, ⊎_elim, arith, nat_eq}

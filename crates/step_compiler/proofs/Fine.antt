@@ -1,4 +1,4 @@
--- What the verifier asks at each place, of expressions and actions.
+-- What the verifier asks of the instruction at a place, and that the code of expressions has it.
 use Rattle.std.proofs.Common.{◌≡◌, ◌∙◌, ⊎_elim, ℕ, ◌+◌, ◌<◌, ◌≤◌, pos, Bool, true, false, not, if◌then◌else◌, List, []}
 use Rattle.std.proofs.Common.{◌∷◌, ◌++◌, length, Option, Some, None, refl, sym, ap, subst, arith, nat_lt}
 use Rattle.std.specs.Prelude.{slice_get, option_to_list}

@@ -1,4 +1,4 @@
--- What the verifier asks at each place, of actions.
+-- The code of actions has at each place what the verifier asks of its instruction.
 use Rattle.std.proofs.Common.{◌≡◌, ◌∙◌, ◌⊎◌, inl, inr, ⊎_elim, ℕ, zero, suc, ◌+◌, ◌-◌, ◌<◌, ◌≤◌, ℤ, Bool, true, false}
 use Rattle.std.proofs.Common.{◌&&◌, ◌||◌, not, if◌then◌else◌, List, [], ◌∷◌, ◌++◌, length, Option, Some, None, refl}
 use Rattle.std.proofs.Common.{sym, ap, subst, arith, add-one, nat_lt, nat_eq}

@@ -1,4 +1,4 @@
--- The code that is laid out is the compiled one.
+-- The compiled code is laid out as the definition asks, and no other code is: for the laws of layout.
 use Rattle.std.proofs.Common.{◌≡◌, ◌∙◌, ℕ, zero, suc, ◌+◌, ◌<◌, ◌≤◌, Bool, true, List, [], ◌∷◌, ◌++◌, length, map}
 use Rattle.std.proofs.Common.{Option, refl, sym, ap, ap₂, arith}
 use Rattle.std.specs.Prelude.{nat_eq}

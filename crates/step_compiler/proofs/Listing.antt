@@ -1,4 +1,4 @@
--- Lists over the numbers from 0 on.
+-- Lists made of the numbers from 0 on: lengths, elements, and what is found first.
 use Rattle.std.proofs.Common.{◌≡◌, ◌∙◌, inl, inr, subst, None, ℕ, zero, suc, ◌+◌, ◌-◌, ◌<◌, Bool, true, false}
 use Rattle.std.proofs.Common.{if◌then◌else◌, List, [], ◌∷◌, ◌++◌, length, map, slice_index_or, Some, refl, sym, ap}
 use Rattle.std.proofs.Common.{arith, add-one, zero-add}

@@ -1,4 +1,4 @@
--- What actions leave, one after another, and the turns of a loop.
+-- What a list of actions and the turns of a loop leave in slots and out ports, for the runs of compiled actions.
 use Rattle.std.proofs.Common.{◌≡◌, ◌∙◌, ℕ, zero, suc, ◌+◌, ◌<◌, ◌≤◌, ℤ, pos, ◌+ℤ◌, Bool, true, false, if◌then◌else◌}
 use Rattle.std.proofs.Common.{List, [], ◌∷◌, ◌++◌, length, take, Some, refl, sym, ap, subst, ⊎_elim, arith}
 use Rattle.std.proofs.Common.{length-append}

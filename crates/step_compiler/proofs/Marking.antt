@@ -1,4 +1,5 @@
--- The marks by which the next block is looked for.
+-- The marks by which the next state of the order is looked for: whether transitions from states outside lead to a
+-- state.
 use Rattle.std.proofs.Common.{◌≡◌, ◌∙◌, ℕ, zero, suc, ◌<◌, Bool, true, false, ◌&&◌, ◌||◌, not, if◌then◌else◌, List, []}
 use Rattle.std.proofs.Common.{◌∷◌, length, slice_index_or, slice_set, refl, sym, ap, subst, arith, nat_eq, nat_lt}
 use Rattle.std.specs.Prelude.{fold, replicate}

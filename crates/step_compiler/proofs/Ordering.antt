@@ -1,4 +1,4 @@
--- The order of blocks, one after the other.
+-- An order of blocks after one more turn of the search.
 use Rattle.std.proofs.Common.{◌≡◌, ℕ, suc, ◌+◌, ◌-◌, ◌<◌, List, ap, arith}
 use Rattle.pals_base.specs.declared.behaviour.BehaviourParts.{BehaviourParts}
 use Rattle.step_compiler.specs.proof.Order.{next_state, with_next, ordered}

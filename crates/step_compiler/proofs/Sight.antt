@@ -1,4 +1,5 @@
--- What expressions, actions and transitions read and write is there.
+-- Definitions for proofs: all variables, slots and ports that expressions, actions and transitions read and write
+-- exist.
 use Rattle.std.specs.Prelude.{◌≡◌, ℕ, ◌+◌, ◌<◌, true, false, List, [], ◌∷◌, length}
 use Rattle.pals_base.specs.declared.behaviour.BehaviourParts.{BehaviourParts}
 use Rattle.pals_base.specs.Tree.{Expression, Literal, Variable, PortRead, Fresh, Neg, Abs, Not, Chain, Operands, NoMore}

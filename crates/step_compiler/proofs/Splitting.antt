@@ -1,4 +1,4 @@
--- Code that is laid out in two parts.
+-- The code of branches and of the transitions that leave a state, split into the first and the rest.
 use Rattle.std.proofs.Common.{◌≡◌, ◌∙◌, ℕ, ◌+◌, Bool, true, false, if◌then◌else◌, List, [], ◌∷◌, ◌++◌, ap, arith}
 use Rattle.std.proofs.Common.{append_assoc}
 use Rattle.std.specs.Prelude.{nat_eq}

@@ -1,4 +1,4 @@
--- The code of transitions, of states and of the whole behaviour.
+-- The instructions that transitions, states and the whole behaviour are compiled to.
 use Rattle.std.specs.Prelude.{ℕ, ◌+◌, ◌-◌, nat_eq, Bool, if◌then◌else◌, List, [], ◌∷◌, ◌++◌, length, Option, Some, None}
 use Rattle.pals_base.specs.declared.behaviour.BehaviourParts.{BehaviourParts}
 use Rattle.pals_base.specs.Tree.{Edge, Trigger, Dispatch, Always, When}

@@ -1,4 +1,4 @@
--- The frame after a step fits the code again.
+-- The frame that a step of verified code leaves fits the code as the one before did.
 use Rattle.std.proofs.Common.{◌≡◌, ◌∙◌, ℕ, zero, suc, ◌+◌, ℤ, pos, ◌+ℤ◌, Bool, true, false, if◌then◌else◌, List, []}
 use Rattle.std.proofs.Common.{◌∷◌, length, take, replicate, Option, Some, None, refl, sym, ap, subst, arith}
 use Rattle.std.proofs.Common.{length-append}

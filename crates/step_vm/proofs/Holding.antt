@@ -1,4 +1,5 @@
--- Held inputs and kept variables, one after another.
+-- Holding inputs that are present and keeping variables, one place after the other: for the loops of `hold` and
+-- `keep`.
 use Rattle.std.proofs.Common.{◌≡◌, ◌∙◌, ℕ, suc, ◌+◌, ◌<◌, ◌≤◌, ℤ, pos, List, [], ◌∷◌, ◌++◌, length, take, drop}
 use Rattle.std.proofs.Common.{slice_index_or, slice_set, refl, sym, ap, arith, add-one, drop-cons}
 use Rattle.std.proofs.Math.Seq.{set-append_seam}

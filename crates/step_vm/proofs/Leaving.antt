@@ -1,4 +1,4 @@
--- What a step leaves, by what its run has come to.
+-- A step of code that has not halted leaves what its run from the state's entry leaves: for the machine's step.
 use Rattle.std.proofs.Common.{◌≡◌, ◌∙◌, ℕ, List, Some, None, sym, ap}
 use Rattle.std.specs.Prelude.{slice_get}
 use Rattle.pals_base.specs.declared.values.Frame.{Frame}

@@ -1,4 +1,4 @@
--- What the machine keeps from one instruction to the next.
+-- What holds of the machine's place, stack and slots from one instruction to the next.
 use Rattle.std.proofs.Common.{◌≡◌, ◌∙◌, ℕ, zero, suc, ◌+◌, ◌<◌, ◌≤◌, ℤ, List, [], length, map, Some, refl, sym, ap}
 use Rattle.std.proofs.Common.{subst, arith, slice_index_or}
 use Rattle.std.specs.Prelude.{slice_get}

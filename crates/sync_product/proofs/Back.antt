@@ -1,4 +1,4 @@
--- A renumbering can be undone.
+-- A renumbering of components can be undone by another one.
 use Rattle.std.proofs.Common.{◌≡◌, ◌≢◌, ◌∙◌, inl, inr, ℕ, zero, suc, ◌<◌, Bool, nat_eq, List, length, get_or, Some}
 use Rattle.std.proofs.Common.{slice_get, Contains, sym, ap, ap₂, subst, arith}
 use Rattle.std.proofs.lemmas.Bool.{eqb-true, eq-eqb, true≢false}

@@ -1,4 +1,5 @@
--- Columns of rows.
+-- The values of one port at each step, taken from the rows of a component's steps, and cut to the steps that are
+-- sent.
 use Rattle.std.proofs.Common.{◌≡◌, ◌∙◌, ℕ, ◌-◌, ◌<◌, ◌≤◌, inl, inr, Bool, if◌then◌else◌, nat_lt, List, ◌++◌, length}
 use Rattle.std.proofs.Common.{map, take, replicate, slice_index_or, sym, ap, arith}
 use Rattle.std.proofs.lemmas.Bool.{lt-ltb, le-ltb, cases_lt}

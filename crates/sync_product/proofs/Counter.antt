@@ -1,4 +1,4 @@
--- What a counter does is a behaviour.
+-- The counter of the examples is a behaviour.
 use Rattle.std.proofs.Common.{◌≡◌, ◌≢◌, ℕ, zero, suc, List, [], ◌∷◌, Option, None, Some, All, AllPairs, Contains, cond}
 use Rattle.std.proofs.Common.{slice_get, refl, ap, subst, arith}
 use Rattle.std.specs.Prelude.{codes}

@@ -1,4 +1,4 @@
--- Two counters are the parts of a design, whichever of them comes first.
+-- The two counters are a design, with and without a feed, whichever counter comes first.
 use Rattle.std.proofs.Common.{◌≢◌, ◌≤◌, ℕ, List, [], ◌∷◌, length, All, IsTrue, refl, arith}
 use Rattle.std.specs.Prelude.{codes}
 use Rattle.std.proofs.lemmas.List.Elements.{All-nil}

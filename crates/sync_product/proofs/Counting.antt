@@ -1,4 +1,4 @@
--- Numbers below a bound.
+-- Search among the numbers below a bound, and the pigeonhole principle: n + 1 different numbers are not all below n.
 use Rattle.std.proofs.Common.{◌≡◌, ◌≢◌, ◌⊎◌, ◌∙◌, inl, inr, ℕ, zero, suc, ◌<◌, Bool, true, false, map, length, Contains}
 use Rattle.std.proofs.Common.{refl, sym, ap, arith}
 use Rattle.std.specs.List.{range_with_len}

@@ -1,4 +1,4 @@
--- The two counters are the exchanged ones, by their other numbers.
+-- The designs of two counters and of the exchanged ones differ only by the components' numbers.
 use Rattle.std.proofs.Common.{◌≡◌, ℕ, zero, suc, ◌<◌, List, [], ◌∷◌, Contains, slice_get, refl, arith}
 use Rattle.std.specs.Prelude.{codes}
 use Rattle.std.proofs.lemmas.List.Elements.{All-nil}

@@ -1,4 +1,4 @@
--- Lists written over, element by element.
+-- The sizes of a list's elements stay the same when one is written over by an element of its size.
 use Rattle.std.proofs.Common.{◌≡◌, ◌∙◌, ℕ, zero, suc, ◌<◌, List, [], ◌∷◌, length, map, set, slice_index_or, ap, arith}
 
 -- an element written over by one of its size

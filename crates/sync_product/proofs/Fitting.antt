@@ -1,4 +1,4 @@
--- Room for the steps of each component.
+-- A product has room for the steps of each component: its frame, part and stage have the component's sizes.
 use Rattle.std.proofs.Common.{◌≡◌, ◌∙◌, ℕ, List, length, map, slice_index_or, sym, ap}
 use Rattle.std.proofs.lemmas.List.{length-map}
 use Rattle.list_lemmas.proofs.Lists.{length-map_enumerate_from}

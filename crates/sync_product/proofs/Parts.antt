@@ -1,4 +1,4 @@
--- The components, links and feeds of a design, by their other numbers.
+-- In a renumbered design, each component, link and feed is there under its other number.
 use Rattle.std.proofs.Common.{◌≡◌, ◌∙◌, ℕ, ◌<◌, Bool, true, false, nat_eq, length, Some, slice_get, refl, sym, ap}
 use Rattle.std.proofs.lemmas.Bool.{eq-eqb, eqb-true, ne_eqb, true≢false}
 use Rattle.std.proofs.lemmas.Option.{slice_get_within}

@@ -1,4 +1,4 @@
--- The taps of a component are those of its other number.
+-- In a renumbered design, each component has the same taps under its other number.
 use Rattle.std.proofs.Common.{◌≡◌, ◌∙◌, ℕ, ◌<◌, Bool, true, false, cond, nat_eq, List, [], ◌∷◌, map, filter, length}
 use Rattle.std.proofs.Common.{All, slice_index_or, refl, ap, ap₂}
 use Rattle.std.proofs.lemmas.List.Elements.{All-head, All-tail}

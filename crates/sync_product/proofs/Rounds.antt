@@ -1,4 +1,4 @@
--- Round by round, components are in the same states, and links carry the same messages.
+-- In a renumbered design, the components are in the same states after each round, and links carry the same messages.
 use Rattle.std.proofs.Common.{◌≡◌, ◌∙◌, ℕ, zero, suc, ◌<◌, nat_eq, List, [], ◌∷◌, map, filter, length, replicate, Some}
 use Rattle.std.proofs.Common.{slice_get, slice_index_or, refl, sym, ap, ap₂}
 use Rattle.std.proofs.lemmas.List.Elements.{All-weaker}

@@ -1,4 +1,4 @@
--- Messages and the rows that they come from.
+-- Each link's message comes from the rows that its source's steps made.
 use Rattle.std.proofs.Common.{◌≡◌, ◌∙◌, ℕ, ◌<◌, inl, inr, List, length, map, slice_get, slice_index_or, refl, sym, ap}
 use Rattle.std.proofs.Common.{arith, Some}
 use Rattle.std.proofs.lemmas.Option.{slice_get_cases, slice_get_read}

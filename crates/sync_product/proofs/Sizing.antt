@@ -1,4 +1,4 @@
--- Sizes of rows.
+-- The lengths of rows and tuples.
 use Rattle.std.proofs.Common.{◌≡◌, ◌∙◌, ℕ, zero, suc, ◌<◌, List, refl, length, map, replicate, slice_index_or, sym, ap}
 use Rattle.std.proofs.Common.{arith}
 use Rattle.std.proofs.lemmas.List.{length-map, length-replicate, get_or-map, get_or-replicate}

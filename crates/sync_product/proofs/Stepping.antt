@@ -1,4 +1,4 @@
--- The steps of one more component.
+-- What the components have left in a round grows by one when the next component makes its steps.
 use Rattle.std.proofs.Common.{◌≡◌, ◌∙◌, ℕ, ◌+◌, ◌<◌, inl, inr, List, length, map, set, slice_get, slice_index_or, Some}
 use Rattle.std.proofs.Common.{sym, ap, ap₂, arith}
 use Rattle.std.proofs.lemmas.Bool.{cases_lt}

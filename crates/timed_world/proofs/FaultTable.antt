@@ -1,4 +1,5 @@
--- The first fault of a row of the table, which goes over readings, nodes or links one by one.
+-- Faults of an event are looked for one by one over nodes or links: what a test that passes or fails adds to the
+-- first fault found.
 use Rattle.std.proofs.Common.{◌≡◌, ℕ, suc, ◌+◌, ◌-◌, ◌<◌, ◌≤◌, nat_lt, nat_le, Bool, List, length, drop, map, Option}
 use Rattle.std.proofs.Common.{Some, None, ap, ◌∙◌, sym, arith}
 use Rattle.std.specs.Prelude.{slice_index_or}

@@ -1,4 +1,4 @@
--- One event more of a list.
+-- A list of events in a world, made one event longer.
 use Rattle.std.proofs.Common.{◌≡◌, ◌+◌, List, [], ◌∷◌, ◌++◌, None, refl, ap, ap₂, ◌∙◌, sym}
 use Rattle.pals_runs.specs.declared.events.Event.{Event}
 use Rattle.bus_machine.specs.States.{Run}

@@ -1,4 +1,5 @@
--- A node of a world stands in range, and the last time that it allows is the world's.
+-- A node's phase, counts and times are in range, and the last time that it allows is the one that the world has for
+-- it.
 use Rattle.std.proofs.Common.{◌≡◌, ℕ, ◌+◌, ◌<◌, ◌≤◌, true, length, Option, Some, None, refl, ap, ap₂, ◌∙◌, sym, subst}
 use Rattle.std.proofs.Common.{arith}
 use Rattle.std.specs.Prelude.{is_some, slice_index_or}

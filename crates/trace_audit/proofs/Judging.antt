@@ -1,4 +1,4 @@
--- The verdict on a journal, line by line.
+-- The verdict on a journal, one line more: for the claim of `audit_journal`.
 use Rattle.std.proofs.Common.{◌≡◌, ℕ, ◌+◌, ◌/◌, ◌<◌, ◌≤◌, List, ◌∷◌, length, take, drop, get_or, Option, Some, None}
 use Rattle.std.proofs.Common.{sym, ap, ap₂, ◌∙◌}
 use Rattle.std.specs.Prelude.{IfSome}

@@ -1,4 +1,4 @@
--- The rows of rounds, made one after the other.
+-- The report's rows are made one round after the other: for the rows that an audit compares lines with.
 use Rattle.std.proofs.Common.{◌≡◌, ℕ, zero, suc, ◌+◌, ◌<◌, List, length, map, sym, ap, ap₂, ◌∙◌, subst, arith, zero-add}
 use Rattle.std.specs.Prelude.{Some, slice_get, slice_index_or}
 use Rattle.std.proofs.lemmas.List.{length-map}

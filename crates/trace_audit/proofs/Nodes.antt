@@ -1,4 +1,4 @@
--- The nodes of a state, one after the other.
+-- Whether all nodes of a bus are done, and the least number of rounds that they have finished, node by node.
 use Rattle.std.proofs.Common.{◌≡◌, ◌∙◌, ℕ, ◌+◌, ◌<◌, ◌≤◌, Bool, true, false, ◌&&◌, List, length, fold, drop, sym, ap}
 use Rattle.std.specs.Prelude.{min}
 use Rattle.std.specs.List.{list_all}

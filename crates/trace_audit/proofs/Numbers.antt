@@ -1,4 +1,5 @@
--- Whether entries tell the numbers of their events.
+-- An entry tells the round and step that its event has on the bus, or breaks rule `Order`; and which stop it owes
+-- behind it.
 use Rattle.std.proofs.Common.{◌≡◌, ◌≢◌, ℕ, nat_eq, Bool, true, false, ◌&&◌, List, ◌∷◌, Option, Some, None, refl, sym}
 use Rattle.std.proofs.Common.{ap, ap₂, ◌∙◌}
 use Rattle.std.specs.Prelude.{is_some, is_none, option_and_then}

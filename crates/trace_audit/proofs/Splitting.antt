@@ -1,4 +1,4 @@
--- The first word of a line.
+-- The first word of a line and the rest, as `split_once` cuts them.
 use Rattle.std.proofs.Common.{◌≡◌, ◌≢◌, ◌∙◌, ℕ, ◌<◌, ◌≤◌, nat_eq, false, List, [], ◌∷◌, length, All, Option, Some, None}
 use Rattle.std.proofs.Common.{refl, sym, ap, arith, get_or}
 use Rattle.std.specs.Option.{MatchOption}

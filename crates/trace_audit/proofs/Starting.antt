@@ -1,4 +1,4 @@
--- Which rule a start breaks that has happened.
+-- Which rule an entry breaks that tells a start, once the start has happened on the bus.
 use Rattle.std.proofs.Common.{◌≡◌, ◌↔◌, ℕ, ◌<◌, ◌≤◌, Bool, true, false, cond, List, [], ◌∷◌, ◌++◌, length, Option, Some}
 use Rattle.std.proofs.Common.{None, inl, inr, IsTrue, sym, ap, ◌∙◌}
 use Rattle.pals_base.specs.declared.limits.TheConstants.{ROUNDS}

@@ -1,4 +1,4 @@
--- Whether an entry's line is that of a start.
+-- Whether an entry tells the line that a node's start makes.
 use Rattle.std.proofs.Common.{◌≡◌, ◌↔◌, ℕ, ◌<◌, ◌≤◌, Bool, true, false, List, length, Option, Some, None, IsTrue, refl}
 use Rattle.std.proofs.Common.{sym, ap, subst, arith}
 use Rattle.std.specs.Prelude.{position, slice_index_or}

@@ -1,4 +1,4 @@
--- What two of three agree on wins.
+-- In a vote of three, a value that two agree on wins, and nothing does where all differ.
 use Rattle.std.proofs.Common.{◌≡◌, ◌≢◌, ◌∙◌, ◌||◌, Bool, true, false, if◌then◌else◌, List, [], ◌∷◌, length, refl, ap}
 use Rattle.std.proofs.Common.{ap₂, arith}
 use Rattle.std.proofs.lemmas.Bool.{or_left, or_right, or_from, false_from_ne_true}

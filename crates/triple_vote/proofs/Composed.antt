@@ -1,4 +1,5 @@
--- Where faults are outvoted, nothing shows them; and without replicas it is the composition.
+-- Where faults are outvoted, replicas, messages and root out ports are those of the composition; and so they are
+-- without replicas.
 use Rattle.std.proofs.Common.{◌≡◌, ◌∙◌, ℕ, zero, suc, ◌<◌, Bool, false, if◌then◌else◌, List, [], ◌∷◌, length, map, None}
 use Rattle.std.proofs.Common.{Some, slice_get, slice_index_or, sym, ap, ap₂, arith, true≢false}
 use Rattle.std.proofs.lemmas.List.{length-map}

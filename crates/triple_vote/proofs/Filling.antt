@@ -1,4 +1,4 @@
--- Lists of tuples written over, place by place, where a test passes.
+-- Lists of tuples, of which those are written over that pass a test, place by place.
 use Rattle.std.proofs.Common.{◌≡◌, ◌∙◌, ℕ, ◌+◌, ◌<◌, ◌≤◌, inl, inr, Bool, true, false, List, length, set, Some}
 use Rattle.std.proofs.Common.{slice_get, sym, ap, ap₂, arith, eq-or-lt_of_le}
 use Rattle.std.proofs.lemmas.Bool.{false≢true}

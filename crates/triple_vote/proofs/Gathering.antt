@@ -1,4 +1,4 @@
--- What is voted of three layers, link by link and root out port by root out port.
+-- The votes on what three layers sent and showed, gathered by link and by root out port.
 use Rattle.std.proofs.Common.{◌≡◌, ◌∙◌, ℕ, zero, suc, ◌+◌, ◌<◌, inl, inr, nat_eq, ◌&&◌, Bool, true, false, List, []}
 use Rattle.std.proofs.Common.{◌∷◌, length, map, set, All, find, Option, Some, None, slice_get, slice_index_or, refl}
 use Rattle.std.proofs.Common.{sym, ap, ap₂, arith, add-one}

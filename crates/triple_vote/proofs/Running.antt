@@ -1,4 +1,4 @@
--- What the steps of the components that are there leave.
+-- The components that a layer has have made their steps, up to one more: what their frames and rows are.
 use Rattle.std.proofs.Common.{◌≡◌, ◌∙◌, ℕ, ◌+◌, ◌<◌, ◌≤◌, inl, inr, Bool, true, false, List, [], length, map, set}
 use Rattle.std.proofs.Common.{slice_get, slice_index_or, Some, sym, ap, ap₂, arith, eq-or-lt_of_le}
 use Rattle.std.proofs.lemmas.Bool.{false≢true}

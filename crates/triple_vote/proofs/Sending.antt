@@ -1,4 +1,5 @@
--- What is read off the stages, link by link and root out port by root out port.
+-- The messages and shown tuples of a layer, read off the rows of its stages, link by link and root out port by root
+-- out port.
 use Rattle.std.proofs.Common.{◌≡◌, ◌∙◌, ℕ, ◌+◌, ◌<◌, Bool, List, length, map, set, slice_get, slice_index_or, Some}
 use Rattle.std.proofs.Common.{refl, sym, ap, arith}
 use Rattle.std.proofs.lemmas.Option.{slice_get-get_or, slice_get_read}

@@ -1,4 +1,5 @@
--- The report of rounds that are voted on is that of the composition, with lines three times.
+-- The report of a run whose faults are outvoted is that of the composition, with each replicated component's line
+-- three times.
 use Rattle.std.proofs.Common.{◌≡◌, ◌∙◌, ℕ, zero, suc, ◌+◌, ◌<◌, nat_eq, Bool, true, false, cond, if◌then◌else◌, List}
 use Rattle.std.proofs.Common.{[], ◌∷◌, ◌++◌, length, map, filter, flat_map, take, Some, slice_get, slice_index_or, refl}
 use Rattle.std.proofs.Common.{sym, ap, ap₂, arith}

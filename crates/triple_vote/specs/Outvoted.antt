@@ -1,4 +1,5 @@
--- Faults that votes hide.
+-- When faults are outvoted: no two replicas are at fault in one round, on one link, towards one replica of its
+-- target.
 use Rattle.std.specs.Prelude.{◌≡◌, ℕ, List, Contains}
 use Rattle.pals_runs.specs.declared.pairs.VoteFault.{VoteFault}
 

@@ -1,4 +1,4 @@
--- Rows, computed.
+-- The schedules of two counters and the faults of events that leave them, computed.
 use Rattle.std.proofs.Common.{refl}
 use Rattle.pals_base.specs.Fire.{fire}
 use Rattle.world_gen.specs.proof.CounterSchedules.{CountersAreScheduled, FastIsScheduled, FastFaults}

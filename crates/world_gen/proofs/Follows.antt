@@ -1,4 +1,5 @@
--- A world that follows its schedule: of each kind, the events that come before a time are made, and no others.
+-- A world that has come along its schedule up to a time: of each kind, the events that come before it are made, and
+-- no others.
 use Rattle.std.proofs.Common.{◌≡◌, ◌≢◌, inl, inr, ℕ, zero, suc, ◌+◌, ◌-◌, ◌*◌, ◌<◌, ◌≤◌, Bool, true, List, [], ◌∷◌}
 use Rattle.std.proofs.Common.{◌++◌, length, Option, Some, None, refl, sym, ap, ◌∙◌, subst, arith}
 use Rattle.std.specs.Prelude.{nat_lt, flat_map, if◌then◌else◌, slice_index_or}

@@ -1,4 +1,4 @@
--- Events without a fault.
+-- When an event of a schedule has no fault, kind by kind.
 use Rattle.std.proofs.Common.{◌≡◌, ℕ, zero, suc, ◌+◌, ◌-◌, ◌<◌, ◌≤◌, Bool, true, false, List, [], ◌∷◌, length, map}
 use Rattle.std.proofs.Common.{slice_get, Option, Some, None, refl, sym, ap, ◌∙◌, arith}
 use Rattle.std.specs.Prelude.{not, nat_lt, nat_le, is_some, if◌then◌else◌, slice_index_or, replicate}

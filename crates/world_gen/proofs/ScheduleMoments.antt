@@ -1,4 +1,4 @@
--- A schedule is within the bounds, moment by moment.
+-- Each schedule is whole: its events are within the bounds, and all nodes are done at its end.
 use Rattle.std.proofs.Common.{◌≡◌, ◌≢◌, ℕ, suc, ◌+◌, ◌-◌, ◌*◌, ◌<◌, ◌≤◌, nat_eq, Bool, true, false, List, [], ◌∷◌, ◌++◌}
 use Rattle.std.proofs.Common.{length, refl, sym, ap, ◌∙◌, subst, arith}
 use Rattle.std.specs.Prelude.{replicate, if◌then◌else◌}

@@ -1,5 +1,4 @@
--- What a ring comes to: its codes are short, its sum is below what 64 bits hold, and it stands in the parts of the
--- last round.
+-- A ring's codes are short enough, and its sum of numbers fits in 64 bits and is that of the last round's parts.
 use Rattle.std.proofs.Common.{◌≡◌, ◌∙◌, ℕ, zero, suc, ◌+◌, ◌-◌, ◌*◌, ◌<◌, ◌≤◌, List, [], ◌∷◌, length, map, fold, Option}
 use Rattle.std.proofs.Common.{Some, None, slice_get, pos, ◌+ℤ◌, ◌≤ℤ◌, refl, sym, ap, ap₂, subst, arith, lit≤}
 use Rattle.std.proofs.Common.{FitsSigned, w64, to_z, of_z}

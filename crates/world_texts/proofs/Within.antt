@@ -1,4 +1,4 @@
--- Events that are within the bounds, one by one.
+-- Each next event of a list that is within the bounds has no fault but want of memory.
 use Rattle.std.proofs.Common.{◌≡◌, ◌∙◌, ◌⊎◌, inl, inr, ℕ, zero, suc, ◌+◌, ◌<◌, List, [], ◌∷◌, length, take, Some, None}
 use Rattle.std.proofs.Common.{sym, ap, ap₂, subst, arith}
 use Rattle.std.specs.Prelude.{slice_index_or}

@@ -1,4 +1,4 @@
--- The walk back as the code makes it, over paths with the outermost subcomponent first.
+-- The walk back from a port, on paths with the outermost subcomponent first, as the code makes it.
 use Rattle.std.specs.Prelude.{◌≡◌, ℕ, false, List, take, reverse, Option, Some, None, option_map}
 use Rattle.aadl_tree.specs.Declarations.{PackageTree}
 use Rattle.aadl_names.specs.declared.site.PortPlace.{PortPlace}

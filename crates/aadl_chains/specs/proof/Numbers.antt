@@ -1,4 +1,4 @@
--- How many have a property: a list of all of them, each once, counted up to a limit.
+-- The number of things with a property, counted up to a limit.
 use Rattle.std.specs.Prelude.{◌≡◌, ℕ, min, List, [], ◌∷◌, length}
 use Rattle.std.specs.List.{AllByRecursion}
 use Rattle.aadl_uses.specs.proof.Counts.{Among}

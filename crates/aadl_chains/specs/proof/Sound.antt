@@ -1,4 +1,5 @@
--- What is known of the connections of a package in which line 2 finds nothing.
+-- What is known of connections where line 2 of the rules finds nothing: both ends are declared, and a connection may
+-- go from the one to the other.
 use Rattle.std.specs.Prelude.{◌≡◌, ℕ, true, false, [], Some, Contains}
 use Rattle.aadl_tree.specs.Declarations.{PackageTree}
 use Rattle.aadl_names.specs.declared.site.PortPlace.{PortPlace}

@@ -1,4 +1,5 @@
--- What is known of the connections of a package in which lines 2 and 4 find nothing.
+-- What is known of connections where lines 2 and 4 of the rules find nothing: in what is in use at most one goes
+-- into each port, each ends where it may, and threads have none.
 use Rattle.std.specs.Prelude.{◌≡◌, ℕ, true, List, Some, slice_get}
 use Rattle.aadl_tree.specs.Declarations.{Connection, Implementation, PackageTree}
 use Rattle.aadl_names.specs.declared.site.PortPlace.{PortPlace}

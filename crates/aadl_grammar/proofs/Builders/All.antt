@@ -1,4 +1,4 @@
--- What the rows of each symbol build, and the tree of a symbol that is left out.
+-- All symbols together: the tree that each row builds, and the tree of a symbol that is left out.
 use Rattle.std.proofs.Common.{Bool, true, false, [], None}
 use Rattle.aadl_tree.specs.Values as v
 use Rattle.aadl_tree.specs.Expressions as e

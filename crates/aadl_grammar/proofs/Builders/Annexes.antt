@@ -1,4 +1,5 @@
--- What the rows of each symbol build.
+-- For each symbol of annexes and behaviours: the tree that each of its rows in the table builds. For the proof that
+-- a text has one tree.
 use Rattle.std.proofs.Common.{true, [], ◌∷◌, Some, None}
 use Rattle.aadl_tree.specs.Annexes as x
 use Rattle.aadl_grammar.specs.proof.Symbols as s

@@ -1,4 +1,5 @@
--- What the rows of each symbol build.
+-- For each symbol of declarations and packages: the tree that each of its rows in the table builds. For the proof
+-- that a text has one tree.
 use Rattle.std.proofs.Common.{[], ◌∷◌, Some}
 use Rattle.aadl_tree.specs.declared.declarations.Category.TheVariants as categories
 use Rattle.aadl_tree.specs.declared.declarations.Direction.TheVariants as directions

@@ -1,4 +1,5 @@
--- What the rows of each symbol build.
+-- For each symbol of expressions: the tree that each of its rows in the table builds. For the proof that a text has
+-- one tree.
 use Rattle.std.proofs.Common.{true, false, [], ◌∷◌, Some, None}
 use Rattle.aadl_tree.specs.declared.expressions.Sign.TheVariants as signs
 use Rattle.aadl_tree.specs.declared.expressions.LogicOperator.TheVariants as logic

@@ -1,4 +1,4 @@
--- What the checked table of tails says, in words of membership.
+-- The checks of the table of what may not follow a symbol, as statements on members of lists.
 use Rattle.std.proofs.Common.{◌≡◌, ℕ, ◌⊎◌, Bool, true, false, cond, not, ◌&&◌, ◌||◌, ◌==◌, ◌∙◌, sym, ap, List, [], ◌∷◌}
 use Rattle.std.proofs.Common.{◌++◌, refl, inl, inr}
 use Rattle.std.proofs.lemmas.Bool.{eqb-true, or_cases, or_left, or_right}

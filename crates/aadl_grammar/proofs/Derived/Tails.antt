@@ -1,4 +1,5 @@
--- What decides between the symbols: no terminal both belongs to a symbol and may stand behind it.
+-- The terminals that may not follow a symbol since they would still belong to it, as a table, and checks of all rows
+-- that none of them does.
 use Rattle.std.proofs.Common.{◌≡◌, ℕ, Bool, true, false, cond, not, ◌&&◌, ◌||◌, ◌==◌, List, [], ◌∷◌, ◌++◌, refl}
 use Rattle.aadl_tree.specs.declared.mark.Mark.TheVariants as k
 use Rattle.aadl_grammar.specs.proof.Symbols.{Class, a_word, the, Symbol, Row}

@@ -1,4 +1,4 @@
--- Each stack has a text.
+-- For each stack of symbols there are terminals that it derives.
 use Rattle.std.proofs.Common.{◌≡◌, ℕ, zero, suc, Bool, true, false, cond, subst, refl, List, [], ◌∷◌, ◌++◌, Option}
 use Rattle.std.proofs.Common.{Some, None, append_assoc, is_some, inl, pos}
 use Rattle.std.proofs.lemmas.Option.{same_Some}

@@ -1,4 +1,4 @@
--- The terminals have one tree.
+-- A list of terminals spells at most one tree of a symbol. For the claim `a_text_has_one_tree`.
 use Rattle.std.proofs.Common.{◌≡◌, Bool, true, false, ◌∙◌, sym, ap, ap₂, subst, refl, List, [], ◌∷◌, ◌++◌, inl, inr}
 use Rattle.std.proofs.Common.{not, ◌==◌, eq-eqb}
 use Rattle.aadl_tree.specs.Terminals.{Kind}

@@ -1,4 +1,5 @@
--- The answers exclude one another, and each names one place.
+-- A list of terminals has only one of three fates, being a text, failing or nesting too deep, and at only one place.
+-- For the claims on fates.
 use Rattle.std.proofs.Common.{◌≡◌, ℕ, ◌∙◌, sym, ap, subst, refl, List, [], ◌∷◌, ◌++◌, arith, append_assoc}
 use Rattle.std.proofs.lemmas.List.{append-nil, map-append}
 use Rattle.aadl_tree.specs.Terminals.{Kind, Spot, kinds_of}

@@ -1,4 +1,5 @@
--- The two languages: packages, and bodies of behaviour annexes by themselves.
+-- The two languages of the grammar, packages and bodies of behaviour annexes, each with the stack that the machine
+-- starts from.
 use Rattle.std.proofs.Common.{ℕ, ◌≡◌, ◌∙◌, sym, ap, refl, ◌≤◌, List, [], ◌∷◌, arith}
 use Rattle.aadl_tree.specs.declared.limits.TheConstants.{GREATEST_NESTING}
 use Rattle.aadl_tree.specs.Terminals.{Kind}

@@ -1,5 +1,5 @@
--- One terminal of the machine, by what the top of the stack does at it. For the proofs of parsers. What it does say
--- `move_takes`, `move_omits` and `move_refuses` of Derivations: by a row that fits, and by no row that does.
+-- What the machine does with one terminal, by what the symbol on top of the stack does with it. For the proofs of
+-- parsers.
 use Rattle.std.proofs.Common.{◌≡◌, ℕ, ◌+◌, ◌<◌, ◌≤◌, Bool, true, false, cond, ◌∙◌, sym, ap, subst, refl, List, [], ◌∷◌}
 use Rattle.std.proofs.Common.{◌++◌, append_assoc, le-ltb, lt-ltb, ◌&&◌}
 use Rattle.std.specs.Prelude.{nat_lt}

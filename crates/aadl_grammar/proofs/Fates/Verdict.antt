@@ -1,4 +1,5 @@
--- What the machine's fate of a list of terminals says of a language.
+-- Terminals are a text of a language, fail or nest too deep just where the machine says so. For the claims
+-- `fate_of_package` and `fate_of_behaviour`.
 use Rattle.std.proofs.Common.{◌≡◌, ℕ, ◌+◌, ◌≤◌, Bool, true, false, ◌∙◌, sym, ap, subst, refl, List, [], ◌∷◌, ◌++◌, Some}
 use Rattle.std.proofs.Common.{None, arith, append_assoc}
 use Rattle.std.proofs.lemmas.List.{append-nil, map-append}

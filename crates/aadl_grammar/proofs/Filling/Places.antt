@@ -1,4 +1,5 @@
--- Terminals that spell parts give them their places.
+-- Terminals that spell the parts of a tree give each part that keeps a place its place. For the claim that a text
+-- has a tree or a fault.
 use Rattle.std.proofs.Common.{◌≡◌, ℕ, sym, subst, List, [], ◌∷◌, ◌++◌, refl, inl, inr}
 use Rattle.aadl_tree.specs.Terminals.{Kind, Spot, kinds_of}
 use Rattle.aadl_tree.specs.Parts.{Part, token, may, extra_kinds, Spells, AreAt, HaveKinds, Written}

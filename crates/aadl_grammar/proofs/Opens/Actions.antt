@@ -1,4 +1,5 @@
--- A spelled tree is what a row makes, or its symbol is left out.
+-- Symbols of actions: each tree that terminals spell is built by a row of its symbol, or the symbol is left out. For
+-- the proof that a text has one tree.
 use Rattle.std.proofs.Common.{ℤ, Bool, true, false, sym, refl, List, [], ◌∷◌, append_assoc, inl, inr}
 use Rattle.std.proofs.lemmas.List.{append-nil}
 use Rattle.aadl_tree.specs.Terminals.{Kind}

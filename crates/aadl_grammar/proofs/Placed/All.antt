@@ -1,4 +1,4 @@
--- A package, and a behaviour, with its places is the only one that its tokens spell.
+-- A package or behaviour with its places is the only one that its tokens spell: the claim `one_tree_with_places`.
 use Rattle.std.proofs.Common.{◌≡◌, ℕ, ◌∙◌, sym, ap, List, []}
 use Rattle.aadl_tree.specs.Terminals.{Spot, kinds_of}
 use Rattle.aadl_tree.specs.Parts.{Part, Written}

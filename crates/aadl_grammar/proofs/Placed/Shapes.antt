@@ -1,4 +1,4 @@
--- How many places the tokens of parts keep, and terminals that no tree keeps.
+-- How many places a tree keeps of its terminals, part for part, and which terminals keep none.
 use Rattle.std.proofs.Common.{◌≡◌, Bool, true, false, cond, List, [], ◌∷◌, refl}
 use Rattle.aadl_tree.specs.declared.mark.Mark.TheVariants as k
 use Rattle.aadl_tree.specs.Terminals.{Kind, mark}

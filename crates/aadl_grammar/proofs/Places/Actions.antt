@@ -1,4 +1,5 @@
--- Trees with other places are spelled alike.
+-- Actions that differ in their places alone are spelled by the same terminals. For the proof that a text has one
+-- tree.
 use Rattle.std.proofs.Common.{refl}
 use Rattle.aadl_tree.specs.declared.actions.Bound.{Bound}
 use Rattle.aadl_tree.specs.declared.mark.Mark.TheVariants as k

@@ -1,4 +1,5 @@
--- Trees with other places are spelled alike.
+-- Declarations and packages that differ in their places alone are spelled by the same terminals. For the proof that
+-- a text has one tree.
 use Rattle.std.proofs.Common.{refl, List}
 use Rattle.aadl_tree.specs.declared.mark.Mark.TheVariants as k
 use Rattle.aadl_tree.specs.Parts.{Part, Section, feature_section, subcomponent_section, connection_section}

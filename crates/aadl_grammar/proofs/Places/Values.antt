@@ -1,4 +1,5 @@
--- Trees with other places are spelled alike.
+-- Names, values and properties that differ in their places alone are spelled by the same terminals. For the proof
+-- that a text has one tree.
 use Rattle.std.proofs.Common.{refl, List, [], ◌∷◌, map, Option, Some, None, option_map}
 use Rattle.aadl_tree.specs.declared.expressions.Sign.{Sign}
 use Rattle.aadl_tree.specs.declared.mark.Mark.TheVariants as k

@@ -1,4 +1,4 @@
--- Terminals for the machine, each at the place of its number.
+-- Example terminals for the machine, each with its number as its place.
 use Rattle.std.specs.Prelude.{ℕ, ◌+◌, List, [], ◌∷◌, ◌++◌, replicate, codes}
 use Rattle.aadl_tree.specs.Terminals.{Kind, word, mark, Spot}
 use Rattle.aadl_tree.specs.declared.mark.Mark.TheVariants as k

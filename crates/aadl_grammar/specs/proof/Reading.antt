@@ -1,4 +1,5 @@
--- What a part of a parser answers, in terms of what the machine wants.
+-- What a function of a parser answers: it takes what the machine takes, and gives the tree or the fault. For the
+-- contracts of parsers.
 use Rattle.std.specs.Prelude.{ℕ, ◌+◌, ◌≡◌, ◌≤◌, true, false, IfOk, List, [], ◌∷◌, ◌++◌, drop, Bool, Result, Ok, Err}
 use Rattle.aadl_tree.specs.declared.mark.Mark.{Mark}
 use Rattle.aadl_tree.specs.Terminals.{Kind, word, mark, Spot}

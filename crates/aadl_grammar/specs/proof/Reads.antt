@@ -1,4 +1,4 @@
--- What is read again of a canonical text.
+-- A canonical text has a tree, and it is the given tree without its places.
 use Rattle.std.specs.Prelude.{ℕ, ◌≡◌, List}
 use Rattle.aadl_tree.specs.Declarations.{PackageTree}
 use Rattle.aadl_tree.specs.proof.Maps.{package_to, no_place}

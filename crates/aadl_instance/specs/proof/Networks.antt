@@ -1,4 +1,5 @@
--- Where chains are found, and what is shown of them so far.
+-- What is known of the code's map of threads, ports and chains while it looks for chains, in the terms of the
+-- contracts of `build`.
 use Rattle.std.specs.Prelude.{◌≡◌, ℕ, List, Some, reverse, slice_get}
 use Rattle.aadl_tree.specs.Declarations.{PackageTree}
 use Rattle.aadl_tree.specs.proof.PackageViews.{placed}

@@ -1,4 +1,4 @@
--- Chains as they are found: thread by thread, and port by port.
+-- The links, feeds and taps into the threads and ports that a loop has passed. For the contracts of `build`.
 use Rattle.std.specs.Prelude.{◌≡◌, ◌⊎◌, ℕ, ◌<◌, ◌≤◌, false, List, [], ◌∷◌, ◌++◌, map, reverse, length, Some, slice_get}
 use Rattle.std.specs.declared.vec.Vec.{Vec}
 use Rattle.std.specs.declared.alloc.Global.{Global}

@@ -1,4 +1,4 @@
--- What is known of a package in which nothing is found.
+-- What is known of a package in which the rules find nothing, and what `check_package` answers of it.
 use Rattle.std.specs.Prelude.{◌≡◌, ◌↔◌, ℕ, [], Contains, Option, Some, None}
 use Rattle.aadl_tree.specs.Declarations.{PackageTree}
 use Rattle.aadl_names.specs.declared.fault.PackageFault.{PackageFault}

@@ -1,5 +1,5 @@
--- Enough of what is declared twice among the ports of a type and what stands beside them, so that the first of it is
--- among it: what is asked of the ports alone is the same for all implementations of a type.
+-- Enough of what is declared twice among the ports of a type and beside them for the first finding to be in it. What
+-- concerns ports alone is the same for all implementations of the type.
 use Rattle.std.specs.Prelude.{◌||◌, nat_lt, ℕ, List, [], ◌∷◌, ◌++◌, flat_map, Option, Some, None, slice_get}
 use Rattle.std.specs.Prelude.{if◌then◌else◌}
 use Rattle.std.specs.List.{filter_map}

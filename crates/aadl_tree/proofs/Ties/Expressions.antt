@@ -1,4 +1,5 @@
--- Expressions.
+-- Expressions: the plain tree with its places mapped is the plain tree made with the mapped places. For the claim
+-- that places can be dropped.
 use Rattle.std.proofs.Common.{◌≡◌, ℕ, ◌∙◌, ap, ap₂, sym, subst, refl, List, [], ◌∷◌, map, Option, Some, None}
 use Rattle.std.proofs.Common.{option_map, Box, Global}
 use Rattle.aadl_tree.specs.declared.expressions.Sign.{Sign}

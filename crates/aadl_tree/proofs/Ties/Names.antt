@@ -1,4 +1,5 @@
--- Names, and what may be left out.
+-- Names and optional parts: the plain tree with its places mapped is the plain tree made with the mapped places. For
+-- the claim that places can be dropped.
 use Rattle.std.proofs.Common.{◌≡◌, ℕ, ap, ap₂, refl, List, [], ◌∷◌, map, Option, Some, None, option_map}
 use Rattle.aadl_tree.specs.declared.names.Identifier as source
 use Rattle.aadl_tree.specs.declared.names.Name as source_name

@@ -1,4 +1,5 @@
--- Properties and their values.
+-- Properties and their values: the plain tree with its places mapped is the plain tree made with the mapped places.
+-- For the claim that places can be dropped.
 use Rattle.std.proofs.Common.{◌≡◌, ℕ, ◌∙◌, ap, ap₂, sym, subst, refl, List, [], ◌∷◌, map, Option}
 use Rattle.aadl_tree.specs.declared.values.Value.{Value}
 use Rattle.aadl_tree.specs.declared.values.Value.TheOpen.{Value-F, Association-F}

@@ -1,4 +1,4 @@
--- Which tree a reading gives, and where the reading of a behaviour stops or nests too deep.
+-- Which tree a text is read as, and where a behaviour stops being one or nests too deep.
 use Rattle.std.specs.Prelude.{ℕ, true, List, [], ◌∷◌}
 use Rattle.aadl_lex.specs.declared.token.Token.{Token}
 use Rattle.aadl_tree.specs.Terminals.{spots_from}

@@ -1,4 +1,4 @@
--- The first of some subcomponents that leads back.
+-- The fault of the first subcomponent that leads back to where it stands, among those looked at so far.
 use Rattle.std.specs.Prelude.{◌≡◌, ℕ, ◌≤◌, Bool, true, nat_lt, List, Option, Some, None, Contains}
 use Rattle.aadl_tree.specs.Declarations.{Subcomponent, PackageTree}
 use Rattle.aadl_names.specs.declared.fault.PackageFault.{PackageFault}

@@ -1,4 +1,5 @@
--- The first of what is found, and the numbers that subcomponents name.
+-- The containment of a package as a graph: the numbers of the declarations that subcomponents name. And what it
+-- means to find the first fault of a kind.
 use Rattle.std.specs.Prelude.{ℕ, List, map, Option, Some, None}
 use Rattle.aadl_tree.specs.Declarations.{Implementation, Declaration, PackageTree}
 use Rattle.aadl_names.specs.declared.fault.PackageFault.{PackageFault}

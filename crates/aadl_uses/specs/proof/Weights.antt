@@ -1,4 +1,4 @@
--- Paths by their weights.
+-- The weight of a path, and the greatest weight of the paths to marked declarations, up to a limit.
 use Rattle.std.specs.Prelude.{◌≡◌, ℕ, ◌≤◌, ◌+◌, max, min, Bool, true, false, List, [], ◌∷◌, Option, Some, None}
 use Rattle.std.specs.Prelude.{slice_index_or}
 use Rattle.std.specs.Option.{option_map_or}

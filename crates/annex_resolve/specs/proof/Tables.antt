@@ -1,4 +1,4 @@
--- Tables of what reaches what.
+-- Tables of which state reaches which, by transitions from states that are not complete.
 use Rattle.std.specs.Prelude.{◌≡◌, ℕ, Bool, true, false, not, ◌&&◌, nat_eq, List, [], length, map, filter, Option, None}
 use Rattle.std.specs.Prelude.{Some, slice_get, slice_set, slice_index_or}
 use Rattle.std.specs.Option.{unwrap_or}

@@ -1,4 +1,4 @@
--- That each bundle has an answer of each command, and one alone of each that is no run.
+-- The claims that each command has an answer to each bundle, and that a command that is no run has only one.
 use Rattle.std.specs.Prelude.{◌≡◌, ℕ, false, List}
 use Rattle.pals_runs.specs.declared.commands.Command.{Command}
 use Rattle.pals_runs.specs.declared.commands.Command.TheVariants.{Ring}

@@ -1,4 +1,4 @@
--- What becomes of the tokens of a behaviour.
+-- What the tokens of a behaviour come to: its one tree, or the place where they stop being one.
 use Rattle.std.specs.Prelude.{ℕ, ◌≡◌, List}
 use Rattle.aadl_lex.specs.declared.token.Token.{Token}
 use Rattle.aadl_tree.specs.Annexes.{AnnexTree}

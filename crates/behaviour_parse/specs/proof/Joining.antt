@@ -1,4 +1,4 @@
--- The operators between relations.
+-- The operators `and` and `or` between relations.
 use Rattle.std.specs.Prelude.{List}
 use Rattle.aadl_tree.specs.declared.expressions.LogicOperator.{LogicOperator}
 use Rattle.aadl_tree.specs.Terminals.{Spot}

@@ -1,4 +1,4 @@
--- Whether a transition is taken, and the move along the first that is.
+-- Whether a transition may be taken, and the move along the first one that may.
 use Rattle.std.specs.Prelude.{ℕ, nat_eq, filter, find, Bool, false, if◌then◌else◌, List, Option, Result, Ok}
 use Rattle.pals_base.specs.declared.values.Trap.{Trap}
 use Rattle.pals_base.specs.declared.values.Frame.{Frame}

@@ -1,4 +1,4 @@
--- Parts of a step, from one place to another.
+-- Claims that a part of a step leads from one state and its outputs so far to another.
 use Rattle.std.specs.Prelude.{ℕ, List, Bool, length, None, Result}
 use Rattle.pals_base.specs.declared.values.Trap.{Trap}
 use Rattle.pals_base.specs.declared.values.PortValue.{PortValue}

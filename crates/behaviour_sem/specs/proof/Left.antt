@@ -1,4 +1,4 @@
--- What a part of a step answers and leaves.
+-- What a part of a step may answer and leave: what is meant, the trap that is meant, or want of memory.
 use Rattle.std.specs.Prelude.{◌≡◌, Bool, true, false, Result, Ok, Err}
 use Rattle.pals_base.specs.declared.values.Trap.{Trap}
 use Rattle.behaviour_sem.specs.declared.stop.EarlyEnd.{EarlyEnd}

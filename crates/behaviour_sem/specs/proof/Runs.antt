@@ -1,4 +1,4 @@
--- Runs of actions.
+-- Claims that running actions takes variables and outputs from what they were to what is meant.
 use Rattle.std.specs.Prelude.{ℤ, List, [], ◌∷◌, ◌++◌, length, Bool, Result}
 use Rattle.std.specs.declared.alloc.Global.{Global}
 use Rattle.std.specs.declared.vec.Vec.{Vec}

@@ -1,4 +1,5 @@
--- What expressions and actions read.
+-- The frames that expressions and actions are evaluated in: only variables and held inputs are read, with which
+-- ports have a value.
 use Rattle.std.specs.Prelude.{ℤ, Bool, List, map, None}
 use Rattle.pals_base.specs.declared.values.Frame.{Frame}
 use Rattle.pals_base.specs.Fire.{is_present}

@@ -1,4 +1,4 @@
--- The targets of a node of one step in a round, and of one of four.
+-- Examples of targets: those of a node of one step in a round, and of a node of four.
 use Rattle.std.specs.Prelude.{◌≡◌, [], ◌∷◌}
 use Rattle.pals_model.specs.proof.Counters.{two_counters}
 use Rattle.bus_machine.specs.declared.plan.Plan.{Plan}

@@ -1,4 +1,4 @@
--- What is known of the names of an annex before its rules are looked at.
+-- What is known of the names of an annex before its rules are checked: each stands for something of its type.
 use Rattle.std.specs.Prelude.{◌≡◌, ℕ, ◌+◌, ◌<◌, ◌≤◌, nat_lt, Bool, ◌&&◌, List, length, Option, Some, slice_get, IsTrue}
 use Rattle.std.specs.List.{list_all}
 use Rattle.pals_base.specs.declared.behaviour.Kind.{Kind}

@@ -1,4 +1,4 @@
--- Ports as numbers that may be missing.
+-- A port value as a number that may be missing, the port value of such a number, and the mean as one.
 use Rattle.std.specs.Prelude.{ℕ, zero, suc, ℤ, pos, int_div, Option, Some, None}
 use Rattle.pals_base.specs.declared.values.PortValue.{PortValue}
 use Rattle.pals_base.specs.declared.values.PortValue.TheVariants.{Absent, Present}

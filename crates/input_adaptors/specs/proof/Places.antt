@@ -1,4 +1,5 @@
--- Where the places of a target come from.
+-- What the laws say of the places of a target: which group of the source each is made of, and what the least, the
+-- greatest and the latest number of a group are.
 use Rattle.std.specs.Prelude.{◌≡◌, ◌≢◌, ℕ, ◌+◌, ◌*◌, ◌/◌, ◌<◌, ℤ, ◌≤ℤ◌, List, take, drop, Some, slice_get, Contains}
 use Rattle.pals_base.specs.declared.values.Adaptor.{Adaptor}
 use Rattle.pals_base.specs.declared.values.Adaptor.TheVariants.{Repeat, First, Last, At, Latest, Max, Min, Average}

@@ -1,4 +1,4 @@
--- From the opening to a state, by a list of loose events.
+-- The law that loose events are steps of the machine, from the opening of a run to a state.
 use Rattle.std.specs.Prelude.{ℕ, false, List}
 use Rattle.step_code.specs.declared.instr.CodeParts.{CodeParts}
 use Rattle.pals_runs.specs.declared.events.Event.{Event}

@@ -1,4 +1,4 @@
--- The connection of two numbers.
+-- The connection that a number of an implementation and a number of a connection stand for.
 use Rattle.std.specs.Prelude.{◌≡◌, ℕ, Some, slice_get}
 use Rattle.aadl_tree.specs.Declarations.{Connection, Implementation, PackageTree}
 use Rattle.aadl_names.specs.Resolving.{implementation_at}

@@ -1,4 +1,4 @@
--- Values for some names.
+-- An optional value that is there where a test passes, and whether one is there.
 use Rattle.std.specs.Prelude.{Bool, true, false, Option, Some, None, if◌then◌else◌}
 
 -- a value for what is among others

@@ -1,4 +1,4 @@
--- Events that a bus refuses.
+-- When a bus refuses an event, and for which fault.
 use Rattle.pals_bus.specs.declared.refusals.BusError.{BusError}
 use Rattle.pals_bus.specs.declared.refusals.BusError.TheVariants.{Stopped, Refused}
 

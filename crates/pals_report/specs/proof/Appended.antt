@@ -1,4 +1,4 @@
--- What a call that could not write all of its text has left.
+-- That a text begins with another one: what a call has left that could not write all of its text.
 use Rattle.std.specs.Prelude.{ℕ, ◌≡◌, List, ◌++◌, length, drop}
 
 -- a text begins with another, with any text after it

@@ -1,4 +1,4 @@
--- The words of lines.
+-- The text of each kind of word in a line: bytes, numbers, loop slots, ports and tuples.
 use Rattle.std.specs.Prelude.{ℕ, codes, decimal, List, ◌++◌}
 use Rattle.std.specs.Fmt.{signed_decimal}
 use Rattle.pals_model.specs.RoundTexts.{tuple_text}

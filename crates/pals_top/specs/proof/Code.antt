@@ -1,4 +1,4 @@
--- What private functions of the code answer. The theorem cites none of it.
+-- What private functions of the code answer; no claim of the program cites these definitions.
 use Rattle.std.specs.Prelude.{ℕ, Bool, true, false, List, [], ◌∷◌, ◌++◌, ◌&&◌, map, if◌then◌else◌, Option, None}
 use Rattle.pals_model.specs.RoundTexts.{line_end, text_of}
 use Rattle.pals_runs.specs.declared.commands.Command.{Command}

@@ -1,4 +1,5 @@
--- What a bundle means to a command that needs step codes, and where the events of a scenario come from.
+-- That a bundle means a design, a scenario and the design's step codes, and where the events of the scenario come
+-- from.
 use Rattle.std.specs.Prelude.{ℕ, ◌≤◌, List, length, ◌⊎◌}
 use Rattle.pals_base.specs.declared.limits.TheConstants.{LIST_ITEMS}
 use Rattle.pals_model.specs.declared.design.DesignParts.{DesignParts}

@@ -1,4 +1,4 @@
--- Which pairs can be fused, and why there is no fused composition.
+-- Which pairs can be fused, and the first pair that cannot, for which there is no fused composition.
 use Rattle.std.specs.Prelude.{◌≡◌, ◌≢◌, ℕ, ◌<◌, nat_eq, Bool, not, ◌&&◌, ◌||◌, List, length, Some, slice_get}
 use Rattle.pals_model.specs.declared.design.Link.{Link}
 use Rattle.pals_model.specs.declared.design.DesignParts.{DesignParts}

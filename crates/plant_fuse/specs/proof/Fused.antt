@@ -1,4 +1,4 @@
--- Fused rounds as they are made, one behind the other.
+-- The rounds of a fused composition, each made from what stands after the one before.
 use Rattle.std.specs.Prelude.{ℕ, ◌*◌, List, map, take}
 use Rattle.std.specs.List.{enumerate_from}
 use Rattle.pals_base.specs.declared.values.Frame.{Frame}

@@ -1,4 +1,4 @@
--- What each fused product keeps.
+-- What each fused product keeps: its tables are the design's, its pairs can be fused, and its components have room.
 use Rattle.std.specs.Prelude.{◌≡◌, List, map}
 use Rattle.pals_model.specs.declared.design.DesignParts.{DesignParts}
 use Rattle.sync_product.specs.declared.stage.Stage.{Stage}

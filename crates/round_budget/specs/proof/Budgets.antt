@@ -1,4 +1,4 @@
--- The lines of a round in any order.
+-- The timetable line of a step that is served, counted from the alarm of its own round.
 use Rattle.pals_base.specs.Bound.{alarm}
 use Rattle.pals_model.specs.declared.design.DesignParts.{DesignParts}
 use Rattle.round_budget.specs.Budgets.{Served, Line, line_from}

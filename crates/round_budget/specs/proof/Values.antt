@@ -1,4 +1,4 @@
--- What the code has, as the definitions see it.
+-- The releases and timetable lines of the code as values of the definitions, and which releases it can serve.
 use Rattle.std.specs.Prelude.{◌≡◌, ℕ, ◌*◌, ◌<◌, ◌≤◌, List, length, map}
 use Rattle.pals_base.specs.declared.limits.TheConstants.{HOUR}
 use Rattle.step_code.specs.declared.instr.CodeParts.{CodeParts}

@@ -1,4 +1,4 @@
--- What holds in each run, and in those of one kind of clock.
+-- What it is to hold in each run of a design: with any clocks, with list clocks, and with nodes that meet.
 use Rattle.std.specs.Prelude.{List}
 use Rattle.pals_clock.specs.Clock.{ClockState}
 use Rattle.pals_runs.specs.declared.journal.JournalEntry.{JournalEntry}

@@ -1,4 +1,4 @@
--- When a run has come to its end, and that each run does.
+-- When a run has come to its end, that each run comes to one, and the most lines that its journal has.
 use Rattle.std.specs.Prelude.{◌≡◌, ◌≢◌, ◌⊎◌, ℕ, ◌+◌, ◌*◌, ◌<◌, ◌≤◌, List, [], ◌++◌, length, None}
 use Rattle.std.specs.List.{sum_by}
 use Rattle.pals_clock.specs.Clock.{ClockState}

@@ -1,4 +1,5 @@
--- What a locked step of a thread needs beside the contracts of its calls.
+-- What a thread that holds the lock needs for its step, beside the contracts of its calls: of clocks, and of
+-- messages that are due.
 use Rattle.std.specs.Prelude.{◌≡◌, ℕ, ◌<◌, true, List, length, All, Some, slice_get, slice_set}
 use Rattle.pals_base.specs.declared.values.NodeNo.{NodeNo}
 use Rattle.pals_base.specs.declared.values.LinkNo.{LinkNo}

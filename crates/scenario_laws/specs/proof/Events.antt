@@ -1,4 +1,4 @@
--- What the events and the trace of a scenario keep that was read.
+-- A scenario that was read has no more events and trace lines than a list may have, and events of its loose world.
 use Rattle.std.specs.Prelude.{◌≤◌, true, ℕ, List, length, All, Ok}
 use Rattle.pals_base.specs.declared.limits.TheConstants.{LIST_ITEMS}
 use Rattle.pals_model.specs.declared.design.DesignParts.{DesignParts}

@@ -1,4 +1,4 @@
--- What every scenario keeps that was read.
+-- A scenario that was read suits its design: rounds, inputs, clocks, delays, faults and processors.
 use Rattle.std.specs.Prelude.{ℕ, List, Ok}
 use Rattle.pals_model.specs.declared.design.DesignParts.{DesignParts}
 use Rattle.pals_model.specs.Rules.{IsDesign}

@@ -1,4 +1,4 @@
--- What bytes have for a design and a command: a scenario, or what is wrong with them first.
+-- For a design and a command, bytes mean a scenario, or they have a first fault.
 use Rattle.std.specs.Prelude.{ℕ, ◌≢◌, List, Ok, Err}
 use Rattle.pals_model.specs.declared.design.DesignParts.{DesignParts}
 use Rattle.pals_runs.specs.declared.commands.Command.{Command}

@@ -1,4 +1,4 @@
--- What the plants of a scenario keep that was read.
+-- The claim that the pairs of a scenario that was read can be fused.
 use Rattle.std.specs.Prelude.{ℕ, List, Ok}
 use Rattle.pals_model.specs.declared.design.DesignParts.{DesignParts}
 use Rattle.pals_runs.specs.declared.commands.Command.{Command}

@@ -1,4 +1,4 @@
--- What the parts of the verifier say.
+-- What the verifier's functions answer: heights, clashes between them, and the least bad entry.
 use Rattle.std.specs.Prelude.{◌≡◌, ◌≢◌, ℕ, ◌<◌, ◌≤◌, nat_eq, Bool, true, false, ◌&&◌, ◌||◌, List, length, Option, Some}
 use Rattle.std.specs.Prelude.{None, Result, Ok, Err, slice_get}
 use Rattle.step_code.specs.declared.instr.Instr.{Instr}

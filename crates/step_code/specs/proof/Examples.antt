@@ -1,4 +1,4 @@
--- Worked codes.
+-- Examples of step code with loops.
 use Rattle.std.specs.Prelude.{pos, [], ◌∷◌, Some, None}
 use Rattle.pals_base.specs.declared.values.Frame.{Frame}
 use Rattle.step_code.specs.declared.instr.Instr.TheVariants.{Push, Load, Store, Port, Add, Sub, Lt, Gt, Jump, JumpZero}

@@ -1,4 +1,4 @@
--- Runs of code, and what a step of code leaves.
+-- Runs of step code from an entry on, and what a step leaves: a frame and outputs, unless it is stuck or unfinished.
 use Rattle.std.specs.Prelude.{◌≡◌, ℕ, zero, suc, ℤ, Bool, true, false, List, [], length, take, Option, Some, None}
 use Rattle.std.specs.Prelude.{slice_get}
 use Rattle.pals_base.specs.declared.values.Trap.{Trap}

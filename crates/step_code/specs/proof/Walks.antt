@@ -1,4 +1,4 @@
--- Paths as lists of places.
+-- Paths through code as lists of places, and their weights.
 use Rattle.std.specs.Prelude.{ℕ, ◌+◌, List, [], ◌∷◌}
 use Rattle.step_code.specs.declared.instr.Instr.{Instr}
 use Rattle.step_code.specs.Paths.{leads, weight_at}

@@ -1,4 +1,4 @@
--- Code that grows.
+-- What it is for a part of the code to be laid out at the end of what is there.
 use Rattle.std.specs.Prelude.{◌≡◌, ℕ, List, ◌++◌, length}
 use Rattle.step_code.specs.declared.instr.Instr.{Instr}
 

@@ -1,4 +1,4 @@
--- Blocks in the order in which they are compiled, and their lengths up to the greatest.
+-- The lengths and starts of blocks in the order in which they are compiled, stopped at the greatest number.
 use Rattle.std.specs.Prelude.{ℕ, ◌+◌, nat_eq, if◌then◌else◌, List, [], ◌∷◌, length, map, filter, slice_index_or}
 use Rattle.pals_base.specs.declared.behaviour.BehaviourParts.{BehaviourParts}
 use Rattle.pals_base.specs.Tree.{Edge}

@@ -1,4 +1,4 @@
--- Laws of the layout of code.
+-- Laws of layout: each behaviour has laid-out code, with one order of blocks, and no other code.
 use Rattle.std.specs.Prelude.{◌≡◌, ℕ, List}
 use Rattle.pals_base.specs.declared.behaviour.BehaviourParts.{BehaviourParts}
 use Rattle.pals_base.specs.Rules.{IsBehaviour}

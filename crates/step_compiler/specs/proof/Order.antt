@@ -1,4 +1,4 @@
--- The order of the blocks of states.
+-- The search for the order in which the blocks of states are compiled.
 use Rattle.std.specs.Prelude.{ℕ, zero, suc, nat_eq, Bool, true, false, not, ◌&&◌, if◌then◌else◌, List, [], ◌∷◌, ◌++◌}
 use Rattle.std.specs.Prelude.{length, map, find, fold, replicate, slice_index_or, slice_set, Option, Some, None}
 use Rattle.std.specs.List.{list_any}

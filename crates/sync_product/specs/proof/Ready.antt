@@ -1,4 +1,4 @@
--- What each product keeps.
+-- What holds of each product between rounds: the sizes of its parts and messages, its wiring, and its stages.
 use Rattle.std.specs.Prelude.{◌≡◌, List, length, map}
 use Rattle.pals_base.specs.declared.values.PortValue.{PortValue}
 use Rattle.pals_model.specs.declared.design.DesignParts.{DesignParts}

@@ -1,4 +1,4 @@
--- How much room a product has: it stays the same from round to round.
+-- The sizes of a product's frames, tuples and stages, which stay the same from round to round.
 use Rattle.std.specs.Prelude.{ℕ, nat_eq, List, length, map, filter, replicate}
 use Rattle.std.specs.List.{enumerate_from}
 use Rattle.pals_base.specs.declared.values.PortValue.{PortValue}

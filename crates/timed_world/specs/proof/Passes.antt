@@ -1,4 +1,4 @@
--- What a passing of time finds of a message in flight.
+-- Which fault a message in flight is to a passing of time: it would fly past its last allowed time.
 use Rattle.std.specs.Prelude.{ℕ, if◌then◌else◌, Option, Some, None}
 use Rattle.pals_runs.specs.declared.events.EventFault.{EventFault}
 use Rattle.bus_machine.specs.LinkEvents.{is_in_flight}

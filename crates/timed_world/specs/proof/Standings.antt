@@ -1,4 +1,5 @@
--- Where a node stands, by numbers alone: which events that forbids, and the last time that it allows.
+-- Where a node stands in its rounds, by numbers: which starts and steps that forbids, and the last time that it
+-- allows.
 use Rattle.std.specs.Prelude.{◌≡◌, ℕ, ◌+◌, ◌-◌, ◌*◌, ◌<◌, ◌≤◌, max, nat_lt, nat_le, Bool, not, ◌&&◌, false}
 use Rattle.std.specs.Prelude.{if◌then◌else◌, Option, Some, None, is_some}
 use Rattle.std.specs.Option.{unwrap_or, option_map_or}

@@ -1,4 +1,4 @@
--- How the code keeps the form of a line.
+-- The form of each journal line, by what the code keeps of it.
 use Rattle.std.specs.Prelude.{ℕ, List, Option, option_map}
 use Rattle.trace_audit.specs.declared.forms.NodeLine.{NodeLine}
 use Rattle.trace_audit.specs.declared.forms.LinkLine.{LinkLine}

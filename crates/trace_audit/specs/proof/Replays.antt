@@ -1,4 +1,4 @@
--- What the code keeps of an audit.
+-- What a replay keeps of an audit: the bus, the readings, and an owed stop.
 use Rattle.std.specs.Prelude.{◌≡◌, ◌<◌, true, false, length, Option, option_map, IfSome}
 use Rattle.pals_runs.specs.declared.journal.JournalEntry.{JournalEntry}
 use Rattle.run_laws.specs.Entries.{IsEntryIn}

@@ -1,4 +1,4 @@
--- What stands for the replicas of one number, and what a round makes of it.
+-- A layer: one replica of each component that has one, with its room, its opening, and what it makes in a round.
 use Rattle.std.specs.Prelude.{◌≡◌, ℕ, Bool, true, false, List, [], length, map, Option, Some, None, slice_get}
 use Rattle.std.specs.Prelude.{slice_index_or}
 use Rattle.pals_base.specs.declared.values.PortValue.{PortValue}

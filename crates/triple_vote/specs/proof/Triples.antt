@@ -1,4 +1,4 @@
--- What stands for the three replicas, and what is voted of it.
+-- The three layers together, which stand for all replicas, and what is voted of them.
 use Rattle.std.specs.Prelude.{◌≡◌, ℕ, suc, ◌<◌, nat_lt, Bool, true, if◌then◌else◌, List, [], length, map, All, find}
 use Rattle.std.specs.Prelude.{Some, slice_get, slice_index_or}
 use Rattle.pals_base.specs.declared.values.PortValue.{PortValue}
