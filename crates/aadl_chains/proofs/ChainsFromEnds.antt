@@ -8,13 +8,13 @@ use Rattle.std.proofs.lemmas.Option.{same_Some}
 use Rattle.aadl_tree.specs.Declarations.{Connection, Implementation, PackageTree}
 use Rattle.aadl_names.specs.declared.site.PortPlace.{PortPlace}
 use Rattle.aadl_names.specs.declared.site.PortPlace.TheVariants.{Own, Inner}
-use Rattle.aadl_names.specs.Resolving.{implementation_at, is_thread, site}
+use Rattle.aadl_names.specs.ReferenceResolution.{implementation_at, is_thread, site}
 use Rattle.aadl_uses.specs.Uses.{below, standing, component_at}
 use Rattle.aadl_chains.specs.Chains.{Port, Place, port_at, Goes, Leads, is_in, IsStart}
-use Rattle.aadl_chains.specs.proof.Inside.{is_in_at}
-use Rattle.aadl_chains.specs.proof.Sound.{MayEnter}
-use Rattle.aadl_chains.proofs.OnChains.{is_in-at}
-use Rattle.aadl_chains.specs.proof.Walked.{IsSound, Passes}
+use Rattle.aadl_chains.specs.proof.PortsJoinedInside.{is_in_at}
+use Rattle.aadl_chains.specs.proof.DeclaredConnections.{MayEnter}
+use Rattle.aadl_chains.proofs.ConnectionsOnChains.{is_in-at}
+use Rattle.aadl_chains.specs.proof.SoundConnections.{IsSound, Passes}
 
 place_by : (a b : Place) → a.path ≡ b.path → a.connection ≡ b.connection → a ≡ b
 place_by a b path number =

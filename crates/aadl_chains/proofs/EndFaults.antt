@@ -12,24 +12,24 @@ use Rattle.aadl_tree.specs.declared.declarations.Direction.TheVariants as direct
 use Rattle.aadl_tree.specs.Declarations.{Connection, Implementation, PackageTree}
 use Rattle.aadl_names.specs.declared.fault.PackageFault.{PackageFault}
 use Rattle.aadl_names.specs.declared.fault.PackageFault.TheVariants.{DeadEnd, TwoSources}
-use Rattle.aadl_names.specs.Resolving.{implementation_at, connections_of}
+use Rattle.aadl_names.specs.ReferenceResolution.{implementation_at, connections_of}
 use Rattle.aadl_names.specs.declared.site.PortPlace.{PortPlace}
-use Rattle.aadl_names.specs.proof.Found.{found}
-use Rattle.aadl_names.proofs.Finds.{found_append}
+use Rattle.aadl_names.specs.proof.FindingSoFar.{found}
+use Rattle.aadl_names.proofs.FindingSoFar.{found_append}
 use Rattle.aadl_uses.specs.Uses.{IsInUse}
-use Rattle.aadl_uses.specs.proof.Uses.{FirstIn}
+use Rattle.aadl_uses.specs.proof.PackageContainment.{FirstIn}
 use Rattle.aadl_uses.specs.declared.connections.Wire.{Wire}
 use Rattle.aadl_uses.specs.FirstConnections.{IsSecond}
 use Rattle.aadl_uses.specs.Wiring.{wire_of, wires_of, wires_at}
-use Rattle.aadl_chains.specs.proof.Outside.{LeadsFrom}
-use Rattle.aadl_chains.proofs.Ordered.{one_of_two}
+use Rattle.aadl_chains.specs.proof.PortsJoinedOutside.{LeadsFrom}
+use Rattle.aadl_chains.proofs.InsideByDeclaration.{one_of_two}
 use Rattle.aadl_chains.specs.Chains.{IsDeadEnd, IsEndFault}
-use Rattle.aadl_chains.specs.proof.Sound.{AreDeclared}
-use Rattle.aadl_chains.specs.proof.OnChains.{IsOnWay}
+use Rattle.aadl_chains.specs.proof.DeclaredConnections.{AreDeclared}
+use Rattle.aadl_chains.specs.proof.ConnectionsOnChains.{IsOnWay}
 use Rattle.aadl_chains.specs.proof.Findings.{FindsAll, IsOnWayAt, IsFoundAt, IsFoundIn, dead_end, second}
 use Rattle.aadl_chains.proofs.Findings.{finds_nothing, finds_both, finds_same, first_found}
-use Rattle.aadl_chains.proofs.OnChains.{chained}
-use Rattle.aadl_chains.proofs.FromChains.{on_way}
+use Rattle.aadl_chains.proofs.ConnectionsOnChains.{chained}
+use Rattle.aadl_chains.proofs.ChainConnectionEnds.{on_way}
 
 wire_if : (tree : PackageTree ℕ) (o : Option (Implementation ℕ)) (k : ℕ) (link : Connection ℕ)
     → slice_get (connections_of o) k ≡ Some link

@@ -3,11 +3,11 @@ use Rattle.std.proofs.Common.{◌⊎◌, inl, inr, [], ◌++◌, Contains, Optio
 use Rattle.std.proofs.lemmas.List.Elements.{Contains-append_left, Contains-append_right, Contains-append_cases}
 use Rattle.list_lemmas.proofs.Elements.{Contains-nil}
 use Rattle.aadl_names.specs.declared.fault.PackageFault.{PackageFault}
-use Rattle.aadl_names.specs.Findings.{FirstOf}
-use Rattle.aadl_names.specs.proof.Found.{found}
-use Rattle.aadl_names.proofs.Finds.{found_append}
-use Rattle.aadl_uses.specs.proof.Uses.{FirstIn}
-use Rattle.aadl_names.proofs.Covers.{found_is_first}
+use Rattle.aadl_names.specs.FirstFindings.{FirstOf}
+use Rattle.aadl_names.specs.proof.FindingSoFar.{found}
+use Rattle.aadl_names.proofs.FindingSoFar.{found_append}
+use Rattle.aadl_uses.specs.proof.PackageContainment.{FirstIn}
+use Rattle.aadl_names.proofs.FirstFindingCovers.{found_is_first}
 use Rattle.aadl_chains.specs.proof.Findings.{FindsAll}
 
 pub finds_nothing : (P : PackageFault → Type 0) (old : Option PackageFault) → ((fault : PackageFault) → P fault → ⊥)

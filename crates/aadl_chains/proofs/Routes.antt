@@ -8,24 +8,24 @@ use Rattle.aadl_names.specs.declared.site.PortPlace.{PortPlace}
 use Rattle.aadl_names.specs.declared.site.PortPlace.TheVariants.{Own, Inner}
 use Rattle.aadl_uses.specs.Uses.{below, standing}
 use Rattle.aadl_uses.specs.Threads.{IsThreadAt}
-use Rattle.aadl_uses.specs.proof.Wiring.{into}
-use Rattle.aadl_chains.specs.proof.Inside.{is_thread_at, is_in_at}
+use Rattle.aadl_uses.specs.proof.DeclarationWires.{into}
+use Rattle.aadl_chains.specs.proof.PortsJoinedInside.{is_thread_at, is_in_at}
 use Rattle.aadl_chains.specs.Chains.{Port, Place, Goes, Leads, is_in, IsStart}
-use Rattle.aadl_chains.specs.proof.Sound.{AreDeclared}
-use Rattle.aadl_chains.proofs.OnChains.{opposed, next_at, is_in-at, thread_from}
+use Rattle.aadl_chains.specs.proof.DeclaredConnections.{AreDeclared}
+use Rattle.aadl_chains.proofs.ConnectionsOnChains.{opposed, next_at, is_in-at, thread_from}
 use Rattle.aadl_chains.specs.declared.walks.ChainStart.{ChainStart}
 use Rattle.aadl_chains.specs.declared.walks.ChainStart.TheVariants as begins
 use Rattle.aadl_chains.specs.declared.walks.ChainRoute.{ChainRoute}
-use Rattle.aadl_chains.specs.proof.Walked.{Passes}
+use Rattle.aadl_chains.specs.proof.SoundConnections.{Passes}
 use Rattle.aadl_chains.specs.proof.Walks.{Crossing, nowhere, at_root, crosses, climb, OneEach, IsThreadPort}
 use Rattle.aadl_chains.specs.Links.{Ends, IsLink, IsFeed, IsTap}
 use Rattle.aadl_chains.specs.proof.Routes.{route_ends, IsGiver, Descends, Traces, TracesTap}
 use Rattle.aadl_chains.proofs.ChainsFromEnds.{passes_end, passes_before, only_start, no_chain}
-use Rattle.aadl_chains.proofs.Steps.{entered, goes_into, into_of_goes, inner_of}
-use Rattle.aadl_chains.proofs.Coming.{into_own}
-use Rattle.aadl_chains.proofs.Linked.{link_from, feed_from, tap_from, LinkMet, link_met, FeedMet, feed_met, TapMet}
-use Rattle.aadl_chains.proofs.Linked.{tap_met}
-use Rattle.aadl_chains.proofs.Soundness.{sound_by}
+use Rattle.aadl_chains.proofs.EnteringConnections.{entered, goes_into, into_of_goes, inner_of}
+use Rattle.aadl_chains.proofs.WalksOfChains.{into_own}
+use Rattle.aadl_chains.proofs.LinksByWalks.{link_from, feed_from, tap_from, LinkMet, link_met, FeedMet, feed_met}
+use Rattle.aadl_chains.proofs.LinksByWalks.{TapMet, tap_met}
+use Rattle.aadl_chains.proofs.SoundConnections.{sound_by}
 
 ends_by : (a b : Ends) → a.from ≡ b.from → a.to ≡ b.to → a.declaration ≡ b.declaration
     → a.connection ≡ b.connection → a ≡ b

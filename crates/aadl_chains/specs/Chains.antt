@@ -6,7 +6,7 @@ use Rattle.aadl_names.specs.declared.fault.PackageFault.{PackageFault}
 use Rattle.aadl_names.specs.declared.fault.PackageFault.TheVariants.{DeadEnd, TwoSources}
 use Rattle.aadl_names.specs.declared.site.PortPlace.{PortPlace}
 use Rattle.aadl_names.specs.declared.site.PortPlace.TheVariants.{Own, Inner}
-use Rattle.aadl_names.specs.Resolving.{implementation_at, connections_of, ports_at, site}
+use Rattle.aadl_names.specs.ReferenceResolution.{implementation_at, connections_of, ports_at, site}
 use Rattle.aadl_names.specs.PackageFaults.{goes_in}
 use Rattle.aadl_uses.specs.Uses.{standing, component_at, IsInUse}
 use Rattle.aadl_uses.specs.Threads.{IsThreadAt}

@@ -1,16 +1,16 @@
 //! Connections on no chain, and second ones into a port.
 ghost use Rattle.std.specs.Prelude.{◌≡◌, ◌↔◌, ℕ, Some, slice_get, IfOk, OnOk, Contains};
 ghost use Rattle.aadl_tree.specs.proof.PackageViews.{placed};
-ghost use Rattle.aadl_tree.specs.proof.Views.{connection_view};
-ghost use Rattle.aadl_tree.specs.proof.Maps.{kept_place};
-ghost use Rattle.aadl_names.specs.proof.Found.{found};
-ghost use Rattle.aadl_uses.specs.proof.Uses.{containment, FirstIn};
+ghost use Rattle.aadl_tree.specs.proof.DeclarationViews.{connection_view};
+ghost use Rattle.aadl_tree.specs.proof.PlaceMaps.{kept_place};
+ghost use Rattle.aadl_names.specs.proof.FindingSoFar.{found};
+ghost use Rattle.aadl_uses.specs.proof.PackageContainment.{containment, FirstIn};
 ghost use Rattle.aadl_uses.specs.Uses.{IsInUse};
 ghost use Rattle.aadl_uses.specs.Wiring.{wires_at};
-ghost use Rattle.aadl_uses.specs.proof.Orders.{IsOrder};
+ghost use Rattle.aadl_uses.specs.proof.ContainmentOrders.{IsOrder};
 ghost use Rattle.aadl_chains.specs.Chains.{IsEndFault};
-ghost use Rattle.aadl_chains.specs.proof.Sound.{AreDeclared};
-ghost use Rattle.aadl_chains.specs.proof.OnChains.{AreWays};
+ghost use Rattle.aadl_chains.specs.proof.DeclaredConnections.{AreDeclared};
+ghost use Rattle.aadl_chains.specs.proof.ConnectionsOnChains.{AreWays};
 ghost use Rattle.aadl_chains.specs.proof.Findings.{FindsAll, IsFoundIn, IsFoundAt, dead_end, second};
 
 use crate::ways::JoinedPorts;

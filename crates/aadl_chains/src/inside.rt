@@ -1,10 +1,10 @@
 //! Ports that connections join to threads below.
 ghost use Rattle.std.specs.Prelude.{◌≡◌, ◌↔◌, false, IfOk, OnOk, IsTrue};
 ghost use Rattle.aadl_tree.specs.proof.PackageViews.{placed};
-ghost use Rattle.aadl_uses.specs.proof.Uses.{containment};
-ghost use Rattle.aadl_uses.specs.proof.Orders.{IsOrder};
-ghost use Rattle.aadl_chains.specs.proof.Inside as spec;
-ghost use Rattle.aadl_chains.specs.proof.Inside.{ReachesIn, IsInside, IsJoined, AreJoined};
+ghost use Rattle.aadl_uses.specs.proof.PackageContainment.{containment};
+ghost use Rattle.aadl_uses.specs.proof.ContainmentOrders.{IsOrder};
+ghost use Rattle.aadl_chains.specs.proof.PortsJoinedInside as spec;
+ghost use Rattle.aadl_chains.specs.proof.PortsJoinedInside.{ReachesIn, IsInside, IsJoined, AreJoined};
 
 use crate::ports::{PortAt, Ports};
 use aadl_names::PortPlace;

@@ -1,12 +1,13 @@
 //! Ports that connections join to threads or the root's ports outside.
 ghost use Rattle.std.specs.Prelude.{◌≡◌, ◌↔◌, ℕ, IfOk, OnOk, IsTrue, Contains};
 ghost use Rattle.aadl_tree.specs.proof.PackageViews.{placed};
-ghost use Rattle.aadl_uses.specs.proof.Uses.{containment};
+ghost use Rattle.aadl_uses.specs.proof.PackageContainment.{containment};
 ghost use Rattle.aadl_uses.specs.Uses.{IsInUse};
-ghost use Rattle.aadl_uses.specs.proof.Orders.{IsOrder};
-ghost use Rattle.aadl_chains.specs.proof.Inside.{IsInside};
-ghost use Rattle.aadl_chains.specs.proof.Outside as spec;
-ghost use Rattle.aadl_chains.specs.proof.Outside.{opposite, LeadsFrom, IsOutside, IsLed, AreLed, AreLedIfUsed};
+ghost use Rattle.aadl_uses.specs.proof.ContainmentOrders.{IsOrder};
+ghost use Rattle.aadl_chains.specs.proof.PortsJoinedInside.{IsInside};
+ghost use Rattle.aadl_chains.specs.proof.PortsJoinedOutside as spec;
+ghost use Rattle.aadl_chains.specs.proof.PortsJoinedOutside.{opposite, LeadsFrom, IsOutside, IsLed, AreLed};
+ghost use Rattle.aadl_chains.specs.proof.PortsJoinedOutside.{AreLedIfUsed};
 
 use crate::inside::{InnerJoins, inner_end, outer_end, reaches_in};
 use crate::ports::{PortAt, Ports};

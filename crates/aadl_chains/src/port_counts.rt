@@ -1,13 +1,13 @@
 //! To how many in ports of threads connections lead from the in ports of implementations.
 ghost use Rattle.std.specs.Prelude.{◌≡◌, ◌+◌, ℕ, min, Some, slice_get, IfOk, OnOk, Contains, if◌then◌else◌};
 ghost use Rattle.aadl_tree.specs.proof.PackageViews.{placed};
-ghost use Rattle.aadl_uses.specs.proof.Uses.{containment};
+ghost use Rattle.aadl_uses.specs.proof.PackageContainment.{containment};
 ghost use Rattle.aadl_uses.specs.Wiring.{wires_at};
-ghost use Rattle.aadl_uses.specs.proof.Orders.{IsOrder};
+ghost use Rattle.aadl_uses.specs.proof.ContainmentOrders.{IsOrder};
 ghost use Rattle.aadl_chains.specs.declared.ports.PortAt.{PortAt};
 ghost use Rattle.aadl_chains.specs.proof.Ports.{same_port};
-ghost use Rattle.aadl_chains.specs.proof.Sound.{AreDeclared};
-ghost use Rattle.aadl_chains.specs.proof.Numbers.{IsNumber};
+ghost use Rattle.aadl_chains.specs.proof.DeclaredConnections.{AreDeclared};
+ghost use Rattle.aadl_chains.specs.proof.LimitedCounts.{IsNumber};
 ghost use Rattle.aadl_chains.specs.proof.PortCounts.{taken, taken_by, Through, AreTaken, AreTakenBelow, IsTaken};
 ghost use Rattle.aadl_chains.specs.proof.PortCounts.{AreAdded};
 

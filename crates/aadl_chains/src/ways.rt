@@ -1,10 +1,10 @@
 //! Which connections are on chains.
 ghost use Rattle.std.specs.Prelude.{◌≡◌, ◌↔◌, ◌&&◌, ℕ, Some, IfOk, IsTrue, Contains};
 ghost use Rattle.aadl_tree.specs.proof.PackageViews.{placed};
-ghost use Rattle.aadl_uses.specs.proof.Uses.{containment};
+ghost use Rattle.aadl_uses.specs.proof.PackageContainment.{containment};
 ghost use Rattle.aadl_uses.specs.Uses.{IsInUse};
-ghost use Rattle.aadl_uses.specs.proof.Orders.{IsOrder};
-ghost use Rattle.aadl_chains.specs.proof.OnChains.{IsOnWay, AreWays};
+ghost use Rattle.aadl_uses.specs.proof.ContainmentOrders.{IsOrder};
+ghost use Rattle.aadl_chains.specs.proof.ConnectionsOnChains.{IsOnWay, AreWays};
 
 use crate::{InnerJoins, OuterJoins, PortSearch};
 use aadl_names::PortPlace;

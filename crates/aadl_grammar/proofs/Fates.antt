@@ -1,11 +1,11 @@
 -- Where the stack machine gets with a list of terminals, and what this says of the two languages, packages and
 -- behaviours.
-pub mod Shifts
+pub mod RowNesting
 pub mod Nesting
-pub mod Walks
-pub mod Stops
-pub mod Verdict
-pub mod Starts
-pub mod Exclusive
+pub mod MachineRuns
+pub mod MachineStops
+pub mod FateMeanings
+pub mod GrammarLanguages
+pub mod ExclusiveFates
 pub mod Answers
-pub mod Steps
+pub mod OneTerminalFates

@@ -3,8 +3,8 @@ use Rattle.std.proofs.Common.{◌≡◌, suc, Bool, true, false, not, ◌||◌, 
 use Rattle.std.specs.Prelude.{Contains}
 use Rattle.std.proofs.lemmas.Bool.{eqb-true}
 use Rattle.aadl_tree.specs.declared.mark.Mark.{Mark}
-use Rattle.aadl_tree.specs.proof.Marks.{mark_number}
-use Rattle.aadl_tree.proofs.Numbers.{same_number}
+use Rattle.aadl_tree.specs.proof.MarkNumbers.{mark_number}
+use Rattle.aadl_tree.proofs.MarkNumbers.{same_number}
 
 pub or_not : (a b : Bool) → (a || not b) ≡ true → b ≡ true → a ≡ true
 or_not true b e f = refl

@@ -7,14 +7,14 @@ use Rattle.std.proofs.lemmas.List.Elements.{Contains-get_or}
 use Rattle.std.specs.Cmp.{first_so, second_so}
 use Rattle.aadl_tree.specs.declared.mark.Mark.{Mark}
 use Rattle.aadl_tree.specs.declared.mark.Mark.TheVariants as k
-use Rattle.aadl_tree.specs.proof.Marks.{mark_number}
-use Rattle.aadl_tree.proofs.Numbers.{same_number}
-use Rattle.aadl_grammar.proofs.Basics.{not_both}
+use Rattle.aadl_tree.specs.proof.MarkNumbers.{mark_number}
+use Rattle.aadl_tree.proofs.MarkNumbers.{same_number}
+use Rattle.aadl_grammar.proofs.ListHeads.{not_both}
 use Rattle.aadl_grammar.specs.proof.Machine.{class_number}
 use Rattle.aadl_grammar.specs.proof.Symbols.{Class, a_word, a_whole, a_real, a_quoted, an_unread, the, Symbol, Row}
 use Rattle.aadl_grammar.specs.proof.Symbols as s
-use Rattle.aadl_grammar.specs.proof.Table.{rows}
-use Rattle.aadl_grammar.specs.proof.Reached.{Stands, at_first, later, CanCome}
+use Rattle.aadl_grammar.specs.proof.ParseTable.{rows}
+use Rattle.aadl_grammar.specs.proof.ReachableKeywords.{Stands, at_first, later, CanCome}
 
 abbrev pub is_the : Mark → Class → Bool
 is_the m (the x) = mark_number x == mark_number m

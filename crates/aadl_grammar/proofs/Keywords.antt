@@ -15,9 +15,9 @@ use Rattle.aadl_tree.specs.declared.mark.Mark.{Mark}
 use Rattle.aadl_tree.specs.declared.mark.Mark.TheVariants as k
 use Rattle.aadl_tree.specs.Marks.{mark_text, keywords, symbols, keyword_of, symbol_of}
 use Rattle.aadl_tree.specs.Terminals.{mark}
-use Rattle.aadl_grammar.proofs.Basics.{heads, tails}
-use Rattle.aadl_grammar.proofs.TextTerminals.{is_inside, behind}
-use Rattle.aadl_grammar.proofs.Tokens.{keyword_then, symbol_then}
+use Rattle.aadl_grammar.proofs.ListHeads.{heads, tails}
+use Rattle.aadl_grammar.proofs.PossibleTerminals.{is_inside, behind}
+use Rattle.aadl_grammar.proofs.TerminalRelexing.{keyword_then, symbol_then}
 
 find_by : (f : Mark → Option Mark) (x m : Mark) (b : Bool) (y : Option Mark) → f x ≡ Some x
     → (y ≡ Some m → f m ≡ Some m) → (if b then Some x else y) ≡ Some m → f m ≡ Some m

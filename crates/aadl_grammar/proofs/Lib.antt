@@ -1,39 +1,39 @@
-pub mod Basics
+pub mod ListHeads
 pub mod Derived
-pub mod Builders
-pub mod Gives
-pub mod Opens
+pub mod RowBuilders
+pub mod RowSoundness
+pub mod RowCompleteness
 pub mod Fates
-pub mod Places
-pub mod Deciding
-pub mod Placed
+pub mod PlaceIndependence
+pub mod OneTerminalLookahead
+pub mod UniquePlacedTrees
 pub mod FirstTerminals
 pub mod FirstTokens
 pub mod SymbolRows
-pub mod Written
-pub mod Qualified
-pub mod Signs
-pub mod Lists
+pub mod PartSequences
+pub mod QualifiedReferences
+pub mod SignedQuantities
+pub mod PropertyLists
 mod KeywordLists
 mod KeywordWays
-mod KeywordSides
-mod KeywordWaysOf
-pub mod Lexing
-pub mod Filling
-pub mod Texts
-pub mod SideBySide
-pub mod Guards
-pub mod Forms
-pub mod Neighbours
-pub mod Shallow
+mod OnlyListedKeywords
+mod ReachedKeywords
+pub mod TokensOrFault
+pub mod PlaceFilling
+pub mod TreeOrFault
+pub mod AdjacencyRules
+pub mod StackGuards
+pub mod StackGuardForms
+pub mod AdjacentTerminals
+pub mod OmissionNesting
 pub mod Literals
-pub mod TextTerminals
-pub mod Tokens
-pub mod Meets
-pub mod Closes
-pub mod Pieces
+pub mod PossibleTerminals
+pub mod TerminalRelexing
+pub mod TerminalSeparation
+pub mod AnnexEnds
+pub mod TextPieces
 pub mod CanonLexing
 pub mod Keywords
 pub mod TokenTerminals
-pub mod Utf8
-pub mod Reading
+pub mod CanonicalUtf8
+pub mod CanonicalRoundTrip

@@ -18,9 +18,9 @@ use Rattle.aadl_lex.specs.declared.rules.Reading.{Reading}
 use Rattle.aadl_lex.specs.declared.rules.Reading.TheVariants.{Outside, AfterName}
 use Rattle.aadl_lex.specs.Rules.{is_blank, is_in_string, run, whole_len, decimal, decimal_from, most, real_len}
 use Rattle.aadl_lex.specs.Rules.{number_by, close_from, annex_by, first}
-use Rattle.aadl_lex.specs.proof.Spelled.{IsReal, IsString, IsUnread}
-use Rattle.aadl_lex.proofs.Closes.{unread_ends}
-use Rattle.aadl_lex.proofs.Scans.{more_by, decimal_cons}
+use Rattle.aadl_lex.specs.proof.TokenSpellings.{IsReal, IsString, IsUnread}
+use Rattle.aadl_lex.proofs.AnnexEnds.{unread_ends}
+use Rattle.aadl_lex.proofs.ScanLengths.{more_by, decimal_cons}
 use Rattle.aadl_grammar.proofs.FirstTokens.{stops, run_all, Visible, not_blank, not_comment, fourth}
 
 pub at_seam : (w rest : List ℕ) → get_or (w ++ rest) (length w) 0 ≡ get_or rest 0 0

@@ -5,24 +5,25 @@ use Rattle.std.specs.Prelude.{Result, Ok, Err, IfOk}
 use Rattle.std.specs.Result.{IsErrAnd}
 use Rattle.std.proofs.lemmas.Bool.{or_cases, or_parts, false_from_ne_true}
 use Rattle.aadl_tree.specs.declared.mark.Mark.{Mark}
-use Rattle.aadl_tree.specs.proof.Marks.{mark_number}
+use Rattle.aadl_tree.specs.proof.MarkNumbers.{mark_number}
 use Rattle.aadl_tree.specs.Terminals.{Kind, mark, word, Spot}
 use Rattle.aadl_tree.specs.Names.{Identifier}
 use Rattle.aadl_tree.specs.declared.limits.TheConstants.{GREATEST_NESTING}
 use Rattle.aadl_tree.specs.Grammar.{place}
 use Rattle.aadl_grammar.specs.proof.Symbols.{the, Symbol, Row}
 use Rattle.aadl_grammar.specs.proof.Symbols as s
-use Rattle.aadl_grammar.specs.proof.Table.{on, behind, rows, can_omit}
+use Rattle.aadl_grammar.specs.proof.ParseTable.{on, behind, rows, can_omit}
 use Rattle.aadl_grammar.specs.proof.Machine.{Stack, Move, takes, omitted, refuses, kind_number, class_number, fits}
 use Rattle.aadl_grammar.specs.proof.Machine.{move_by, move, depth, Fate, syntax_at, deep_at, fate}
-use Rattle.aadl_grammar.proofs.Derived.Tails.{among, firsts}
+use Rattle.aadl_grammar.proofs.Derived.ForbiddenFollowers.{among, firsts}
 use Rattle.aadl_grammar.proofs.Derived.Derivations.{move_omits, move_refuses}
-use Rattle.aadl_grammar.proofs.Fates.Steps.{move_at, fate_by, fate_is, fate_takes, fate_deep, fate_omits, fate_refuses}
-use Rattle.aadl_grammar.proofs.Fates.Steps.{fate_expands, fate_enters, fate_passes, NoneFits, none_own, fits_itself}
+use Rattle.aadl_grammar.proofs.Fates.OneTerminalFates.{move_at, fate_by, fate_is, fate_takes, fate_deep, fate_omits}
+use Rattle.aadl_grammar.proofs.Fates.OneTerminalFates.{fate_refuses, fate_expands, fate_enters, fate_passes, NoneFits}
+use Rattle.aadl_grammar.proofs.Fates.OneTerminalFates.{none_own, fits_itself}
 use Rattle.aadl_grammar.specs.declared.reader.Reader.{Reader}
 use Rattle.aadl_grammar.specs.declared.fault.ParseFault.{ParseFault}
 use Rattle.aadl_grammar.specs.declared.fault.ParseFault.TheVariants.{Memory, Syntax, TooDeep}
-use Rattle.aadl_grammar.specs.proof.Reading.{spot, At, AtMark, AtWord, Misses, MissAll, IsMarked, FailsAs, RunsTo}
+use Rattle.aadl_grammar.specs.proof.ParserAnswers.{spot, At, AtMark, AtWord, Misses, MissAll, IsMarked, FailsAs, RunsTo}
 
 -- the symbol takes the first terminal
 pub takes_row : (outer end : ℕ) (x : Symbol) (below : Stack) {kind : Kind} {ss rest : List Spot} {f : List Symbol}

@@ -13,21 +13,21 @@ use Rattle.aadl_lex.specs.declared.token.TokenKind.TheVariants.{AnnexClose, Unre
 use Rattle.aadl_lex.specs.declared.rules.Reading.{Reading}
 use Rattle.aadl_lex.specs.declared.rules.Reading.TheVariants.{Outside, AfterName, Inside}
 use Rattle.aadl_lex.specs.Rules.{is_word, decimal, after}
-use Rattle.aadl_lex.specs.proof.Spelled as spelled
-use Rattle.aadl_lex.specs.proof.Spelled.{IsSpelled, AreSpelled}
+use Rattle.aadl_lex.specs.proof.TokenSpellings as spelled
+use Rattle.aadl_lex.specs.proof.TokenSpellings.{IsSpelled, AreSpelled}
 use Rattle.aadl_lex.specs.Tokens.{bytes_of, AreTokensOf, AreInOrder}
-use Rattle.aadl_lex.proofs.Order.{order_le, order_tokens}
-use Rattle.aadl_lex.proofs.Spelled.{spelled_tokens}
+use Rattle.aadl_lex.proofs.TokenOrder.{order_le, order_tokens}
+use Rattle.aadl_lex.proofs.TokenSpellings.{spelled_tokens}
 use Rattle.aadl_tree.specs.declared.mark.Mark.{Mark}
 use Rattle.aadl_tree.specs.declared.mark.Mark.TheVariants as k
 use Rattle.aadl_tree.specs.Marks.{keyword_of, symbol_of}
 use Rattle.aadl_tree.specs.Terminals.{mark, word_kind, symbol_kind, class_kind, inside_behind, spots_from, spots}
 use Rattle.aadl_tree.specs.Terminals.{kinds_of}
-use Rattle.aadl_tree.proofs.Symbols.{symbol_known}
+use Rattle.aadl_tree.proofs.SymbolTokens.{symbol_known}
 use Rattle.aadl_grammar.proofs.Literals.{at_seam}
-use Rattle.aadl_grammar.proofs.TextTerminals.{is_inside, Spoken, a_word, a_number, a_real, a_string, an_annex}
-use Rattle.aadl_grammar.proofs.TextTerminals.{a_keyword, a_symbol, opens, closes, behind, Said}
-use Rattle.aadl_grammar.proofs.Tokens.{after_inside, word_then, whole_then, real_then, quoted_then}
+use Rattle.aadl_grammar.proofs.PossibleTerminals.{is_inside, Spoken, a_word, a_number, a_real, a_string, an_annex}
+use Rattle.aadl_grammar.proofs.PossibleTerminals.{a_keyword, a_symbol, opens, closes, behind, Said}
+use Rattle.aadl_grammar.proofs.TerminalRelexing.{after_inside, word_then, whole_then, real_then, quoted_then}
 use Rattle.aadl_grammar.proofs.Keywords.{keyword_fixed, symbol_fixed, keyword_behind, symbol_behind}
 
 -- a piece of a text, between two bytes of one byte each

@@ -1,12 +1,12 @@
 //! Laws of canonical texts. Each function does nothing; its contract is proved.
 ghost use Rattle.std.specs.Prelude.{◌≡◌, ℕ, List};
 ghost use Rattle.aadl_tree.specs.Declarations.{PackageTree};
-ghost use Rattle.aadl_tree.specs.Given.{IsTreeOf};
+ghost use Rattle.aadl_tree.specs.GrammarTrees.{IsTreeOf};
 ghost use Rattle.aadl_tree.specs.Canon.{canon};
-ghost use Rattle.aadl_tree.specs.proof.Maps.{package_to, no_place};
+ghost use Rattle.aadl_tree.specs.proof.PlaceMaps.{package_to, no_place};
 ghost use Rattle.aadl_tree.specs.proof.PackageViews.{meaning};
 ghost use Rattle.aadl_tree.specs.declared.package.PackageTree.{PackageTree as SourceTree};
-ghost use Rattle.aadl_grammar.specs.proof.Reads.{HasTree};
+ghost use Rattle.aadl_grammar.specs.proof.CanonicalRoundTrip.{HasTree};
 
 /// The canonical text of a tree has a tree, within the greatest nesting, that is the same except
 /// for its places, and no other. The text does not depend on the places of the tree.

@@ -3,17 +3,17 @@ ghost use Rattle.std.specs.Prelude.{◌≡◌, ◌↔◌, ◌+◌, ℕ, List, []
 ghost use Rattle.aadl_tree.specs.declared.limits.TheConstants.{GREATEST_NESTING};
 ghost use Rattle.aadl_tree.specs.Terminals.{Kind, mark, Spot, kinds_of};
 ghost use Rattle.aadl_tree.specs.declared.mark.Mark.TheVariants as k;
-ghost use Rattle.aadl_tree.specs.Parts.{Spells, Written, kept};
+ghost use Rattle.aadl_tree.specs.SpellingParts.{Spells, Written, kept};
 ghost use Rattle.aadl_tree.specs.Annexes.{AnnexTree, annex_tree_parts};
 ghost use Rattle.aadl_tree.specs.Declarations.{PackageTree, package_parts};
 ghost use Rattle.aadl_tree.specs.Grammar.{nesting, IsPackage, IsBehaviour, IsShallow, FailsAt, DeepAt};
-ghost use Rattle.aadl_tree.specs.proof.Example.{counting_kinds};
+ghost use Rattle.aadl_tree.specs.proof.ExampleTransition.{counting_kinds};
 ghost use Rattle.aadl_grammar.specs.proof.Symbols.{Symbol};
 ghost use Rattle.aadl_grammar.specs.proof.Symbols as s;
-ghost use Rattle.aadl_grammar.specs.proof.Table.{rows, Decides};
+ghost use Rattle.aadl_grammar.specs.proof.ParseTable.{rows, Decides};
 ghost use Rattle.aadl_grammar.specs.proof.Machine.{fate, finished, syntax_at, deep_at, whole_package, annex_body};
-ghost use Rattle.aadl_grammar.specs.proof.Moved.{Rising, SamePackage};
-ghost use Rattle.aadl_grammar.specs.proof.Example.{numbered, without_value, nested, small_package};
+ghost use Rattle.aadl_grammar.specs.proof.MovedPackages.{Rising, SamePackage};
+ghost use Rattle.aadl_grammar.specs.proof.ExampleTerminals.{numbered, without_value, nested, small_package};
 
 /// One terminal decides how a symbol begins: no two rows of the table's symbols are of one class.
 pub fn one_terminal_decides()

@@ -3,15 +3,15 @@ ghost use Rattle.std.specs.Prelude.{◌≡◌, [], true, MatchOption, MatchBool,
 ghost use Rattle.aadl_tree.specs.Grammar as grammar;
 ghost use Rattle.aadl_tree.specs.Terminals.{whole, real, quoted, unread};
 ghost use Rattle.aadl_tree.specs.proof.NameViews.{identifier_view};
-ghost use Rattle.aadl_tree.specs.proof.Maps.{kept_place};
+ghost use Rattle.aadl_tree.specs.proof.PlaceMaps.{kept_place};
 ghost use Rattle.aadl_grammar.specs.proof.Symbols as s;
-ghost use Rattle.aadl_grammar.specs.proof.Table.{rows};
+ghost use Rattle.aadl_grammar.specs.proof.ParseTable.{rows};
 ghost use Rattle.aadl_tree.specs.Values.{sign_mark};
 ghost use Rattle.aadl_grammar.specs.proof.Symbols.{a_word, a_whole, a_real, a_quoted, an_unread, the};
 ghost use Rattle.aadl_grammar.specs.declared.fault.ParseFault.TheVariants.{Memory};
 ghost use Rattle.aadl_grammar.specs.proof.Terminals.{between, is_word_at};
-ghost use Rattle.aadl_grammar.specs.proof.Reading.{here, IsFirst, AtMark, AtWord, At, Misses, StartsWord, Expects};
-ghost use Rattle.aadl_grammar.specs.proof.Reading.{MissAll, IsMarked, Deepens};
+ghost use Rattle.aadl_grammar.specs.proof.ParserAnswers.{here, IsFirst, AtMark, AtWord, At, Misses, StartsWord};
+ghost use Rattle.aadl_grammar.specs.proof.ParserAnswers.{Expects, MissAll, IsMarked, Deepens};
 
 use crate::fault::ParseFault;
 use crate::reader::Reader;

@@ -1,13 +1,13 @@
 //! Names and references.
 ghost use Rattle.std.specs.Prelude.{[], ◌∷◌, map, flat_map, option_map};
 ghost use Rattle.aadl_tree.specs.declared.mark.Mark.TheVariants as k;
-ghost use Rattle.aadl_tree.specs.Parts.{behind, parts_if};
+ghost use Rattle.aadl_tree.specs.SpellingParts.{behind, parts_if};
 ghost use Rattle.aadl_tree.specs.Names.{identifier_parts, name_parts, path_parts, identifiers_parts, reference_parts};
 ghost use Rattle.aadl_tree.specs.proof.NameViews.{identifier_view, name_view, path_view, identifiers_view};
 ghost use Rattle.aadl_tree.specs.proof.NameViews.{reference_view};
-ghost use Rattle.aadl_tree.specs.proof.Maps.{kept_place};
+ghost use Rattle.aadl_tree.specs.proof.PlaceMaps.{kept_place};
 ghost use Rattle.aadl_grammar.specs.proof.Symbols as s;
-ghost use Rattle.aadl_grammar.specs.proof.Reading.{Parses, AnyRoom};
+ghost use Rattle.aadl_grammar.specs.proof.ParserAnswers.{Parses, AnyRoom};
 
 use crate::fault::ParseFault;
 use crate::reader::{Parsed, Reader};

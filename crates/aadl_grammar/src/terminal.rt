@@ -1,6 +1,6 @@
 //! Terminals: tokens, and whether each is a keyword.
 ghost use Rattle.std.specs.Prelude.{◌≡◌, IfOk, All};
-ghost use Rattle.aadl_lex.specs.proof.Spelled.{IsWordAt};
+ghost use Rattle.aadl_lex.specs.proof.TokenSpellings.{IsWordAt};
 ghost use Rattle.aadl_lex.specs.Tokens.{bytes_of};
 ghost use Rattle.aadl_lex.specs.declared.token.TokenKind.TheVariants as class;
 ghost use Rattle.aadl_tree.specs.Terminals.{spots_from, kind_of};

@@ -1,6 +1,6 @@
 //! Laws at every text. Each is the contract of a function that does nothing.
 ghost use Rattle.std.specs.Prelude.{◌⊎◌, ℕ, List};
-ghost use Rattle.aadl_grammar.specs.proof.Texts.{HasTokens, HasLexFault, HasTree, Stops, NestsTooDeep};
+ghost use Rattle.aadl_grammar.specs.proof.TextOutcomes.{HasTokens, HasLexFault, HasTree, Stops, NestsTooDeep};
 
 /// A text has tokens, or a first lexical fault. That fault is never `Memory`.
 pub fn tokens_or_fault()

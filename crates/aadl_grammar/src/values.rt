@@ -1,7 +1,7 @@
 //! Properties and their values.
 ghost use Rattle.std.specs.Prelude.{[], ◌∷◌, ◌++◌, flat_map, map, option_map};
 ghost use Rattle.aadl_tree.specs.declared.mark.Mark.TheVariants as k;
-ghost use Rattle.aadl_tree.specs.Parts.{behind, parts_if, plain};
+ghost use Rattle.aadl_tree.specs.SpellingParts.{behind, parts_if, plain};
 ghost use Rattle.aadl_tree.specs.Names.{identifier_parts, path_parts, reference_parts};
 ghost use Rattle.aadl_tree.specs.Values.{figure_parts, quantity_parts, value_parts, values_parts, more_values_parts};
 ghost use Rattle.aadl_tree.specs.Values.{association_parts, associations_parts, properties_parts, applies_parts};
@@ -9,10 +9,10 @@ ghost use Rattle.aadl_tree.specs.Values.{association_mark};
 ghost use Rattle.aadl_tree.specs.proof.NameViews.{identifier_view, path_view, reference_view};
 ghost use Rattle.aadl_tree.specs.proof.ValueViews.{figure_view, quantity_view, value_view, values_view};
 ghost use Rattle.aadl_tree.specs.proof.ValueViews.{association_view, associations_view};
-ghost use Rattle.aadl_tree.specs.proof.Maps.{kept_place};
+ghost use Rattle.aadl_tree.specs.proof.PlaceMaps.{kept_place};
 ghost use Rattle.aadl_grammar.specs.proof.Symbols as s;
-ghost use Rattle.aadl_grammar.specs.proof.Table.{on};
-ghost use Rattle.aadl_grammar.specs.proof.Reading.{here, MissAll, Parses, AnyRoom, Room};
+ghost use Rattle.aadl_grammar.specs.proof.ParseTable.{on};
+ghost use Rattle.aadl_grammar.specs.proof.ParserAnswers.{here, MissAll, Parses, AnyRoom, Room};
 
 use crate::fault::ParseFault;
 use crate::names::{name, path, reference};

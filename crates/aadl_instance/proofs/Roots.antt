@@ -9,10 +9,10 @@ use Rattle.std.proofs.lemmas.Option.{slice_get_within, none-some}
 use Rattle.aadl_tree.specs.declared.declarations.Category.{Category}
 use Rattle.aadl_tree.specs.declared.declarations.Category.TheVariants as categories
 use Rattle.aadl_tree.specs.Declarations.{Implementation, Declaration, type, implementation, PackageTree}
-use Rattle.aadl_names.specs.Resolving.{implementation_in, is_root, is_system, is_thread, root_number}
-use Rattle.aadl_uses.specs.proof.Threads.{is_thread_in}
-use Rattle.aadl_chains.specs.proof.Inside.{is_thread_at}
-use Rattle.aadl_chains.proofs.Steps.{first_at}
+use Rattle.aadl_names.specs.ReferenceResolution.{implementation_in, is_root, is_system, is_thread, root_number}
+use Rattle.aadl_uses.specs.proof.ThreadCounts.{is_thread_in}
+use Rattle.aadl_chains.specs.proof.PortsJoinedInside.{is_thread_at}
+use Rattle.aadl_chains.proofs.EnteringConnections.{first_at}
 use Rattle.aadl_instance.specs.Faults.{IsRoot}
 
 system_of : (name : List ℕ) (d : Declaration ℕ) → is_root name d ≡ true

@@ -5,7 +5,7 @@ use Rattle.std.specs.Option.{option_map_or}
 use Rattle.pals_base.specs.declared.values.NodeNo.{NodeNo}
 use Rattle.aadl_tree.specs.declared.declarations.Direction.{Direction}
 use Rattle.aadl_tree.specs.Declarations.{Feature, PackageTree}
-use Rattle.aadl_names.specs.Resolving.{first_number, ports_at}
+use Rattle.aadl_names.specs.ReferenceResolution.{first_number, ports_at}
 use Rattle.aadl_names.specs.PackageFaults.{goes_in}
 use Rattle.aadl_uses.specs.declared.thread_places.ThreadAt.{ThreadAt}
 use Rattle.aadl_uses.specs.ThreadPlaces.{thread_at}
@@ -15,7 +15,7 @@ use Rattle.aadl_instance.specs.declared.parts.ChainEnd.TheVariants.{Thread, Root
 use Rattle.aadl_uses.specs.Uses.{component_at}
 use Rattle.aadl_chains.specs.Chains.{Port, port_of}
 use Rattle.aadl_chains.specs.Links.{same_path, Ends}
-use Rattle.aadl_instance.specs.Flat.{Parts, IsFlat}
+use Rattle.aadl_instance.specs.FlattenedDesign.{Parts, IsFlat}
 use Rattle.aadl_tree.specs.declared.declarations.Direction.TheVariants as directions
 
 abbrev pub same_direction : Direction → Direction → Bool

@@ -1,5 +1,5 @@
-pub mod Parts
+pub mod ThreadParts
 pub mod Faults
-pub mod Flat
+pub mod FlattenedDesign
 pub mod Instances
 pub mod proof

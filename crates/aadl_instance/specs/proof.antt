@@ -1,8 +1,8 @@
 -- What the theorem of the program does not rest on: definitions of contracts below it, of laws, and of proofs.
-pub mod Parts
-pub mod Paths
+pub mod ThreadPartCounts
+pub mod PathLengths
 pub mod Limits
-pub mod Silence
-pub mod Passed
-pub mod Numbers
-pub mod Networks
+pub mod FaultlessPackages
+pub mod ChainsSoFar
+pub mod PortNumbers
+pub mod ChainMaps

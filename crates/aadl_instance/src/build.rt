@@ -1,11 +1,11 @@
 //! The links, feeds and taps of a package that has no fault.
 ghost use Rattle.std.specs.Prelude.{◌≡◌, ◌+◌, true, [], reverse, IfOk, OnOk};
-ghost use Rattle.aadl_chains.specs.proof.Inside.{is_in_at};
+ghost use Rattle.aadl_chains.specs.proof.PortsJoinedInside.{is_in_at};
 ghost use Rattle.aadl_chains.specs.Links.{IsLink, IsFeed, IsTap, TargetBefore, PortBefore};
-ghost use Rattle.aadl_instance.specs.proof.Passed as shown;
-ghost use Rattle.aadl_instance.specs.proof.Networks.{tree_of, paths_in, IsReady, IsNumbered, IsNode, Shows, ShowsInto};
-ghost use Rattle.aadl_instance.specs.proof.Networks.{ShowsTaps};
-ghost use Rattle.aadl_instance.specs.proof.Passed.{HasPort, IsBegin};
+ghost use Rattle.aadl_instance.specs.proof.ChainsSoFar as shown;
+ghost use Rattle.aadl_instance.specs.proof.ChainMaps.{tree_of, paths_in, IsReady, IsNumbered, IsNode, Shows, ShowsInto};
+ghost use Rattle.aadl_instance.specs.proof.ChainMaps.{ShowsTaps};
+ghost use Rattle.aadl_instance.specs.proof.ChainsSoFar.{HasPort, IsBegin};
 
 use crate::ends::{ChainMap, ThreadNode, begin_end, node_end, root_end};
 use crate::parts::{Chain, ChainEnd, ConnAt};
@@ -116,7 +116,7 @@ fn add_chain(
 
 impl Incoming {
     ghost use Rattle.std.specs.Prelude.{OnOk};
-    ghost use Rattle.aadl_instance.specs.proof.Passed.{with_chain};
+    ghost use Rattle.aadl_instance.specs.proof.ChainsSoFar.{with_chain};
 
     // Adds a chain by where it begins.
     fn push(&mut self, begin: &ChainStart, chain: Chain) -> Result<(), AllocError>

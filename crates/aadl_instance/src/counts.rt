@@ -1,10 +1,10 @@
 //! How many variables and states an implementation declares, counted up to a limit.
 ghost use Rattle.std.specs.Prelude.{◌≡◌, length, min};
 ghost use Rattle.aadl_tree.specs.Names.{identifiers};
-ghost use Rattle.aadl_tree.specs.proof.Maps.{kept_place};
+ghost use Rattle.aadl_tree.specs.proof.PlaceMaps.{kept_place};
 ghost use Rattle.aadl_tree.specs.proof.NameViews.{identifiers_view};
-ghost use Rattle.aadl_tree.specs.proof.Views.{implementation_view};
-ghost use Rattle.aadl_instance.specs.Parts.{variable_count, state_count};
+ghost use Rattle.aadl_tree.specs.proof.DeclarationViews.{implementation_view};
+ghost use Rattle.aadl_instance.specs.ThreadParts.{variable_count, state_count};
 
 use aadl_tree::{Identifiers, Implementation};
 use aadl_uses::count::add_up_to;

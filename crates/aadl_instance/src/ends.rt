@@ -3,8 +3,8 @@ ghost use Rattle.std.specs.Prelude.{◌≡◌, ◌≤◌, Some, [], length, reve
 ghost use Rattle.aadl_uses.specs.Threads.{path_before, IsThreadAt, PathBefore};
 ghost use Rattle.aadl_chains.specs.proof.Routes.{begin_port};
 ghost use Rattle.aadl_instance.specs.Instances.{end_in};
-ghost use Rattle.aadl_instance.specs.proof.Networks.{tree_of, paths_in, IsReady, IsNode};
-ghost use Rattle.aadl_instance.specs.proof.Passed.{paths_of, HasPort, IsBegin};
+ghost use Rattle.aadl_instance.specs.proof.ChainMaps.{tree_of, paths_in, IsReady, IsNode};
+ghost use Rattle.aadl_instance.specs.proof.ChainsSoFar.{paths_of, HasPort, IsBegin};
 
 use crate::numbers::PortNumbers;
 use crate::parts::ChainEnd;

@@ -2,9 +2,9 @@
 ghost use Rattle.std.specs.Prelude.{◌≡◌, ◌⊎◌, ℕ, List, Some, IfErr, IfOk};
 ghost use Rattle.aadl_tree.specs.proof.PackageViews.{placed};
 ghost use Rattle.aadl_names.specs.declared.fault.PackageFault.TheVariants.{Memory};
-ghost use Rattle.aadl_names.specs.Resolving.{root_number};
+ghost use Rattle.aadl_names.specs.ReferenceResolution.{root_number};
 ghost use Rattle.aadl_instance.specs.Faults.{IsFault};
-ghost use Rattle.aadl_instance.specs.proof.Silence.{IsChecked};
+ghost use Rattle.aadl_instance.specs.proof.FaultlessPackages.{IsChecked};
 ghost use Rattle.aadl_instance.specs.Instances.{IsInstance};
 
 use crate::build::{incoming_of, taps_of};

@@ -2,9 +2,9 @@
 ghost use Rattle.std.specs.Prelude.{◌≡◌, ℕ, List};
 ghost use Rattle.aadl_tree.specs.Declarations.{PackageTree};
 ghost use Rattle.aadl_names.specs.declared.fault.PackageFault.{PackageFault};
-ghost use Rattle.aadl_names.specs.Findings.{place_of, number_of};
+ghost use Rattle.aadl_names.specs.FirstFindings.{place_of, number_of};
 ghost use Rattle.aadl_instance.specs.Faults.{IsFault};
-ghost use Rattle.aadl_instance.specs.Flat.{IsFlat, Parts};
+ghost use Rattle.aadl_instance.specs.FlattenedDesign.{IsFlat, Parts};
 
 /// A package has a flattened design or a first fault, and not both.
 pub fn not_both()

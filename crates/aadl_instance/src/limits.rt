@@ -2,12 +2,12 @@
 ghost use Rattle.std.specs.Prelude.{◌≡◌, ◌↔◌, ◌<◌, ℕ, false, length, Contains, IfOk, IsTrue};
 ghost use Rattle.aadl_tree.specs.proof.PackageViews.{placed};
 ghost use Rattle.aadl_names.specs.declared.fault.PackageFault.{PackageFault};
-ghost use Rattle.aadl_uses.specs.proof.Uses.{containment};
+ghost use Rattle.aadl_uses.specs.proof.PackageContainment.{containment};
 ghost use Rattle.aadl_uses.specs.Uses.{IsInUse};
 ghost use Rattle.aadl_chains.specs.Chains.{IsEndFault};
-ghost use Rattle.aadl_chains.specs.proof.Sound.{AreDeclared};
-ghost use Rattle.aadl_uses.specs.proof.Orders.{IsOrder};
-ghost use Rattle.aadl_chains.specs.proof.Inside.{is_thread_at};
+ghost use Rattle.aadl_chains.specs.proof.DeclaredConnections.{AreDeclared};
+ghost use Rattle.aadl_uses.specs.proof.ContainmentOrders.{IsOrder};
+ghost use Rattle.aadl_chains.specs.proof.PortsJoinedInside.{is_thread_at};
 ghost use Rattle.aadl_instance.specs.proof.Limits as spec;
 ghost use Rattle.aadl_instance.specs.proof.Limits.{IsPassed, IsFirstPassed};
 

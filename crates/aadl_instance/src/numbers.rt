@@ -1,9 +1,9 @@
 //! The numbers of ports among those that go as they do.
 ghost use Rattle.std.specs.Prelude.{◌≡◌, ◌<◌, map, IfOk};
-ghost use Rattle.aadl_tree.specs.proof.Maps.{kept_place};
+ghost use Rattle.aadl_tree.specs.proof.PlaceMaps.{kept_place};
 ghost use Rattle.aadl_tree.specs.proof.PackageViews.{placed};
-ghost use Rattle.aadl_tree.specs.proof.Views.{feature_view};
-ghost use Rattle.aadl_instance.specs.proof.Numbers.{AreAmong, AreNumbers};
+ghost use Rattle.aadl_tree.specs.proof.DeclarationViews.{feature_view};
+ghost use Rattle.aadl_instance.specs.proof.PortNumbers.{AreAmong, AreNumbers};
 
 use aadl_tree::{Direction, Feature};
 use aadl_uses::Wires;
@@ -29,7 +29,7 @@ impl Model for PortNumbers {
 impl PortNumbers {
     ghost use Rattle.std.specs.Prelude.{◌≡◌, ◌++◌, ◌∷◌, [], IfOk, OnOk};
     ghost use Rattle.aadl_tree.specs.proof.PackageViews.{placed};
-    ghost use Rattle.aadl_instance.specs.proof.Numbers.{number_in, AreNumbers};
+    ghost use Rattle.aadl_instance.specs.proof.PortNumbers.{number_in, AreNumbers};
 
     /// Those of the types of a package.
     pub fn of(alloc: Global, wires: &Wires<'_>) -> Result<PortNumbers, AllocError>
@@ -91,7 +91,7 @@ pub struct SeenPorts {
 
 impl SeenPorts {
     ghost use Rattle.std.specs.Prelude.{◌≡◌, ◌<◌};
-    ghost use Rattle.aadl_instance.specs.proof.Numbers.{seen, with_port};
+    ghost use Rattle.aadl_instance.specs.proof.PortNumbers.{seen, with_port};
 
     // Counts one more, and gives how many before it go as it does.
     fn next(&mut self, direction: Direction) -> usize

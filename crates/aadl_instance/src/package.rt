@@ -3,13 +3,13 @@ ghost use Rattle.std.specs.Prelude.{◌≡◌, ◌⊎◌, [], Some, IfOk, MatchR
 ghost use Rattle.aadl_tree.specs.proof.PackageViews.{placed};
 ghost use Rattle.aadl_names.specs.declared.fault.PackageFault.{PackageFault};
 ghost use Rattle.aadl_names.specs.declared.fault.PackageFault.TheVariants.{Memory};
-ghost use Rattle.aadl_names.specs.Findings.{IsFirstByLine};
+ghost use Rattle.aadl_names.specs.FirstFindings.{IsFirstByLine};
 ghost use Rattle.aadl_names.specs.PackageFaults.{package_faults};
-ghost use Rattle.aadl_names.specs.Resolving as resolving;
+ghost use Rattle.aadl_names.specs.ReferenceResolution as resolving;
 ghost use Rattle.aadl_uses.specs.Uses.{IsRecursive};
 ghost use Rattle.aadl_chains.specs.Chains.{IsEndFault};
 ghost use Rattle.aadl_instance.specs.Faults.{FoundIn, IsFault, IsRoot};
-ghost use Rattle.aadl_instance.specs.proof.Silence.{IsOrdered, IsChecked, FindsFault};
+ghost use Rattle.aadl_instance.specs.proof.FaultlessPackages.{IsOrdered, IsChecked, FindsFault};
 
 use crate::limits::first_limit;
 use crate::root::root_number;

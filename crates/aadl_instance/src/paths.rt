@@ -1,12 +1,12 @@
 //! The longest path by which a thread is known.
 ghost use Rattle.std.specs.Prelude.{◌≡◌, ◌↔◌, ◌<◌, None, IfOk, IsTrue, length, map, slice_index_or};
 ghost use Rattle.pals_base.specs.declared.limits.TheConstants.{PATH_BYTES};
-ghost use Rattle.aadl_tree.specs.proof.Maps.{kept_place};
+ghost use Rattle.aadl_tree.specs.proof.PlaceMaps.{kept_place};
 ghost use Rattle.aadl_tree.specs.proof.PackageViews.{placed};
-ghost use Rattle.aadl_tree.specs.proof.Views.{declaration_view, subcomponent_view};
-ghost use Rattle.aadl_uses.specs.proof.Uses.{containment};
-ghost use Rattle.aadl_uses.specs.proof.Orders.{IsOrder};
-ghost use Rattle.aadl_instance.specs.proof.Paths as spec;
+ghost use Rattle.aadl_tree.specs.proof.DeclarationViews.{declaration_view, subcomponent_view};
+ghost use Rattle.aadl_uses.specs.proof.PackageContainment.{containment};
+ghost use Rattle.aadl_uses.specs.proof.ContainmentOrders.{IsOrder};
+ghost use Rattle.aadl_instance.specs.proof.PathLengths as spec;
 ghost use Rattle.aadl_uses.specs.ThreadPlaces.{ThreadWith, spelled_path};
 
 use aadl_tree::{Declaration, Subcomponent};

@@ -2,11 +2,12 @@
 ghost use Rattle.std.specs.Prelude.{◌≡◌, ◌&&◌, IfOk, map};
 ghost use Rattle.aadl_tree.specs.Names.{same_name};
 ghost use Rattle.std.specs.List.{position_from};
-ghost use Rattle.aadl_tree.specs.proof.Maps.{kept_place};
+ghost use Rattle.aadl_tree.specs.proof.PlaceMaps.{kept_place};
 ghost use Rattle.aadl_tree.specs.proof.PackageViews.{placed};
-ghost use Rattle.aadl_tree.specs.proof.Views.{declaration_view, implementation_view, implementation_name_view};
+ghost use Rattle.aadl_tree.specs.proof.DeclarationViews.{declaration_view, implementation_view};
+ghost use Rattle.aadl_tree.specs.proof.DeclarationViews.{implementation_name_view};
 ghost use Rattle.aadl_names.specs.Spelling.{spelled_implementation};
-ghost use Rattle.aadl_names.specs.Resolving as spec;
+ghost use Rattle.aadl_names.specs.ReferenceResolution as spec;
 
 use aadl_names::spelling::spelled_implementation;
 use aadl_tree::{Category, Declaration, Implementation, PackageTree};

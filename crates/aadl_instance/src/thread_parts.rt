@@ -3,8 +3,8 @@ ghost use Rattle.std.specs.Prelude.{◌≡◌, ◌↔◌, ◌<◌, ℕ, min, Con
 ghost use Rattle.aadl_tree.specs.proof.PackageViews.{placed};
 ghost use Rattle.aadl_uses.specs.Uses.{IsInUse};
 ghost use Rattle.aadl_uses.specs.ThreadPlaces.{ThreadWith};
-ghost use Rattle.aadl_instance.specs.proof.Parts as spec;
-ghost use Rattle.aadl_instance.specs.proof.Parts.{HasTooMany};
+ghost use Rattle.aadl_instance.specs.proof.ThreadPartCounts as spec;
+ghost use Rattle.aadl_instance.specs.proof.ThreadPartCounts.{HasTooMany};
 
 use crate::counts::{states_up_to, variables_up_to};
 use aadl_uses::Wires;

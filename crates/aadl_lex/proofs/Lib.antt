@@ -1,8 +1,8 @@
-pub mod Order
-pub mod Scans
-pub mod Unique
-pub mod Within
-pub mod Words
-pub mod Closes
-pub mod Shapes
-pub mod Spelled
+pub mod TokenOrder
+pub mod ScanLengths
+pub mod UniqueTokens
+pub mod FrontExtents
+pub mod LongestWords
+pub mod AnnexEnds
+pub mod FrontSpellings
+pub mod TokenSpellings

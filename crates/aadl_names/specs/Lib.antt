@@ -1,10 +1,10 @@
 pub mod Spelling
-pub mod Findings
-pub mod Resolving
-pub mod Twice
+pub mod FirstFindings
+pub mod ReferenceResolution
+pub mod DuplicateNames
 pub mod Properties
 pub mod Behaviours
-pub mod Spaces
+pub mod DuplicatesBySpace
 pub mod AnnexNames
 pub mod PackageFaults
 pub mod proof

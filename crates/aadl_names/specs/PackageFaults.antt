@@ -13,12 +13,12 @@ use Rattle.aadl_tree.specs.Declarations.{Implementation, Declaration, type, impl
 use Rattle.aadl_tree.specs.Actions.{Block}
 use Rattle.aadl_names.specs.declared.fault.PackageFault.{PackageFault}
 use Rattle.aadl_names.specs.declared.fault.PackageFault.TheVariants.{Unknown, WrongKind}
-use Rattle.aadl_names.specs.Findings.{wrong_if}
+use Rattle.aadl_names.specs.FirstFindings.{wrong_if}
 use Rattle.aadl_names.specs.Spelling.{spelled_name, spelled_reference, spelled_implementation, spelled_end}
-use Rattle.aadl_names.specs.Resolving.{type_number, is_system, is_process, is_thread, ports_of, type_of, target_of}
-use Rattle.aadl_names.specs.Resolving.{implementation_in, site, with_direction}
+use Rattle.aadl_names.specs.ReferenceResolution.{type_number, is_system, is_process, is_thread, ports_of, type_of}
+use Rattle.aadl_names.specs.ReferenceResolution.{target_of, implementation_in, site, with_direction}
 use Rattle.aadl_names.specs.Properties.{list_faults}
-use Rattle.aadl_names.specs.Spaces.{twice_names}
+use Rattle.aadl_names.specs.DuplicatesBySpace.{twice_names}
 use Rattle.aadl_names.specs.Behaviours.{behaviours, variables_in, variables_of, states_of}
 use Rattle.aadl_names.specs.declared.role.Role.{Role}
 use Rattle.aadl_names.specs.declared.role.Role.TheVariants.{Receives, Gives, Varies}

@@ -17,10 +17,10 @@ use Rattle.aadl_names.specs.declared.holder.PropertyName.TheVariants.{Period, Di
 use Rattle.aadl_names.specs.declared.holder.PropertyName.TheVariants.{Execution, Network, Initial}
 use Rattle.aadl_names.specs.declared.holder.PropertyHolder.{PropertyHolder}
 use Rattle.aadl_names.specs.declared.entry.SpelledName.{SpelledName}
-use Rattle.aadl_names.specs.Findings.{wrong_if}
+use Rattle.aadl_names.specs.FirstFindings.{wrong_if}
 use Rattle.aadl_names.specs.Spelling.{spelled_name}
-use Rattle.aadl_names.specs.Resolving.{is_thread}
-use Rattle.aadl_names.specs.Twice.{twice}
+use Rattle.aadl_names.specs.ReferenceResolution.{is_thread}
+use Rattle.aadl_names.specs.DuplicateNames.{twice}
 use Rattle.aadl_names.specs.declared.holder.PropertyHolder.TheVariants as holders
 
 abbrev pub listed : Associations ℕ → List (Association ℕ)

@@ -1,8 +1,8 @@
 -- What the theorem of the program does not rest on: definitions of contracts below it, of laws, and of proofs.
-pub mod Found
-pub mod Earliest
-pub mod Tables
-pub mod Members
-pub mod DeclaredTwice
-pub mod Orders
-pub mod Spellings
+pub mod FindingSoFar
+pub mod EarliestDeclarations
+pub mod NameTables
+pub mod MemberNumbers
+pub mod PortDuplicates
+pub mod PlaceOrder
+pub mod PiecewiseComparison

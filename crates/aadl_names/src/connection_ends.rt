@@ -1,9 +1,9 @@
 //! The ports that connections join.
 ghost use Rattle.std.specs.Prelude.{◌≡◌, IfOk};
 ghost use Rattle.aadl_tree.specs.proof.PackageViews.{placed};
-ghost use Rattle.aadl_tree.specs.proof.Views.{implementation_view};
-ghost use Rattle.aadl_tree.specs.proof.Maps.{kept_place};
-ghost use Rattle.aadl_names.specs.Resolving as spec;
+ghost use Rattle.aadl_tree.specs.proof.DeclarationViews.{implementation_view};
+ghost use Rattle.aadl_tree.specs.proof.PlaceMaps.{kept_place};
+ghost use Rattle.aadl_names.specs.ReferenceResolution as spec;
 
 use crate::names::Names;
 use crate::numbered::type_numbered;

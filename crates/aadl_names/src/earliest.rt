@@ -1,8 +1,8 @@
 //! The earliest of the declarations of each name.
 ghost use Rattle.std.specs.Prelude.{◌≡◌, ℕ, List, Some, None, OnOk, IfOk, if◌then◌else◌};
 ghost use Rattle.aadl_tree.specs.Names.{same_name};
-ghost use Rattle.aadl_names.specs.proof.Tables.{value_of};
-ghost use Rattle.aadl_names.specs.proof.Earliest as spec;
+ghost use Rattle.aadl_names.specs.proof.NameTables.{value_of};
+ghost use Rattle.aadl_names.specs.proof.EarliestDeclarations as spec;
 
 use crate::entry::SpelledName;
 use crate::spot::NumberedPlace;

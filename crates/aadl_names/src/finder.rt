@@ -24,8 +24,8 @@ impl Model for Finder {
 impl Finder {
     ghost use Rattle.std.specs.Prelude.{◌≡◌, OnOk, None, [], ◌∷◌};
     ghost use Rattle.aadl_names.specs.declared.fault.PackageFault.TheVariants as faults;
-    ghost use Rattle.aadl_names.specs.proof.Found.{found, comes_first, as_list};
-    ghost use Rattle.aadl_names.specs.Findings as spec;
+    ghost use Rattle.aadl_names.specs.proof.FindingSoFar.{found, comes_first, as_list};
+    ghost use Rattle.aadl_names.specs.FirstFindings as spec;
 
     /// A finder that has found nothing yet. It takes no memory.
     pub fn new(alloc: Global) -> Finder

@@ -3,10 +3,10 @@
 
 ghost use Rattle.std.specs.Prelude.{ℕ, ◌++◌, None};
 ghost use Rattle.aadl_tree.specs.Declarations.{PackageTree};
-ghost use Rattle.aadl_names.specs.Findings.{FirstOf};
-ghost use Rattle.aadl_names.specs.proof.Found.{found};
+ghost use Rattle.aadl_names.specs.FirstFindings.{FirstOf};
+ghost use Rattle.aadl_names.specs.proof.FindingSoFar.{found};
 ghost use Rattle.aadl_names.specs.PackageFaults.{wrong_names, package_faults};
-ghost use Rattle.aadl_names.specs.proof.DeclaredTwice.{beside_names};
+ghost use Rattle.aadl_names.specs.proof.PortDuplicates.{beside_names};
 
 /// The first of what is looked at in a package is the first of all that is wrong with its names.
 pub fn first_of_all()

@@ -1,15 +1,15 @@
 //! Names, compared with texts piece by piece.
 ghost use Rattle.std.specs.Prelude.{◌≡◌, ◌++◌, ℕ, List, codes, string_bytes};
 ghost use Rattle.aadl_tree.specs.Names.{same_name};
-ghost use Rattle.aadl_tree.specs.proof.Maps.{kept_place};
+ghost use Rattle.aadl_tree.specs.proof.PlaceMaps.{kept_place};
 ghost use Rattle.aadl_tree.specs.proof.NameViews.{name_view};
 ghost use Rattle.aadl_names.specs.Spelling.{spelled_name};
-ghost use Rattle.aadl_names.specs.proof.Spellings.{goes_on};
+ghost use Rattle.aadl_names.specs.proof.PiecewiseComparison.{goes_on};
 
 use aadl_tree::{Identifier, Name};
 
 // What is left of a text behind a word with which it begins, whatever the case of letters.
-#[tactic(auto, using(crate::proofs::Pieces::too_short, crate::proofs::Pieces::cut_behind, crate::proofs::Pieces::cut_elsewhere))]
+#[tactic(auto, using(crate::proofs::PiecewiseComparison::too_short, crate::proofs::PiecewiseComparison::cut_behind, crate::proofs::PiecewiseComparison::cut_elsewhere))]
 fn behind<'a>(text: &'a [u8], word: &[u8]) -> Option<&'a [u8]>
     ensures { (more : List ℕ) → same_name (word.now ++ more) text.now ≡ goes_on more result }
 {

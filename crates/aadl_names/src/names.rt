@@ -6,12 +6,12 @@ ghost use Rattle.std.proofs.Props.{props};
 ghost use Rattle.std.specs.Option.{option_or};
 ghost use Rattle.aadl_tree.specs.proof.PackageViews.{placed};
 ghost use Rattle.aadl_tree.specs.proof.NameViews.{identifier_view, reference_view};
-ghost use Rattle.aadl_tree.specs.proof.Views.{feature_view, subcomponent_view, declaration_view};
-ghost use Rattle.aadl_tree.specs.proof.Maps.{kept_place};
-ghost use Rattle.aadl_names.specs.proof.Tables.{value_of};
-ghost use Rattle.aadl_names.specs.proof.Members.{member_of};
-ghost use Rattle.aadl_names.specs.Resolving as spec;
-ghost use Rattle.aadl_names.specs.Resolving.{first_number, is_type, is_implementation, port_named, sub_named};
+ghost use Rattle.aadl_tree.specs.proof.DeclarationViews.{feature_view, subcomponent_view, declaration_view};
+ghost use Rattle.aadl_tree.specs.proof.PlaceMaps.{kept_place};
+ghost use Rattle.aadl_names.specs.proof.NameTables.{value_of};
+ghost use Rattle.aadl_names.specs.proof.MemberNumbers.{member_of};
+ghost use Rattle.aadl_names.specs.ReferenceResolution as spec;
+ghost use Rattle.aadl_names.specs.ReferenceResolution.{first_number, is_type, is_implementation, port_named, sub_named};
 
 use crate::spelling::spelled_implementation;
 use crate::table::NameTable;
@@ -72,7 +72,7 @@ impl<'t> Names<'t> {
     }
 
     /// The number of the implementation that a reference names.
-    #[tactic(auto, unfolding(crate::specs::Resolving::referred))]
+    #[tactic(auto, unfolding(crate::specs::ReferenceResolution::referred))]
     pub fn referred(&self, alloc: Global, x: &Reference) -> Result<Option<usize>, AllocError>
         ensures { IfOk result (λ number. number ≡ spec.referred (placed self.now.tree.now) (reference_view kept_place x.now)) }
     {

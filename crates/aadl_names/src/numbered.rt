@@ -1,9 +1,9 @@
 //! The declarations of a package by their numbers.
 ghost use Rattle.std.specs.Prelude.{◌≡◌, slice_get, option_map, option_copied};
 ghost use Rattle.aadl_tree.specs.proof.PackageViews.{placed};
-ghost use Rattle.aadl_tree.specs.proof.Views.{implementation_view, subcomponent_view, type_view};
-ghost use Rattle.aadl_tree.specs.proof.Maps.{kept_place};
-ghost use Rattle.aadl_names.specs.Resolving as spec;
+ghost use Rattle.aadl_tree.specs.proof.DeclarationViews.{implementation_view, subcomponent_view, type_view};
+ghost use Rattle.aadl_tree.specs.proof.PlaceMaps.{kept_place};
+ghost use Rattle.aadl_names.specs.ReferenceResolution as spec;
 
 use aadl_tree::{Declaration, Implementation, PackageTree, Subcomponent, TypeDeclaration};
 

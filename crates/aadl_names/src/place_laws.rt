@@ -1,8 +1,8 @@
 //! Where the tokens of a tree stand. The law is the contract of a function that does nothing.
 ghost use Rattle.std.specs.Prelude.{ℕ, ◌<◌, List};
 ghost use Rattle.aadl_tree.specs.Declarations.{PackageTree, package_parts};
-ghost use Rattle.aadl_tree.specs.Given.{IsTreeOf};
-ghost use Rattle.aadl_names.specs.proof.Orders.{StandsBefore};
+ghost use Rattle.aadl_tree.specs.GrammarTrees.{IsTreeOf};
+ghost use Rattle.aadl_names.specs.proof.PlaceOrder.{StandsBefore};
 
 /// In the tree of a text, a place that is kept in front of some part is less than one that is kept
 /// behind it. So names that a package declares one after the other stand at different places.

@@ -1,9 +1,9 @@
 //! How names are spelled, with nothing between their tokens.
 
 ghost use Rattle.std.specs.Prelude.{◌≡◌, ◌++◌, IfOk, codes, option_map, string_bytes};
-ghost use Rattle.aadl_tree.specs.proof.Maps.{kept_place};
+ghost use Rattle.aadl_tree.specs.proof.PlaceMaps.{kept_place};
 ghost use Rattle.aadl_tree.specs.proof.NameViews.{identifier_view, name_view, reference_view};
-ghost use Rattle.aadl_tree.specs.proof.Views.{end_view, implementation_name_view};
+ghost use Rattle.aadl_tree.specs.proof.DeclarationViews.{end_view, implementation_name_view};
 ghost use Rattle.aadl_names.specs.Spelling as spec;
 
 use crate::entry::SpelledName;

@@ -31,7 +31,7 @@ impl<V: Copy> NameTable<V> {
     ghost use Rattle.std.specs.Prelude.{◌≡◌, ◌++◌, ℕ, List, None, Some, OnOk, IfOk, codes, if◌then◌else◌};
     ghost use Rattle.std.specs.Option.{option_or};
     ghost use Rattle.aadl_tree.specs.Names.{same_name};
-    ghost use Rattle.aadl_names.specs.proof.Tables.{value_of};
+    ghost use Rattle.aadl_names.specs.proof.NameTables.{value_of};
 
     /// An empty table. It takes no memory.
     pub fn new(alloc: Global) -> NameTable<V>

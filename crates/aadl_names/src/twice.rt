@@ -1,11 +1,11 @@
 //! Names that are declared twice.
-#![tactic(auto, using(crate::proofs::Finds::found_append))]
+#![tactic(auto, using(crate::proofs::FindingSoFar::found_append))]
 
 ghost use Rattle.std.specs.Prelude.{◌≡◌, OnOk};
-ghost use Rattle.aadl_names.specs.proof.Found.{found};
-ghost use Rattle.aadl_names.specs.proof.Tables.{value_of};
-ghost use Rattle.aadl_names.specs.proof.Earliest.{again_by};
-ghost use Rattle.aadl_names.specs.Twice.{twice};
+ghost use Rattle.aadl_names.specs.proof.FindingSoFar.{found};
+ghost use Rattle.aadl_names.specs.proof.NameTables.{value_of};
+ghost use Rattle.aadl_names.specs.proof.EarliestDeclarations.{again_by};
+ghost use Rattle.aadl_names.specs.DuplicateNames.{twice};
 
 use crate::earliest::{earliest_of, is_before};
 use crate::entry::SpelledName;

@@ -1,3 +1,3 @@
-pub mod Declaring
+pub mod DeclarationStarts
 pub mod Sections
-pub mod Verdicts
+pub mod PackageFates

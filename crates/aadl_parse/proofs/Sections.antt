@@ -3,13 +3,13 @@ use Rattle.std.proofs.Common.{◌≡◌, ℕ, ap, refl, List, [], ◌∷◌, ◌
 use Rattle.aadl_tree.specs.declared.mark.Mark.TheVariants as k
 use Rattle.aadl_tree.specs.declared.values.Association.{Association}
 use Rattle.aadl_tree.specs.Terminals.{mark, Spot}
-use Rattle.aadl_tree.specs.Parts.{Part, Section, section_mark, property_section}
+use Rattle.aadl_tree.specs.SpellingParts.{Part, Section, section_mark, property_section}
 use Rattle.aadl_tree.specs.Values as v
 use Rattle.aadl_tree.specs.proof.ValueViews.{association_view, associations_view}
 use Rattle.aadl_tree.specs.Declarations.{section_parts}
-use Rattle.aadl_tree.specs.proof.Maps.{kept_place}
-use Rattle.aadl_grammar.specs.proof.Reading.{spot, AtMark, Reads}
-use Rattle.aadl_grammar.proofs.Written.{then, marked, respelled}
+use Rattle.aadl_tree.specs.proof.PlaceMaps.{kept_place}
+use Rattle.aadl_grammar.specs.proof.ParserAnswers.{spot, AtMark, Reads}
+use Rattle.aadl_grammar.proofs.PartSequences.{then, marked, respelled}
 
 pub no_section : (section : Section) {ps : List (Part ℕ)} {ss : List Spot} → [] ≡ ps
     → Reads (section_parts section ps) ss ss

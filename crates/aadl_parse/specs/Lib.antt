@@ -1,2 +1,2 @@
-pub mod ParsedText
+pub mod ParseResults
 pub mod proof

@@ -1,19 +1,19 @@
 //! Features, subcomponents, connections, and the sections that have them.
 ghost use Rattle.std.specs.Prelude.{[], ◌∷◌, flat_map, map, option_map, MatchOption};
 ghost use Rattle.aadl_tree.specs.declared.mark.Mark.TheVariants as k;
-ghost use Rattle.aadl_tree.specs.Parts.{plain, parts_if, feature_section, subcomponent_section, connection_section};
-ghost use Rattle.aadl_tree.specs.Parts.{property_section};
+ghost use Rattle.aadl_tree.specs.SpellingParts.{plain, parts_if, feature_section, subcomponent_section};
+ghost use Rattle.aadl_tree.specs.SpellingParts.{connection_section, property_section};
 ghost use Rattle.aadl_tree.specs.Names.{reference_parts};
 ghost use Rattle.aadl_tree.specs.Values.{associations_parts};
 ghost use Rattle.aadl_tree.specs.Declarations.{category_mark, direction_mark, section_parts, feature_parts};
 ghost use Rattle.aadl_tree.specs.Declarations.{subcomponent_parts, connection_parts, end_parts};
 ghost use Rattle.aadl_tree.specs.proof.NameViews.{reference_view};
 ghost use Rattle.aadl_tree.specs.proof.ValueViews.{associations_view};
-ghost use Rattle.aadl_tree.specs.proof.Views.{feature_view, subcomponent_view, connection_view, end_view};
-ghost use Rattle.aadl_tree.specs.proof.Maps.{kept_place};
+ghost use Rattle.aadl_tree.specs.proof.DeclarationViews.{feature_view, subcomponent_view, connection_view, end_view};
+ghost use Rattle.aadl_tree.specs.proof.PlaceMaps.{kept_place};
 ghost use Rattle.aadl_grammar.specs.proof.Symbols as s;
-ghost use Rattle.aadl_grammar.specs.proof.Table.{rows};
-ghost use Rattle.aadl_grammar.specs.proof.Reading.{here, AtMark, MissAll, Parses, AnyRoom, Room};
+ghost use Rattle.aadl_grammar.specs.proof.ParseTable.{rows};
+ghost use Rattle.aadl_grammar.specs.proof.ParserAnswers.{here, AtMark, MissAll, Parses, AnyRoom, Room};
 
 use aadl_grammar::{
     ParseFault, Parsed, Reader, association, associations, dot_identifier, identifier, properties,

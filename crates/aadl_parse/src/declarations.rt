@@ -2,18 +2,18 @@
 ghost use Rattle.std.specs.Prelude.{◌≡◌, [], ◌∷◌, flat_map, map};
 ghost use Rattle.aadl_tree.specs.declared.mark.Mark.TheVariants as k;
 ghost use Rattle.aadl_tree.specs.Terminals.{mark};
-ghost use Rattle.aadl_tree.specs.Parts.{token, behind};
+ghost use Rattle.aadl_tree.specs.SpellingParts.{token, behind};
 ghost use Rattle.aadl_tree.specs.Names.{identifier_parts, name_parts};
 ghost use Rattle.aadl_tree.specs.Annexes.{annex_parts, content_parts};
 ghost use Rattle.aadl_tree.specs.Declarations.{category_mark, declaration_parts, with_parts, implementation_name_parts};
 ghost use Rattle.aadl_tree.specs.Declarations.{ending_parts, package_parts};
 ghost use Rattle.aadl_tree.specs.proof.NameViews.{identifier_view, name_view};
-ghost use Rattle.aadl_tree.specs.proof.Views.{annex_view, content_view, declaration_view, with_view};
-ghost use Rattle.aadl_tree.specs.proof.Views.{implementation_name_view};
-ghost use Rattle.aadl_tree.specs.proof.Maps.{kept_place};
+ghost use Rattle.aadl_tree.specs.proof.DeclarationViews.{annex_view, content_view, declaration_view, with_view};
+ghost use Rattle.aadl_tree.specs.proof.DeclarationViews.{implementation_name_view};
+ghost use Rattle.aadl_tree.specs.proof.PlaceMaps.{kept_place};
 ghost use Rattle.aadl_grammar.specs.proof.Symbols as s;
-ghost use Rattle.aadl_grammar.specs.proof.Reading.{Parses, AnyRoom, Room};
-ghost use Rattle.aadl_parse.specs.proof.Rests.{rest_parts, package_of};
+ghost use Rattle.aadl_grammar.specs.proof.ParserAnswers.{Parses, AnyRoom, Room};
+ghost use Rattle.aadl_parse.specs.proof.DeclarationRests.{rest_parts, package_of};
 
 use crate::components::{category, connections, features, own_properties, subcomponents};
 use aadl_grammar::{ParseFault, Parsed, Reader, identifier, name};

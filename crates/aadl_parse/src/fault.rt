@@ -35,7 +35,7 @@ impl From<AllocError> for TextFault {
 
 impl From<ParseFault> for TextFault {
     ghost use Rattle.std.specs.Prelude.{◌≡◌};
-    ghost use Rattle.aadl_parse.specs.ParsedText.{of_parse};
+    ghost use Rattle.aadl_parse.specs.ParseResults.{of_parse};
 
     ghost from_gives = { λ f e. e ≡ of_parse f };
 

@@ -6,10 +6,10 @@
 
 ghost use Rattle.std.specs.Prelude.{ℕ, ◌≡◌, ◌≢◌, List, IfOk, IfErr};
 ghost use Rattle.aadl_tree.specs.Declarations.{PackageTree as Tree};
-ghost use Rattle.aadl_tree.specs.Given.{IsTreeOf};
+ghost use Rattle.aadl_tree.specs.GrammarTrees.{IsTreeOf};
 ghost use Rattle.aadl_tree.specs.proof.PackageViews.{placed};
 ghost use Rattle.aadl_parse.specs.declared.fault.TextFault.{TextFault};
-ghost use Rattle.aadl_parse.specs.ParsedText.{IsOnlyTreeOf, IsFaultOfText};
+ghost use Rattle.aadl_parse.specs.ParseResults.{IsOnlyTreeOf, IsFaultOfText};
 
 mod components;
 mod declarations;

@@ -1,5 +1,5 @@
-pub mod Appends
-pub mod Views
+pub mod PrintedParts
+pub mod FieldViews
 pub mod Sections
-pub mod Canons
-pub mod Again
+pub mod CanonicalText
+pub mod CanonicalReparse

@@ -4,11 +4,11 @@ use Rattle.std.specs.List.{flat_map}
 use Rattle.aadl_tree.specs.declared.mark.Mark.{Mark}
 use Rattle.aadl_tree.specs.declared.mark.Mark.TheVariants as k
 use Rattle.aadl_tree.specs.declared.values.Association as source
-use Rattle.aadl_tree.specs.Parts.{Part, plain, Section, section_mark}
+use Rattle.aadl_tree.specs.SpellingParts.{Part, plain, Section, section_mark}
 use Rattle.aadl_tree.specs.Values.{Association, association, association_parts, associations_parts, properties_parts}
 use Rattle.aadl_tree.specs.proof.ValueViews.{associations_view}
 use Rattle.aadl_tree.specs.Declarations.{section_parts}
-use Rattle.aadl_print.specs.proof.Printed.{Printed, printed, under}
+use Rattle.aadl_print.specs.proof.PrintedText.{Printed, printed, under}
 
 -- A section is written as its word and what stands in it, or not at all.
 pub printed_section : {P : Type 0} → (before : Printed) (s : Section) (ps : List (Part P))

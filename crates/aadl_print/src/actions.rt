@@ -1,12 +1,12 @@
 //! Actions of behaviours.
-#![tactic(auto, using(crate::proofs::Appends::printed_append))]
+#![tactic(auto, using(crate::proofs::PrintedParts::printed_append))]
 
 ghost use Rattle.std.specs.Prelude.{◌≡◌, OnOk};
 ghost use Rattle.aadl_tree.specs.Actions.{test_parts, bound_parts, action_parts, actions_parts, block_parts};
 ghost use Rattle.aadl_tree.specs.proof.ExpressionViews.{expression_view};
 ghost use Rattle.aadl_tree.specs.proof.ActionViews.{action_view, actions_view, block_view, choice_view, loop_view};
-ghost use Rattle.aadl_tree.specs.proof.Maps.{no_place};
-ghost use Rattle.aadl_print.specs.proof.Printed.{printed};
+ghost use Rattle.aadl_tree.specs.proof.PlaceMaps.{no_place};
+ghost use Rattle.aadl_print.specs.proof.PrintedText.{printed};
 
 use crate::expressions::print_expression;
 use crate::items::{PrintItem, print_if};
@@ -113,7 +113,7 @@ pub fn print_block(printer: &mut Printer, block: &Block) -> Result<(), AllocErro
 impl PrintItem for Block {
     ghost use Rattle.aadl_tree.specs.Actions.{Block, block_parts};
     ghost use Rattle.aadl_tree.specs.proof.ActionViews.{block_view};
-    ghost use Rattle.aadl_tree.specs.proof.Maps.{no_place};
+    ghost use Rattle.aadl_tree.specs.proof.PlaceMaps.{no_place};
 
     ghost Tree = { Block (Unit {0}) };
 

@@ -1,12 +1,12 @@
 //! Annexes, and the declarations of a behaviour.
-#![tactic(auto, using(crate::proofs::Appends::printed_append))]
+#![tactic(auto, using(crate::proofs::PrintedParts::printed_append))]
 
 ghost use Rattle.std.specs.Prelude.{◌≡◌, option_map, OnOk};
-ghost use Rattle.aadl_tree.specs.Parts.{parts_if};
+ghost use Rattle.aadl_tree.specs.SpellingParts.{parts_if};
 ghost use Rattle.aadl_tree.specs.Annexes.{label_parts};
 ghost use Rattle.aadl_tree.specs.proof.NameViews.{identifier_view};
-ghost use Rattle.aadl_tree.specs.proof.Maps.{no_place};
-ghost use Rattle.aadl_print.specs.proof.Printed.{printed};
+ghost use Rattle.aadl_tree.specs.proof.PlaceMaps.{no_place};
+ghost use Rattle.aadl_print.specs.proof.PrintedText.{printed};
 
 use crate::expressions::print_expression;
 use crate::items::{PrintItem, print_all, print_declared, print_if, print_option};
@@ -20,8 +20,8 @@ use std::alloc::AllocError;
 
 impl PrintItem for VariableDeclaration {
     ghost use Rattle.aadl_tree.specs.Annexes.{VariableDeclaration, variable_parts};
-    ghost use Rattle.aadl_tree.specs.proof.Views.{variable_view};
-    ghost use Rattle.aadl_tree.specs.proof.Maps.{no_place};
+    ghost use Rattle.aadl_tree.specs.proof.DeclarationViews.{variable_view};
+    ghost use Rattle.aadl_tree.specs.proof.PlaceMaps.{no_place};
 
     ghost Tree = { VariableDeclaration (Unit {0}) };
 
@@ -40,8 +40,8 @@ impl PrintItem for VariableDeclaration {
 
 impl PrintItem for StateDeclaration {
     ghost use Rattle.aadl_tree.specs.Annexes.{StateDeclaration, state_parts};
-    ghost use Rattle.aadl_tree.specs.proof.Views.{state_view};
-    ghost use Rattle.aadl_tree.specs.proof.Maps.{no_place};
+    ghost use Rattle.aadl_tree.specs.proof.DeclarationViews.{state_view};
+    ghost use Rattle.aadl_tree.specs.proof.PlaceMaps.{no_place};
 
     ghost Tree = { StateDeclaration (Unit {0}) };
 
@@ -61,8 +61,8 @@ impl PrintItem for StateDeclaration {
 
 impl PrintItem for Guard {
     ghost use Rattle.aadl_tree.specs.Annexes.{Guard, guard_parts};
-    ghost use Rattle.aadl_tree.specs.proof.Views.{guard_view};
-    ghost use Rattle.aadl_tree.specs.proof.Maps.{no_place};
+    ghost use Rattle.aadl_tree.specs.proof.DeclarationViews.{guard_view};
+    ghost use Rattle.aadl_tree.specs.proof.PlaceMaps.{no_place};
 
     ghost Tree = { Guard (Unit {0}) };
 
@@ -96,8 +96,8 @@ fn print_label(printer: &mut Printer, label: &Option<Identifier>) -> Result<(), 
 
 impl PrintItem for Transition {
     ghost use Rattle.aadl_tree.specs.Annexes.{Transition, transition_parts};
-    ghost use Rattle.aadl_tree.specs.proof.Views.{transition_view};
-    ghost use Rattle.aadl_tree.specs.proof.Maps.{no_place};
+    ghost use Rattle.aadl_tree.specs.proof.DeclarationViews.{transition_view};
+    ghost use Rattle.aadl_tree.specs.proof.PlaceMaps.{no_place};
 
     ghost Tree = { Transition (Unit {0}) };
 
@@ -119,8 +119,8 @@ impl PrintItem for Transition {
 
 impl PrintItem for AnnexTree {
     ghost use Rattle.aadl_tree.specs.Annexes.{AnnexTree, annex_tree_parts};
-    ghost use Rattle.aadl_tree.specs.proof.Views.{annex_tree_view};
-    ghost use Rattle.aadl_tree.specs.proof.Maps.{no_place};
+    ghost use Rattle.aadl_tree.specs.proof.DeclarationViews.{annex_tree_view};
+    ghost use Rattle.aadl_tree.specs.proof.PlaceMaps.{no_place};
 
     ghost Tree = { AnnexTree (Unit {0}) };
 
@@ -137,8 +137,8 @@ impl PrintItem for AnnexTree {
 
 impl PrintItem for AnnexContent {
     ghost use Rattle.aadl_tree.specs.Annexes.{AnnexContent, content_parts};
-    ghost use Rattle.aadl_tree.specs.proof.Views.{content_view};
-    ghost use Rattle.aadl_tree.specs.proof.Maps.{no_place};
+    ghost use Rattle.aadl_tree.specs.proof.DeclarationViews.{content_view};
+    ghost use Rattle.aadl_tree.specs.proof.PlaceMaps.{no_place};
 
     ghost Tree = { AnnexContent (Unit {0}) };
 
@@ -160,8 +160,8 @@ impl PrintItem for AnnexContent {
 
 impl PrintItem for Annex {
     ghost use Rattle.aadl_tree.specs.Annexes.{Annex, annex_parts};
-    ghost use Rattle.aadl_tree.specs.proof.Views.{annex_view};
-    ghost use Rattle.aadl_tree.specs.proof.Maps.{no_place};
+    ghost use Rattle.aadl_tree.specs.proof.DeclarationViews.{annex_view};
+    ghost use Rattle.aadl_tree.specs.proof.PlaceMaps.{no_place};
 
     ghost Tree = { Annex (Unit {0}) };
 

@@ -1,5 +1,5 @@
 //! Types, implementations, and what they declare.
-#![tactic(auto, using(crate::proofs::Appends::printed_append))]
+#![tactic(auto, using(crate::proofs::PrintedParts::printed_append))]
 
 ghost use Rattle.std.specs.Prelude.{◌≡◌};
 ghost use Rattle.aadl_tree.specs.Declarations.{category_mark, direction_mark};
@@ -34,8 +34,8 @@ fn direction_mark(direction: Direction) -> Mark
 
 impl PrintItem for With {
     ghost use Rattle.aadl_tree.specs.Declarations.{With, with_parts};
-    ghost use Rattle.aadl_tree.specs.proof.Views.{with_view};
-    ghost use Rattle.aadl_tree.specs.proof.Maps.{no_place};
+    ghost use Rattle.aadl_tree.specs.proof.DeclarationViews.{with_view};
+    ghost use Rattle.aadl_tree.specs.proof.PlaceMaps.{no_place};
 
     ghost Tree = { With (Unit {0}) };
 
@@ -52,8 +52,8 @@ impl PrintItem for With {
 
 impl PrintItem for Feature {
     ghost use Rattle.aadl_tree.specs.Declarations.{Feature, feature_parts};
-    ghost use Rattle.aadl_tree.specs.proof.Views.{feature_view};
-    ghost use Rattle.aadl_tree.specs.proof.Maps.{no_place};
+    ghost use Rattle.aadl_tree.specs.proof.DeclarationViews.{feature_view};
+    ghost use Rattle.aadl_tree.specs.proof.PlaceMaps.{no_place};
 
     ghost Tree = { Feature (Unit {0}) };
 
@@ -75,8 +75,8 @@ impl PrintItem for Feature {
 
 impl PrintItem for Subcomponent {
     ghost use Rattle.aadl_tree.specs.Declarations.{Subcomponent, subcomponent_parts};
-    ghost use Rattle.aadl_tree.specs.proof.Views.{subcomponent_view};
-    ghost use Rattle.aadl_tree.specs.proof.Maps.{no_place};
+    ghost use Rattle.aadl_tree.specs.proof.DeclarationViews.{subcomponent_view};
+    ghost use Rattle.aadl_tree.specs.proof.PlaceMaps.{no_place};
 
     ghost Tree = { Subcomponent (Unit {0}) };
 
@@ -96,8 +96,8 @@ impl PrintItem for Subcomponent {
 
 impl PrintItem for ConnectionEnd {
     ghost use Rattle.aadl_tree.specs.Declarations.{ConnectionEnd, end_parts};
-    ghost use Rattle.aadl_tree.specs.proof.Views.{end_view};
-    ghost use Rattle.aadl_tree.specs.proof.Maps.{no_place};
+    ghost use Rattle.aadl_tree.specs.proof.DeclarationViews.{end_view};
+    ghost use Rattle.aadl_tree.specs.proof.PlaceMaps.{no_place};
 
     ghost Tree = { ConnectionEnd (Unit {0}) };
 
@@ -113,8 +113,8 @@ impl PrintItem for ConnectionEnd {
 
 impl PrintItem for Connection {
     ghost use Rattle.aadl_tree.specs.Declarations.{Connection, connection_parts};
-    ghost use Rattle.aadl_tree.specs.proof.Views.{connection_view};
-    ghost use Rattle.aadl_tree.specs.proof.Maps.{no_place};
+    ghost use Rattle.aadl_tree.specs.proof.DeclarationViews.{connection_view};
+    ghost use Rattle.aadl_tree.specs.proof.PlaceMaps.{no_place};
 
     ghost Tree = { Connection (Unit {0}) };
 
@@ -136,8 +136,8 @@ impl PrintItem for Connection {
 
 impl PrintItem for TypeDeclaration {
     ghost use Rattle.aadl_tree.specs.Declarations.{TypeDeclaration, type_parts};
-    ghost use Rattle.aadl_tree.specs.proof.Views.{type_view};
-    ghost use Rattle.aadl_tree.specs.proof.Maps.{no_place};
+    ghost use Rattle.aadl_tree.specs.proof.DeclarationViews.{type_view};
+    ghost use Rattle.aadl_tree.specs.proof.PlaceMaps.{no_place};
 
     ghost Tree = { TypeDeclaration (Unit {0}) };
 
@@ -159,8 +159,8 @@ impl PrintItem for TypeDeclaration {
 
 impl PrintItem for ImplementationName {
     ghost use Rattle.aadl_tree.specs.Declarations.{ImplementationName, implementation_name_parts};
-    ghost use Rattle.aadl_tree.specs.proof.Views.{implementation_name_view};
-    ghost use Rattle.aadl_tree.specs.proof.Maps.{no_place};
+    ghost use Rattle.aadl_tree.specs.proof.DeclarationViews.{implementation_name_view};
+    ghost use Rattle.aadl_tree.specs.proof.PlaceMaps.{no_place};
 
     ghost Tree = { ImplementationName (Unit {0}) };
 
@@ -177,8 +177,8 @@ impl PrintItem for ImplementationName {
 
 impl PrintItem for Implementation {
     ghost use Rattle.aadl_tree.specs.Declarations.{Implementation, implementation_parts};
-    ghost use Rattle.aadl_tree.specs.proof.Views.{implementation_view};
-    ghost use Rattle.aadl_tree.specs.proof.Maps.{no_place};
+    ghost use Rattle.aadl_tree.specs.proof.DeclarationViews.{implementation_view};
+    ghost use Rattle.aadl_tree.specs.proof.PlaceMaps.{no_place};
 
     ghost Tree = { Implementation (Unit {0}) };
 
@@ -202,8 +202,8 @@ impl PrintItem for Implementation {
 
 impl PrintItem for Declaration {
     ghost use Rattle.aadl_tree.specs.Declarations.{Declaration, declaration_parts};
-    ghost use Rattle.aadl_tree.specs.proof.Views.{declaration_view};
-    ghost use Rattle.aadl_tree.specs.proof.Maps.{no_place};
+    ghost use Rattle.aadl_tree.specs.proof.DeclarationViews.{declaration_view};
+    ghost use Rattle.aadl_tree.specs.proof.PlaceMaps.{no_place};
 
     ghost Tree = { Declaration (Unit {0}) };
 

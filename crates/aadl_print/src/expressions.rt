@@ -1,13 +1,13 @@
 //! Expressions of behaviours.
-#![tactic(auto, using(crate::proofs::Appends::printed_append))]
+#![tactic(auto, using(crate::proofs::PrintedParts::printed_append))]
 
 ghost use Rattle.std.specs.Prelude.{◌≡◌, OnOk};
 ghost use Rattle.aadl_tree.specs.Expressions.{multiply_mark, relation_mark, logic_parts, primary_parts, factor_parts};
 ghost use Rattle.aadl_tree.specs.Expressions.{term_parts, sum_parts, relation_parts, expression_parts};
 ghost use Rattle.aadl_tree.specs.proof.ExpressionViews.{primary_view, factor_view, term_view, sum_view, relation_view};
 ghost use Rattle.aadl_tree.specs.proof.ExpressionViews.{expression_view};
-ghost use Rattle.aadl_tree.specs.proof.Maps.{no_place};
-ghost use Rattle.aadl_print.specs.proof.Printed.{printed};
+ghost use Rattle.aadl_tree.specs.proof.PlaceMaps.{no_place};
+ghost use Rattle.aadl_print.specs.proof.PrintedText.{printed};
 
 use crate::items::{PrintItem, print_option};
 use crate::printer::Printer;
@@ -63,7 +63,7 @@ fn print_logic(printer: &mut Printer, operator: LogicOperator) -> Result<(), All
 impl PrintItem for LeadingSign {
     ghost use Rattle.aadl_tree.specs.Expressions.{LeadingSign, leading_parts};
     ghost use Rattle.aadl_tree.specs.proof.ExpressionViews.{leading_view};
-    ghost use Rattle.aadl_tree.specs.proof.Maps.{no_place};
+    ghost use Rattle.aadl_tree.specs.proof.PlaceMaps.{no_place};
 
     ghost Tree = { LeadingSign (Unit {0}) };
 

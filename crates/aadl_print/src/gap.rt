@@ -14,7 +14,7 @@ pub enum Spacing {
 }
 
 impl Spacing {
-    ghost use Rattle.aadl_print.specs.proof.Printed.{gap_text, gap_behind};
+    ghost use Rattle.aadl_print.specs.proof.PrintedText.{gap_text, gap_behind};
 
     /// Its bytes.
     pub fn text(self) -> &'static [u8]

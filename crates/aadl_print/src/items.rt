@@ -1,10 +1,10 @@
 //! Things that are written, and lists of them.
-#![tactic(auto, using(crate::proofs::Appends::printed_append))]
+#![tactic(auto, using(crate::proofs::PrintedParts::printed_append))]
 
 ghost use Rattle.std.specs.Prelude.{◌≡◌, ◌≢◌, List, [], map, flat_map, option_map, OnOk};
-ghost use Rattle.aadl_tree.specs.Parts.{Part, marked_if, parts_if, behind, chained};
+ghost use Rattle.aadl_tree.specs.SpellingParts.{Part, marked_if, parts_if, behind, chained};
 ghost use Rattle.aadl_tree.specs.Annexes.{declared_parts};
-ghost use Rattle.aadl_print.specs.proof.Printed.{printed, under};
+ghost use Rattle.aadl_print.specs.proof.PrintedText.{printed, under};
 
 use crate::printer::Printer;
 use aadl_tree::Mark;
@@ -13,7 +13,7 @@ use std::alloc::AllocError;
 /// What can be written: it stands for a tree, which is spelled by parts.
 pub trait PrintItem {
     ghost use Rattle.std.specs.Prelude.{List};
-    ghost use Rattle.aadl_tree.specs.Parts.{Part};
+    ghost use Rattle.aadl_tree.specs.SpellingParts.{Part};
 
     ghost Tree: { Type 0 };
 

@@ -7,7 +7,7 @@ ghost use Rattle.std.specs.Prelude.{◌≡◌, IfOk, OnOk};
 ghost use Rattle.aadl_tree.specs.Canon.{canon};
 ghost use Rattle.aadl_tree.specs.Declarations.{package_parts};
 ghost use Rattle.aadl_tree.specs.proof.PackageViews.{meaning};
-ghost use Rattle.aadl_print.specs.proof.Printed.{printed};
+ghost use Rattle.aadl_print.specs.proof.PrintedText.{printed};
 
 mod actions;
 mod annex;
@@ -35,7 +35,7 @@ pub fn print(alloc: Global, tree: &PackageTree) -> Result<Vec<u8>, AllocError>
     printer.finish()
 }
 
-#[tactic(auto, using(crate::proofs::Appends::printed_append))]
+#[tactic(auto, using(crate::proofs::PrintedParts::printed_append))]
 fn print_package(printer: &mut Printer, tree: &PackageTree) -> Result<(), AllocError>
     ensures { OnOk result (printer.new ≡ printed printer.old (package_parts (meaning tree.now))) }
 {

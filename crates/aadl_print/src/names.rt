@@ -1,11 +1,11 @@
 //! Names and references.
-#![tactic(auto, using(crate::proofs::Appends::printed_append))]
+#![tactic(auto, using(crate::proofs::PrintedParts::printed_append))]
 
 ghost use Rattle.std.specs.Prelude.{◌≡◌, map, flat_map, OnOk};
 ghost use Rattle.aadl_tree.specs.Names.{qualifier_parts};
 ghost use Rattle.aadl_tree.specs.proof.NameViews.{identifier_view};
-ghost use Rattle.aadl_tree.specs.proof.Maps.{no_place};
-ghost use Rattle.aadl_print.specs.proof.Printed.{printed};
+ghost use Rattle.aadl_tree.specs.proof.PlaceMaps.{no_place};
+ghost use Rattle.aadl_print.specs.proof.PrintedText.{printed};
 
 use crate::items::{PrintItem, print_behind, print_chain};
 use crate::printer::Printer;
@@ -15,7 +15,7 @@ use std::alloc::AllocError;
 impl PrintItem for Identifier {
     ghost use Rattle.aadl_tree.specs.Names.{Identifier, identifier_parts};
     ghost use Rattle.aadl_tree.specs.proof.NameViews.{identifier_view};
-    ghost use Rattle.aadl_tree.specs.proof.Maps.{no_place};
+    ghost use Rattle.aadl_tree.specs.proof.PlaceMaps.{no_place};
 
     ghost Tree = { Identifier (Unit {0}) };
 
@@ -31,7 +31,7 @@ impl PrintItem for Identifier {
 impl PrintItem for Name {
     ghost use Rattle.aadl_tree.specs.Names.{Name, name_parts};
     ghost use Rattle.aadl_tree.specs.proof.NameViews.{name_view};
-    ghost use Rattle.aadl_tree.specs.proof.Maps.{no_place};
+    ghost use Rattle.aadl_tree.specs.proof.PlaceMaps.{no_place};
 
     ghost Tree = { Name (Unit {0}) };
 
@@ -47,7 +47,7 @@ impl PrintItem for Name {
 impl PrintItem for Path {
     ghost use Rattle.aadl_tree.specs.Names.{Path, path_parts};
     ghost use Rattle.aadl_tree.specs.proof.NameViews.{path_view};
-    ghost use Rattle.aadl_tree.specs.proof.Maps.{no_place};
+    ghost use Rattle.aadl_tree.specs.proof.PlaceMaps.{no_place};
 
     ghost Tree = { Path (Unit {0}) };
 
@@ -63,7 +63,7 @@ impl PrintItem for Path {
 impl PrintItem for Identifiers {
     ghost use Rattle.aadl_tree.specs.Names.{Identifiers, identifiers_parts};
     ghost use Rattle.aadl_tree.specs.proof.NameViews.{identifiers_view};
-    ghost use Rattle.aadl_tree.specs.proof.Maps.{no_place};
+    ghost use Rattle.aadl_tree.specs.proof.PlaceMaps.{no_place};
 
     ghost Tree = { Identifiers (Unit {0}) };
 
@@ -91,7 +91,7 @@ fn print_qualifiers(printer: &mut Printer, names: &[Identifier]) -> Result<(), A
 impl PrintItem for Reference {
     ghost use Rattle.aadl_tree.specs.Names.{Reference, reference_parts};
     ghost use Rattle.aadl_tree.specs.proof.NameViews.{reference_view};
-    ghost use Rattle.aadl_tree.specs.proof.Maps.{no_place};
+    ghost use Rattle.aadl_tree.specs.proof.PlaceMaps.{no_place};
 
     ghost Tree = { Reference (Unit {0}) };
 

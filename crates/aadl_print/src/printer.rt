@@ -16,7 +16,7 @@ pub struct Printer {
 }
 
 impl Model for Printer {
-    ghost use Rattle.aadl_print.specs.proof.Printed.{Printed};
+    ghost use Rattle.aadl_print.specs.proof.PrintedText.{Printed};
 
     ghost Value = { Printed };
 
@@ -26,7 +26,7 @@ impl Model for Printer {
 impl Printer {
     ghost use Rattle.std.specs.Prelude.{◌++◌, IfOk};
     ghost use Rattle.aadl_tree.specs.Canon.{line_end};
-    ghost use Rattle.aadl_print.specs.proof.Printed.{blank, put};
+    ghost use Rattle.aadl_print.specs.proof.PrintedText.{blank, put};
 
     /// A printer that has written nothing. It takes no memory.
     pub fn new(alloc: Global) -> Printer
@@ -39,7 +39,7 @@ impl Printer {
     }
 
     /// Writes a keyword or a symbol.
-    #[tactic(auto, unfolding(crate::specs::proof::Printed::put))]
+    #[tactic(auto, unfolding(crate::specs::proof::PrintedText::put))]
     pub fn mark(&mut self, next: Mark) -> Result<(), AllocError>
         ensures { OnOk result (self.new ≡ put self.old (mark next)) }
     {
@@ -52,7 +52,7 @@ impl Printer {
     }
 
     /// Writes a word, a real, a string or an annex of another language, byte for byte.
-    #[tactic(auto, unfolding(crate::specs::proof::Printed::put))]
+    #[tactic(auto, unfolding(crate::specs::proof::PrintedText::put))]
     pub fn verbatim(&mut self, bytes: &[u8]) -> Result<(), AllocError>
         ensures word { OnOk result (self.new ≡ put self.old (word bytes.now)) }
         ensures real { OnOk result (self.new ≡ put self.old (real bytes.now)) }
@@ -66,7 +66,7 @@ impl Printer {
     }
 
     /// Writes a whole number, in decimal digits.
-    #[tactic(auto, unfolding(crate::specs::proof::Printed::put))]
+    #[tactic(auto, unfolding(crate::specs::proof::PrintedText::put))]
     pub fn whole(&mut self, value: i64) -> Result<(), AllocError>
         ensures { OnOk result (self.new ≡ put self.old (whole value)) }
     {

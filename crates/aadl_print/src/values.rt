@@ -1,5 +1,5 @@
 //! Properties and their values.
-#![tactic(auto, using(crate::proofs::Appends::printed_append))]
+#![tactic(auto, using(crate::proofs::PrintedParts::printed_append))]
 
 ghost use Rattle.std.specs.Prelude.{◌≡◌, map, OnOk};
 ghost use Rattle.aadl_tree.specs.declared.mark.Mark.TheVariants as k;
@@ -7,8 +7,8 @@ ghost use Rattle.aadl_tree.specs.Values.{sign_mark, association_mark, applies_pa
 ghost use Rattle.aadl_tree.specs.Values.{association_parts, associations_parts, properties_parts};
 ghost use Rattle.aadl_tree.specs.proof.NameViews.{path_view};
 ghost use Rattle.aadl_tree.specs.proof.ValueViews.{value_view, values_view, association_view, associations_view};
-ghost use Rattle.aadl_tree.specs.proof.Maps.{no_place};
-ghost use Rattle.aadl_print.specs.proof.Printed.{printed, under};
+ghost use Rattle.aadl_tree.specs.proof.PlaceMaps.{no_place};
+ghost use Rattle.aadl_print.specs.proof.PrintedText.{printed, under};
 
 use crate::items::{PrintItem, print_behind, print_chain, print_if, print_option};
 use crate::printer::Printer;
@@ -75,7 +75,7 @@ impl PrintItem for Number {
 impl PrintItem for Quantity {
     ghost use Rattle.aadl_tree.specs.Values.{Quantity, quantity_parts};
     ghost use Rattle.aadl_tree.specs.proof.ValueViews.{quantity_view};
-    ghost use Rattle.aadl_tree.specs.proof.Maps.{no_place};
+    ghost use Rattle.aadl_tree.specs.proof.PlaceMaps.{no_place};
 
     ghost Tree = { Quantity (Unit {0}) };
 

@@ -1,1 +1,1 @@
-mod Among
+mod TokenSequences

@@ -1,8 +1,8 @@
 //! Whether a design has more threads than a design may have.
 ghost use Rattle.std.specs.Prelude.{IfOk, IfSome};
 ghost use Rattle.aadl_tree.specs.proof.PackageViews.{placed};
-ghost use Rattle.aadl_uses.specs.proof.Uses.{containment};
-ghost use Rattle.aadl_uses.specs.proof.Orders.{IsOrder};
+ghost use Rattle.aadl_uses.specs.proof.PackageContainment.{containment};
+ghost use Rattle.aadl_uses.specs.proof.ContainmentOrders.{IsOrder};
 
 use crate::containment::uses;
 use aadl_tree::PackageTree;

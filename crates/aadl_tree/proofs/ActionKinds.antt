@@ -14,7 +14,7 @@ use Rattle.aadl_tree.specs.declared.actions.Loop.{Loop}
 use Rattle.aadl_tree.specs.Actions as plain
 use Rattle.aadl_tree.specs.Actions.{assign, send, choose, loop}
 use Rattle.aadl_tree.specs.proof.ActionViews.{action_view}
-use Rattle.aadl_tree.specs.proof.Maps.{no_place}
+use Rattle.aadl_tree.specs.proof.PlaceMaps.{no_place}
 use Rattle.aadl_tree.proofs.ActionViews.{view-Assign, view-Send, view-If, view-For, view-out-choice, view-out-loop}
 
 abbrev Layer : Type 0

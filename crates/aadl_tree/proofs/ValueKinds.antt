@@ -14,7 +14,7 @@ use Rattle.aadl_tree.specs.Names as plain_names
 use Rattle.aadl_tree.specs.Values as plain
 use Rattle.aadl_tree.specs.Values.{list, fields, text, reference, classifier, named, number}
 use Rattle.aadl_tree.specs.proof.ValueViews.{value_view}
-use Rattle.aadl_tree.specs.proof.Maps.{no_place}
+use Rattle.aadl_tree.specs.proof.PlaceMaps.{no_place}
 use Rattle.aadl_tree.proofs.ValueViews.{view-List, view-Record, view-Text, view-Reference, view-Classifier, view-Named}
 use Rattle.aadl_tree.proofs.ValueViews.{view-Number}
 

@@ -2,7 +2,7 @@
 use Rattle.std.specs.Prelude.{List, [], ◌∷◌, ◌++◌}
 use Rattle.aadl_tree.specs.declared.actions.Bound.{Bound}
 use Rattle.aadl_tree.specs.Terminals.{whole, mark}
-use Rattle.aadl_tree.specs.Parts.{Part, token, may, last_semicolon, plain, marked_if}
+use Rattle.aadl_tree.specs.SpellingParts.{Part, token, may, last_semicolon, plain, marked_if}
 use Rattle.aadl_tree.specs.Names.{Identifier, Reference, identifier_parts, reference_parts}
 use Rattle.aadl_tree.specs.Expressions.{Expression, expression_parts}
 use Rattle.aadl_tree.specs.declared.mark.Mark.TheVariants as k

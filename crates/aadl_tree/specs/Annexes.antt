@@ -2,7 +2,7 @@
 use Rattle.std.specs.Prelude.{ℕ, Bool, List, [], ◌∷◌, ◌++◌, flat_map, Option}
 use Rattle.aadl_tree.specs.declared.mark.Mark.{Mark}
 use Rattle.aadl_tree.specs.Terminals.{mark, unread}
-use Rattle.aadl_tree.specs.Parts.{Part, token, plain, marked_if, parts_if}
+use Rattle.aadl_tree.specs.SpellingParts.{Part, token, plain, marked_if, parts_if}
 use Rattle.aadl_tree.specs.Names.{Identifier, Identifiers, Reference, identifier_parts, identifiers_parts}
 use Rattle.aadl_tree.specs.Names.{reference_parts}
 use Rattle.aadl_tree.specs.Values.{Associations, properties_parts}

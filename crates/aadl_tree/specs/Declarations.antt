@@ -4,8 +4,9 @@ use Rattle.aadl_tree.specs.declared.mark.Mark.{Mark}
 use Rattle.aadl_tree.specs.declared.declarations.Category.{Category}
 use Rattle.aadl_tree.specs.declared.declarations.Direction.{Direction}
 use Rattle.aadl_tree.specs.Terminals.{mark}
-use Rattle.aadl_tree.specs.Parts.{Part, token, may, Section, feature_section, subcomponent_section, connection_section}
-use Rattle.aadl_tree.specs.Parts.{property_section, section_mark, empty_section, plain, parts_if, behind, chained}
+use Rattle.aadl_tree.specs.SpellingParts.{Part, token, may, Section, feature_section, subcomponent_section}
+use Rattle.aadl_tree.specs.SpellingParts.{connection_section, property_section, section_mark, empty_section, plain}
+use Rattle.aadl_tree.specs.SpellingParts.{parts_if, behind, chained}
 use Rattle.aadl_tree.specs.Names.{Identifier, Name, Reference, identifier_parts, name_parts, reference_parts}
 use Rattle.aadl_tree.specs.Values.{Associations, associations_parts, properties_parts}
 use Rattle.aadl_tree.specs.Annexes.{Annex, annex_parts}

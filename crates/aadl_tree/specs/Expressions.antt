@@ -6,7 +6,7 @@ use Rattle.aadl_tree.specs.declared.expressions.LogicOperator.{LogicOperator}
 use Rattle.aadl_tree.specs.declared.expressions.RelationOperator.{RelationOperator}
 use Rattle.aadl_tree.specs.declared.expressions.MultiplyOperator.{MultiplyOperator}
 use Rattle.aadl_tree.specs.Terminals.{whole, mark}
-use Rattle.aadl_tree.specs.Parts.{Part, token, plain, parts_if}
+use Rattle.aadl_tree.specs.SpellingParts.{Part, token, plain, parts_if}
 use Rattle.aadl_tree.specs.Names.{Identifier, identifier_parts}
 use Rattle.aadl_tree.specs.Values.{sign_mark}
 use Rattle.aadl_tree.specs.declared.mark.Mark.TheVariants as k

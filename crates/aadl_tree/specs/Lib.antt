@@ -1,6 +1,6 @@
 pub mod Marks
 pub mod Terminals
-pub mod Parts
+pub mod SpellingParts
 pub mod Names
 pub mod Values
 pub mod Expressions
@@ -9,6 +9,6 @@ pub mod Annexes
 pub mod Declarations
 pub mod Grammar
 pub mod Canon
-pub mod Offsets
-pub mod Given
+pub mod ExpressionOffsets
+pub mod GrammarTrees
 pub mod proof

@@ -2,7 +2,7 @@
 use Rattle.std.specs.Prelude.{ℕ, Bool, List, [], ◌∷◌, ◌++◌, flat_map, Option, Some, None}
 use Rattle.std.specs.Str.{str_eq_ignore_ascii_case}
 use Rattle.aadl_tree.specs.Terminals.{word}
-use Rattle.aadl_tree.specs.Parts.{Part, token, plain, parts_if, behind, chained}
+use Rattle.aadl_tree.specs.SpellingParts.{Part, token, plain, parts_if, behind, chained}
 use Rattle.aadl_tree.specs.declared.mark.Mark.TheVariants as k
 
 pub record Identifier (P : Type 0) : Type 0 where

@@ -4,7 +4,7 @@ use Rattle.aadl_tree.specs.declared.mark.Mark.{Mark}
 use Rattle.aadl_tree.specs.declared.expressions.Sign.{Sign}
 use Rattle.aadl_tree.specs.declared.values.AssociationOperator.{AssociationOperator}
 use Rattle.aadl_tree.specs.Terminals.{whole, real, quoted}
-use Rattle.aadl_tree.specs.Parts.{Part, token, plain, marked_if, parts_if, behind, chained}
+use Rattle.aadl_tree.specs.SpellingParts.{Part, token, plain, marked_if, parts_if, behind, chained}
 use Rattle.aadl_tree.specs.Names.{Identifier, Name, Path, Reference, identifier_parts, name_parts, path_parts}
 use Rattle.aadl_tree.specs.Names.{reference_parts}
 use Rattle.aadl_tree.specs.declared.mark.Mark.TheVariants as k

@@ -1,22 +1,22 @@
 //! Laws of the grammar's definitions. Each function does nothing; its contract is proved.
 ghost use Rattle.std.specs.Prelude.{◌≡◌, ◌↔◌, ℕ, List, [], ◌∷◌, ◌++◌, Some, None, codes, true, false, map, IsTrue};
 ghost use Rattle.std.specs.Prelude.{is_some};
-ghost use Rattle.aadl_lex.specs.proof.Spelled.{IsSymbol};
+ghost use Rattle.aadl_lex.specs.proof.TokenSpellings.{IsSymbol};
 ghost use Rattle.aadl_lex.specs.Tokens.{AreTokensOf};
 ghost use Rattle.aadl_tree.specs.declared.mark.Mark.TheVariants as k;
 ghost use Rattle.aadl_tree.specs.Marks.{mark_text, keywords_inside, keywords_outside, symbols, keyword_of, symbol_of};
 ghost use Rattle.aadl_tree.specs.Terminals.{Kind, word, mark, Spot, spots, kinds_of};
-ghost use Rattle.aadl_tree.specs.Parts.{Part, Spells, Written, kept};
+ghost use Rattle.aadl_tree.specs.SpellingParts.{Part, Spells, Written, kept};
 ghost use Rattle.aadl_tree.specs.Annexes.{transition_parts};
 ghost use Rattle.aadl_tree.specs.declared.package.PackageTree.{PackageTree as SourceTree};
-ghost use Rattle.aadl_tree.specs.proof.Maps.{package_to, no_place};
+ghost use Rattle.aadl_tree.specs.proof.PlaceMaps.{package_to, no_place};
 ghost use Rattle.aadl_tree.specs.proof.PackageViews.{package_view, placed, meaning};
 ghost use Rattle.aadl_tree.specs.Grammar.{nesting};
-ghost use Rattle.aadl_tree.specs.Given.{IsTreeOf};
+ghost use Rattle.aadl_tree.specs.GrammarTrees.{IsTreeOf};
 ghost use Rattle.aadl_tree.specs.Canon.{canonical, canon};
-ghost use Rattle.aadl_tree.specs.proof.Example.{counting, counting_kinds, counting_text, annex_text, annex_tokens};
-ghost use Rattle.aadl_tree.specs.proof.Example.{choice_kinds};
-ghost use Rattle.aadl_tree.specs.proof.SmallPackage.{package_text, package_tokens, small_package, printed_text};
+ghost use Rattle.aadl_tree.specs.proof.ExampleTransition.{counting, counting_kinds, counting_text, annex_text};
+ghost use Rattle.aadl_tree.specs.proof.ExampleTransition.{annex_tokens, choice_kinds};
+ghost use Rattle.aadl_tree.specs.proof.EmptyPackage.{package_text, package_tokens, small_package, printed_text};
 
 /// Each keyword and each symbol is read as itself, where it is one, whatever the case of its letters.
 /// Each symbol that a text can have is one of the grammar.

@@ -2,8 +2,8 @@
 ghost use Rattle.std.specs.Prelude.{◌≡◌};
 ghost use Rattle.aadl_tree.specs.proof.ExpressionViews.{primary_view, factor_view, term_view, sum_view, relation_view};
 ghost use Rattle.aadl_tree.specs.proof.ExpressionViews.{expression_view};
-ghost use Rattle.aadl_tree.specs.Offsets.{primary_at, factor_at, term_at, sum_at, relation_at, expression_at};
-ghost use Rattle.aadl_tree.specs.proof.Maps.{kept_place};
+ghost use Rattle.aadl_tree.specs.ExpressionOffsets.{primary_at, factor_at, term_at, sum_at, relation_at, expression_at};
+ghost use Rattle.aadl_tree.specs.proof.PlaceMaps.{kept_place};
 
 use crate::expressions::{Expression, Factor, Primary, Relation, Sum, Term};
 

@@ -1,9 +1,9 @@
 //! The tree of a whole text.
 ghost use Rattle.std.specs.Prelude.{map};
-ghost use Rattle.aadl_tree.specs.proof.Given.{IsGiven};
+ghost use Rattle.aadl_tree.specs.proof.GrammarTrees.{IsGiven};
 ghost use Rattle.aadl_tree.specs.proof.NameViews.{name_view};
-ghost use Rattle.aadl_tree.specs.proof.Views.{with_view, declaration_view};
-ghost use Rattle.aadl_tree.specs.proof.Maps.{kept_place};
+ghost use Rattle.aadl_tree.specs.proof.DeclarationViews.{with_view, declaration_view};
+ghost use Rattle.aadl_tree.specs.proof.PlaceMaps.{kept_place};
 
 use crate::declarations::{Declaration, With};
 use crate::names::Name;

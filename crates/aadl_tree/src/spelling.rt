@@ -4,7 +4,7 @@ ghost use Rattle.std.specs.List.{find};
 ghost use Rattle.std.specs.Str.{bytes_eq, str_eq_ignore_ascii_case};
 ghost use Rattle.aadl_tree.specs.Marks as spec;
 ghost use Rattle.aadl_tree.specs.Marks.{mark_text};
-ghost use Rattle.aadl_tree.specs.proof.Beginnings.{keywords_from, symbols_from};
+ghost use Rattle.aadl_tree.specs.proof.MarkBeginnings.{keywords_from, symbols_from};
 
 use crate::mark::Mark;
 
@@ -132,7 +132,7 @@ impl Mark {
 }
 
 /// The first of the keywords that a word is, whatever the case of its letters.
-#[tactic(auto, using(crate::proofs::Finds::find_step))]
+#[tactic(auto, using(crate::proofs::ListSearch::find_step))]
 fn spelled_as(marks: &[Mark], word: &[u8]) -> Option<Mark>
     ensures { result ≡ find (λ m. str_eq_ignore_ascii_case word.now (mark_text m)) marks.now }
 {
@@ -145,7 +145,7 @@ fn spelled_as(marks: &[Mark], word: &[u8]) -> Option<Mark>
 }
 
 /// The first of the symbols that the bytes are.
-#[tactic(auto, using(crate::proofs::Finds::find_step))]
+#[tactic(auto, using(crate::proofs::ListSearch::find_step))]
 fn written_as(marks: &[Mark], bytes: &[u8]) -> Option<Mark>
     ensures { result ≡ find (λ m. bytes_eq bytes.now (mark_text m)) marks.now }
 {
@@ -158,7 +158,7 @@ fn written_as(marks: &[Mark], bytes: &[u8]) -> Option<Mark>
 }
 
 /// The keywords outside of behaviour annexes that begin with a small letter.
-#[tactic(auto, unfolding(crate::specs::proof::Beginnings::keywords_from))]
+#[tactic(auto, unfolding(crate::specs::proof::MarkBeginnings::keywords_from))]
 fn keywords_outside(letter: u8) -> &'static [Mark]
     ensures { result.now ≡ keywords_from false letter }
 {
@@ -187,7 +187,7 @@ fn keywords_outside(letter: u8) -> &'static [Mark]
 }
 
 /// The keywords inside behaviour annexes that begin with a small letter.
-#[tactic(auto, unfolding(crate::specs::proof::Beginnings::keywords_from))]
+#[tactic(auto, unfolding(crate::specs::proof::MarkBeginnings::keywords_from))]
 fn keywords_inside(letter: u8) -> &'static [Mark]
     ensures { result.now ≡ keywords_from true letter }
 {
@@ -211,7 +211,7 @@ fn keywords_inside(letter: u8) -> &'static [Mark]
 }
 
 /// The symbols that begin with a byte.
-#[tactic(auto, unfolding(crate::specs::proof::Beginnings::symbols_from))]
+#[tactic(auto, unfolding(crate::specs::proof::MarkBeginnings::symbols_from))]
 fn symbols_from(byte: u8) -> &'static [Mark]
     ensures { result.now ≡ symbols_from byte }
 {

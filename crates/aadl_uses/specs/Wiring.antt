@@ -1,7 +1,7 @@
 -- What the connections of a package join: ports by their numbers, where the ends are declared.
 use Rattle.std.specs.Prelude.{ℕ, List, [], map, Option, Some, None}
 use Rattle.aadl_tree.specs.Declarations.{Connection, Implementation, PackageTree}
-use Rattle.aadl_names.specs.Resolving.{implementation_at, site}
+use Rattle.aadl_names.specs.ReferenceResolution.{implementation_at, site}
 use Rattle.aadl_uses.specs.declared.connections.Wire.{Wire}
 
 abbrev pub wire_of : PackageTree ℕ → Implementation ℕ → Connection ℕ → Wire

@@ -1,14 +1,14 @@
 -- What the theorem of the program does not rest on: definitions of contracts below it, of laws, and of proofs.
-pub mod Graphs
-pub mod Suspects
-pub mod Orders
-pub mod Counts
-pub mod Paths
-pub mod Weights
-pub mod Uses
-pub mod Threads
+pub mod ContainmentGraphs
+pub mod RecursionSuspects
+pub mod ContainmentOrders
+pub mod MarkedCounts
+pub mod MarkedPaths
+pub mod PathWeights
+pub mod PackageContainment
+pub mod ThreadCounts
 pub mod Recursion
-pub mod Types
+pub mod ImplementationTypes
 pub mod PortNumbers
 pub mod FirstConnections
-pub mod Wiring
+pub mod DeclarationWires

@@ -1,6 +1,6 @@
 //! What stands below a declaration.
 ghost use Rattle.std.specs.Prelude.{◌<◌, ◌↔◌, ℕ, length, IfOk, OnOk, Contains};
-ghost use Rattle.aadl_uses.specs.proof.Graphs.{AreAdded, IsReached, IsWithin};
+ghost use Rattle.aadl_uses.specs.proof.ContainmentGraphs.{AreAdded, IsReached, IsWithin};
 
 use crate::graph::Containment;
 use indexmap::IndexSet;

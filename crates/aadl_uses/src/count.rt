@@ -1,8 +1,8 @@
 //! How many marked declarations there are below others, counted up to a limit on declarations alone.
 ghost use Rattle.std.specs.Prelude.{◌≡◌, ◌+◌, ◌<◌, ℕ, min, length, slice_index, slice_index_or, slice_set, false, IfOk};
-ghost use Rattle.aadl_uses.specs.proof.Counts as spec;
-ghost use Rattle.aadl_uses.specs.proof.Counts.{AreCounted, Counted};
-ghost use Rattle.aadl_uses.specs.proof.Orders.{IsOrder};
+ghost use Rattle.aadl_uses.specs.proof.MarkedCounts as spec;
+ghost use Rattle.aadl_uses.specs.proof.MarkedCounts.{AreCounted, Counted};
+ghost use Rattle.aadl_uses.specs.proof.ContainmentOrders.{IsOrder};
 
 use crate::graph::Containment;
 use indexmap::IndexSet;

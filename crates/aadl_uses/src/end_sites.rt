@@ -1,12 +1,12 @@
 //! The ports that ends of connections name.
 ghost use Rattle.std.specs.Prelude.{◌≡◌, ℕ, IfOk, Some, option_map, string_bytes};
 ghost use Rattle.std.specs.Option.{option_and_then};
-ghost use Rattle.aadl_tree.specs.proof.Views.{end_view};
-ghost use Rattle.aadl_tree.specs.proof.Maps.{kept_place};
+ghost use Rattle.aadl_tree.specs.proof.DeclarationViews.{end_view};
+ghost use Rattle.aadl_tree.specs.proof.PlaceMaps.{kept_place};
 ghost use Rattle.aadl_tree.specs.proof.PackageViews.{placed};
 ghost use Rattle.aadl_tree.specs.Declarations.{Implementation};
 ghost use Rattle.aadl_names.specs.declared.site.PortPlace.TheVariants.{Own, Inner};
-ghost use Rattle.aadl_names.specs.Resolving.{implementation_at, port_named, ports_at, site};
+ghost use Rattle.aadl_names.specs.ReferenceResolution.{implementation_at, port_named, ports_at, site};
 ghost use Rattle.aadl_uses.specs.Uses.{below};
 
 use crate::uses::Uses;

@@ -12,7 +12,7 @@ pub struct Containment {
 
 impl Model for Containment {
     ghost use Rattle.std.specs.Prelude.{map};
-    ghost use Rattle.aadl_uses.specs.proof.Graphs.{Graph};
+    ghost use Rattle.aadl_uses.specs.proof.ContainmentGraphs.{Graph};
 
     ghost Value = { Graph };
 
@@ -21,7 +21,7 @@ impl Model for Containment {
 
 impl Containment {
     ghost use Rattle.std.specs.Prelude.{◌≡◌, ◌++◌, ◌∷◌, [], length, OnOk, OnErr};
-    ghost use Rattle.aadl_uses.specs.proof.Graphs as spec;
+    ghost use Rattle.aadl_uses.specs.proof.ContainmentGraphs as spec;
 
     /// The containment of no declarations. It takes no memory.
     pub fn new(alloc: Global) -> Containment

@@ -1,9 +1,9 @@
 //! How heavy the heaviest paths to marked declarations are.
 ghost use Rattle.std.specs.Prelude.{◌≡◌, ◌+◌, ◌<◌, ◌++◌, ◌∷◌, [], ℕ, None, false, length, map, min, option_map};
 ghost use Rattle.std.specs.Prelude.{slice_index_or, slice_set, IfOk, OnOk};
-ghost use Rattle.aadl_uses.specs.proof.Orders.{IsOrder};
-ghost use Rattle.aadl_uses.specs.proof.Weights as spec;
-ghost use Rattle.aadl_uses.specs.proof.Weights.{IsHeaviest, AreWeighed};
+ghost use Rattle.aadl_uses.specs.proof.ContainmentOrders.{IsOrder};
+ghost use Rattle.aadl_uses.specs.proof.PathWeights as spec;
+ghost use Rattle.aadl_uses.specs.proof.PathWeights.{IsHeaviest, AreWeighed};
 
 use crate::Containment;
 use crate::count::add_up_to;

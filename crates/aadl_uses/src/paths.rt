@@ -1,11 +1,11 @@
 //! The paths to marked declarations below others.
 ghost use Rattle.std.specs.Prelude.{◌≡◌, ◌<◌, ◌++◌, ◌∷◌, [], ℕ, false, length, map, slice_index_or, slice_set};
 ghost use Rattle.std.specs.Prelude.{Contains, IfOk, OnOk};
-ghost use Rattle.aadl_uses.specs.proof.Counts.{AreListed, IsMarkedAt, own_paths};
+ghost use Rattle.aadl_uses.specs.proof.MarkedCounts.{AreListed, IsMarkedAt, own_paths};
 ghost use Rattle.aadl_uses.specs.Threads.{path_before};
-ghost use Rattle.aadl_uses.specs.proof.Orders.{IsOrder};
-ghost use Rattle.aadl_uses.specs.proof.Paths as spec;
-ghost use Rattle.aadl_uses.specs.proof.Paths.{IsClosed, AreKnown};
+ghost use Rattle.aadl_uses.specs.proof.ContainmentOrders.{IsOrder};
+ghost use Rattle.aadl_uses.specs.proof.MarkedPaths as spec;
+ghost use Rattle.aadl_uses.specs.proof.MarkedPaths.{IsClosed, AreKnown};
 
 use crate::Containment;
 use indexmap::IndexSet;

@@ -1,7 +1,7 @@
 //! Implementations that contain themselves.
 ghost use Rattle.std.specs.Prelude.{◌≡◌, IfOk};
 ghost use Rattle.aadl_tree.specs.proof.PackageViews.{placed};
-ghost use Rattle.aadl_uses.specs.proof.Uses.{FirstIn};
+ghost use Rattle.aadl_uses.specs.proof.PackageContainment.{FirstIn};
 ghost use Rattle.aadl_uses.specs.Uses.{IsRecursive};
 ghost use Rattle.aadl_uses.specs.proof.Recursion.{is_sooner, IsFirstOf, IsSooner};
 

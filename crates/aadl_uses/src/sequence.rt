@@ -1,9 +1,9 @@
 //! Declarations in an order in which each stands behind those that it contains.
 ghost use Rattle.std.specs.Prelude.{◌≡◌, ℕ, length, IfOk, OnOk};
 ghost use Rattle.std.specs.List.{list_all};
-ghost use Rattle.aadl_uses.specs.proof.Graphs.{IsWithin, LeadsBack};
-ghost use Rattle.aadl_uses.specs.proof.Orders as spec;
-ghost use Rattle.aadl_uses.specs.proof.Orders.{IsOrder, IsPlaced, ArePlaced};
+ghost use Rattle.aadl_uses.specs.proof.ContainmentGraphs.{IsWithin, LeadsBack};
+ghost use Rattle.aadl_uses.specs.proof.ContainmentOrders as spec;
+ghost use Rattle.aadl_uses.specs.proof.ContainmentOrders.{IsOrder, IsPlaced, ArePlaced};
 
 use crate::graph::Containment;
 use crate::levels::finished;

@@ -1,9 +1,9 @@
 //! Subcomponents that lead back to where they stand.
 ghost use Rattle.std.specs.Prelude.{◌≡◌, ◌<◌, ◌↔◌, ℕ, length, false, true, IsTrue, IfOk, OnOk, Contains};
 ghost use Rattle.std.specs.List.{list_any};
-ghost use Rattle.aadl_uses.specs.proof.Graphs.{targets_in, IsWithin, LeadsBack};
-ghost use Rattle.aadl_uses.specs.proof.Suspects as spec;
-ghost use Rattle.aadl_uses.specs.proof.Suspects.{AreSuspected};
+ghost use Rattle.aadl_uses.specs.proof.ContainmentGraphs.{targets_in, IsWithin, LeadsBack};
+ghost use Rattle.aadl_uses.specs.proof.RecursionSuspects as spec;
+ghost use Rattle.aadl_uses.specs.proof.RecursionSuspects.{AreSuspected};
 
 use crate::below::reached;
 use crate::graph::Containment;

@@ -2,10 +2,10 @@
 ghost use Rattle.std.specs.Prelude.{◌<◌, ◌↔◌, ℕ, Contains, IfOk, length, map, reverse};
 ghost use Rattle.aadl_tree.specs.proof.PackageViews.{placed};
 ghost use Rattle.aadl_uses.specs.Uses.{IsInUse};
-ghost use Rattle.aadl_uses.specs.proof.Uses.{containment};
+ghost use Rattle.aadl_uses.specs.proof.PackageContainment.{containment};
 ghost use Rattle.aadl_uses.specs.Threads.{Lists, IsThreadAt, PathBefore};
-ghost use Rattle.aadl_uses.specs.proof.Orders.{IsOrder};
-ghost use Rattle.aadl_uses.specs.proof.Paths.{paths_from};
+ghost use Rattle.aadl_uses.specs.proof.ContainmentOrders.{IsOrder};
+ghost use Rattle.aadl_uses.specs.proof.MarkedPaths.{paths_from};
 
 use crate::{Paths, Uses, paths_below};
 use indexmap::IndexSet;

@@ -1,9 +1,9 @@
 //! The types of the implementations of a package.
 ghost use Rattle.std.specs.Prelude.{◌≡◌, IfOk, map};
 ghost use Rattle.aadl_tree.specs.proof.PackageViews.{placed};
-ghost use Rattle.aadl_tree.specs.proof.Views.{declaration_view};
-ghost use Rattle.aadl_tree.specs.proof.Maps.{kept_place};
-ghost use Rattle.aadl_uses.specs.proof.Types.{type_in};
+ghost use Rattle.aadl_tree.specs.proof.DeclarationViews.{declaration_view};
+ghost use Rattle.aadl_tree.specs.proof.PlaceMaps.{kept_place};
+ghost use Rattle.aadl_uses.specs.proof.ImplementationTypes.{type_in};
 
 use aadl_names::Names;
 use aadl_names::connection_ends::type_number;

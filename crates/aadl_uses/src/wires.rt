@@ -2,14 +2,14 @@
 ghost use Rattle.std.specs.Prelude.{◌≡◌, ◌↔◌, IfOk, IsTrue, map, option_map, option_copied, slice_get};
 ghost use Rattle.std.proofs.Props.{props};
 ghost use Rattle.aadl_tree.specs.proof.PackageViews.{placed};
-ghost use Rattle.aadl_tree.specs.proof.Views.{connection_view};
-ghost use Rattle.aadl_tree.specs.proof.Maps.{kept_place};
-ghost use Rattle.aadl_names.specs.Resolving.{implementation_at, connections_of, ports_at, direction_in};
+ghost use Rattle.aadl_tree.specs.proof.DeclarationViews.{connection_view};
+ghost use Rattle.aadl_tree.specs.proof.PlaceMaps.{kept_place};
+ghost use Rattle.aadl_names.specs.ReferenceResolution.{implementation_at, connections_of, ports_at, direction_in};
 ghost use Rattle.aadl_names.specs.PackageFaults as faults;
 ghost use Rattle.aadl_uses.specs.FirstConnections.{IsSecond};
-ghost use Rattle.aadl_uses.specs.proof.Wiring.{wires_in};
+ghost use Rattle.aadl_uses.specs.proof.DeclarationWires.{wires_in};
 ghost use Rattle.aadl_uses.specs.Wiring.{wires_at};
-ghost use Rattle.aadl_uses.specs.proof.Wiring as spec;
+ghost use Rattle.aadl_uses.specs.proof.DeclarationWires as spec;
 
 use crate::connections::{Connections, Wire};
 use crate::uses::Uses;

@@ -1,12 +1,12 @@
 //! What the connections of a package join.
 ghost use Rattle.std.specs.Prelude.{◌≡◌, ℕ, Some, IfOk, map, slice_get};
 ghost use Rattle.aadl_tree.specs.proof.PackageViews.{placed};
-ghost use Rattle.aadl_tree.specs.proof.Views.{declaration_view, connection_view};
-ghost use Rattle.aadl_tree.specs.proof.Maps.{kept_place};
+ghost use Rattle.aadl_tree.specs.proof.DeclarationViews.{declaration_view, connection_view};
+ghost use Rattle.aadl_tree.specs.proof.PlaceMaps.{kept_place};
 ghost use Rattle.aadl_tree.specs.Declarations.{Implementation};
-ghost use Rattle.aadl_names.specs.Resolving.{implementation_at};
+ghost use Rattle.aadl_names.specs.ReferenceResolution.{implementation_at};
 ghost use Rattle.aadl_uses.specs.Wiring as spec;
-ghost use Rattle.aadl_uses.specs.proof.Wiring.{wires_in};
+ghost use Rattle.aadl_uses.specs.proof.DeclarationWires.{wires_in};
 
 use crate::connections::{Connections, Wire};
 use crate::end_sites::site_of;

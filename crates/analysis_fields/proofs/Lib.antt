@@ -1,4 +1,4 @@
-pub mod FaultFacts
+pub mod ReplicaFaultFacts
 pub mod FaultPlaces
-pub mod FormulaSteps
+pub mod FormulaLevels
 pub mod ProcessorFacts

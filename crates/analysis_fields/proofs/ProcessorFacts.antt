@@ -17,15 +17,16 @@ use Rattle.pals_base.specs.Names.{is_word}
 use Rattle.pals_base.specs.declared.limits.TheConstants.{HOUR}
 use Rattle.pals_base.specs.declared.values.NodeNo.{NodeNo}
 use Rattle.pals_model.specs.declared.design.DesignParts.{DesignParts}
-use Rattle.pals_model.specs.LinkNames.{node_named}
+use Rattle.pals_model.specs.NamesInTexts.{node_named}
 use Rattle.scenario_values.specs.declared.fault.ScenarioFault.{ScenarioFault}
 use Rattle.scenario_values.specs.declared.fault.ScenarioFault.TheVariants.{Unknown, OutOfRange}
 use Rattle.scenario_values.specs.Outcomes.{◌>>=◌, only_if, through}
 use Rattle.scenario_values.specs.FaultPlaces.{inside}
-use Rattle.scenario_values.specs.Values.{entries, text, whole}
-use Rattle.scenario_values.proofs.PassedValues.{ok_same, ok_bind, ok_given, ok_only_if, through_keeps, whole_within}
-use Rattle.scenario_values.specs.Names.{node_no, node_at}
-use Rattle.scenario_values.proofs.Search.{within}
+use Rattle.scenario_values.specs.FieldValues.{entries, text, whole}
+use Rattle.scenario_values.proofs.SuccessfulOutcomes.{ok_same, ok_bind, ok_given, ok_only_if, through_keeps}
+use Rattle.scenario_values.proofs.SuccessfulOutcomes.{whole_within}
+use Rattle.scenario_values.specs.NameLookup.{node_no, node_at}
+use Rattle.scenario_values.proofs.NameSearch.{within}
 use Rattle.analysis_fields.specs.proof.AnalysisFacts.{IsProcessorOf}
 use Rattle.analysis_fields.specs.declared.limits.TheConstants.{PROCESSORS}
 use Rattle.analysis_fields.specs.declared.processors.Processor.{Processor}

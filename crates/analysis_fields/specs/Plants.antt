@@ -6,15 +6,15 @@ use Rattle.serde_json.specs.Data.{Data}
 use Rattle.serde_json.specs.Find.{as_str}
 use Rattle.pals_model.specs.declared.design.Link.{Link}
 use Rattle.pals_model.specs.declared.design.DesignParts.{DesignParts}
-use Rattle.pals_model.specs.Inputs.{rate_of}
-use Rattle.pals_model.specs.LinkNames.{node_named}
+use Rattle.pals_model.specs.ComponentInputs.{rate_of}
+use Rattle.pals_model.specs.NamesInTexts.{node_named}
 use Rattle.pals_runs.specs.declared.pairs.Pair.{Pair}
 use Rattle.scenario_values.specs.declared.fault.ScenarioFault.{ScenarioFault}
 use Rattle.scenario_values.specs.declared.fault.ScenarioFault.TheVariants.{OutOfRange}
 use Rattle.scenario_values.specs.Outcomes.{◌>>=◌, only_if, through}
 use Rattle.scenario_values.specs.FaultPlaces.{inside}
-use Rattle.scenario_values.specs.Values.{entries, text}
-use Rattle.scenario_values.specs.Names.{node_no, node_at}
+use Rattle.scenario_values.specs.FieldValues.{entries, text}
+use Rattle.scenario_values.specs.NameLookup.{node_no, node_at}
 use Rattle.analysis_fields.specs.declared.plants.NamedPair.{NamedPair}
 
 abbrev pub pair : ℕ → ℕ → Pair

@@ -16,8 +16,8 @@ use Rattle.analysis_fields.specs.declared.limits.TheConstants.{PROCESSORS}
 use Rattle.analysis_fields.specs.declared.processors.Processor.{Processor}
 use Rattle.scenario_values.specs.Outcomes.{◌>>=◌, given, only_if, through}
 use Rattle.scenario_values.specs.FaultPlaces.{inside}
-use Rattle.scenario_values.specs.Values.{elements, entries, text, whole, is_whole}
-use Rattle.scenario_values.specs.Names.{node_no, node_at}
+use Rattle.scenario_values.specs.FieldValues.{elements, entries, text, whole, is_whole}
+use Rattle.scenario_values.specs.NameLookup.{node_no, node_at}
 
 -- For each component the number of its processor, from 1, and 0 where it stands on none.
 

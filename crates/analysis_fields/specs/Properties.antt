@@ -19,8 +19,8 @@ use Rattle.analysis_fields.specs.declared.limits.TheConstants.{PROPERTIES, FORMS
 use Rattle.scenario_values.specs.Outcomes.{◌>>=◌, given, only_if, through}
 use Rattle.scenario_values.specs.FaultPlaces.{inside}
 use Rattle.analysis_fields.specs.PropertyValues.{PropertyValue}
-use Rattle.scenario_values.specs.Values.{values_in, elements, entries, text, number, is_whole}
-use Rattle.scenario_values.specs.Names.{node_at}
+use Rattle.scenario_values.specs.FieldValues.{values_in, elements, entries, text, number, is_whole}
+use Rattle.scenario_values.specs.NameLookup.{node_at}
 use Rattle.analysis_fields.specs.declared.formulas.FormulaWord.TheVariants as role
 
 -- ---- words

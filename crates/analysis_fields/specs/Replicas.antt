@@ -11,8 +11,8 @@ use Rattle.pals_base.specs.declared.values.PortValue.{PortValue}
 use Rattle.pals_base.specs.declared.limits.TheConstants.{ROUNDS}
 use Rattle.pals_model.specs.declared.design.Link.{Link}
 use Rattle.pals_model.specs.declared.design.DesignParts.{DesignParts}
-use Rattle.pals_model.specs.Inputs.{rate_of}
-use Rattle.pals_model.specs.Ports.{out_kind}
+use Rattle.pals_model.specs.ComponentInputs.{rate_of}
+use Rattle.pals_model.specs.PortKinds.{out_kind}
 use Rattle.scenario_values.specs.declared.fault.ScenarioFault.{ScenarioFault}
 use Rattle.scenario_values.specs.declared.fault.ScenarioFault.TheVariants.{WrongKind, Unknown, OutOfRange}
 use Rattle.analysis_fields.specs.declared.faults.FaultEnds.{FaultEnds}
@@ -21,8 +21,8 @@ use Rattle.analysis_fields.specs.declared.faults.RoundFault.{RoundFault}
 use Rattle.analysis_fields.specs.declared.limits.TheConstants.{REPLICAS}
 use Rattle.scenario_values.specs.Outcomes.{◌>>=◌, only_if, through}
 use Rattle.scenario_values.specs.FaultPlaces.{inside}
-use Rattle.scenario_values.specs.Values.{elements, text, whole, is_whole, port_value}
-use Rattle.scenario_values.specs.Names.{node_no, link_no, node_at, link_at}
+use Rattle.scenario_values.specs.FieldValues.{elements, text, whole, is_whole, port_value}
+use Rattle.scenario_values.specs.NameLookup.{node_no, link_no, node_at, link_at}
 
 -- ---- replicas
 abbrev pub is_among : List NodeNo → ℕ → Bool

@@ -5,7 +5,7 @@ ghost use Rattle.serde_json.specs.View.{view};
 ghost use Rattle.pals_base.specs.declared.limits.TheConstants.{COMPONENTS};
 ghost use Rattle.scenario_values.specs.Outcomes.{Answers, Makes, Shows, through};
 ghost use Rattle.scenario_values.specs.FaultPlaces.{place_text};
-ghost use Rattle.scenario_values.specs.Values.{entry_of};
+ghost use Rattle.scenario_values.specs.FieldValues.{entry_of};
 ghost use Rattle.analysis_fields.specs.Processors.{with_member, with_members, nodes_of, is_text, processor_parts};
 ghost use Rattle.analysis_fields.specs.Processors.{processor_in, with_processor, nowhere, processors_in};
 

@@ -4,7 +4,7 @@ ghost use Rattle.std.specs.List.{list_all};
 ghost use Rattle.serde_json.specs.View.{view};
 ghost use Rattle.pals_base.specs.Names.{is_word};
 ghost use Rattle.scenario_values.specs.Outcomes.{Answers};
-ghost use Rattle.scenario_values.specs.Values.{entry_of};
+ghost use Rattle.scenario_values.specs.FieldValues.{entry_of};
 ghost use Rattle.analysis_fields.specs.Properties.{property_in, properties_in};
 
 use crate::formulas::{formula_in, is_small};
@@ -34,7 +34,7 @@ impl Drop for Property {
 
 impl Model for Property {
     ghost use Rattle.analysis_fields.specs.PropertyValues.{PropertyValue};
-    ghost use Rattle.analysis_fields.specs.proof.PropertyValues.{property_code};
+    ghost use Rattle.analysis_fields.specs.proof.PropertyCodes.{property_code};
 
     ghost Value = { PropertyValue };
 

@@ -3,17 +3,17 @@ use Rattle.std.proofs.Common.{◌≡◌, ◌∙◌, ◌++◌, ℕ, suc, ◌+◌,
 use Rattle.pals_base.specs.declared.values.PortValue.{PortValue}
 use Rattle.pals_model.specs.declared.design.DesignParts.{DesignParts}
 use Rattle.pals_model.specs.declared.rounds.Env.{Env}
-use Rattle.pals_model.specs.Inputs.{values_at}
+use Rattle.pals_model.specs.ComponentInputs.{values_at}
 use Rattle.pals_model.specs.Rules.{IsDesign}
 use Rattle.pals_model.specs.RoundTexts.{text_of, row_lines}
 use Rattle.pals_runs.specs.declared.pairs.Pair.{Pair}
-use Rattle.plant_fuse.specs.proof.Ends.{IsFirstBad}
-use Rattle.plant_fuse.specs.Fused.{ArePairs, Inputs, IsFused}
+use Rattle.plant_fuse.specs.proof.Fusibility.{IsFirstBad}
+use Rattle.plant_fuse.specs.FusedComposition.{ArePairs, Inputs, IsFused}
 use Rattle.plant_fuse.specs.proof.State.{FuseState, begun, IsAdvanced}
 use Rattle.plant_fuse.specs.FusedText.{freport, IsFusedReport}
 use Rattle.plant_fuse.proofs.Solutions.{solution_exists}
-use Rattle.plant_fuse.proofs.FollowingStates.{StandsAt, begins, stands_next, leaves_parts}
-use Rattle.plant_fuse.proofs.Partnering.{pair_at, others_apart}
+use Rattle.plant_fuse.proofs.StateSolutions.{StandsAt, begins, stands_next, leaves_parts}
+use Rattle.plant_fuse.proofs.ComponentPairs.{pair_at, others_apart}
 use Rattle.plant_fuse.proofs.Reports.{reported_more}
 
 -- the product stands at the round, and the text has the rows before it

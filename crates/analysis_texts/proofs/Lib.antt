@@ -1,8 +1,8 @@
-pub mod Rounds
-pub mod Blocks
-pub mod WatchedLines
-pub mod Filing
+pub mod RoundRows
+pub mod LineBlocks
+pub mod WatchedRounds
+pub mod FilledTables
 pub mod VotedRows
 pub mod VotedFaults
 pub mod FusedRows
-pub mod Outvoted
+pub mod OutvotedFaults

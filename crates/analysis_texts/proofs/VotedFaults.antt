@@ -3,7 +3,7 @@ use Rattle.std.proofs.Common.{◌≡◌, ◌∙◌, ℕ, ◌<◌, nat_eq, Bool, 
 use Rattle.std.proofs.Common.{None, filter, slice_get, refl, sym, subst, arith}
 use Rattle.std.proofs.lemmas.List.Elements.{All-nil, All-cons, All-head, All-tail, All-same, All-from_get_or}
 use Rattle.pals_base.specs.declared.values.NodeNo.{NodeNo}
-use Rattle.pals_base.specs.Steps.{upwards}
+use Rattle.pals_base.specs.StepSequences.{upwards}
 use Rattle.pals_model.specs.declared.design.Link.{Link}
 use Rattle.pals_model.specs.declared.design.DesignParts.{DesignParts}
 use Rattle.pals_runs.specs.declared.pairs.VoteFault.{VoteFault}
@@ -12,9 +12,9 @@ use Rattle.analysis_fields.specs.proof.AnalysisFacts.{IsFaultOf}
 use Rattle.analysis_fields.specs.Replicas.{source_in as named_source}
 use Rattle.triple_vote.specs.Replicas.{source_in}
 use Rattle.triple_vote.specs.proof.VoteLaws.{IsFault}
-use Rattle.triple_vote.proofs.Tables.{table-at}
-use Rattle.analysis_texts.specs.Voted.{faults_of}
-use Rattle.analysis_texts.proofs.Filing.{length-table}
+use Rattle.triple_vote.proofs.NumberedLists.{table-at}
+use Rattle.analysis_texts.specs.VotedReplicas.{faults_of}
+use Rattle.analysis_texts.proofs.FilledTables.{length-table}
 
 same_source : (o : Option Link) → source_in o ≡ named_source o
 same_source None = refl

@@ -1,4 +1,4 @@
-pub mod Budgeted
-pub mod Voted
-pub mod Watched
+pub mod BudgetedProcessors
+pub mod VotedReplicas
+pub mod WatchedProperties
 pub mod proof

@@ -1,8 +1,8 @@
 //! The faults of replicas, round by round.
 ghost use Rattle.std.specs.Prelude.{◌≡◌, [], map, IfOk, OnOk};
-ghost use Rattle.pals_base.specs.Steps.{upwards};
-ghost use Rattle.analysis_texts.specs.Voted.{faults_of};
-ghost use Rattle.analysis_texts.specs.proof.Voted.{filed};
+ghost use Rattle.pals_base.specs.StepSequences.{upwards};
+ghost use Rattle.analysis_texts.specs.VotedReplicas.{faults_of};
+ghost use Rattle.analysis_texts.specs.proof.ReplicaLines.{filed};
 
 use analysis_fields::RoundFault;
 use pals_base::{Items, NoMemory};

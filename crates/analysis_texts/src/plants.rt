@@ -3,7 +3,7 @@ ghost use Rattle.std.specs.Prelude.{◌≡◌, ◌++◌, [], IfOk, OnOk, slice_g
 ghost use Rattle.pals_model.specs.Rules.{IsDesign};
 ghost use Rattle.pals_model.specs.RoundTexts.{text_of, row_lines, report};
 ghost use Rattle.pals_report.specs.proof.TapPlaces.{tap_places};
-ghost use Rattle.plant_fuse.specs.Fused.{ArePairs};
+ghost use Rattle.plant_fuse.specs.FusedComposition.{ArePairs};
 ghost use Rattle.plant_fuse.specs.proof.State.{begun, IsAdvanced};
 ghost use Rattle.plant_fuse.specs.FusedText.{IsFusedReport};
 

@@ -3,8 +3,8 @@ ghost use Rattle.std.specs.Prelude.{◌≡◌, ◌++◌, All, length, map, IfOk,
 ghost use Rattle.pals_model.specs.RoundTexts.{text_of, line_end};
 ghost use Rattle.analysis_fields.specs.proof.AnalysisFacts.{IsProcessorOf};
 ghost use Rattle.round_budget.specs.BudgetText.{fits_on, processor_lines, slot_line, some_is_over, budget_text};
-ghost use Rattle.round_budget.specs.proof.Values.{line_value};
-ghost use Rattle.analysis_texts.specs.Budgeted.{processor_of, sum_line};
+ghost use Rattle.round_budget.specs.proof.ReleaseValues.{line_value};
+ghost use Rattle.analysis_texts.specs.BudgetedProcessors.{processor_of, sum_line};
 
 use analysis_fields::Processor;
 use pals_base::{Nanos, NoMemory};

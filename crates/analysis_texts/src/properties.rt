@@ -3,14 +3,14 @@ ghost use Rattle.std.specs.Prelude.{◌≡◌, ◌++◌, [], ◌+◌, ◌<◌, L
 ghost use Rattle.pals_base.specs.declared.values.Frame.{Frame};
 ghost use Rattle.pals_model.specs.declared.rounds.Env.{Env};
 ghost use Rattle.pals_model.specs.Composition.{comp};
-ghost use Rattle.pals_model.specs.Inputs.{values_at};
+ghost use Rattle.pals_model.specs.ComponentInputs.{values_at};
 ghost use Rattle.pals_model.specs.RoundTexts.{text_of, line_end};
 ghost use Rattle.run_monitor.specs.Violations.{history, verdicts, is_violated};
 ghost use Rattle.run_monitor.specs.WatchText.{names_of, verdict_line, watched_lines, violation_text, last_line};
 ghost use Rattle.run_monitor.specs.WatchText.{watch_text};
 ghost use Rattle.pals_runs.specs.Formula.{Formula};
-ghost use Rattle.run_monitor.specs.proof.MonitorStates.{said_by, HasWatched, WatchesRound};
-ghost use Rattle.analysis_texts.specs.Watched.{named, formulas};
+ghost use Rattle.run_monitor.specs.proof.SeveralMonitors.{said_by, HasWatched, WatchesRound};
+ghost use Rattle.analysis_texts.specs.WatchedProperties.{named, formulas};
 
 use analysis_fields::Property;
 use pals_base::{NoMemory, PortValue};

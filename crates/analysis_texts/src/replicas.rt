@@ -1,6 +1,6 @@
 //! The rounds of a design in which some components have replicas.
 ghost use Rattle.std.specs.Prelude.{◌≡◌, ◌++◌, ◌<◌, ◌^◌, ℕ, List, [], All, length, map, IfOk, OnOk};
-ghost use Rattle.pals_base.specs.Steps.{upwards};
+ghost use Rattle.pals_base.specs.StepSequences.{upwards};
 ghost use Rattle.pals_base.specs.declared.values.PortValue.{PortValue};
 ghost use Rattle.pals_model.specs.declared.design.Tap.{Tap};
 ghost use Rattle.pals_model.specs.Rules.{IsDesign};
@@ -9,11 +9,11 @@ ghost use Rattle.pals_runs.specs.declared.pairs.VoteFault.{VoteFault};
 ghost use Rattle.analysis_fields.specs.proof.AnalysisFacts.{IsFaultOf};
 ghost use Rattle.triple_vote.specs.proof.VoteLaws.{IsFault};
 ghost use Rattle.triple_vote.specs.Replicas.{is_replicated, frame_at, vopening};
-ghost use Rattle.triple_vote.specs.proof.States.{vbegun};
+ghost use Rattle.triple_vote.specs.proof.VotedStates.{vbegun};
 ghost use Rattle.triple_vote.specs.VotedText.{replica_lines, shown_line, vrow_lines, vreport, thrice};
-ghost use Rattle.triple_vote.specs.Outvoted.{AreOutvoted};
-ghost use Rattle.analysis_texts.specs.Voted.{replicated_in, faults_of};
-ghost use Rattle.analysis_texts.specs.proof.Voted.{names_of, all_names, all_lines};
+ghost use Rattle.triple_vote.specs.OutvotedFaults.{AreOutvoted};
+ghost use Rattle.analysis_texts.specs.VotedReplicas.{replicated_in, faults_of};
+ghost use Rattle.analysis_texts.specs.proof.ReplicaLines.{names_of, all_names, all_lines};
 
 use crate::faults::by_round;
 use crate::names::{replica_names, replicated};

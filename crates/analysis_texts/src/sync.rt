@@ -2,7 +2,7 @@
 ghost use Rattle.std.specs.Prelude.{◌≡◌, ◌+◌, ◌++◌, IfOk, OnOk};
 ghost use Rattle.pals_model.specs.declared.rounds.Env.{Env};
 ghost use Rattle.pals_model.specs.Composition.{comp};
-ghost use Rattle.pals_model.specs.Inputs.{values_at};
+ghost use Rattle.pals_model.specs.ComponentInputs.{values_at};
 ghost use Rattle.pals_model.specs.RoundTexts.{report, row};
 ghost use Rattle.pals_report.specs.proof.TapPlaces.{tap_places};
 

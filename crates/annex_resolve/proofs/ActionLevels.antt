@@ -7,9 +7,9 @@ use Rattle.std.proofs.lemmas.List.{append-nil}
 use Rattle.pals_base.specs.declared.behaviour.Kind.{Kind}
 use Rattle.pals_base.specs.declared.behaviour.Act.{Act}
 use Rattle.pals_base.specs.declared.behaviour.Branch.{Branch}
-use Rattle.pals_base.specs.Tree as plain
+use Rattle.pals_base.specs.PlainTrees as plain
 use Rattle.pals_base.specs.Kinds as base
-use Rattle.pals_base.specs.proof.Seen.{tree_of, action_of as act_tree, actions_along, branches_along}
+use Rattle.pals_base.specs.proof.SourceTrees.{tree_of, action_of as act_tree, actions_along, branches_along}
 use Rattle.aadl_tree.specs.declared.actions.Bound.{Bound}
 use Rattle.aadl_tree.specs.declared.actions.Action as source_action
 use Rattle.aadl_tree.specs.declared.actions.Actions as source_actions
@@ -17,7 +17,7 @@ use Rattle.aadl_tree.specs.declared.actions.Elsif as source_elsif
 use Rattle.aadl_tree.specs.Names.{Identifier, Reference}
 use Rattle.aadl_tree.specs.Expressions.{Expression}
 use Rattle.aadl_tree.specs.Actions.{Action, assign, send, choose, loop, Actions, actions, Block}
-use Rattle.aadl_tree.specs.proof.Maps.{kept_place}
+use Rattle.aadl_tree.specs.proof.PlaceMaps.{kept_place}
 use Rattle.aadl_tree.specs.proof.ExpressionViews.{expression_view}
 use Rattle.aadl_tree.specs.proof.ActionViews.{action_view, actions_view, mores_view, elsifs_view}
 use Rattle.aadl_tree.specs.proof.ActionViews.{otherwise_of as listed_otherwise, block_of as listed_block}
@@ -26,14 +26,14 @@ use Rattle.annex_resolve.specs.declared.scope.DeclaredName.{DeclaredName}
 use Rattle.annex_resolve.specs.declared.violation.Violation.{Violation}
 use Rattle.annex_resolve.specs.declared.violation.TheConstants.{BAD_TYPE, LOOP_TOO_LONG}
 use Rattle.annex_resolve.specs.Scopes.{found_if, entry_named, kind_of, may_set, may_send, given_to, with_loop}
-use Rattle.annex_resolve.specs.Types.{whole_types, kind_named}
-use Rattle.annex_resolve.specs.Resolved.{signed, expression_of, action_of, actions_of, mores_of, elsifs_of}
-use Rattle.annex_resolve.specs.Resolved.{otherwise_of, block_of}
-use Rattle.annex_resolve.specs.Actions.{turns, together, is_too_long, is_integer, action_findings, actions_findings}
-use Rattle.annex_resolve.specs.Actions.{mores_findings, branch_findings, elsifs_findings, otherwise_findings}
-use Rattle.annex_resolve.specs.Actions.{block_findings}
-use Rattle.annex_resolve.specs.proof.Reads.{ReadsAction, ReadsActions, ReadsBranch, ReadsBranches}
-use Rattle.annex_resolve.proofs.ReadingSums.{take_next}
+use Rattle.annex_resolve.specs.ExpressionTypes.{whole_types, kind_named}
+use Rattle.annex_resolve.specs.ResolvedTrees.{signed, expression_of, action_of, actions_of, mores_of, elsifs_of}
+use Rattle.annex_resolve.specs.ResolvedTrees.{otherwise_of, block_of}
+use Rattle.annex_resolve.specs.ActionFindings.{turns, together, is_too_long, is_integer, action_findings}
+use Rattle.annex_resolve.specs.ActionFindings.{actions_findings, mores_findings, branch_findings, elsifs_findings}
+use Rattle.annex_resolve.specs.ActionFindings.{otherwise_findings, block_findings}
+use Rattle.annex_resolve.specs.proof.ResolutionResults.{ReadsAction, ReadsActions, ReadsBranch, ReadsBranches}
+use Rattle.annex_resolve.proofs.SumLevels.{take_next}
 
 -- ---- a name that is set or sent
 given_by : (scope : Scope) (x : Identifier ℕ) (value : Expression ℕ) (test : Option DeclaredName → Bool)

@@ -6,9 +6,9 @@ use Rattle.std.specs.Option.{unwrap_or}
 use Rattle.pals_base.specs.declared.behaviour.StateDecl.{StateDecl}
 use Rattle.pals_base.specs.declared.behaviour.BehaviourParts.{BehaviourParts}
 use Rattle.pals_base.specs.declared.behaviour.Kind.TheVariants.{Boolean}
-use Rattle.pals_base.specs.Fire.{is_complete, leaving}
+use Rattle.pals_base.specs.SingleStep.{is_complete, leaving}
 use Rattle.pals_base.specs.Rules.{dispatch_count}
-use Rattle.pals_base.specs.Steps.{upwards}
+use Rattle.pals_base.specs.StepSequences.{upwards}
 use Rattle.aadl_tree.specs.Names.{Identifier, same_name, identifiers, listed_in}
 use Rattle.aadl_tree.specs.Annexes.{StateDeclaration, Guard, dispatch, otherwise, when, Transition, AnnexTree}
 use Rattle.aadl_tree.specs.Actions.{Block}
@@ -22,11 +22,11 @@ use Rattle.annex_resolve.specs.declared.violation.Violation.{Violation}
 use Rattle.annex_resolve.specs.declared.violation.TheConstants.{NO_INITIAL, DISPATCH_COUNT, NO_OTHERWISE}
 use Rattle.annex_resolve.specs.declared.violation.TheConstants.{CYCLE_WITHOUT_COMPLETE}
 use Rattle.annex_resolve.specs.Scopes.{found_if}
-use Rattle.annex_resolve.specs.Types.{whole_types}
-use Rattle.annex_resolve.specs.Resolved.{expression_of, block_of}
-use Rattle.annex_resolve.specs.Actions.{block_findings}
+use Rattle.annex_resolve.specs.ExpressionTypes.{whole_types}
+use Rattle.annex_resolve.specs.ResolvedTrees.{expression_of, block_of}
+use Rattle.annex_resolve.specs.ActionFindings.{block_findings}
 use Rattle.annex_resolve.specs.CycleRules.{is_on_cycle}
-use Rattle.pals_base.specs.Tree as plain
+use Rattle.pals_base.specs.PlainTrees as plain
 
 -- ---- states
 abbrev pub state_at : StateDeclaration ℕ → Identifier ℕ → StateAt

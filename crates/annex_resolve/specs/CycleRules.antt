@@ -2,7 +2,7 @@
 use Rattle.std.specs.Prelude.{ℕ, zero, suc, nat_eq, Bool, not, ◌&&◌, ◌||◌, length}
 use Rattle.std.specs.List.{list_any}
 use Rattle.pals_base.specs.declared.behaviour.BehaviourParts.{BehaviourParts}
-use Rattle.pals_base.specs.Fire.{is_complete, leaving}
+use Rattle.pals_base.specs.SingleStep.{is_complete, leaving}
 
 -- a transition leads from a state that is not complete to another
 abbrev pub leads : BehaviourParts → ℕ → ℕ → Bool

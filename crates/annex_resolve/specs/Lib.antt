@@ -1,7 +1,7 @@
 pub mod Scopes
-pub mod Types
-pub mod Resolved
-pub mod Actions
+pub mod ExpressionTypes
+pub mod ResolvedTrees
+pub mod ActionFindings
 pub mod CycleRules
 pub mod Behaviours
 pub mod proof

@@ -9,7 +9,7 @@ use Rattle.annex_resolve.specs.declared.scope.Meaning.TheVariants.{InPort, OutPo
 use Rattle.annex_resolve.specs.declared.scope.DeclaredName.{DeclaredName}
 use Rattle.annex_resolve.specs.declared.scope.Scope.{Scope}
 use Rattle.annex_resolve.specs.declared.violation.Violation.{Violation}
-use Rattle.pals_base.specs.Tree as plain
+use Rattle.pals_base.specs.PlainTrees as plain
 
 -- ---- findings
 abbrev pub finding : ℕ → ℕ → List ℕ → Violation

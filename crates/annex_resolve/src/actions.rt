@@ -1,18 +1,18 @@
 //! Actions: what is wrong with them, and the trees in which names are numbers. They recur as deep as
 //! the actions are.
 ghost use Rattle.std.specs.Prelude.{◌≡◌, ◌+◌, ◌≤◌, IfOk, option_copied, option_map};
-ghost use Rattle.pals_base.specs.proof.Seen.{tree_of, action_of as act_tree};
+ghost use Rattle.pals_base.specs.proof.SourceTrees.{tree_of, action_of as act_tree};
 ghost use Rattle.pals_base.specs.declared.limits.TheConstants.{NESTED_TURNS};
-ghost use Rattle.aadl_tree.specs.proof.Maps.{kept_place};
+ghost use Rattle.aadl_tree.specs.proof.PlaceMaps.{kept_place};
 ghost use Rattle.aadl_tree.specs.proof.ExpressionViews.{expression_view};
 ghost use Rattle.aadl_tree.specs.proof.ActionViews.{action_view, actions_view, block_view, choice_view, loop_view};
 ghost use Rattle.aadl_tree.specs.proof.ActionViews.{block_of as listed_block};
 ghost use Rattle.annex_resolve.specs.Scopes.{may_set, may_send, nothing, given_to, kind_of};
-ghost use Rattle.annex_resolve.specs.Types.{whole_types};
-ghost use Rattle.annex_resolve.specs.Resolved.{expression_of, action_of, actions_of, block_of};
-ghost use Rattle.annex_resolve.specs.Actions.{is_integer, action_findings, actions_findings, block_findings};
-ghost use Rattle.annex_resolve.specs.Actions.{branch_findings};
-ghost use Rattle.annex_resolve.specs.proof.Reads.{ReadsAction, ReadsActions, ReadsBranch};
+ghost use Rattle.annex_resolve.specs.ExpressionTypes.{whole_types};
+ghost use Rattle.annex_resolve.specs.ResolvedTrees.{expression_of, action_of, actions_of, block_of};
+ghost use Rattle.annex_resolve.specs.ActionFindings.{is_integer, action_findings, actions_findings, block_findings};
+ghost use Rattle.annex_resolve.specs.ActionFindings.{branch_findings};
+ghost use Rattle.annex_resolve.specs.proof.ResolutionResults.{ReadsAction, ReadsActions, ReadsBranch};
 
 use crate::expressions::{kind_of, resolve_whole};
 use crate::loops::{count_turns, is_too_long, signed, together};

@@ -1,10 +1,10 @@
 //! Which states are on a cycle of states that are not complete. A table tells which states a way leads
 //! to; state after state is let in between its ends.
 ghost use Rattle.std.specs.Prelude.{◌≡◌, ◌<◌, ◌+◌, IfOk, false, length, map, replicate};
-ghost use Rattle.pals_base.specs.Fire.{is_complete};
-ghost use Rattle.pals_base.specs.Steps.{upwards};
+ghost use Rattle.pals_base.specs.SingleStep.{is_complete};
+ghost use Rattle.pals_base.specs.StepSequences.{upwards};
 ghost use Rattle.annex_resolve.specs.CycleRules.{reaches, is_on_cycle};
-ghost use Rattle.annex_resolve.specs.proof.Tables.{marked};
+ghost use Rattle.annex_resolve.specs.proof.ReachTables.{marked};
 
 use pals_base::{BehaviourParts, Items, NoMemory};
 use std::alloc::{AllocError, Global};
@@ -52,7 +52,7 @@ pub struct Reachability {
 }
 
 impl Reachability {
-    ghost use Rattle.annex_resolve.specs.proof.Tables.{row_of, IsTable, cell};
+    ghost use Rattle.annex_resolve.specs.proof.ReachTables.{row_of, IsTable, cell};
 
     // The table of single transitions.
     fn first(alloc: Global, parts: &BehaviourParts) -> Result<Reachability, NoMemory>

@@ -1,24 +1,24 @@
 //! Expressions: their types, and the trees in which names are numbers.
 ghost use Rattle.std.specs.Prelude.{◌≡◌, ◌++◌, IfOk, OnOk, Some, option_map, option_copied};
 ghost use Rattle.pals_base.specs.declared.behaviour.Kind.TheVariants.{Integer, Boolean};
-ghost use Rattle.pals_base.specs.Tree.{Literal, Chain, Then, NoMore};
-ghost use Rattle.pals_base.specs.proof.Seen.{tree_of, operands_along};
+ghost use Rattle.pals_base.specs.PlainTrees.{Literal, Chain, Then, NoMore};
+ghost use Rattle.pals_base.specs.proof.SourceTrees.{tree_of, operands_along};
 ghost use Rattle.aadl_tree.specs.Expressions.{named};
-ghost use Rattle.aadl_tree.specs.proof.Maps.{kept_place};
+ghost use Rattle.aadl_tree.specs.proof.PlaceMaps.{kept_place};
 ghost use Rattle.aadl_tree.specs.proof.NameViews.{identifier_view};
 ghost use Rattle.aadl_tree.specs.proof.ExpressionViews.{leading_view, primary_view, factor_view, factors_view};
 ghost use Rattle.aadl_tree.specs.proof.ExpressionViews.{term_view, terms_view, sum_view, relation_view, relations_view};
 ghost use Rattle.aadl_tree.specs.proof.ExpressionViews.{expression_view};
 ghost use Rattle.annex_resolve.specs.Scopes.{kind_of, read_of};
-ghost use Rattle.annex_resolve.specs.Types.{fits, misfit, read_kind, is_equality, sides_misfit, primary_kind};
-ghost use Rattle.annex_resolve.specs.Types.{factor_kind, term_kind, total_kind, relation_kind, expression_kind};
-ghost use Rattle.annex_resolve.specs.Types.{primary_types, factor_types, term_types, factors_types, sum_types};
-ghost use Rattle.annex_resolve.specs.Types.{terms_types, relation_types, expression_types, relations_types};
-ghost use Rattle.annex_resolve.specs.Types.{whole_types};
-ghost use Rattle.annex_resolve.specs.Resolved.{multiply_op, sign_op, relation_op, logic_op, chained, signed_by};
-ghost use Rattle.annex_resolve.specs.Resolved.{truth_of, primary_of, factor_of, term_of, factors_of, sum_of, terms_of};
-ghost use Rattle.annex_resolve.specs.Resolved.{relation_of, expression_of, relations_of};
-ghost use Rattle.annex_resolve.specs.proof.Reads.{Reads, ReadsOperands};
+ghost use Rattle.annex_resolve.specs.ExpressionTypes.{fits, misfit, read_kind, is_equality, sides_misfit, primary_kind};
+ghost use Rattle.annex_resolve.specs.ExpressionTypes.{factor_kind, term_kind, total_kind, relation_kind};
+ghost use Rattle.annex_resolve.specs.ExpressionTypes.{expression_kind, primary_types, factor_types, term_types};
+ghost use Rattle.annex_resolve.specs.ExpressionTypes.{factors_types, sum_types, terms_types, relation_types};
+ghost use Rattle.annex_resolve.specs.ExpressionTypes.{expression_types, relations_types, whole_types};
+ghost use Rattle.annex_resolve.specs.ResolvedTrees.{multiply_op, sign_op, relation_op, logic_op, chained, signed_by};
+ghost use Rattle.annex_resolve.specs.ResolvedTrees.{truth_of, primary_of, factor_of, term_of, factors_of, sum_of};
+ghost use Rattle.annex_resolve.specs.ResolvedTrees.{terms_of, relation_of, expression_of, relations_of};
+ghost use Rattle.annex_resolve.specs.proof.ResolutionResults.{Reads, ReadsOperands};
 
 mod operators;
 

@@ -2,8 +2,8 @@
 ghost use Rattle.std.specs.Prelude.{◌≡◌, ◌+◌, ◌^◌, ◌<◌, ◌≤◌, IfOk};
 ghost use Rattle.pals_base.specs.declared.limits.TheConstants.{NESTED_TURNS};
 ghost use Rattle.pals_base.specs.Kinds as base;
-ghost use Rattle.annex_resolve.specs.Resolved.{signed};
-ghost use Rattle.annex_resolve.specs.Actions.{together, is_too_long};
+ghost use Rattle.annex_resolve.specs.ResolvedTrees.{signed};
+ghost use Rattle.annex_resolve.specs.ActionFindings.{together, is_too_long};
 
 use aadl_tree::Bound;
 use pals_base::NoMemory;

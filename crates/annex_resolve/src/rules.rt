@@ -2,8 +2,8 @@
 ghost use Rattle.std.specs.Prelude.{◌≡◌, ◌++◌, IfOk, OnOk, false, map, flat_map, slice_get};
 ghost use Rattle.std.specs.Option.{unwrap_or};
 ghost use Rattle.std.specs.List.{enumerate_from};
-ghost use Rattle.aadl_tree.specs.proof.Maps.{kept_place};
-ghost use Rattle.aadl_tree.specs.proof.Views.{annex_tree_view, transition_view};
+ghost use Rattle.aadl_tree.specs.proof.PlaceMaps.{kept_place};
+ghost use Rattle.aadl_tree.specs.proof.DeclarationViews.{annex_tree_view, transition_view};
 ghost use Rattle.annex_resolve.specs.Scopes.{found_if};
 ghost use Rattle.annex_resolve.specs.Behaviours.{transitions_of, parts_by, state_rules, rule_findings, behaviour_of};
 ghost use Rattle.annex_resolve.specs.Behaviours.{annex_findings};

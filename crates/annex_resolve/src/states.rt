@@ -2,9 +2,9 @@
 ghost use Rattle.std.specs.Prelude.{◌≡◌, [], ◌∷◌, ◌++◌, IfOk, OnOk, length, filter, map, position};
 ghost use Rattle.aadl_tree.specs.Names.{same_name};
 ghost use Rattle.std.specs.List.{list_all};
-ghost use Rattle.aadl_tree.specs.proof.Maps.{kept_place};
+ghost use Rattle.aadl_tree.specs.proof.PlaceMaps.{kept_place};
 ghost use Rattle.aadl_tree.specs.proof.NameViews.{identifier_view};
-ghost use Rattle.aadl_tree.specs.proof.Views.{state_view, annex_tree_view};
+ghost use Rattle.aadl_tree.specs.proof.DeclarationViews.{state_view, annex_tree_view};
 ghost use Rattle.annex_resolve.specs.Behaviours.{state_at, states_in, states_of, state_number, first_initial};
 ghost use Rattle.annex_resolve.specs.Behaviours.{has_initial, declared};
 

@@ -1,12 +1,12 @@
 //! The transitions of an annex.
 ghost use Rattle.std.specs.Prelude.{◌≡◌, ◌++◌, IfOk, OnOk, option_map, map, flat_map};
-ghost use Rattle.pals_base.specs.proof.Seen.{trigger_of as trigger_tree};
-ghost use Rattle.aadl_tree.specs.proof.Maps.{kept_place};
+ghost use Rattle.pals_base.specs.proof.SourceTrees.{trigger_of as trigger_tree};
+ghost use Rattle.aadl_tree.specs.proof.PlaceMaps.{kept_place};
 ghost use Rattle.aadl_tree.specs.proof.ActionViews.{block_view};
-ghost use Rattle.aadl_tree.specs.proof.Views.{guard_view, transition_view};
+ghost use Rattle.aadl_tree.specs.proof.DeclarationViews.{guard_view, transition_view};
 ghost use Rattle.annex_resolve.specs.Behaviours.{trigger_of, effect_of, edge_of, guard_types, effect_findings};
 ghost use Rattle.annex_resolve.specs.Behaviours.{transition_findings};
-ghost use Rattle.annex_resolve.specs.proof.Reads.{ReadsActions};
+ghost use Rattle.annex_resolve.specs.proof.ResolutionResults.{ReadsActions};
 
 use crate::actions::resolve_block;
 use crate::expressions::resolve_whole;

@@ -2,8 +2,8 @@
 ghost use Rattle.std.specs.Prelude.{◌≡◌, IfOk, option_map, option_copied, filter, map, nat_eq};
 ghost use Rattle.std.specs.List.{list_any};
 ghost use Rattle.pals_base.specs.Rules.{dispatch_count};
-ghost use Rattle.aadl_tree.specs.proof.Maps.{kept_place};
-ghost use Rattle.aadl_tree.specs.proof.Views.{guard_view, transition_view};
+ghost use Rattle.aadl_tree.specs.proof.PlaceMaps.{kept_place};
+ghost use Rattle.aadl_tree.specs.proof.DeclarationViews.{guard_view, transition_view};
 ghost use Rattle.annex_resolve.specs.Behaviours.{way_of, leg_of, ways_from, is_otherwise, is_guarded, is_open};
 ghost use Rattle.annex_resolve.specs.Behaviours.{lacks_otherwise, breaks_dispatch};
 

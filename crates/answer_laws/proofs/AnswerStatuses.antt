@@ -2,19 +2,19 @@
 use Rattle.std.proofs.Common.{◌≡◌, inl, inr, ℕ, ◌<◌, List}
 use Rattle.pals_runs.specs.declared.commands.Command.{Command}
 use Rattle.bundle_designs.specs.RefusedTexts.{IsTextRefused}
-use Rattle.bundle_designs.specs.Accepted.{IsPackageRefused}
+use Rattle.bundle_designs.specs.BundleMeanings.{IsPackageRefused}
 use Rattle.pals_top.specs.Refusals.{IsBundleRefused}
-use Rattle.pals_top.specs.Scenarios.{HasScenarioFault}
+use Rattle.pals_top.specs.ScenarioFaults.{HasScenarioFault}
 use Rattle.pals_top.specs.Print.{IsPrintAnswer}
 use Rattle.pals_top.specs.Check.{IsCheckAnswer}
 use Rattle.pals_top.specs.AnalysisKinds.{Analysis}
-use Rattle.pals_top.specs.Analyses.{command_of, IsAnalysisAnswer}
-use Rattle.answer_laws.specs.proof.Meanings.{HasTree, MeansDesign, MeansScenario}
-use Rattle.answer_laws.proofs.LowerLaws.{OneDesign}
-use Rattle.answer_laws.proofs.Designs.{read_or_refused, package_refused}
-use Rattle.answer_laws.proofs.Scenarios.{meant_or_refused}
-use Rattle.answer_laws.proofs.Made.{analysis_status}
-use Rattle.answer_laws.proofs.Ways.{Ways}
+use Rattle.pals_top.specs.AnalysisAnswers.{command_of, IsAnalysisAnswer}
+use Rattle.answer_laws.specs.proof.BundleMeanings.{HasTree, MeansDesign, MeansScenario}
+use Rattle.answer_laws.proofs.UniquenessLaws.{OneDesign}
+use Rattle.answer_laws.proofs.UniqueDesigns.{read_or_refused, package_refused}
+use Rattle.answer_laws.proofs.BundleScenarios.{meant_or_refused}
+use Rattle.answer_laws.proofs.UniqueResults.{analysis_status}
+use Rattle.answer_laws.proofs.StatusCases.{Ways}
 
 -- what is refused is not there
 pub no_tree : (bundle a : List ℕ) → IsTextRefused bundle a → HasTree bundle → ⊥

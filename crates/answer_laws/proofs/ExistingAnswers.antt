@@ -8,29 +8,29 @@ use Rattle.pals_runs.specs.declared.commands.Command.TheVariants.{Vote, Fuse, Bu
 use Rattle.scenario_json.specs.declared.scenario.Scenario.{Scenario}
 use Rattle.scenario_json.specs.Scenarios.{Means}
 use Rattle.pals_report.specs.ScenarioFaults.{scenario_fault_line}
-use Rattle.design_codes.specs.Causes.{AreShort, IsFirstTooLong}
+use Rattle.design_codes.specs.OverlongCodes.{AreShort, IsFirstTooLong}
 use Rattle.world_texts.specs.RingTexts.{ring_text}
 use Rattle.pals_top.specs.declared.status.TheConstants.{DONE, TEXT_REFUSED, SCENARIO_REFUSED, CODE_TOO_LONG}
 use Rattle.pals_top.specs.AnalysisKinds.{Analysis}
 use Rattle.pals_top.specs.AnalysisKinds as analysis
 use Rattle.pals_top.specs.ExecutionKinds.{Execution}
 use Rattle.pals_top.specs.ExecutionKinds as execution
-use Rattle.pals_top.specs.Words.{HasForm}
-use Rattle.pals_top.specs.Scenarios.{HasScenarioFault}
-use Rattle.pals_top.specs.Analyses.{command_of as analysis_command, IsAnalysisAnswer}
-use Rattle.pals_top.specs.Executions.{command_of as execution_command, code_fault_line, IsExecutionAnswer}
-use Rattle.pals_top.specs.proof.Executions.{HasEvents}
-use Rattle.scenario_laws.specs.proof.Meanings.{HasScenario, HasFault}
-use Rattle.answer_laws.specs.proof.Meanings.{HasTree}
-use Rattle.pals_top.specs.proof.Code.{is_run}
-use Rattle.answer_laws.specs.proof.Exists.{IsAnswerTo, HasAnswer, HasOneAnswer}
-use Rattle.answer_laws.proofs.ExistingLaws.{ExistenceLaws}
-use Rattle.answer_laws.proofs.ExistingTexts.{IsRefused, tree_or_refused}
+use Rattle.pals_top.specs.CommandWords.{HasForm}
+use Rattle.pals_top.specs.ScenarioFaults.{HasScenarioFault}
+use Rattle.pals_top.specs.AnalysisAnswers.{command_of as analysis_command, IsAnalysisAnswer}
+use Rattle.pals_top.specs.ExecutionAnswers.{command_of as execution_command, code_fault_line, IsExecutionAnswer}
+use Rattle.pals_top.specs.proof.CodedBundles.{HasEvents}
+use Rattle.scenario_laws.specs.proof.ScenarioOrFault.{HasScenario, HasFault}
+use Rattle.answer_laws.specs.proof.BundleMeanings.{HasTree}
+use Rattle.pals_top.specs.proof.PrivateFunctions.{is_run}
+use Rattle.answer_laws.specs.proof.ExistingAnswers.{IsAnswerTo, HasAnswer, HasOneAnswer}
+use Rattle.answer_laws.proofs.ExistenceLaws.{ExistenceLaws}
+use Rattle.answer_laws.proofs.ExistingTrees.{IsRefused, tree_or_refused}
 use Rattle.answer_laws.proofs.ExistingDesigns.{HasDesign, HasRefusal, design_or_refused}
 use Rattle.answer_laws.proofs.ExistingReports.{has_report}
-use Rattle.answer_laws.proofs.ExistingCodes.{long_or_short}
-use Rattle.answer_laws.proofs.Calls.{AnswerIsDecided}
-use Rattle.answer_laws.proofs.ExistingMade.{by_analysis, by_execution}
+use Rattle.answer_laws.proofs.CodeLengths.{long_or_short}
+use Rattle.answer_laws.proofs.UniqueCallAnswers.{AnswerIsDecided}
+use Rattle.answer_laws.proofs.ExistingResults.{by_analysis, by_execution}
 
 -- ---- a ring
 ringed : (nodes rounds : ℕ) (bundle : List ℕ) → HasAnswer (Ring nodes rounds) bundle

@@ -7,7 +7,7 @@ use Rattle.pals_model.specs.declared.design.Component.{Component}
 use Rattle.pals_model.specs.declared.design.DesignParts.{DesignParts}
 use Rattle.pals_model.specs.Rules.{IsComponent, IsDesign}
 use Rattle.step_code.specs.declared.instr.CodeParts.{CodeParts}
-use Rattle.step_compiler.specs.LaidOut.{IsLaidOut, AreLaidOut}
+use Rattle.step_compiler.specs.LaidOutCode.{IsLaidOut, AreLaidOut}
 use Rattle.step_compiler.specs.proof.LayoutLaws.{HasLayout}
 use Rattle.design_codes.specs.Behaviours.{behaviours}
 

@@ -4,13 +4,13 @@ use Rattle.std.proofs.Common.{List, [], ◌∷◌, length, get_or, Some, None, r
 use Rattle.std.specs.Prelude.{◌%◌, All}
 use Rattle.std.proofs.lemmas.Bool.{cases_lt, eqb-true, eq-eqb, true≢false}
 use Rattle.pals_base.specs.declared.values.Gamma.{Gamma}
-use Rattle.pals_base.specs.Bound.{least_period}
+use Rattle.pals_base.specs.PeriodBound.{least_period}
 use Rattle.pals_base.specs.declared.limits.TheConstants.{HOUR}
 use Rattle.pals_model.specs.declared.design.DesignParts.{DesignParts}
 use Rattle.pals_model.specs.RoundTexts.{text_of}
-use Rattle.bound_checker.specs.Multiple.{greatest_rate, IsSuited, IsLeastMultiple, HasNoMultiple}
+use Rattle.bound_checker.specs.ShortestPeriods.{greatest_rate, IsSuited, IsLeastMultiple, HasNoMultiple}
 use Rattle.pals_report.specs.CheckReports.{rates, check_lines, IsCheckReport}
-use Rattle.design_laws.proofs.Least.{IsLeast, HasLeast, least}
+use Rattle.design_laws.proofs.LeastNumbers.{IsLeast, HasLeast, least}
 
 -- ---- what holds of all of a list can be told
 after : {X : Type 0} (P : X → Type 0) (x : X) (xs : List X) → P x → All P xs → (k : ℕ) (d : X) → k < length (x ∷ xs)

@@ -11,25 +11,25 @@ use Rattle.pals_clock.specs.declared.clock.Clocks.TheVariants.{Meet, Lists}
 use Rattle.pals_model.specs.declared.design.DesignParts.{DesignParts}
 use Rattle.pals_model.specs.Rules.{IsDesign}
 use Rattle.pals_model.specs.RoundTexts.{line_end, report}
-use Rattle.pals_report.specs.Runs.{clock_end_line}
+use Rattle.pals_report.specs.VerdictLines.{clock_end_line}
 use Rattle.pals_runs.specs.declared.journal.JournalEntry.{JournalEntry}
 use Rattle.pals_runs.specs.declared.journal.Stop.{Stop}
-use Rattle.scenario_json.specs.proof.RunFacts.{IsOpening, AreClocksOf, AreClocksFor}
+use Rattle.scenario_json.specs.proof.RunFields.{IsOpening, AreClocksOf, AreClocksFor}
 use Rattle.scenario_json.specs.declared.scenario.Scenario.{Scenario}
-use Rattle.scenario_json.specs.proof.Facts.{IsScenarioOf}
+use Rattle.scenario_json.specs.proof.ScenarioFacts.{IsScenarioOf}
 use Rattle.bus_machine.specs.proof.MachineLaws.{IsRunOf}
 use Rattle.bus_machine.specs.Plans.{plan_of}
 use Rattle.bus_machine.specs.States.{Run, BusState, finished_by_all}
 use Rattle.bus_machine.specs.Targets.{target}
-use Rattle.run_laws.specs.Timely.{AllAtEnd}
-use Rattle.run_laws.specs.proof.Ending.{HasCome, EachRunEnds, IsFirstEnded, EndsAreNamed}
+use Rattle.run_laws.specs.TimelyRounds.{AllAtEnd}
+use Rattle.run_laws.specs.proof.RunTermination.{HasCome, EachRunEnds, IsFirstEnded, EndsAreNamed}
 use Rattle.run_laws.specs.Meetings.{AllDone}
 use Rattle.run_laws.specs.Runs.{no_clock, clock_at, lists_in, AreFresh, Begin, Runs}
-use Rattle.run_laws.specs.proof.Sound.{AreReadings}
+use Rattle.run_laws.specs.proof.RunTraces.{AreReadings}
 use Rattle.run_texts.specs.RunTexts.{journal_text, IsCompletedRun, IsStoppedRun, IsEndedRun}
-use Rattle.run_texts.proofs.Courses.{course, completed, stopped}
+use Rattle.run_texts.proofs.RunTexts.{outcome, completed, stopped}
 use Rattle.pals_top.specs.declared.status.TheConstants.{DONE, STOPPED, CLOCK_ENDED}
-use Rattle.pals_top.specs.Loose.{run_of}
+use Rattle.pals_top.specs.LooseWorlds.{run_of}
 use Rattle.pals_top.specs.Run.{IsRunAnswer}
 
 -- ---- the clocks of a scenario
@@ -101,7 +101,7 @@ module _ (run : Run) (clocks : Clocks) (trace : Bool) (lists : List ClockState) 
         inr (inr (
           refl,
           record {
-            course = course run clocks (Lists lists) journal s rules runs same few range;
+            outcome = outcome run clocks (Lists lists) journal s rules runs same few range;
             going = going;
             all = all;
             node = node;

@@ -1,33 +1,33 @@
-pub mod Splits
-pub mod Meanings
-pub mod LowerLaws
-pub mod Designs
-pub mod Scenarios
-pub mod Worlds
-pub mod TimedWorlds
-pub mod Made
-pub mod Executions
-pub mod Commands
-pub mod Calls
-pub mod Ways
+pub mod BundleSplits
+pub mod UniqueScenarios
+pub mod UniquenessLaws
+pub mod UniqueDesigns
+pub mod BundleScenarios
+pub mod UniqueLooseWorlds
+pub mod UniqueTimedWorlds
+pub mod UniqueResults
+pub mod UniqueExecutionAnswers
+pub mod UniqueAnswers
+pub mod UniqueCallAnswers
+pub mod StatusCases
 pub mod AnswerStatuses
-pub mod ExecutionStanding
-pub mod Reading
-pub mod BundleStatuses
+pub mod ExecutionStatuses
+pub mod SourceAnswers
+pub mod ReadStatuses
 pub mod RunEnds
 pub mod RunAnswers
-mod GivenValues
-mod GivenFaults
-mod GivenFields
-mod FittingRounds
-mod ExistingLaws
-mod ExistingTexts
+mod FittingInputs
+mod FittingFaults
+mod FittingFields
+mod BooleanRuns
+mod ExistenceLaws
+mod ExistingTrees
 mod ExistingDesigns
 mod ExistingReports
-mod ExistingEnds
-mod ExistingWorlds
-mod ExistingCodes
+mod LooseWorldEnds
+mod ExistingLooseWorlds
+mod CodeLengths
 mod ExistingLayouts
 mod ExistingRuns
-mod ExistingMade
+mod ExistingResults
 mod ExistingAnswers

@@ -6,33 +6,33 @@ use Rattle.pals_model.specs.declared.design.DesignParts.{DesignParts}
 use Rattle.pals_model.specs.RoundTexts.{report}
 use Rattle.pals_runs.specs.declared.commands.Command.TheVariants as command
 use Rattle.pals_runs.specs.declared.verdicts.Verdict.TheVariants.{Sound}
-use Rattle.design_codes.specs.Causes.{AreShort}
+use Rattle.design_codes.specs.OverlongCodes.{AreShort}
 use Rattle.serde_json.specs.Data.{Data}
 use Rattle.scenario_json.specs.Events.{usual_word, event_in, events_in}
 use Rattle.scenario_json.specs.declared.scenario.Scenario.{Scenario}
 use Rattle.scenario_json.specs.Scenarios.{fields_in, scen, Means}
-use Rattle.scenario_laws.specs.proof.Facts.{ScenariosSuit}
+use Rattle.scenario_laws.specs.proof.ScenarioSuitability.{ScenariosSuit}
 use Rattle.bus_machine.specs.proof.MachineLaws.{IsRunOf}
 use Rattle.bus_machine.specs.States.{finished_by_all}
-use Rattle.run_laws.specs.Reports.{lines_of}
-use Rattle.run_laws.specs.Traces.{verdict}
-use Rattle.run_laws.proofs.Stops.{told as stop_is_last}
-use Rattle.run_laws.specs.proof.InTime.{InTime, NoneStops, BoundsAreInTime, EndsAreOne, AllPicked, PickedAreDone}
+use Rattle.run_laws.specs.ReportVerdicts.{lines_of}
+use Rattle.run_laws.specs.TraceVerdicts.{verdict}
+use Rattle.run_laws.proofs.FinalStops.{told as stop_is_last}
+use Rattle.run_laws.specs.proof.TimelyRuns.{InTime, NoneStops, BoundsAreInTime, EndsAreOne, AllPicked, PickedAreDone}
 use Rattle.run_texts.specs.RunTexts.{journal_text}
 use Rattle.pals_top.specs.ExecutionKinds as execution
-use Rattle.pals_top.specs.Executions.{IsCodeTooLong, IsExecutionAnswer}
-use Rattle.pals_top.specs.Loose.{run_of}
+use Rattle.pals_top.specs.ExecutionAnswers.{IsCodeTooLong, IsExecutionAnswer}
+use Rattle.pals_top.specs.LooseWorlds.{run_of}
 use Rattle.pals_top.specs.Run.{IsRunAnswer}
-use Rattle.pals_top.specs.Scenarios.{HasScenario}
-use Rattle.answer_laws.specs.proof.Meanings.{MeansScenario, HasLongCode}
-use Rattle.answer_laws.specs.proof.Runs.{IsRunStatus, IsInTime, OneAnswerInTime, NoneIsStopped, IsSynchronous}
-use Rattle.answer_laws.specs.proof.Runs.{DoneInTime, AnswersAsSync, DoneWithinBounds, DoneTracesAreSound}
-use Rattle.answer_laws.specs.proof.Runs.{IsStoppedTrace, StoppedTracesAreSound}
-use Rattle.answer_laws.proofs.LowerLaws.{OneDesign, KeepsRules}
-use Rattle.answer_laws.proofs.Designs.{accepted_or_refused}
-use Rattle.answer_laws.proofs.Scenarios.{one_meaning, meant_or_refused}
-use Rattle.answer_laws.proofs.Executions.{long_code, long_or_short, one_code_fault}
-use Rattle.answer_laws.proofs.Made.{Agree}
+use Rattle.pals_top.specs.ScenarioFaults.{HasScenario}
+use Rattle.answer_laws.specs.proof.BundleMeanings.{MeansScenario, HasLongCode}
+use Rattle.answer_laws.specs.proof.RunAnswers.{IsRunStatus, IsInTime, OneAnswerInTime, NoneIsStopped, IsSynchronous}
+use Rattle.answer_laws.specs.proof.RunAnswers.{DoneInTime, AnswersAsSync, DoneWithinBounds, DoneTracesAreSound}
+use Rattle.answer_laws.specs.proof.RunAnswers.{IsStoppedTrace, StoppedTracesAreSound}
+use Rattle.answer_laws.proofs.UniquenessLaws.{OneDesign, KeepsRules}
+use Rattle.answer_laws.proofs.UniqueDesigns.{accepted_or_refused}
+use Rattle.answer_laws.proofs.BundleScenarios.{one_meaning, meant_or_refused}
+use Rattle.answer_laws.proofs.UniqueExecutionAnswers.{long_code, long_or_short, one_code_fault}
+use Rattle.answer_laws.proofs.UniqueResults.{Agree}
 use Rattle.answer_laws.proofs.RunEnds.{two_ended, completed_or_ended, going_on, none_ended, shows_rounds}
 
 -- ---- an answer to a bundle that means a design and a scenario
@@ -243,8 +243,8 @@ stop_sound : (design : DesignParts) (scenario : Scenario) (trace : Bool) (s : �
 stop_sound design scenario trace s a e (inl x) = let n : 0 ≡ 6 = sym x.0 ∙ e in absurd (omega (arith, n))
 stop_sound design scenario trace s a e (inr (inl x)) =
     let run = run_of design scenario in
-    let rows = finished_by_all run x.1.course.state in
-    let last = stop_is_last run x.1.course.journal x.1.why x.1.course.state x.1.course.keeps.replays x.1.stop in
+    let rows = finished_by_all run x.1.outcome.state in
+    let last = stop_is_last run x.1.outcome.journal x.1.why x.1.outcome.state x.1.outcome.keeps.replays x.1.stop in
     record {
       rows = rows;
       why = x.1.why;

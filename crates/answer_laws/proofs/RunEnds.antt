@@ -7,20 +7,20 @@ use Rattle.pals_clock.specs.declared.clock.Clocks.{Clocks}
 use Rattle.pals_clock.specs.declared.clock.Clocks.TheVariants.{Meet, Lists}
 use Rattle.pals_model.specs.RoundTexts.{line_end, report}
 use Rattle.pals_runs.specs.declared.journal.Phase.TheVariants.{Done}
-use Rattle.pals_report.specs.Runs.{clock_end_line}
+use Rattle.pals_report.specs.VerdictLines.{clock_end_line}
 use Rattle.bus_machine.specs.declared.action.NodeAction.{NodeAction}
 use Rattle.bus_machine.specs.Agreement.{Agrees}
 use Rattle.bus_machine.specs.proof.MachineLaws.{IsRunOf}
 use Rattle.bus_machine.specs.Nodes.{NodeState}
 use Rattle.bus_machine.specs.Plans.{plan_of}
 use Rattle.bus_machine.specs.States.{Run, BusState, node_at, no_node}
-use Rattle.run_laws.specs.Timely.{AllAtEnd}
-use Rattle.run_laws.specs.proof.InTime.{InTime, NoneStops, EndsFirst, EndsAreOne, AllPicked, PickedAreDone}
+use Rattle.run_laws.specs.TimelyRounds.{AllAtEnd}
+use Rattle.run_laws.specs.proof.TimelyRuns.{InTime, NoneStops, EndsFirst, EndsAreOne, AllPicked, PickedAreDone}
 use Rattle.run_laws.specs.Meetings.{AllDone}
 use Rattle.run_laws.specs.NodeActions.{upcoming}
-use Rattle.run_laws.proofs.InTime.{done_or_ended, one_first}
-use Rattle.run_texts.specs.RunTexts.{Course, IsCompletedRun, IsStoppedRun, IsEndedRun, EndsAt}
-use Rattle.answer_laws.specs.proof.Runs.{ShowsRounds}
+use Rattle.run_laws.proofs.TimelyRuns.{done_or_ended, one_first}
+use Rattle.run_texts.specs.RunTexts.{RunOutcome, IsCompletedRun, IsStoppedRun, IsEndedRun, EndsAt}
+use Rattle.answer_laws.specs.proof.RunAnswers.{ShowsRounds}
 
 -- ---- what ends first
 -- a node with something to do is there
@@ -55,11 +55,11 @@ done_or_first run (Lists lists) s node goal done first =
 
 -- ---- two ends
 module _ (run : Run) (clocks : Clocks) (rules : IsRunOf run) where
-  ends_first : (a : List ℕ) → (x : IsEndedRun run clocks a) → EndsFirst run x.course.later x.course.state x.node x.goal
-  ends_first a x = first_of run x.course.later x.course.state x.node x.goal x.course.keeps.agrees x.ends x.first
+  ends_first : (a : List ℕ) → (x : IsEndedRun run clocks a) → EndsFirst run x.outcome.later x.outcome.state x.node x.goal
+  ends_first a x = first_of run x.outcome.later x.outcome.state x.node x.goal x.outcome.keeps.agrees x.ends x.first
 
   module _ (one_end : EndsAreOne) where
-    by_end : (x y : Course run clocks) → AllAtEnd run x.later x.state → AllAtEnd run y.later y.state
+    by_end : (x y : RunOutcome run clocks) → AllAtEnd run x.later x.state → AllAtEnd run y.later y.state
         → (AllDone run x.state × AllDone run y.state)
         ⊎ ((node goal : ℕ) × EndsFirst run x.later x.state node goal × EndsFirst run y.later y.state node goal)
     by_end x y over end =
@@ -68,11 +68,11 @@ module _ (run : Run) (clocks : Clocks) (rules : IsRunOf run) where
 
     -- the same line names the node
     pub two_ended : (a b : List ℕ) → IsEndedRun run clocks a → IsEndedRun run clocks b → a ≡ b
-    two_ended a b x y = elim (by_end x.course y.course x.all y.all) [
-      | inl done ↦ absurd (done_or_first run x.course.later x.course.state x.node x.goal done.0 (ends_first a x))
+    two_ended a b x y = elim (by_end x.outcome y.outcome x.all y.all) [
+      | inl done ↦ absurd (done_or_first run x.outcome.later x.outcome.state x.node x.goal done.0 (ends_first a x))
       | inr one ↦
-          let mine = one_first run x.course.later x.course.state x.node one.0 x.goal one.1 (ends_first a x) one.2 in
-          let its = one_first run y.course.later y.course.state y.node one.0 y.goal one.1 (ends_first b y) one.3 in
+          let mine = one_first run x.outcome.later x.outcome.state x.node one.0 x.goal one.1 (ends_first a x) one.2 in
+          let its = one_first run y.outcome.later y.outcome.state y.node one.0 y.goal one.1 (ends_first b y) one.3 in
           let node = mine.0 ∙ sym its.0 in
           let goal = mine.1 ∙ sym its.1 in
           x.text_is ∙ ((λ i. clock_end_line run.design (node i) (goal i) ++ line_end) ∙ sym y.text_is)
@@ -81,16 +81,16 @@ module _ (run : Run) (clocks : Clocks) (rules : IsRunOf run) where
     pub completed_or_ended : (trace : Bool) (a b : List ℕ) → IsCompletedRun run clocks trace a
         → IsEndedRun run clocks b → ⊥
     completed_or_ended trace a b x y =
-        elim (by_end x.course y.course (done_at_end run x.course.later x.course.state x.done) y.all) [
-          | inl done ↦ done_or_first run y.course.later y.course.state y.node y.goal done.1 (ends_first b y)
-          | inr one ↦ done_or_first run x.course.later x.course.state one.0 one.1 x.done one.2
+        elim (by_end x.outcome y.outcome (done_at_end run x.outcome.later x.outcome.state x.done) y.all) [
+          | inl done ↦ done_or_first run y.outcome.later y.outcome.state y.node y.goal done.1 (ends_first b y)
+          | inr one ↦ done_or_first run x.outcome.later x.outcome.state one.0 one.1 x.done one.2
         ]
 
   -- ---- in time
   pub going_on : NoneStops → InTime run clocks → (a : List ℕ) → IsStoppedRun run clocks a → ⊥
   going_on none in_time a x =
       let going =
-      none run x.course.later x.course.journal x.course.state rules x.course.runs clocks x.course.lists in_time in
+      none run x.outcome.later x.outcome.journal x.outcome.state rules x.outcome.runs clocks x.outcome.lists in_time in
       let both : None ≡ Some x.why = sym going ∙ x.stop in
       absurd (cc)
 
@@ -98,10 +98,10 @@ module _ (run : Run) (clocks : Clocks) (rules : IsRunOf run) where
   pub none_ended : PickedAreDone → AllPicked run clocks → (a : List ℕ) → IsEndedRun run clocks a → ⊥
   none_ended are picked a x =
       let done =
-      are run x.course.later x.course.journal x.course.state rules x.course.runs clocks x.course.lists
+      are run x.outcome.later x.outcome.journal x.outcome.state rules x.outcome.runs clocks x.outcome.lists
       picked x.all in
-      done_or_first run x.course.later x.course.state x.node x.goal done (ends_first a x)
+      done_or_first run x.outcome.later x.outcome.state x.node x.goal done (ends_first a x)
 
   pub shows_rounds : (trace : Bool) (a : List ℕ) → IsCompletedRun run clocks trace a → ShowsRounds run trace a
   shows_rounds false a x = x.text_is ∙ append-nil (report run.design run.env run.rounds)
-  shows_rounds true a x = (x.course.journal, x.text_is)
+  shows_rounds true a x = (x.outcome.journal, x.text_is)

@@ -3,8 +3,8 @@
 ghost use Rattle.std.specs.Prelude.{◌≡◌, ◌<◌, ◌-◌, ◌^◌, ℕ, false, List, Option, Some, IfSome};
 ghost use Rattle.pals_runs.specs.declared.commands.Command.{Command};
 ghost use Rattle.pals_top.specs.Answers.{IsCommandAnswer, IsAnswer};
-ghost use Rattle.pals_top.specs.Outside.{Reading};
-ghost use Rattle.pals_top.specs.proof.Code.{is_run};
+ghost use Rattle.pals_top.specs.ProgramInput.{Reading};
+ghost use Rattle.pals_top.specs.proof.PrivateFunctions.{is_run};
 
 use crate::accepted::accepted_designs_keep_their_rules;
 use design_laws::first_faults::one_fault;

@@ -3,13 +3,13 @@ ghost use Rattle.std.specs.Prelude.{◌≡◌, ◌⊎◌, ℕ, List, Result};
 ghost use Rattle.pals_model.specs.declared.design.DesignParts.{DesignParts};
 ghost use Rattle.pals_runs.specs.declared.commands.Command.{Command};
 ghost use Rattle.aadl_tree.specs.Declarations.{PackageTree};
-ghost use Rattle.aadl_tree.specs.Given.{IsTreeOf};
+ghost use Rattle.aadl_tree.specs.GrammarTrees.{IsTreeOf};
 ghost use Rattle.scenario_values.specs.declared.fault.ScenarioFault.{ScenarioFault};
 ghost use Rattle.scenario_json.specs.declared.scenario.Scenario.{Scenario};
 ghost use Rattle.scenario_json.specs.Scenarios.{Means};
 ghost use Rattle.pals_report.specs.CheckReports.{IsCheckReport};
 ghost use Rattle.bundle_designs.specs.Bundles.{IsSplit, HasNoDivider};
-ghost use Rattle.bundle_designs.specs.Accepted.{IsFaulty, HasViolations, IsAccepted};
+ghost use Rattle.bundle_designs.specs.BundleMeanings.{IsFaulty, HasViolations, IsAccepted};
 ghost use Rattle.pals_top.specs.Refusals.{IsBundleRefused};
 
 use design_laws::first_faults::one_fault;

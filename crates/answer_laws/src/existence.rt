@@ -1,6 +1,6 @@
 //! Each bundle has an answer of each command, and one of each that is no run. Each law is the contract of a function
 //! that does nothing.
-ghost use Rattle.answer_laws.specs.proof.Exists.{EachBundleHasAnAnswer, EachBundleHasOneAnswer};
+ghost use Rattle.answer_laws.specs.proof.ExistingAnswers.{EachBundleHasAnAnswer, EachBundleHasOneAnswer};
 
 use crate::answers::answer_is_decided;
 use aadl_grammar::text_laws::tree_or_fault;

@@ -1,7 +1,7 @@
 //! What values the rounds of a scenario have. Each law is the contract of a function that does nothing.
-ghost use Rattle.answer_laws.specs.proof.Kinds.{MessagesOfScenariosFit, PartsOfScenariosFit, ScenariosFit};
-ghost use Rattle.answer_laws.specs.proof.Kinds.{StatesOfScenariosFit, FaultsOfScenariosFit, ShownOfScenariosFit};
-ghost use Rattle.answer_laws.specs.proof.Kinds.{VotesOfScenariosFit, BusesOfScenariosFit, FusedOfScenariosFit};
+ghost use Rattle.answer_laws.specs.proof.BooleanRuns.{MessagesOfScenariosFit, PartsOfScenariosFit, ScenariosFit};
+ghost use Rattle.answer_laws.specs.proof.BooleanRuns.{StatesOfScenariosFit, FaultsOfScenariosFit, ShownOfScenariosFit};
+ghost use Rattle.answer_laws.specs.proof.BooleanRuns.{VotesOfScenariosFit, BusesOfScenariosFit, FusedOfScenariosFit};
 
 use crate::accepted::accepted_designs_keep_their_rules;
 use scenario_laws::plants::pairs_can_be_fused;

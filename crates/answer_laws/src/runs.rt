@@ -2,10 +2,11 @@
 ghost use Rattle.std.specs.Prelude.{◌↔◌, ℕ, Bool, List};
 ghost use Rattle.pals_runs.specs.declared.commands.Command.TheVariants as command;
 ghost use Rattle.pals_top.specs.ExecutionKinds as execution;
-ghost use Rattle.pals_top.specs.Executions.{IsExecutionAnswer};
-ghost use Rattle.answer_laws.specs.proof.Meanings.{MeansScenario, HasLongCode};
-ghost use Rattle.answer_laws.specs.proof.Runs.{AnswersAsSync, DoneInTime, DoneTracesAreSound, DoneWithinBounds};
-ghost use Rattle.answer_laws.specs.proof.Runs.{IsRunStatus, NoneIsStopped, OneAnswerInTime, StoppedTracesAreSound};
+ghost use Rattle.pals_top.specs.ExecutionAnswers.{IsExecutionAnswer};
+ghost use Rattle.answer_laws.specs.proof.BundleMeanings.{MeansScenario, HasLongCode};
+ghost use Rattle.answer_laws.specs.proof.RunAnswers.{AnswersAsSync, DoneInTime, DoneTracesAreSound, DoneWithinBounds};
+ghost use Rattle.answer_laws.specs.proof.RunAnswers.{IsRunStatus, NoneIsStopped, OneAnswerInTime};
+ghost use Rattle.answer_laws.specs.proof.RunAnswers.{StoppedTracesAreSound};
 
 use crate::accepted::accepted_designs_keep_their_rules;
 use design_laws::packages::one_design;

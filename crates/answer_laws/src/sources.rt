@@ -5,7 +5,7 @@ ghost use Rattle.pals_base.specs.declared.limits.TheConstants.{BUNDLE_BYTES};
 ghost use Rattle.pals_runs.specs.declared.commands.Command.{Command};
 ghost use Rattle.pals_top.specs.AnswerTexts.{read_fault_line, too_long_line};
 ghost use Rattle.pals_top.specs.Answers.{reads_source, IsCommandAnswer, IsAnswer};
-ghost use Rattle.pals_top.specs.Outside.{Reading};
+ghost use Rattle.pals_top.specs.ProgramInput.{Reading};
 
 /// Of words that are a form and read a bundle: where the source tells what is left, and its count of failed calls can
 /// still rise, a call in which no read failed answers exactly these bytes, if they are no more than a

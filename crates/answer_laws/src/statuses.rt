@@ -5,11 +5,11 @@ ghost use Rattle.pals_top.specs.Print.{IsPrintAnswer};
 ghost use Rattle.pals_top.specs.Check.{IsCheckAnswer};
 ghost use Rattle.pals_top.specs.AnalysisKinds.{Analysis};
 ghost use Rattle.pals_top.specs.ExecutionKinds.{Execution};
-ghost use Rattle.pals_top.specs.Analyses.{command_of, IsAnalysisAnswer};
-ghost use Rattle.pals_top.specs.Executions.{command_of as execution_command, IsExecutionAnswer};
-ghost use Rattle.answer_laws.specs.proof.Meanings.{HasTree, MeansDesign, MeansScenario, HasLongCode, LacksScenario};
-ghost use Rattle.answer_laws.specs.proof.Meanings.{GivesStatus};
-ghost use Rattle.pals_top.specs.proof.Code.{is_run};
+ghost use Rattle.pals_top.specs.AnalysisAnswers.{command_of, IsAnalysisAnswer};
+ghost use Rattle.pals_top.specs.ExecutionAnswers.{command_of as execution_command, IsExecutionAnswer};
+ghost use Rattle.answer_laws.specs.proof.BundleMeanings.{HasTree, MeansDesign, MeansScenario, HasLongCode};
+ghost use Rattle.answer_laws.specs.proof.BundleMeanings.{LacksScenario, GivesStatus};
+ghost use Rattle.pals_top.specs.proof.PrivateFunctions.{is_run};
 
 use design_laws::packages::one_design;
 use loose_world::world_laws::one_end;

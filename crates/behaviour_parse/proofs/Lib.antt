@@ -1,4 +1,4 @@
 pub mod Operators
 pub mod ParsedActions
-pub mod Declaring
-pub mod Verdicts
+pub mod DeclarationTerminals
+pub mod ParseOutcomes

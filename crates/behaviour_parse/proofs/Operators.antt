@@ -15,20 +15,20 @@ use Rattle.aadl_tree.specs.declared.expressions.Factor.{Factor}
 use Rattle.aadl_tree.specs.declared.expressions.Term.{Term}
 use Rattle.aadl_tree.specs.declared.expressions.Relation.{Relation}
 use Rattle.aadl_tree.specs.Terminals.{mark, Spot}
-use Rattle.aadl_tree.specs.Parts.{Part, plain}
+use Rattle.aadl_tree.specs.SpellingParts.{Part, plain}
 use Rattle.aadl_tree.specs.Values.{sign_mark}
 use Rattle.aadl_tree.specs.Expressions as e
 use Rattle.aadl_tree.specs.proof.ExpressionViews.{factor_view, factors_view, term_view, terms_view, relation_view}
 use Rattle.aadl_tree.specs.proof.ExpressionViews.{relations_view}
-use Rattle.aadl_tree.specs.proof.Maps.{kept_place}
+use Rattle.aadl_tree.specs.proof.PlaceMaps.{kept_place}
 use Rattle.aadl_tree.specs.declared.limits.TheConstants.{GREATEST_NESTING}
 use Rattle.aadl_grammar.specs.proof.Symbols as s
-use Rattle.aadl_grammar.specs.proof.Table.{on}
+use Rattle.aadl_grammar.specs.proof.ParseTable.{on}
 use Rattle.aadl_grammar.specs.proof.Machine.{Stack, takes, move, depth, fate}
-use Rattle.aadl_grammar.specs.proof.Reading.{Reads}
+use Rattle.aadl_grammar.specs.proof.ParserAnswers.{Reads}
 use Rattle.aadl_grammar.proofs.SymbolRows.{takes_row, begins_past}
-use Rattle.aadl_grammar.proofs.Written.{marked, respelled, regroup, shorter}
-use Rattle.behaviour_parse.specs.proof.Joining.{Joins}
+use Rattle.aadl_grammar.proofs.PartSequences.{marked, respelled, regroup, shorter}
+use Rattle.behaviour_parse.specs.proof.RelationOperators.{Joins}
 
 pub multiplies : (o : MultiplyOperator) → move s.factors (mark (e.multiply_mark o)) ≡ takes (s.factor ∷ s.factors ∷ [])
 unfolding move

@@ -15,23 +15,23 @@ use Rattle.aadl_tree.specs.declared.actions.Action.TheViews.{out-roll-Choice}
 use Rattle.aadl_tree.specs.declared.limits.TheConstants.{GREATEST_NESTING}
 use Rattle.aadl_tree.specs.Grammar.{place}
 use Rattle.aadl_tree.specs.Terminals.{Kind, whole, Spot}
-use Rattle.aadl_tree.specs.Parts.{Part, plain, may, last_semicolon}
+use Rattle.aadl_tree.specs.SpellingParts.{Part, plain, may, last_semicolon}
 use Rattle.aadl_tree.specs.Names.{identifier_parts, reference_parts}
 use Rattle.aadl_tree.specs.Actions as a
 use Rattle.aadl_tree.specs.proof.NameViews.{identifier_view, reference_view}
 use Rattle.aadl_tree.specs.proof.ExpressionViews.{expression_view}
 use Rattle.aadl_tree.specs.proof.ActionViews.{action_view, actions_view, mores_view, choice_view, elsifs_view}
 use Rattle.aadl_tree.specs.proof.ActionViews.{otherwise_of}
-use Rattle.aadl_tree.specs.proof.Maps.{kept_place}
+use Rattle.aadl_tree.specs.proof.PlaceMaps.{kept_place}
 use Rattle.aadl_tree.proofs.ActionViews.{view-out-choice}
 use Rattle.aadl_grammar.specs.proof.Symbols as s
 use Rattle.aadl_grammar.specs.proof.Symbols.{a_whole, the, Symbol}
 use Rattle.aadl_grammar.specs.proof.Machine.{Stack, takes, move, depth, syntax_at, fate}
-use Rattle.aadl_grammar.specs.proof.Reading.{At, AtMark, Begins, IsMarked, Misses, Reads}
+use Rattle.aadl_grammar.specs.proof.ParserAnswers.{At, AtMark, Begins, IsMarked, Misses, Reads}
 use Rattle.aadl_grammar.proofs.SymbolRows.{enters_as, takes_row, refuses_unless}
-use Rattle.aadl_grammar.proofs.Written.{then, marked, respelled, regroup}
+use Rattle.aadl_grammar.proofs.PartSequences.{then, marked, respelled, regroup}
 use Rattle.behaviour_parse.specs.declared.actions.LoopHead.{LoopHead}
-use Rattle.behaviour_parse.specs.proof.Choosing.{head_parts, choice_parts}
+use Rattle.behaviour_parse.specs.proof.ActionParts.{head_parts, choice_parts}
 
 -- a choice behind its `if`
 pub choice_reads : (x : Choice) {ss mid rest : List Spot} → AtMark k.If ss mid → Reads (choice_parts x) mid rest

@@ -1,4 +1,4 @@
 -- What the theorem of the program does not rest on: definitions of contracts below it, of laws, and of proofs.
-pub mod Joining
-pub mod Choosing
-pub mod Behaviours
+pub mod RelationOperators
+pub mod ActionParts
+pub mod ParseOutcomes

@@ -7,11 +7,11 @@ ghost use Rattle.aadl_tree.specs.proof.NameViews.{identifier_view, reference_vie
 ghost use Rattle.aadl_tree.specs.proof.ExpressionViews.{expression_view};
 ghost use Rattle.aadl_tree.specs.proof.ActionViews.{action_view, actions_view, elsifs_view, otherwise_of, block_view};
 ghost use Rattle.aadl_tree.specs.proof.ActionViews.{loop_view};
-ghost use Rattle.aadl_tree.specs.proof.Maps.{kept_place};
+ghost use Rattle.aadl_tree.specs.proof.PlaceMaps.{kept_place};
 ghost use Rattle.aadl_grammar.specs.proof.Symbols as s;
-ghost use Rattle.aadl_grammar.specs.proof.Table.{rows, on};
-ghost use Rattle.aadl_grammar.specs.proof.Reading.{here, MissAll, Begins, Parses, AnyRoom, Room};
-ghost use Rattle.behaviour_parse.specs.proof.Choosing.{head_parts, choice_parts};
+ghost use Rattle.aadl_grammar.specs.proof.ParseTable.{rows, on};
+ghost use Rattle.aadl_grammar.specs.proof.ParserAnswers.{here, MissAll, Begins, Parses, AnyRoom, Room};
+ghost use Rattle.behaviour_parse.specs.proof.ActionParts.{head_parts, choice_parts};
 
 use crate::expressions::expression;
 use aadl_grammar::{ParseFault, Parsed, Reader, identifier, reference};

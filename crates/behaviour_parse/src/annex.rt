@@ -1,18 +1,19 @@
 //! What a behaviour annex declares.
 ghost use Rattle.std.specs.Prelude.{◌≡◌, [], ◌∷◌, ◌++◌, flat_map, map, option_map};
 ghost use Rattle.aadl_tree.specs.declared.mark.Mark.TheVariants as k;
-ghost use Rattle.aadl_tree.specs.Parts.{plain, behind, parts_if};
+ghost use Rattle.aadl_tree.specs.SpellingParts.{plain, behind, parts_if};
 ghost use Rattle.aadl_tree.specs.Names.{identifier_parts};
 ghost use Rattle.aadl_tree.specs.Actions.{block_parts};
 ghost use Rattle.aadl_tree.specs.Annexes.{variable_parts, state_parts, guard_parts, label_parts, transition_parts};
 ghost use Rattle.aadl_tree.specs.Annexes.{declared_parts, annex_tree_parts};
 ghost use Rattle.aadl_tree.specs.proof.NameViews.{identifier_view};
 ghost use Rattle.aadl_tree.specs.proof.ActionViews.{block_view};
-ghost use Rattle.aadl_tree.specs.proof.Views.{variable_view, state_view, guard_view, transition_view, annex_tree_view};
-ghost use Rattle.aadl_tree.specs.proof.Maps.{kept_place};
+ghost use Rattle.aadl_tree.specs.proof.DeclarationViews.{variable_view, state_view, guard_view, transition_view};
+ghost use Rattle.aadl_tree.specs.proof.DeclarationViews.{annex_tree_view};
+ghost use Rattle.aadl_tree.specs.proof.PlaceMaps.{kept_place};
 ghost use Rattle.aadl_grammar.specs.proof.Symbols as s;
 ghost use Rattle.aadl_grammar.specs.proof.Machine.{annex_body};
-ghost use Rattle.aadl_grammar.specs.proof.Reading.{Parses, AnyRoom, Room};
+ghost use Rattle.aadl_grammar.specs.proof.ParserAnswers.{Parses, AnyRoom, Room};
 
 use crate::actions::block;
 use crate::expressions::expression;

@@ -6,13 +6,13 @@
 
 ghost use Rattle.std.specs.Prelude.{ℕ, ◌≡◌, List, IfOk, IfErr};
 ghost use Rattle.aadl_lex.specs.declared.token.Token.{Token};
-ghost use Rattle.aadl_lex.specs.proof.Spelled.{AreAmongTokensOf};
+ghost use Rattle.aadl_lex.specs.proof.TokenSpellings.{AreAmongTokensOf};
 ghost use Rattle.aadl_tree.specs.Annexes.{AnnexTree as Tree};
-ghost use Rattle.aadl_tree.specs.proof.Given.{end_of, BehaviourStopsAt, BehaviourNestsAt};
-ghost use Rattle.aadl_tree.specs.Given.{IsBehaviourOf};
-ghost use Rattle.aadl_tree.specs.proof.Views.{annex_tree_view};
-ghost use Rattle.aadl_tree.specs.proof.Maps.{kept_place};
-ghost use Rattle.behaviour_parse.specs.proof.Behaviours.{IsOnlyBehaviourOf, IsFaultOfBehaviour};
+ghost use Rattle.aadl_tree.specs.proof.GrammarTrees.{end_of, BehaviourStopsAt, BehaviourNestsAt};
+ghost use Rattle.aadl_tree.specs.GrammarTrees.{IsBehaviourOf};
+ghost use Rattle.aadl_tree.specs.proof.DeclarationViews.{annex_tree_view};
+ghost use Rattle.aadl_tree.specs.proof.PlaceMaps.{kept_place};
+ghost use Rattle.behaviour_parse.specs.proof.ParseOutcomes.{IsOnlyBehaviourOf, IsFaultOfBehaviour};
 
 mod actions;
 mod annex;

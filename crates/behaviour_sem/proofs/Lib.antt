@@ -1,4 +1,4 @@
-pub mod Branches
-pub mod Seen
+pub mod ActionTrees
+pub mod StateIndependence
 pub mod TransitionSteps
-pub mod Ends
+pub mod StepEnds

@@ -10,17 +10,17 @@ use Rattle.pals_base.specs.declared.values.PortValue.{PortValue}
 use Rattle.pals_base.specs.declared.values.PortValue.TheVariants.{Absent}
 use Rattle.pals_base.specs.Expressions.{on_value}
 use Rattle.pals_base.specs.Actions.{Effect, acts}
-use Rattle.pals_base.specs.Fire.{Fired, along, held_of, holding, opens, first_open, is_complete, leaving, settled}
-use Rattle.pals_base.specs.Tree.{Edge}
+use Rattle.pals_base.specs.SingleStep.{Fired, along, held_of, holding, opens, first_open, is_complete, leaving, settled}
+use Rattle.pals_base.specs.PlainTrees.{Edge}
 use Rattle.behaviour_sem.specs.declared.stop.EarlyEnd.{EarlyEnd}
 use Rattle.behaviour_sem.specs.declared.stop.EarlyEnd.TheVariants as stop
-use Rattle.behaviour_sem.specs.proof.Senses.{frame_of}
-use Rattle.behaviour_sem.specs.proof.Left.{Left}
-use Rattle.behaviour_sem.specs.proof.Runs.{effect}
-use Rattle.behaviour_sem.specs.proof.Goes.{goes, move}
+use Rattle.behaviour_sem.specs.proof.ReadableFrames.{frame_of}
+use Rattle.behaviour_sem.specs.proof.StepOutcomes.{Left}
+use Rattle.behaviour_sem.specs.proof.ActionRuns.{effect}
+use Rattle.behaviour_sem.specs.proof.TransitionMoves.{goes, move}
 use Rattle.behaviour_sem.specs.declared.transitions.StepState.{StepState}
 use Rattle.pals_base.specs.declared.behaviour.BehaviourParts.{BehaviourParts}
-use Rattle.behaviour_sem.proofs.Seen.{acts-seen, opens-seen}
+use Rattle.behaviour_sem.proofs.StateIndependence.{acts-seen, opens-seen}
 
 -- ---- stops
 -- what stops a run stops all that goes on from it

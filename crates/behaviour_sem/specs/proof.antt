@@ -1,6 +1,6 @@
 -- What the theorem of the program does not rest on: definitions of contracts below it, of laws, and of proofs.
-pub mod Senses
-pub mod Left
-pub mod Runs
-pub mod Goes
-pub mod Leads
+pub mod ReadableFrames
+pub mod StepOutcomes
+pub mod ActionRuns
+pub mod TransitionMoves
+pub mod StepParts

@@ -1,9 +1,9 @@
 //! What actions do to the variables and to this step's outputs.
 ghost use Rattle.std.specs.Prelude.{◌≡◌, length, slice_set};
 ghost use Rattle.pals_base.specs.Actions.{act, acts};
-ghost use Rattle.pals_base.specs.Tree.{For};
-ghost use Rattle.pals_base.specs.proof.Seen.{action_of, actions_along, branches_along};
-ghost use Rattle.behaviour_sem.specs.proof.Runs.{Runs, RunsFirst, turn};
+ghost use Rattle.pals_base.specs.PlainTrees.{For};
+ghost use Rattle.pals_base.specs.proof.SourceTrees.{action_of, actions_along, branches_along};
+ghost use Rattle.behaviour_sem.specs.proof.ActionRuns.{Runs, RunsFirst, turn};
 
 use crate::expressions::{StepInputs, eval, holds};
 use crate::stop::EarlyEnd;

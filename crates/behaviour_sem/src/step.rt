@@ -1,8 +1,8 @@
 //! One step of a behaviour.
 ghost use Rattle.std.specs.Prelude.{◌≡◌, IfOk, OnOk, None, length, map, replicate, slice_index_or};
-ghost use Rattle.pals_base.specs.Fire.{fire, held_of, holding, is_present};
-ghost use Rattle.behaviour_sem.specs.proof.Left.{Left};
-ghost use Rattle.behaviour_sem.specs.proof.Leads.{reacted};
+ghost use Rattle.pals_base.specs.SingleStep.{fire, held_of, holding, is_present};
+ghost use Rattle.behaviour_sem.specs.proof.StepOutcomes.{Left};
+ghost use Rattle.behaviour_sem.specs.proof.StepParts.{reacted};
 
 use crate::expressions::StepInputs;
 use crate::stop::EarlyEnd;

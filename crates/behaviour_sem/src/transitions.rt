@@ -1,10 +1,10 @@
 //! Transitions: from a complete state to the next.
 ghost use Rattle.std.specs.Prelude.{◌≡◌, length, slice_get, Some};
-ghost use Rattle.pals_base.specs.Fire.{completes, opens, along, settled};
-ghost use Rattle.pals_base.specs.proof.Seen.{trigger_of};
-ghost use Rattle.behaviour_sem.specs.proof.Senses.{seen, fresh};
-ghost use Rattle.behaviour_sem.specs.proof.Goes.{goes, move, dispatch_from};
-ghost use Rattle.behaviour_sem.specs.proof.Leads.{Leads, reacted};
+ghost use Rattle.pals_base.specs.SingleStep.{completes, opens, along, settled};
+ghost use Rattle.pals_base.specs.proof.SourceTrees.{trigger_of};
+ghost use Rattle.behaviour_sem.specs.proof.ReadableFrames.{seen, fresh};
+ghost use Rattle.behaviour_sem.specs.proof.TransitionMoves.{goes, move, dispatch_from};
+ghost use Rattle.behaviour_sem.specs.proof.StepParts.{Leads, reacted};
 
 use crate::actions::run_all;
 use crate::expressions::{StepInputs, eval, holds};

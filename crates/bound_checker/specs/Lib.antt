@@ -1,2 +1,2 @@
-pub mod Multiple
+pub mod ShortestPeriods
 pub mod proof

@@ -1,8 +1,8 @@
 //! What a period has to meet.
 ghost use Rattle.std.specs.Prelude.{◌≡◌, ◌≤◌, ◌↔◌, IsTrue};
-ghost use Rattle.pals_base.specs.Bound.{backoff, least_period};
+ghost use Rattle.pals_base.specs.PeriodBound.{backoff, least_period};
 ghost use Rattle.pals_base.specs.declared.limits.TheConstants.{RATE};
-ghost use Rattle.bound_checker.specs.proof.Limits.{IsWithinHour};
+ghost use Rattle.bound_checker.specs.proof.OverflowLimits.{IsWithinHour};
 
 use pals_base::{Gamma, Nanos};
 

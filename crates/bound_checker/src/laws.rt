@@ -1,9 +1,9 @@
 //! What the bound gives. Each law is the contract of a function that does nothing.
 ghost use Rattle.std.specs.Prelude.{◌≡◌, ℕ, ◌+◌, ◌-◌, ◌*◌, ◌<◌, ◌≤◌, List};
 ghost use Rattle.pals_base.specs.declared.values.Gamma.{Gamma};
-ghost use Rattle.pals_base.specs.Bound.{least_period, step_period, sent_steps, release_offset};
-ghost use Rattle.bound_checker.specs.Multiple.{IsLeastMultiple, HasNoMultiple};
-ghost use Rattle.bound_checker.specs.proof.Arrival.{IsStarted, IsSent, IsCarried};
+ghost use Rattle.pals_base.specs.PeriodBound.{least_period, step_period, sent_steps, release_offset};
+ghost use Rattle.bound_checker.specs.ShortestPeriods.{IsLeastMultiple, HasNoMultiple};
+ghost use Rattle.bound_checker.specs.proof.MessageTimes.{IsStarted, IsSent, IsCarried};
 
 /// At least one and at most all of a component's steps are sent.
 pub fn some_steps_are_sent()

@@ -1,7 +1,7 @@
 //! The shortest period that meets the bound and that every rate divides.
 ghost use Rattle.std.specs.Prelude.{◌≡◌, All, MatchOption};
-ghost use Rattle.bound_checker.specs.proof.Limits.{IsWithinHour, IsRate};
-ghost use Rattle.bound_checker.specs.Multiple.{greatest_rate, IsLeastMultiple, HasNoMultiple};
+ghost use Rattle.bound_checker.specs.proof.OverflowLimits.{IsWithinHour, IsRate};
+ghost use Rattle.bound_checker.specs.ShortestPeriods.{greatest_rate, IsLeastMultiple, HasNoMultiple};
 ghost use Rattle.bound_checker.specs.proof.Divisors.{HasMultiplesOf};
 
 use crate::bound::least_period;

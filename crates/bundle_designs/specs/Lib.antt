@@ -1,6 +1,6 @@
-pub mod Accepted
+pub mod BundleMeanings
 pub mod Bundles
-pub mod Parsed
-pub mod Printed
+pub mod ParsedBundles
+pub mod CanonicalTexts
 pub mod RefusedTexts
 pub mod proof

@@ -2,7 +2,7 @@
 use Rattle.std.specs.Prelude.{◌≡◌, ◌≢◌, ℕ, List, ◌++◌, ◌⊎◌}
 use Rattle.aadl_parse.specs.declared.fault.TextFault.{TextFault}
 use Rattle.aadl_parse.specs.declared.fault.TextFault.TheVariants.{Memory}
-use Rattle.aadl_parse.specs.ParsedText.{IsFaultOfText}
+use Rattle.aadl_parse.specs.ParseResults.{IsFaultOfText}
 use Rattle.pals_model.specs.RoundTexts.{line_end}
 use Rattle.pals_report.specs.TextFaults.{text_fault_line, no_divider_line}
 use Rattle.bundle_designs.specs.Bundles.{IsSplit, HasNoDivider}

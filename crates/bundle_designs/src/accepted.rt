@@ -2,7 +2,7 @@
 ghost use Rattle.std.specs.Prelude.{IfOk, IfErr};
 ghost use Rattle.aadl_tree.specs.proof.PackageViews.{placed};
 ghost use Rattle.design_laws.specs.PackageDesigns.{IsDesignIn};
-ghost use Rattle.bundle_designs.specs.Accepted.{IsAccepted};
+ghost use Rattle.bundle_designs.specs.BundleMeanings.{IsAccepted};
 ghost use Rattle.bundle_designs.specs.proof.Refusals.{IsPackageRefusal, IsRefusal};
 
 use crate::parsed::{ParsedBundle, parse_bundle};

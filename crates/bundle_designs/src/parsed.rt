@@ -1,7 +1,7 @@
 //! From a bundle to the tree of its design text.
 ghost use Rattle.std.specs.Prelude.{IfOk, IfErr};
 ghost use Rattle.aadl_tree.specs.proof.PackageViews.{placed};
-ghost use Rattle.bundle_designs.specs.Parsed.{IsParsed};
+ghost use Rattle.bundle_designs.specs.ParsedBundles.{IsParsed};
 ghost use Rattle.bundle_designs.specs.proof.Refusals.{IsTextRefusal};
 
 use crate::bundle::split;

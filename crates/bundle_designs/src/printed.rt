@@ -1,6 +1,6 @@
 //! From a bundle to the canonical text of its design.
 ghost use Rattle.std.specs.Prelude.{IfOk, IfErr};
-ghost use Rattle.bundle_designs.specs.Printed.{IsPrinted};
+ghost use Rattle.bundle_designs.specs.CanonicalTexts.{IsPrinted};
 ghost use Rattle.bundle_designs.specs.proof.Refusals.{IsTextRefusal};
 
 use crate::parsed::parse_bundle;

@@ -3,7 +3,7 @@ use Rattle.std.proofs.Common.{refl, sym, subst, append-nil}
 use Rattle.std.proofs.lemmas.List.{append_assoc}
 use Rattle.std.specs.Fmt.{digits}
 use Rattle.std.specs.Prelude.{◌≡◌, ◌++◌, List, [], ◌∷◌, None, true}
-use Rattle.pals_base.specs.Fire.{fire}
+use Rattle.pals_base.specs.SingleStep.{fire}
 use Rattle.pals_runs.specs.declared.journal.JournalEntry.{JournalEntry}
 use Rattle.bus_machine.specs.States.{Run, BusState, opening}
 use Rattle.bus_machine.specs.Machine.{BusEvent, is_allowed, after}

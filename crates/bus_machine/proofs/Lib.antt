@@ -1,9 +1,9 @@
 pub mod CounterMachine
 pub mod Lists
-pub mod Vectors
-pub mod Nodes
-pub mod States
-pub mod Steps
-pub mod Arrivals
-pub mod TargetRows
-pub mod Moves
+pub mod InputVectors
+pub mod NodeAgreement
+pub mod AgreementChanges
+pub mod NodeEventAgreement
+pub mod ReplayAgreement
+pub mod TargetExamples
+pub mod NodeQuantities

@@ -1,18 +1,18 @@
 -- When the nodes, slots and flights of a run agree with the composition.
 use Rattle.std.specs.Prelude.{◌≡◌, ℕ, suc, ◌<◌, ◌≤◌, true, false, List, length, map, All, Option, Some, None, slice_get}
 use Rattle.pals_base.specs.declared.values.PortValue.{PortValue}
-use Rattle.pals_base.specs.Steps.{Stepped, upwards}
+use Rattle.pals_base.specs.StepSequences.{Stepped, upwards}
 use Rattle.pals_model.specs.declared.design.Component.{Component}
 use Rattle.pals_model.specs.declared.design.Link.{Link}
 use Rattle.pals_model.specs.declared.flight.FlightCopy.{FlightCopy}
-use Rattle.pals_model.specs.Inputs.{feed}
+use Rattle.pals_model.specs.ComponentInputs.{feed}
 use Rattle.pals_model.specs.Composition.{comp, state, msg, part, own_steps_so_far}
 use Rattle.pals_runs.specs.declared.journal.Phase.{Phase}
 use Rattle.pals_runs.specs.declared.journal.Phase.TheVariants.{Waiting, Running, Between, Holding, Done}
 use Rattle.bus_machine.specs.Nodes.{NodeState}
 use Rattle.bus_machine.specs.NodeEvents.{slot_at}
 use Rattle.bus_machine.specs.States.{Run, BusState, node_at, flight_at}
-use Rattle.bus_machine.specs.Stops.{rounds_sent_on}
+use Rattle.bus_machine.specs.MissedStarts.{rounds_sent_on}
 
 -- ---- nodes
 -- between two rounds a node has finished and sent all that it started, and its frame is the state after them

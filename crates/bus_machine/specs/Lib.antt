@@ -1,10 +1,10 @@
 pub mod Plans
 pub mod Nodes
 pub mod NodeEvents
-pub mod Alarms
+pub mod EarliestReadings
 pub mod LinkEvents
 pub mod States
-pub mod Stops
+pub mod MissedStarts
 pub mod Machine
 pub mod Replay
 pub mod Agreement

@@ -6,7 +6,7 @@ use Rattle.pals_base.specs.declared.values.NodeNo.{NodeNo}
 use Rattle.pals_base.specs.declared.values.LinkNo.{LinkNo}
 use Rattle.pals_model.specs.declared.design.Link.{Link}
 use Rattle.pals_model.specs.declared.flight.FlightCopy.{FlightCopy}
-use Rattle.pals_model.specs.Inputs.{values_at}
+use Rattle.pals_model.specs.ComponentInputs.{values_at}
 use Rattle.pals_model.specs.Delays.{delay_of}
 use Rattle.pals_model.specs.Flights.{without_oldest}
 use Rattle.pals_runs.specs.declared.journal.Arrived.{Arrived}
@@ -18,7 +18,7 @@ use Rattle.bus_machine.specs.NodeEvents.{is_waiting, started, next_step, stepped
 use Rattle.bus_machine.specs.NodeEvents.{sent_from, message_from, arrived, received}
 use Rattle.bus_machine.specs.LinkEvents.{sent_copy, is_in_flight, arriving, repeated}
 use Rattle.bus_machine.specs.States.{Run, BusState, node_at, flight_at, link_at, with_node, with_flight}
-use Rattle.bus_machine.specs.Stops.{missing_link, cause_of}
+use Rattle.bus_machine.specs.MissedStarts.{missing_link, cause_of}
 use Rattle.pals_runs.specs.declared.journal.Stop.TheVariants as stop
 
 -- the events; those that a clock tells of carry a reading of it, or none

@@ -5,8 +5,8 @@ use Rattle.std.specs.Prelude.{slice_index_or, slice_set}
 use Rattle.std.specs.Option.{option_map_or}
 use Rattle.pals_base.specs.declared.values.PortValue.{PortValue}
 use Rattle.pals_base.specs.declared.values.PortValue.TheVariants.{Absent}
-use Rattle.pals_base.specs.Fire.{Fired, fire}
-use Rattle.pals_base.specs.Steps.{cut, with_places}
+use Rattle.pals_base.specs.SingleStep.{Fired, fire}
+use Rattle.pals_base.specs.StepSequences.{cut, with_places}
 use Rattle.pals_model.specs.declared.rounds.Part.{Part}
 use Rattle.pals_runs.specs.declared.journal.Phase.{Phase}
 use Rattle.pals_runs.specs.declared.journal.Phase.TheVariants.{Waiting, Running, Between, Holding, Done}

@@ -5,9 +5,9 @@ use Rattle.pals_base.specs.declared.values.PortValue.{PortValue}
 use Rattle.pals_base.specs.declared.values.PortValue.TheVariants.{Absent}
 use Rattle.pals_base.specs.declared.values.Frame.{Frame}
 use Rattle.pals_base.specs.declared.values.NodeNo.{NodeNo}
-use Rattle.pals_base.specs.Fire.{initial}
+use Rattle.pals_base.specs.SingleStep.{initial}
 use Rattle.pals_base.specs.Adaptors.{adapt}
-use Rattle.pals_base.specs.Steps.{columns}
+use Rattle.pals_base.specs.StepSequences.{columns}
 use Rattle.pals_model.specs.declared.rounds.Part.{Part}
 use Rattle.pals_runs.specs.declared.journal.Phase.{Phase}
 use Rattle.pals_runs.specs.declared.journal.Phase.TheVariants.{Waiting, Running, Between, Holding, Done}

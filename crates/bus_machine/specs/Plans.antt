@@ -1,14 +1,14 @@
 -- What a design says to one of its nodes.
 use Rattle.std.specs.Prelude.{ℕ, nat_eq, List, [], map, filter, Option, Some, None, slice_get, slice_index_or}
 use Rattle.pals_base.specs.declared.behaviour.BehaviourParts.{BehaviourParts}
-use Rattle.pals_base.specs.Bound.{step_period, sent_steps, release_offset}
+use Rattle.pals_base.specs.PeriodBound.{step_period, sent_steps, release_offset}
 use Rattle.pals_model.specs.declared.design.Component.{Component}
 use Rattle.pals_model.specs.declared.design.Link.{Link}
 use Rattle.pals_model.specs.declared.design.Feed.{Feed}
 use Rattle.pals_model.specs.declared.design.Tap.{Tap}
 use Rattle.pals_model.specs.declared.design.DesignParts.{DesignParts}
 use Rattle.pals_model.specs.declared.sources.PortSource.{PortSource}
-use Rattle.pals_model.specs.Inputs.{rate_of, sources_of}
+use Rattle.pals_model.specs.ComponentInputs.{rate_of, sources_of}
 use Rattle.pals_model.specs.Composition.{taps_of}
 use Rattle.bus_machine.specs.declared.plan.Input.{Input}
 use Rattle.bus_machine.specs.declared.plan.Plan.{Plan}

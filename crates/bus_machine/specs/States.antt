@@ -1,6 +1,6 @@
 -- The state of a run: its nodes, its links and perhaps a stop.
 use Rattle.std.specs.Prelude.{ℕ, true, List, [], length, map, Option, None, slice_index_or, slice_set, fold, min}
-use Rattle.pals_base.specs.Steps.{upwards}
+use Rattle.pals_base.specs.StepSequences.{upwards}
 use Rattle.pals_model.specs.declared.design.Link.{Link}
 use Rattle.pals_model.specs.declared.design.DesignParts.{DesignParts}
 use Rattle.pals_model.specs.declared.rounds.Env.{Env}

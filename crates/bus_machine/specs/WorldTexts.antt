@@ -1,12 +1,12 @@
 -- The text of a world: the rounds that its events finished, and the messages that they sent.
 use Rattle.std.specs.Prelude.{ℕ, ◌/◌, nat_eq, nat_lt, Bool, false, if◌then◌else◌, List, [], ◌∷◌, ◌++◌, codes, decimal}
 use Rattle.std.specs.Prelude.{length, map, fold, max, flat_map, count_by, Option, Some, None, slice_get}
-use Rattle.pals_base.specs.Steps.{upwards}
+use Rattle.pals_base.specs.StepSequences.{upwards}
 use Rattle.pals_model.specs.declared.design.DesignParts.{DesignParts}
 use Rattle.pals_model.specs.declared.rounds.Env.{Env}
 use Rattle.pals_model.specs.declared.rounds.Part.{Part}
-use Rattle.pals_model.specs.Inputs.{rate_of, links_from}
-use Rattle.pals_model.specs.Ports.{out_kind}
+use Rattle.pals_model.specs.ComponentInputs.{rate_of, links_from}
+use Rattle.pals_model.specs.PortKinds.{out_kind}
 use Rattle.pals_model.specs.Composition.{msg, part}
 use Rattle.pals_model.specs.RoundTexts.{text_of, tuple_text, row_lines}
 use Rattle.pals_runs.specs.declared.events.Event.{Event}

@@ -1,6 +1,6 @@
 //! Laws of the machine. The functions do nothing: their contracts are the laws.
 ghost use Rattle.bus_machine.specs.proof.MachineLaws.{OpeningAgrees, StepKeepsAgreement, ReplayAgrees};
-ghost use Rattle.bus_machine.specs.proof.TargetRows.{NodesHaveTargets};
+ghost use Rattle.bus_machine.specs.proof.TargetExamples.{NodesHaveTargets};
 ghost use Rattle.bus_machine.specs.proof.CounterMachine.{counters, early_arrival, early_lines, lost_message};
 ghost use Rattle.bus_machine.specs.proof.CounterMachine.{lost_lines, Tells};
 

@@ -1,12 +1,12 @@
-pub mod Lines
+pub mod AddedLines
 pub mod LineWords
-pub mod Spelled
+pub mod SpelledNumbers
 pub mod RunsOfLines
 pub mod PlainNames
 pub mod PortNames
 pub mod ToldInstrs
 pub mod ToldComponents
-pub mod ToldBlocks
+pub mod ToldComponentBlocks
 pub mod ToldLinks
 pub mod WholeLines
 pub mod ToldListings

@@ -13,7 +13,7 @@ use Rattle.pals_base.specs.Names.{is_word, is_path}
 use Rattle.pals_model.specs.RoundTexts.{text_of, is_line_feed}
 use Rattle.pals_model.specs.proof.CompositionLaws.Lines.{IsLine}
 use Rattle.pals_model.proofs.LineLaws.{text_splits}
-use Rattle.pals_model.proofs.Words.{IsWithout, all_pass, word_without, path_without}
+use Rattle.pals_model.proofs.WordBytes.{IsWithout, all_pass, word_without, path_without}
 use Rattle.pals_runs.specs.Journal.{spaced}
 
 -- ---- lines

@@ -8,7 +8,7 @@ use Rattle.std.proofs.lemmas.Bool.{and_parts}
 use Rattle.std.proofs.lemmas.List.Folds.{list_all-append}
 use Rattle.std.proofs.lemmas.Option.{slice_get-map, slice_get_cases}
 use Rattle.list_lemmas.proofs.Places.{slice_get-append_left, slice_get-map_parts}
-use Rattle.list_lemmas.proofs.Pairs.{same_place}
+use Rattle.list_lemmas.proofs.ElementPairs.{same_place}
 use Rattle.pals_base.specs.declared.behaviour.PortDecl.{PortDecl}
 use Rattle.pals_base.specs.declared.behaviour.VarDecl.{VarDecl}
 use Rattle.pals_base.specs.declared.behaviour.BehaviourParts.{BehaviourParts}
@@ -16,12 +16,12 @@ use Rattle.pals_base.specs.Names.{is_word, AreDistinct}
 use Rattle.pals_base.specs.Rules.{IsBehaviour, value_names}
 use Rattle.pals_model.specs.declared.design.Component.{Component}
 use Rattle.pals_model.specs.declared.design.DesignParts.{DesignParts}
-use Rattle.pals_model.specs.LinkNames.{port_name, in_port_name, target_name}
-use Rattle.pals_model.specs.Ports.{ins_in, outs_in}
+use Rattle.pals_model.specs.NamesInTexts.{port_name, in_port_name, target_name}
+use Rattle.pals_model.specs.PortKinds.{ins_in, outs_in}
 use Rattle.pals_model.specs.Rules.{IsDesign, IsSource, IsTarget}
-use Rattle.pals_model.proofs.Lookups.{at_element}
+use Rattle.pals_model.proofs.FirstElements.{at_element}
 use Rattle.pals_model.proofs.ShapeLaws.{component_at, is_behaviour}
-use Rattle.pals_model.proofs.Words.{IsWithout, all_pass, word_without, splits_at_last}
+use Rattle.pals_model.proofs.WordBytes.{IsWithout, all_pass, word_without, splits_at_last}
 use Rattle.pals_report.specs.CheckReports.{out_port_name, source_name}
 
 -- ---- lists in which no name stands twice

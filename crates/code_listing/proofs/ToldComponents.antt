@@ -11,10 +11,10 @@ use Rattle.pals_base.specs.declared.behaviour.PortDecl.{PortDecl}
 use Rattle.pals_base.specs.declared.behaviour.VarDecl.{VarDecl}
 use Rattle.pals_base.specs.declared.behaviour.StateDecl.{StateDecl}
 use Rattle.code_listing.specs.Listings.{kind_word, number_line, port_line, variable_line, state_line, state_lines}
-use Rattle.code_listing.specs.Numbers.{FirstFits, EntryFits, EntriesFit}
-use Rattle.code_listing.specs.proof.Told.{state_names}
+use Rattle.code_listing.specs.NumberRanges.{FirstFits, EntryFits, EntriesFit}
+use Rattle.code_listing.specs.proof.ToldDesigns.{state_names}
 use Rattle.code_listing.proofs.LineWords.{is_plain, same_words, decimal_plain, signed_plain}
-use Rattle.code_listing.proofs.Spelled.{signed_spelled, signed_is}
+use Rattle.code_listing.proofs.SpelledNumbers.{signed_spelled, signed_is}
 
 -- ---- single lines
 pub number_told : (word : List ℕ) (m n : ℕ) → is_plain word ≡ true → m < 2 ^ 64 → n < 2 ^ 64

@@ -10,16 +10,16 @@ use Rattle.std.proofs.lemmas.List.Folds.{list_all-append}
 use Rattle.pals_base.specs.declared.values.Adaptor.{Adaptor}
 use Rattle.pals_base.specs.declared.values.Adaptor.TheVariants.{Repeat, First, Last, At, Latest, Max, Min, Average}
 use Rattle.pals_base.specs.declared.limits.TheConstants.{RATE}
-use Rattle.pals_base.specs.Allowed.{is_allowed}
+use Rattle.pals_base.specs.AllowedAdaptors.{is_allowed}
 use Rattle.pals_model.specs.declared.design.Component.{Component}
 use Rattle.pals_model.specs.declared.design.Link.{Link}
 use Rattle.pals_model.specs.declared.design.Feed.{Feed}
 use Rattle.pals_model.specs.declared.design.Tap.{Tap}
 use Rattle.pals_model.specs.declared.design.DesignParts.{DesignParts}
-use Rattle.pals_model.specs.Inputs.{rate_of, rate_in}
-use Rattle.pals_model.specs.LinkNames.{port_name, in_port_name, target_name, link_name}
+use Rattle.pals_model.specs.ComponentInputs.{rate_of, rate_in}
+use Rattle.pals_model.specs.NamesInTexts.{port_name, in_port_name, target_name, link_name}
 use Rattle.pals_model.specs.Rules.{IsDesign, IsComponent, IsSource, IsTarget, IsLink, IsFeed, IsTap}
-use Rattle.pals_model.proofs.Lookups.{at_element}
+use Rattle.pals_model.proofs.FirstElements.{at_element}
 use Rattle.pals_runs.specs.Journal.{spaced}
 use Rattle.pals_report.specs.CheckReports.{adaptor_text, and_adaptor, out_port_name, source_name, link_line, feed_line}
 use Rattle.pals_report.specs.CheckReports.{tap_line}
@@ -27,7 +27,7 @@ use Rattle.code_listing.proofs.LineWords.{is_plain, ArePlain, same_words, word_p
 use Rattle.code_listing.proofs.PlainNames.{names_are_plain, port_plain}
 use Rattle.code_listing.proofs.PortNames.{outs_of, ins_of, ported, full_name, source_named, target_named, outs_apart}
 use Rattle.code_listing.proofs.PortNames.{ins_apart, IsThere, source_there, target_there, ports_told}
-use Rattle.code_listing.proofs.Spelled.{spelled, spelled_is}
+use Rattle.code_listing.proofs.SpelledNumbers.{spelled, spelled_is}
 
 -- ---- adaptors
 abbrev pub adaptor_words : Option Adaptor → List (List ℕ)

@@ -9,7 +9,7 @@ use Rattle.pals_base.specs.declared.behaviour.PortDecl.{PortDecl}
 use Rattle.pals_base.specs.declared.behaviour.VarDecl.{VarDecl}
 use Rattle.pals_base.specs.declared.behaviour.StateDecl.{StateDecl}
 use Rattle.pals_base.specs.declared.behaviour.BehaviourParts.{BehaviourParts}
-use Rattle.pals_base.specs.Bound.{sent_steps, release_offset}
+use Rattle.pals_base.specs.PeriodBound.{sent_steps, release_offset}
 use Rattle.pals_model.specs.declared.design.Component.{Component}
 use Rattle.pals_model.specs.declared.design.Link.{Link}
 use Rattle.pals_model.specs.declared.design.Feed.{Feed}
@@ -21,16 +21,16 @@ use Rattle.pals_model.specs.proof.CompositionLaws.Lines.{IsLine}
 use Rattle.pals_runs.specs.Journal.{spaced}
 use Rattle.step_code.specs.declared.instr.Instr.{Instr}
 use Rattle.step_code.specs.declared.instr.CodeParts.{CodeParts}
-use Rattle.step_code.specs.Paths.{weight_of}
-use Rattle.step_code.specs.Capped.{capped}
+use Rattle.step_code.specs.PathWeights.{weight_of}
+use Rattle.step_code.specs.CappedWeights.{capped}
 use Rattle.pals_report.specs.CheckReports.{link_line, feed_line, tap_line}
 use Rattle.code_listing.specs.Listings.{kind_word, number_line, port_line, variable_line, state_line, state_lines}
 use Rattle.code_listing.specs.Listings.{mnemonic, operands, instr_line, instr_lines, initial_line, component_lines}
 use Rattle.code_listing.specs.Listings.{lines_of_all, listing_lines, range_line, design_lines}
 use Rattle.code_listing.proofs.LineWords.{is_plain, is_one_line, path_plain, decimal_plain, signed_plain}
 use Rattle.code_listing.proofs.PlainNames.{HasPlainNames, names_are_plain, state_plain}
-use Rattle.code_listing.proofs.ToldBlocks.{behind_states, behind_vars, behind_outs, behind_ins, path_line, tail_lines}
-use Rattle.code_listing.proofs.ToldBlocks.{lines_are}
+use Rattle.code_listing.proofs.ToldComponentBlocks.{behind_states, behind_vars, behind_outs, behind_ins, path_line}
+use Rattle.code_listing.proofs.ToldComponentBlocks.{tail_lines, lines_are}
 use Rattle.code_listing.proofs.ToldComponents.{kind_plain}
 use Rattle.code_listing.proofs.ToldInstrs.{words_plain}
 use Rattle.code_listing.proofs.ToldLinks.{link_words, link_line-is, link_plain, feed_words, feed_line-is, feed_plain}

@@ -1,3 +1,3 @@
 pub mod Listings
-pub mod Numbers
+pub mod NumberRanges
 pub mod proof

@@ -10,18 +10,18 @@ use Rattle.pals_base.specs.declared.behaviour.PortDecl.{PortDecl}
 use Rattle.pals_base.specs.declared.behaviour.VarDecl.{VarDecl}
 use Rattle.pals_base.specs.declared.behaviour.StateDecl.{StateDecl}
 use Rattle.pals_base.specs.declared.behaviour.BehaviourParts.{BehaviourParts}
-use Rattle.pals_base.specs.Bound.{sent_steps, release_offset}
+use Rattle.pals_base.specs.PeriodBound.{sent_steps, release_offset}
 use Rattle.pals_model.specs.declared.design.Component.{Component}
 use Rattle.pals_model.specs.declared.design.DesignParts.{DesignParts}
-use Rattle.pals_model.specs.LinkNames.{port_name}
+use Rattle.pals_model.specs.NamesInTexts.{port_name}
 use Rattle.pals_model.specs.RoundTexts.{state_name, text_of}
 use Rattle.pals_runs.specs.Journal.{spaced}
 use Rattle.pals_report.specs.CheckReports.{link_line, feed_line, tap_line}
 use Rattle.step_code.specs.declared.instr.Instr.{Instr}
 use Rattle.step_code.specs.declared.instr.Instr.TheVariants as instr
 use Rattle.step_code.specs.declared.instr.CodeParts.{CodeParts}
-use Rattle.step_code.specs.Paths.{weight_of}
-use Rattle.step_code.specs.Capped.{capped}
+use Rattle.step_code.specs.PathWeights.{weight_of}
+use Rattle.step_code.specs.CappedWeights.{capped}
 
 -- a line on a component
 abbrev pub indented : List (List ℕ) → List ℕ

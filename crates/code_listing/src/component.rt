@@ -1,12 +1,12 @@
 //! The lines on a component: its rate, what it declares, its states and its code.
 ghost use Rattle.std.specs.Prelude.{◌≡◌, ◌++◌, codes, map, All, OnOk, OnErr};
 ghost use Rattle.pals_model.specs.RoundTexts.{line_end, text_of};
-ghost use Rattle.pals_report.specs.proof.Appended.{BeginsWith};
-ghost use Rattle.pals_report.specs.proof.Words.{word_text};
+ghost use Rattle.pals_report.specs.proof.PartialWrites.{BeginsWith};
+ghost use Rattle.pals_report.specs.proof.LineWords.{word_text};
 ghost use Rattle.code_listing.specs.Listings.{kind_word, number_line, initial_line, rate_lines, port_line};
 ghost use Rattle.code_listing.specs.Listings.{variable_line, declared_lines, state_line, state_lines, code_lines};
 ghost use Rattle.code_listing.specs.Listings.{component_lines};
-ghost use Rattle.code_listing.specs.Numbers.{NumberFits, FirstFits, EntryFits, EntriesFit, CodeFits, NumbersFit};
+ghost use Rattle.code_listing.specs.NumberRanges.{NumberFits, FirstFits, EntryFits, EntriesFit, CodeFits, NumbersFit};
 
 use crate::instr::add_instrs;
 use crate::names::state_word;

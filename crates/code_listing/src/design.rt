@@ -1,7 +1,7 @@
 //! The lines on a design: its period and its bounds.
 ghost use Rattle.std.specs.Prelude.{◌≡◌, ◌++◌, OnOk, OnErr};
 ghost use Rattle.pals_model.specs.RoundTexts.{line_end, text_of};
-ghost use Rattle.pals_report.specs.proof.Appended.{BeginsWith};
+ghost use Rattle.pals_report.specs.proof.PartialWrites.{BeginsWith};
 ghost use Rattle.code_listing.specs.Listings.{range_line, design_lines};
 
 use pals_base::{Nanos, NoMemory};

@@ -2,10 +2,10 @@
 ghost use Rattle.std.specs.Prelude.{◌≡◌, [], ◌∷◌, ◌++◌, decimal, All, OnOk, OnErr};
 ghost use Rattle.pals_model.specs.RoundTexts.{line_end, text_of};
 ghost use Rattle.pals_runs.specs.Journal.{spaced};
-ghost use Rattle.pals_report.specs.proof.Appended.{BeginsWith};
-ghost use Rattle.pals_report.specs.proof.Words.{word_text};
+ghost use Rattle.pals_report.specs.proof.PartialWrites.{BeginsWith};
+ghost use Rattle.pals_report.specs.proof.LineWords.{word_text};
 ghost use Rattle.code_listing.specs.Listings.{mnemonic, instr_line, instr_lines};
-ghost use Rattle.code_listing.specs.Numbers.{InstrFits};
+ghost use Rattle.code_listing.specs.NumberRanges.{InstrFits};
 
 use crate::names::{port_word, slot_word, state_word};
 use pals_base::{BehaviourParts, NoMemory};

@@ -1,9 +1,9 @@
 //! The whole listing.
 ghost use Rattle.std.specs.Prelude.{◌≡◌, ◌++◌, OnOk, OnErr};
 ghost use Rattle.pals_model.specs.RoundTexts.{text_of};
-ghost use Rattle.pals_report.specs.proof.Appended.{BeginsWith};
+ghost use Rattle.pals_report.specs.proof.PartialWrites.{BeginsWith};
 ghost use Rattle.code_listing.specs.Listings.{lines_of_all, listing_lines, listing};
-ghost use Rattle.code_listing.specs.Numbers.{AllFit};
+ghost use Rattle.code_listing.specs.NumberRanges.{AllFit};
 
 use crate::component::add_component;
 use crate::design::add_bounds;

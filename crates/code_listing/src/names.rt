@@ -1,8 +1,8 @@
 //! The names behind the numbers of instructions.
 ghost use Rattle.std.specs.Prelude.{◌≡◌, slice_get};
-ghost use Rattle.pals_model.specs.LinkNames.{port_name};
+ghost use Rattle.pals_model.specs.NamesInTexts.{port_name};
 ghost use Rattle.pals_model.specs.RoundTexts.{state_name};
-ghost use Rattle.pals_report.specs.proof.Words.{word_text};
+ghost use Rattle.pals_report.specs.proof.LineWords.{word_text};
 ghost use Rattle.code_listing.specs.Listings.{slot_name};
 
 use pals_base::{PortDecl, StateDecl, VarDecl};

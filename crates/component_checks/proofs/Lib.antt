@@ -1,5 +1,5 @@
-pub mod Looking
+pub mod NamedAssociations
 pub mod TimesWithinAnHour
-pub mod Singles
-pub mod Numbered
-pub mod Saying
+pub mod SingleTexts
+pub mod NumberedLists
+pub mod ComponentProperties

@@ -1,4 +1,4 @@
-pub mod Numbers
+pub mod DesignNumbers
 pub mod Rates
 pub mod PropertyLookup
 pub mod Times

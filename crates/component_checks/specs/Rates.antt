@@ -10,14 +10,14 @@ use Rattle.pals_base.specs.declared.values.Gamma.{Gamma}
 use Rattle.pals_base.specs.declared.values.Adaptor.{Adaptor}
 use Rattle.pals_base.specs.declared.values.Adaptor.TheVariants.{Repeat, First, Last, At, Latest, Max, Min, Average}
 use Rattle.pals_base.specs.declared.limits.TheConstants.{RATE}
-use Rattle.pals_base.specs.Bound.{least_period}
-use Rattle.pals_base.specs.Allowed.{divides_or_divided, is_allowed, suits_kind}
+use Rattle.pals_base.specs.PeriodBound.{least_period}
+use Rattle.pals_base.specs.AllowedAdaptors.{divides_or_divided, is_allowed, suits_kind}
 use Rattle.annex_resolve.specs.declared.violation.Violation.{Violation}
 use Rattle.annex_resolve.specs.Scopes.{finding, found_if}
 use Rattle.annex_resolve.specs.declared.violation.TheConstants.{NOT_DIVISOR, RATE_TOO_HIGH, RATES_DONT_DIVIDE}
 use Rattle.annex_resolve.specs.declared.violation.TheConstants.{NO_ADAPTOR, STRAY_ADAPTOR, ADAPTOR_OUT_OF_RANGE}
 use Rattle.annex_resolve.specs.declared.violation.TheConstants.{PERIOD_TOO_SHORT}
-use Rattle.component_checks.specs.Numbers.{divides}
+use Rattle.component_checks.specs.DesignNumbers.{divides}
 
 abbrev pub name_and_number : List ℕ → ℕ → List ℕ
 name_and_number front n = front ++ codes " " ++ decimal n

@@ -6,11 +6,11 @@ use Rattle.aadl_tree.specs.Values.{Association}
 use Rattle.aadl_tree.specs.Declarations.{Implementation, PackageTree}
 use Rattle.aadl_names.specs.declared.holder.PropertyName.{PropertyName}
 use Rattle.aadl_names.specs.declared.holder.PropertyName.TheVariants.{Period, Skew, Execution, Network}
-use Rattle.aadl_names.specs.Resolving.{implementation_at}
+use Rattle.aadl_names.specs.ReferenceResolution.{implementation_at}
 use Rattle.aadl_names.specs.Properties.{association_at}
 use Rattle.annex_resolve.specs.declared.violation.Violation.{Violation}
 use Rattle.annex_resolve.specs.Scopes.{found_if}
-use Rattle.component_checks.specs.Numbers.{within_hour, range_within, skew_of, range_of, gamma_by}
+use Rattle.component_checks.specs.DesignNumbers.{within_hour, range_within, skew_of, range_of, gamma_by}
 use Rattle.component_checks.specs.Rates.{bound_findings}
 use Rattle.annex_resolve.specs.declared.violation.TheConstants.{NO_PERIOD, GAMMA_MISSING, GAMMA_ORDER}
 use Rattle.component_checks.specs.PropertyLookup.{root_lists, first_in}

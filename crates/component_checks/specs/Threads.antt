@@ -11,7 +11,7 @@ use Rattle.aadl_uses.specs.declared.thread_places.SubAt.{SubAt}
 use Rattle.aadl_uses.specs.declared.thread_places.ThreadAt.{ThreadAt}
 use Rattle.annex_resolve.specs.declared.violation.Violation.{Violation}
 use Rattle.annex_resolve.specs.Scopes.{found_if}
-use Rattle.component_checks.specs.Numbers.{within_hour, rate_of}
+use Rattle.component_checks.specs.DesignNumbers.{within_hour, rate_of}
 use Rattle.component_checks.specs.Rates.{period_findings}
 use Rattle.annex_resolve.specs.declared.violation.TheConstants.{NOT_PERIODIC}
 use Rattle.component_checks.specs.PropertyLookup.{lists_along, root_lists, sub_lists, innermost, first_in}

@@ -14,7 +14,7 @@ use Rattle.aadl_names.specs.Properties.{association_at, association_value, assoc
 use Rattle.annex_resolve.specs.declared.violation.Violation.{Violation}
 use Rattle.annex_resolve.specs.declared.violation.TheConstants.{BAD_TYPE}
 use Rattle.annex_resolve.specs.Scopes.{found_if}
-use Rattle.annex_resolve.specs.Types.{kind_named, kind_in, misfit}
+use Rattle.annex_resolve.specs.ExpressionTypes.{kind_named, kind_in, misfit}
 
 abbrev pub is_in : Feature ℕ → Bool
 is_in f = goes_in (Some f.direction)

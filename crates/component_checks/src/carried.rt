@@ -1,6 +1,6 @@
 //! What the list of a connection says of the chains that it carries.
 ghost use Rattle.std.specs.Prelude.{◌≡◌, IfOk, codes, option_map, option_copied};
-ghost use Rattle.aadl_tree.specs.proof.Maps.{kept_place};
+ghost use Rattle.aadl_tree.specs.proof.PlaceMaps.{kept_place};
 ghost use Rattle.aadl_tree.specs.proof.ValueViews.{association_view, associations_view, value_view};
 ghost use Rattle.aadl_names.specs.Properties.{text_of};
 ghost use Rattle.component_checks.specs.proof.ChainProperties.{carried_by, adaptor_of};

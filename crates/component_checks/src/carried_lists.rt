@@ -1,8 +1,8 @@
 //! What the lists of the connections of a package say, each list read once.
 ghost use Rattle.std.specs.Prelude.{◌≡◌, IfOk, map};
-ghost use Rattle.aadl_tree.specs.proof.Maps.{kept_place};
+ghost use Rattle.aadl_tree.specs.proof.PlaceMaps.{kept_place};
 ghost use Rattle.aadl_tree.specs.proof.PackageViews.{placed};
-ghost use Rattle.aadl_tree.specs.proof.Views.{connection_view, declaration_view};
+ghost use Rattle.aadl_tree.specs.proof.DeclarationViews.{connection_view, declaration_view};
 ghost use Rattle.component_checks.specs.proof.ChainProperties as spec;
 
 use crate::carried::ChainProperties;

@@ -1,7 +1,7 @@
 //! The numbers of a design, and what refuses each.
 ghost use Rattle.std.specs.Prelude.{◌≡◌};
-ghost use Rattle.component_checks.specs.Numbers.{within_hour, range_within, not_zero, in_order, skew_of, range_of};
-ghost use Rattle.component_checks.specs.Numbers.{gamma_by, divides, is_rate, rate_of};
+ghost use Rattle.component_checks.specs.DesignNumbers.{within_hour, range_within, not_zero, in_order, skew_of};
+ghost use Rattle.component_checks.specs.DesignNumbers.{range_of, gamma_by, divides, is_rate, rate_of};
 
 use pals_base::limits::{HOUR, RATE};
 use pals_base::{Gamma, Nanos};

@@ -1,12 +1,12 @@
 //! Where a property is looked up.
 ghost use Rattle.std.specs.Prelude.{◌≡◌, ◌&&◌, option_map, option_copied};
-ghost use Rattle.aadl_tree.specs.proof.Maps.{kept_place};
+ghost use Rattle.aadl_tree.specs.proof.PlaceMaps.{kept_place};
 ghost use Rattle.aadl_tree.specs.proof.PackageViews.{placed};
 ghost use Rattle.aadl_tree.specs.proof.ValueViews.{association_view, associations_view};
-ghost use Rattle.aadl_tree.specs.proof.Views.{subcomponent_view};
+ghost use Rattle.aadl_tree.specs.proof.DeclarationViews.{subcomponent_view};
 ghost use Rattle.aadl_names.specs.Properties.{name_of, counts, is_named, association_named};
-ghost use Rattle.aadl_names.specs.Resolving.{type_numbered};
-ghost use Rattle.aadl_uses.specs.proof.Types.{type_number_at};
+ghost use Rattle.aadl_names.specs.ReferenceResolution.{type_numbered};
+ghost use Rattle.aadl_uses.specs.proof.ImplementationTypes.{type_number_at};
 ghost use Rattle.component_checks.specs.PropertyLookup as spec;
 
 use aadl_names::PropertyName;
@@ -23,7 +23,7 @@ pub fn sub_of<'t>(tree: &'t PackageTree, sub: SubAt) -> Option<&'t Subcomponent>
 }
 
 // Whether an association gives a property to what it stands at.
-#[tactic(auto, using(crate::proofs::Looking::view_out_association))]
+#[tactic(auto, using(crate::proofs::NamedAssociations::view_out_association))]
 fn gives(association: &Association, property: PropertyName) -> bool
     ensures { result
         ≡ (counts (association_view kept_place association.now) && is_named (name_of property) (association_view kept_place association.now)) }

@@ -2,7 +2,7 @@
 ghost use Rattle.std.specs.Prelude.{◌≡◌, ◌≤◌, ◌++◌, IfOk, OnOk};
 ghost use Rattle.std.specs.Option.{ForSome};
 ghost use Rattle.pals_base.specs.declared.limits.TheConstants.{RATE};
-ghost use Rattle.bound_checker.specs.proof.Limits.{IsWithinHour};
+ghost use Rattle.bound_checker.specs.proof.OverflowLimits.{IsWithinHour};
 ghost use Rattle.component_checks.specs.Rates.{name_and_number, period_findings, bound_findings};
 
 use crate::numbers::divides;

@@ -2,7 +2,7 @@
 ghost use Rattle.std.specs.Prelude.{◌≡◌, ◌≤◌, ◌++◌, OnOk, not, option_map, option_copied};
 ghost use Rattle.std.specs.Option.{is_some};
 ghost use Rattle.pals_base.specs.declared.limits.TheConstants.{RATE};
-ghost use Rattle.aadl_tree.specs.proof.Maps.{kept_place};
+ghost use Rattle.aadl_tree.specs.proof.PlaceMaps.{kept_place};
 ghost use Rattle.aadl_tree.specs.proof.PackageViews.{placed};
 ghost use Rattle.aadl_tree.specs.proof.ValueViews.{association_view};
 ghost use Rattle.component_checks.specs.Roots as spec;

@@ -1,6 +1,6 @@
 //! What lists of properties say of a component.
 ghost use Rattle.std.specs.Prelude.{◌≡◌, ◌∷◌, [], IfOk, option_map, option_copied};
-ghost use Rattle.aadl_tree.specs.proof.Maps.{kept_place};
+ghost use Rattle.aadl_tree.specs.proof.PlaceMaps.{kept_place};
 ghost use Rattle.aadl_tree.specs.proof.ValueViews.{association_view, associations_view};
 ghost use Rattle.component_checks.specs.proof.ComponentProperties.{period_at, dispatch_at, timed_by, nearer};
 
@@ -33,7 +33,7 @@ impl ComponentProperties {
     }
 
     /// What one list says.
-    #[tactic(auto, using(crate::proofs::Looking::first_of_one))]
+    #[tactic(auto, using(crate::proofs::NamedAssociations::first_of_one))]
     pub fn of(alloc: Global, list: &[Association]) -> Result<ComponentProperties, NoMemory>
         ensures { IfOk result (λ timed. timed ≡ timed_by (associations_view kept_place list.now ∷ [])) }
     {

@@ -1,9 +1,9 @@
 //! What the lists of a package say of its components, each list read once.
 ghost use Rattle.std.specs.Prelude.{◌≡◌, IfOk, map};
-ghost use Rattle.aadl_tree.specs.proof.Maps.{kept_place};
+ghost use Rattle.aadl_tree.specs.proof.PlaceMaps.{kept_place};
 ghost use Rattle.aadl_tree.specs.proof.PackageViews.{placed};
-ghost use Rattle.aadl_tree.specs.proof.Views.{declaration_view};
-ghost use Rattle.aadl_names.specs.Resolving.{implementation_at, subcomponents_of};
+ghost use Rattle.aadl_tree.specs.proof.DeclarationViews.{declaration_view};
+ghost use Rattle.aadl_names.specs.ReferenceResolution.{implementation_at, subcomponents_of};
 ghost use Rattle.component_checks.specs.PropertyLookup.{lists_at, root_lists};
 ghost use Rattle.component_checks.specs.proof.ComponentProperties as spec;
 ghost use Rattle.component_checks.specs.proof.ComponentProperties.{timed_by};

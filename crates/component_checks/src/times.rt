@@ -2,12 +2,12 @@
 ghost use Rattle.std.specs.Prelude.{◌≡◌, ◌*◌, ◌++◌, nat_lt, OnOk, option_map};
 ghost use Rattle.pals_base.specs.declared.limits.TheConstants.{HOUR};
 ghost use Rattle.std.specs.Option.{option_and_then};
-ghost use Rattle.aadl_tree.specs.proof.Maps.{kept_place};
+ghost use Rattle.aadl_tree.specs.proof.PlaceMaps.{kept_place};
 ghost use Rattle.aadl_tree.specs.proof.NameViews.{identifier_view};
 ghost use Rattle.aadl_tree.specs.proof.ValueViews.{figure_view, quantity_view, value_view, association_view};
 ghost use Rattle.aadl_tree.specs.proof.ValueViews.{associations_view};
 ghost use Rattle.aadl_names.specs.Properties as properties;
-ghost use Rattle.component_checks.specs.Numbers.{within_hour, range_within};
+ghost use Rattle.component_checks.specs.DesignNumbers.{within_hour, range_within};
 ghost use Rattle.component_checks.specs.Times as spec;
 
 use aadl_names::name_comparison::is_spelled;
@@ -181,7 +181,7 @@ pub fn shown(property: PropertyName) -> &'static str
 }
 
 // Adds the finding that an association gives a property a time above an hour.
-#[tactic(auto, using(crate::proofs::Looking::view_out_association))]
+#[tactic(auto, using(crate::proofs::NamedAssociations::view_out_association))]
 fn add_big_as(
     alloc: Global,
     association: &Association,
@@ -218,7 +218,7 @@ fn add_association_big(
 
 // Adds what is above an hour in an association at a kind of place, where the association does not
 // apply elsewhere.
-#[tactic(auto, using(crate::proofs::Looking::view_out_association))]
+#[tactic(auto, using(crate::proofs::NamedAssociations::view_out_association))]
 fn add_counted_big(
     alloc: Global,
     holder: PropertyHolder,

@@ -1,13 +1,13 @@
 //! The types of ports, variables and first values.
 ghost use Rattle.std.specs.Prelude.{◌≡◌, ◌++◌, OnOk, flat_map, map, option_map, option_copied};
 ghost use Rattle.aadl_tree.specs.Names.{identifiers};
-ghost use Rattle.aadl_tree.specs.proof.Maps.{kept_place};
+ghost use Rattle.aadl_tree.specs.proof.PlaceMaps.{kept_place};
 ghost use Rattle.aadl_tree.specs.proof.NameViews.{identifiers_view, reference_view};
 ghost use Rattle.aadl_tree.specs.proof.ValueViews.{value_view, values_view, association_view};
 ghost use Rattle.aadl_tree.specs.Values.{list};
-ghost use Rattle.aadl_tree.specs.proof.Views.{feature_view, variable_view, annex_tree_view};
+ghost use Rattle.aadl_tree.specs.proof.DeclarationViews.{feature_view, variable_view, annex_tree_view};
 ghost use Rattle.aadl_names.specs.Properties.{only_text, text_of};
-ghost use Rattle.annex_resolve.specs.Types.{kind_in};
+ghost use Rattle.annex_resolve.specs.ExpressionTypes.{kind_in};
 ghost use Rattle.component_checks.specs.Types as spec;
 
 use crate::property_lookup::property_in;

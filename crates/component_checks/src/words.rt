@@ -1,6 +1,6 @@
 //! Values that are words.
 ghost use Rattle.std.specs.Prelude.{◌≡◌, IfOk};
-ghost use Rattle.aadl_tree.specs.proof.Maps.{kept_place};
+ghost use Rattle.aadl_tree.specs.proof.PlaceMaps.{kept_place};
 ghost use Rattle.aadl_tree.specs.proof.ValueViews.{value_view};
 ghost use Rattle.aadl_names.specs.Properties.{reference_of};
 ghost use Rattle.component_checks.specs.Threads as spec;

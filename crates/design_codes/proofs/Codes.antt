@@ -5,11 +5,11 @@ use Rattle.std.proofs.lemmas.List.{get_or_append_left, get_or_push}
 use Rattle.pals_base.specs.declared.limits.TheConstants.{INSTRUCTIONS}
 use Rattle.pals_model.specs.declared.design.DesignParts.{DesignParts}
 use Rattle.step_code.specs.declared.instr.CodeParts.{CodeParts}
-use Rattle.step_code.specs.proof.Means.{Means}
-use Rattle.step_compiler.specs.LaidOut.{IsLaidOut}
+use Rattle.step_code.specs.proof.CodeMeaning.{Means}
+use Rattle.step_compiler.specs.LaidOutCode.{IsLaidOut}
 use Rattle.bus_machine.specs.Plans.{component_at}
-use Rattle.pals_bus.specs.proof.Values.{code_at, no_code}
-use Rattle.design_codes.specs.Causes.{length_of}
+use Rattle.pals_bus.specs.proof.BusPartValues.{code_at, no_code}
+use Rattle.design_codes.specs.OverlongCodes.{length_of}
 
 -- each is laid out for its component's behaviour, means what that does, and is no longer than a code may be
 pub record AreFirst (design : DesignParts) (codes : List CodeParts) : Type 0 where

@@ -1,2 +1,2 @@
-pub mod Causes
+pub mod OverlongCodes
 pub mod Behaviours

@@ -2,9 +2,9 @@
 #![tactic(auto)]
 
 ghost use Rattle.std.specs.Prelude.{IfOk, IfErr};
-ghost use Rattle.pals_bus.specs.proof.Values.{AreCodes};
-ghost use Rattle.step_compiler.specs.LaidOut.{AreLaidOut};
-ghost use Rattle.design_codes.specs.Causes.{AreShort, IsCause};
+ghost use Rattle.pals_bus.specs.proof.BusPartValues.{AreCodes};
+ghost use Rattle.step_compiler.specs.LaidOutCode.{AreLaidOut};
+ghost use Rattle.design_codes.specs.OverlongCodes.{AreShort, IsCause};
 ghost use Rattle.design_codes.specs.Behaviours.{behaviours};
 
 use pals_base::{Items, NoMemory, NodeNo};

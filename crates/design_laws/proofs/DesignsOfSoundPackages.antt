@@ -7,12 +7,12 @@ use Rattle.pals_base.specs.Rules.{IsAcyclic}
 use Rattle.pals_model.specs.declared.design.DesignParts.{DesignParts}
 use Rattle.pals_model.specs.Rules.{IsDesign}
 use Rattle.aadl_tree.specs.Declarations.{PackageTree}
-use Rattle.design_laws.specs.proof.Named.{AreNamed}
+use Rattle.design_laws.specs.proof.PackageNames.{AreNamed}
 use Rattle.model_violations.specs.Violations.{Shown}
-use Rattle.design_laws.specs.proof.Accepted.{IsShown, NothingFound}
-use Rattle.design_laws.specs.Designs.{IsDesignOf}
-use Rattle.design_laws.proofs.ThreadBehaviours.{ThreadLaw}
-use Rattle.design_laws.proofs.Accepting.{has_design, one_design}
+use Rattle.design_laws.specs.proof.AcceptedInstances.{IsShown, NothingFound}
+use Rattle.design_laws.specs.InstanceDesigns.{IsDesignOf}
+use Rattle.design_laws.proofs.InstanceBehaviours.{ThreadLaw}
+use Rattle.design_laws.proofs.AcceptedInstances.{has_design, one_design}
 
 pub keeps : ThreadLaw → (tree : PackageTree ℕ) (s : Shown) → AreNamed tree → ∥ IsShown tree s ∥₁ → NothingFound tree s
     → (design : DesignParts)

@@ -1,79 +1,79 @@
-pub mod Tests
-pub mod Scopes
-pub mod Expressing
+pub mod EmptyFindingLists
+pub mod LoopScopes
+pub mod TypedExpressions
 pub mod SoundActions
 pub mod SoundTransitions
-pub mod Beginning
-pub mod Counting
-pub mod Allowing
-pub mod Placed
-pub mod Differing
-pub mod Declaring
-pub mod Wording
-pub mod Apart
-pub mod Texts
-pub mod Partition
-pub mod Naming
-pub mod Typing
-pub mod Stating
-pub mod ThreadBehaviour
-pub mod Clean
-pub mod ThreadBehaviours
-pub mod Timing
-pub mod Rating
-pub mod Pathing
-pub mod Matching
-pub mod Composing
+pub mod InitialStates
+pub mod BoundsAndRates
+pub mod AllowedAdaptors
+pub mod PlacedNames
+pub mod PairwiseDistinctNames
+pub mod DeclaredNames
+pub mod WordIdentifiers
+pub mod DistinctPackageNames
+pub mod PackageNames
+pub mod PartitionedPairs
+pub mod ThreadNames
+pub mod DeclaredTypes
+pub mod DeclaredStates
+pub mod SoundThreadBehaviour
+pub mod FaultlessParts
+pub mod InstanceBehaviours
+pub mod SoundTimes
+pub mod SoundRates
+pub mod PathTexts
+pub mod MatchedLists
+pub mod DesignComponents
 pub mod NoFindings
-pub mod Showing
-pub mod Listed
-pub mod Orders
-pub mod Sorted
-pub mod Verdicts
-pub mod Words
-pub mod Accepted
-pub mod Porting
-pub mod Chaining
-pub mod Ending
-pub mod Linking
+pub mod ShownInstances
+pub mod UniqueLists
+pub mod AsymmetricOrders
+pub mod UniqueSorts
+pub mod UniqueDesigns
+pub mod WordNames
+pub mod AcceptedPackages
+pub mod PortNumbers
+pub mod ChainTypes
+pub mod ChainEnds
+pub mod InstanceLinks
 pub mod SoundLinks
-pub mod Ordering
-pub mod Sourcing
-pub mod Joining
-pub mod Accepting
+pub mod LinkOrder
+pub mod UniqueChainStarts
+pub mod DesignLinks
+pub mod AcceptedInstances
 pub mod DesignsOfSoundPackages
-pub mod Clear
-pub mod Expressions
-pub mod Actions
+pub mod FindingPlaces
+pub mod ExpressionNames
+pub mod ActionNames
 pub mod PossibleNameFaults
-pub mod FaultAnnexes
-pub mod FaultDeclaring
-pub mod Covering
-pub mod Found
-pub mod Again
+pub mod AnnexFindingPlaces
+pub mod PackageFindingPlaces
+pub mod CoveredFindings
+pub mod FoundNameFaults
+pub mod RepeatedDeclarations
 pub mod FindingsAtOnePlace
-pub mod Faults
-pub mod Least
-mod Sorting
-mod Distinct
-mod Containing
-mod Reaching
-mod ExistingOrdering
-mod Paths
-mod Sound
-mod Finding
+pub mod UniqueFirstFaults
+pub mod LeastNumbers
+mod InsertionSort
+mod DistinctNumbers
+mod ContainmentExistence
+mod ReachedDeclarations
+mod ContainmentOrders
+mod ListedPaths
+mod SoundPackages
+mod FindingSearches
 mod Recursion
-mod Inside
-mod Outside
-mod Connections
-mod Lines
-mod Tracing
-mod Incoming
-mod Descending
+mod InwardPorts
+mod OutwardPorts
+mod ConnectionFaults
+mod FirstFaultLines
+mod IncomingLinks
+mod LinksAndFeeds
+mod TerminatingDescent
 mod Taps
-mod Limits
-pub mod Flat
-mod NamedLists
-mod NamedAnnexes
-pub mod NamedFaults
-pub mod Violations
+mod PassedLimits
+pub mod ExistingInstances
+mod MemoryFreeLists
+mod MemoryFreeAnnexes
+pub mod MemoryFreeFaults
+pub mod SortedFindings

@@ -5,7 +5,7 @@ use Rattle.std.proofs.lemmas.Bool.Decides.{nat_tests}
 use Rattle.aadl_tree.specs.Declarations.{PackageTree}
 use Rattle.annex_resolve.specs.declared.violation.Violation.{Violation}
 use Rattle.model_violations.specs.Violations.{Shown, findings, goes_before, AreViolations}
-use Rattle.design_laws.specs.proof.Accepted.{NothingFound}
+use Rattle.design_laws.specs.proof.AcceptedInstances.{NothingFound}
 
 none_stable : {X : Type 0} (lt : X → X → Bool) → ((x : X) → ties lt x x ≡ true) → (xs : List X)
     → IsStableBy lt xs [] → xs ≡ []

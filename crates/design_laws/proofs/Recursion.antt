@@ -5,15 +5,15 @@ use Rattle.std.proofs.lemmas.Option.{none-some, same_Some, slice_get_within}
 use Rattle.aadl_tree.specs.Declarations.{Subcomponent, PackageTree}
 use Rattle.aadl_names.specs.declared.fault.PackageFault.{PackageFault}
 use Rattle.aadl_names.specs.declared.fault.PackageFault.TheVariants.{Recursive}
-use Rattle.aadl_names.specs.Resolving.{implementation_at, subcomponents_of}
+use Rattle.aadl_names.specs.ReferenceResolution.{implementation_at, subcomponents_of}
 use Rattle.aadl_uses.specs.Uses.{sub_at, IsRecursive}
-use Rattle.aadl_uses.specs.proof.Uses.{containment, targets_in, FirstIn}
-use Rattle.aadl_uses.proofs.Containing.{within}
+use Rattle.aadl_uses.specs.proof.PackageContainment.{containment, targets_in, FirstIn}
+use Rattle.aadl_uses.proofs.PackageContainment.{within}
 use Rattle.aadl_uses.proofs.Cycles.{leads_back_from, closes_from}
-use Rattle.aadl_uses.specs.proof.Graphs.{LeadsBack}
-use Rattle.aadl_uses.proofs.Suspected.{declared}
-use Rattle.design_laws.proofs.Reaching.{leads_back}
-use Rattle.design_laws.proofs.Finding.{Finds, none_found, alike_found, found_if, Below, found_below, first_in}
+use Rattle.aadl_uses.specs.proof.ContainmentGraphs.{LeadsBack}
+use Rattle.aadl_uses.proofs.RecursionSuspects.{declared}
+use Rattle.design_laws.proofs.ReachedDeclarations.{leads_back}
+use Rattle.design_laws.proofs.FindingSearches.{Finds, none_found, alike_found, found_if, Below, found_below, first_in}
 
 -- the fault of a subcomponent by its numbers
 abbrev LeadsBackAt : PackageTree ℕ → ℕ → ℕ → PackageFault → Type 0

@@ -8,11 +8,11 @@ use Rattle.pals_base.specs.declared.behaviour.Kind.TheVariants.{Integer, Boolean
 use Rattle.pals_base.specs.declared.behaviour.BehaviourParts.{BehaviourParts}
 use Rattle.pals_base.specs.declared.kinds.Kinds.{Kinds}
 use Rattle.pals_base.specs.declared.limits.TheConstants.{TURNS, NESTED_TURNS}
-use Rattle.pals_base.specs.Tree as plain
+use Rattle.pals_base.specs.PlainTrees as plain
 use Rattle.pals_base.specs.Kinds.{allows, kinds_of, suits_variable, suits_port, is_short, is_sound, are_sound}
 use Rattle.pals_base.specs.Kinds.{branches_are_sound}
 use Rattle.aadl_tree.specs.Expressions.{Expression}
-use Rattle.aadl_tree.specs.Offsets.{expression_at}
+use Rattle.aadl_tree.specs.ExpressionOffsets.{expression_at}
 use Rattle.aadl_tree.specs.Actions.{Action, assign, send, choose, loop, Actions, actions, Mores, no_mores, more, Elsifs}
 use Rattle.aadl_tree.specs.Actions.{no_elsifs, elsif, Otherwise, no_otherwise, otherwise, Block, no_block, block}
 use Rattle.annex_resolve.specs.declared.scope.Scope.{Scope}
@@ -22,17 +22,17 @@ use Rattle.annex_resolve.specs.declared.scope.Meaning.TheVariants.{InPort, OutPo
 use Rattle.annex_resolve.specs.declared.violation.TheConstants.{BAD_TYPE, LOOP_TOO_LONG}
 use Rattle.annex_resolve.specs.Scopes.{found_if, entry_named, kind_of, sets, sends, may_set, may_send, given, given_to}
 use Rattle.annex_resolve.specs.Scopes.{with_loop}
-use Rattle.annex_resolve.specs.Types.{fits, misfit, same_kind, whole_types, expression_kind, expression_types}
-use Rattle.annex_resolve.specs.Types.{kind_named}
-use Rattle.annex_resolve.specs.Resolved.{expression_of, action_of, actions_of, mores_of, elsifs_of, otherwise_of}
-use Rattle.annex_resolve.specs.Resolved.{block_of}
-use Rattle.annex_resolve.specs.Actions.{turns, together, is_too_long, is_integer, branch_findings, action_findings}
-use Rattle.annex_resolve.specs.Actions.{actions_findings, mores_findings, elsifs_findings, otherwise_findings}
-use Rattle.annex_resolve.specs.Actions.{block_findings}
-use Rattle.design_laws.specs.proof.Ready.{FitsMeaning, FitsScope}
-use Rattle.design_laws.proofs.Tests.{nothing_left, not_wrong, is_right}
-use Rattle.design_laws.proofs.Scopes.{inner_fits}
-use Rattle.design_laws.proofs.Expressing.{Has, is_truth, expression_sound}
+use Rattle.annex_resolve.specs.ExpressionTypes.{fits, misfit, same_kind, whole_types, expression_kind, expression_types}
+use Rattle.annex_resolve.specs.ExpressionTypes.{kind_named}
+use Rattle.annex_resolve.specs.ResolvedTrees.{expression_of, action_of, actions_of, mores_of, elsifs_of, otherwise_of}
+use Rattle.annex_resolve.specs.ResolvedTrees.{block_of}
+use Rattle.annex_resolve.specs.ActionFindings.{turns, together, is_too_long, is_integer, branch_findings}
+use Rattle.annex_resolve.specs.ActionFindings.{action_findings, actions_findings, mores_findings, elsifs_findings}
+use Rattle.annex_resolve.specs.ActionFindings.{otherwise_findings, block_findings}
+use Rattle.design_laws.specs.proof.AnnexNames.{FitsMeaning, FitsScope}
+use Rattle.design_laws.proofs.EmptyFindingLists.{nothing_left, not_wrong, is_right}
+use Rattle.design_laws.proofs.LoopScopes.{inner_fits}
+use Rattle.design_laws.proofs.TypedExpressions.{Has, is_truth, expression_sound}
 
 -- ---- whole expressions
 agrees : (k w : Kind) (kinds : Kinds) → same_kind k w ≡ true → allows kinds k ≡ true → allows kinds w ≡ true

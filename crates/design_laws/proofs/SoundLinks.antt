@@ -5,38 +5,38 @@ use Rattle.std.specs.Option.{option_and_then}
 use Rattle.std.proofs.lemmas.List.Elements.{recursion_from_All}
 use Rattle.list_lemmas.proofs.Lists.{append_is_nil_right}
 use Rattle.pals_base.specs.declared.behaviour.Kind.{Kind}
-use Rattle.pals_base.specs.Allowed.{divides_or_divided, is_allowed, suits_kind}
+use Rattle.pals_base.specs.AllowedAdaptors.{divides_or_divided, is_allowed, suits_kind}
 use Rattle.pals_base.specs.Names.{is_word}
 use Rattle.pals_model.specs.declared.design.DesignParts.{DesignParts}
-use Rattle.pals_model.specs.Inputs.{rate_of}
+use Rattle.pals_model.specs.ComponentInputs.{rate_of}
 use Rattle.pals_model.specs.Rules as model
 use Rattle.aadl_tree.specs.Declarations.{Feature, Connection, PackageTree}
-use Rattle.aadl_names.specs.Resolving.{ports_at, type_number}
+use Rattle.aadl_names.specs.ReferenceResolution.{ports_at, type_number}
 use Rattle.aadl_uses.specs.Uses.{component_at}
 use Rattle.aadl_uses.specs.Threads.{IsThreadAt}
 use Rattle.aadl_uses.specs.ThreadPlaces.{thread_at}
 use Rattle.aadl_chains.specs.Chains.{Port, port_of, is_in}
 use Rattle.aadl_chains.specs.Links.{Ends}
-use Rattle.aadl_instance.specs.Flat.{Parts, IsFlat}
+use Rattle.aadl_instance.specs.FlattenedDesign.{Parts, IsFlat}
 use Rattle.aadl_chains.specs.Links as walks
 use Rattle.aadl_instance.specs.Instances.{node_at, port_number, port_name, end_in, chain_at}
-use Rattle.annex_resolve.specs.Types.{kind_in}
+use Rattle.annex_resolve.specs.ExpressionTypes.{kind_in}
 use Rattle.model_violations.specs.Carriers.{adaptor_text}
 use Rattle.model_violations.specs.Chains.{timing_findings, adaptor_findings, on_carrier, link_findings, feed_findings}
-use Rattle.model_violations.specs.Ports.{end_name, end_kind, end_rate}
+use Rattle.model_violations.specs.ChainEnds.{end_name, end_kind, end_rate}
 use Rattle.component_checks.specs.Rates.{adaptor_named, kind_suits}
-use Rattle.design_laws.specs.proof.Named.{HasWords}
-use Rattle.design_laws.proofs.Partition.{all_at}
-use Rattle.design_laws.proofs.Naming.{IsPort}
-use Rattle.design_laws.proofs.ThreadBehaviour.{port_words}
-use Rattle.model_violations.specs.Use.{IsUse}
+use Rattle.design_laws.specs.proof.PackageNames.{HasWords}
+use Rattle.design_laws.proofs.PartitionedPairs.{all_at}
+use Rattle.design_laws.proofs.ThreadNames.{IsPort}
+use Rattle.design_laws.proofs.SoundThreadBehaviour.{port_words}
+use Rattle.model_violations.specs.UsedDeclarations.{IsUse}
 use Rattle.model_violations.specs.Violations.{shown_by, used_findings, rates_of}
-use Rattle.design_laws.specs.Designs.{chain_adaptor}
-use Rattle.design_laws.proofs.Matching.{Zipped}
-use Rattle.design_laws.proofs.Ending.{Sits, in_seen, rate_at}
-use Rattle.design_laws.proofs.Linking.{rated_fits, thread_end, root_end, start_goes_out, end_goes_in, link_joins}
-use Rattle.design_laws.proofs.Linking.{feed_joins, tap_joins, connection_is, adaptor_is, node_of, link_of, feed_of}
-use Rattle.design_laws.proofs.Linking.{tap_of, is_target, in_kind_is, is_source, out_kind_is, rate_is}
+use Rattle.design_laws.specs.InstanceDesigns.{chain_adaptor}
+use Rattle.design_laws.proofs.MatchedLists.{Zipped}
+use Rattle.design_laws.proofs.ChainEnds.{Sits, in_seen, rate_at}
+use Rattle.design_laws.proofs.InstanceLinks.{rated_fits, thread_end, root_end, start_goes_out, end_goes_in, link_joins}
+use Rattle.design_laws.proofs.InstanceLinks.{feed_joins, tap_joins, connection_is, adaptor_is, node_of, link_of}
+use Rattle.design_laws.proofs.InstanceLinks.{feed_of, tap_of, is_target, in_kind_is, is_source, out_kind_is, rate_is}
 
 module _ {tree : PackageTree ℕ} {name : List ℕ} {parts : Parts} (flat : IsFlat tree name parts) (used : ℕ → Bool)
     (is_use : IsUse tree parts.root used) (none : used_findings tree (shown_by tree parts) used ≡ [])

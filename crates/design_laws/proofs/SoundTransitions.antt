@@ -9,13 +9,13 @@ use Rattle.std.proofs.lemmas.List.{length-map}
 use Rattle.std.proofs.lemmas.Option.{slice_get-map}
 use Rattle.list_lemmas.proofs.Places.{slice_get-some}
 use Rattle.pals_base.specs.declared.behaviour.BehaviourParts.{BehaviourParts}
-use Rattle.pals_base.specs.Tree as plain
+use Rattle.pals_base.specs.PlainTrees as plain
 use Rattle.pals_base.specs.Kinds.{are_sound}
-use Rattle.pals_base.specs.Fire.{completes, is_complete, is_dispatch, leaving}
+use Rattle.pals_base.specs.SingleStep.{completes, is_complete, is_dispatch, leaving}
 use Rattle.pals_base.specs.Rules.{has_condition, is_edge, dispatch_count, is_always, ends_unguarded, has_ways}
 use Rattle.pals_base.specs.Rules.{IsAcyclic}
-use Rattle.pals_base.specs.Steps.{upwards}
-use Rattle.pals_base.proofs.Ways.{incomplete_within}
+use Rattle.pals_base.specs.StepSequences.{upwards}
+use Rattle.pals_base.proofs.WaysAndCycles.{incomplete_within}
 use Rattle.aadl_tree.specs.Annexes.{Guard, dispatch, otherwise, when, Transition}
 use Rattle.aadl_tree.specs.Actions.{Block}
 use Rattle.annex_resolve.specs.declared.scope.Scope.{Scope}
@@ -29,10 +29,10 @@ use Rattle.annex_resolve.specs.Behaviours.{declared, state_number, trigger_of, e
 use Rattle.annex_resolve.specs.Behaviours.{effect_findings, transition_findings, breaks_dispatch, way_of, leg_of}
 use Rattle.annex_resolve.specs.Behaviours.{ways_from, is_otherwise, is_guarded, is_open, lacks_otherwise, state_rules}
 use Rattle.annex_resolve.specs.Behaviours.{cycles_of}
-use Rattle.annex_resolve.proofs.Tables.{mapped_at}
-use Rattle.annex_resolve.proofs.CycleWays.{way_reaches}
-use Rattle.design_laws.specs.proof.Ready.{FitsScope, is_declared}
-use Rattle.design_laws.proofs.Tests.{nothing_left, not_wrong, none_at, all_upwards, filter-map}
+use Rattle.annex_resolve.proofs.TableCells.{mapped_at}
+use Rattle.annex_resolve.proofs.StateReachability.{way_reaches}
+use Rattle.design_laws.specs.proof.AnnexNames.{FitsScope, is_declared}
+use Rattle.design_laws.proofs.EmptyFindingLists.{nothing_left, not_wrong, none_at, all_upwards, filter-map}
 use Rattle.design_laws.proofs.SoundActions.{test_sound, block_sound}
 
 -- ---- transitions

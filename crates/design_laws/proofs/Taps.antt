@@ -5,28 +5,28 @@ use Rattle.std.proofs.lemmas.Option.{same_Some}
 use Rattle.aadl_tree.specs.Declarations.{PackageTree}
 use Rattle.aadl_names.specs.declared.site.PortPlace.{PortPlace}
 use Rattle.aadl_names.specs.declared.site.PortPlace.TheVariants.{Own, Inner}
-use Rattle.aadl_names.specs.Resolving.{implementation_at, ports_at}
-use Rattle.aadl_uses.specs.proof.Uses.{containment}
+use Rattle.aadl_names.specs.ReferenceResolution.{implementation_at, ports_at}
+use Rattle.aadl_uses.specs.proof.PackageContainment.{containment}
 use Rattle.aadl_uses.specs.Threads.{Lists}
-use Rattle.aadl_uses.specs.proof.Wiring.{connection_into}
-use Rattle.aadl_uses.specs.proof.Orders.{IsOrder}
-use Rattle.aadl_chains.specs.proof.Inside.{is_thread_at, is_in_at}
+use Rattle.aadl_uses.specs.proof.DeclarationWires.{connection_into}
+use Rattle.aadl_uses.specs.proof.ContainmentOrders.{IsOrder}
+use Rattle.aadl_chains.specs.proof.PortsJoinedInside.{is_thread_at, is_in_at}
 use Rattle.aadl_chains.specs.Chains.{Port, Leads}
-use Rattle.aadl_chains.specs.proof.Sound.{AreDeclared}
-use Rattle.aadl_chains.proofs.OnChains.{is_in-at, next_at}
+use Rattle.aadl_chains.specs.proof.DeclaredConnections.{AreDeclared}
+use Rattle.aadl_chains.proofs.ConnectionsOnChains.{is_in-at, next_at}
 use Rattle.aadl_chains.specs.Links.{Ends, IsTap, PortBefore}
 use Rattle.aadl_chains.specs.proof.Walks.{OneEach}
 use Rattle.aadl_chains.specs.proof.Routes.{IsGiver}
-use Rattle.aadl_chains.proofs.Steps.{entered, inner_of}
-use Rattle.aadl_chains.proofs.Linked.{tap_from, tap_met}
+use Rattle.aadl_chains.proofs.EnteringConnections.{entered, inner_of}
+use Rattle.aadl_chains.proofs.LinksByWalks.{tap_from, tap_met}
 use Rattle.aadl_chains.proofs.Routes.{no_tap, no_tap_over}
 use Rattle.aadl_instance.specs.declared.parts.Chain.{Chain}
 use Rattle.aadl_instance.specs.Instances.{chain_in}
-use Rattle.aadl_instance.specs.proof.Passed.{AreTapsTo}
-use Rattle.aadl_instance.proofs.PortByPort.{taps_none, taps_more, taps_skip, taps_whole}
-use Rattle.aadl_instance.proofs.Adding.{in_tap}
-use Rattle.design_laws.proofs.Descending.{Gives, gives}
-use Rattle.design_laws.proofs.Tracing.{same_ends}
+use Rattle.aadl_instance.specs.proof.ChainsSoFar.{AreTapsTo}
+use Rattle.aadl_instance.proofs.ChainsSoFar.{taps_none, taps_more, taps_skip, taps_whole}
+use Rattle.aadl_instance.proofs.AddedChains.{in_tap}
+use Rattle.design_laws.proofs.TerminatingDescent.{Gives, gives}
+use Rattle.design_laws.proofs.IncomingLinks.{same_ends}
 
 abbrev pair : ℕ → ℕ → ℕ → ℕ × PortPlace
 pair k s p = (k, Inner s p)

@@ -1,3 +1,3 @@
-pub mod Designs
+pub mod InstanceDesigns
 pub mod PackageDesigns
 pub mod proof

@@ -2,9 +2,9 @@
 use Rattle.std.specs.Prelude.{ℕ, List, []}
 use Rattle.pals_model.specs.declared.design.DesignParts.{DesignParts}
 use Rattle.aadl_tree.specs.Declarations.{PackageTree}
-use Rattle.aadl_instance.specs.Flat.{Parts, IsFlat}
+use Rattle.aadl_instance.specs.FlattenedDesign.{Parts, IsFlat}
 use Rattle.model_violations.specs.Violations.{shown_by, AreViolations}
-use Rattle.design_laws.specs.Designs.{IsDesignOf}
+use Rattle.design_laws.specs.InstanceDesigns.{IsDesignOf}
 
 -- The package has an instance below the root of this name, nothing is wrong with it, and this is its design.
 pub record IsDesignIn (tree : PackageTree ℕ) (root : List ℕ) (design : DesignParts) : Type 0 where

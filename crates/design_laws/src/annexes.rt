@@ -5,7 +5,7 @@ ghost use Rattle.aadl_tree.specs.Annexes.{AnnexTree};
 ghost use Rattle.annex_resolve.specs.declared.behaviour.DeclaredValues.{DeclaredValues};
 ghost use Rattle.annex_resolve.specs.declared.scope.Scope.{Scope};
 ghost use Rattle.annex_resolve.specs.Behaviours.{annex_findings, behaviour_of};
-ghost use Rattle.design_laws.specs.proof.Ready.{IsReady};
+ghost use Rattle.design_laws.specs.proof.AnnexNames.{IsReady};
 
 /// Where the names of an annex are in order and nothing is found in it, its parts are those of a
 /// behaviour: well typed, with short loops, and each of its steps ends.

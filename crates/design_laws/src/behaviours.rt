@@ -2,11 +2,11 @@
 ghost use Rattle.std.specs.Prelude.{◌≡◌, ℕ, [], true, flat_map, Some, slice_get};
 ghost use Rattle.aadl_tree.specs.Declarations.{PackageTree, Implementation, implementation};
 ghost use Rattle.aadl_names.specs.PackageFaults.{package_faults};
-ghost use Rattle.aadl_names.specs.Resolving.{is_thread, ports_of};
+ghost use Rattle.aadl_names.specs.ReferenceResolution.{is_thread, ports_of};
 ghost use Rattle.component_checks.specs.Types.{port_findings};
 ghost use Rattle.model_violations.specs.Threads.{implementation_findings};
-ghost use Rattle.design_laws.specs.proof.Named.{HasWords, NamesDiffer};
-ghost use Rattle.design_laws.specs.proof.Behaving.{Behaves};
+ghost use Rattle.design_laws.specs.proof.PackageNames.{HasWords, NamesDiffer};
+ghost use Rattle.design_laws.specs.proof.ThreadBehaviours.{Behaves};
 
 use crate::annexes::no_findings_make_a_behaviour;
 

@@ -2,10 +2,10 @@
 ghost use Rattle.std.specs.Prelude.{◌≡◌, ℕ, [], Bool, List};
 ghost use Rattle.aadl_tree.specs.Declarations.{PackageTree};
 ghost use Rattle.aadl_chains.specs.Chains.{Port, Place, Leads, IsStart};
-ghost use Rattle.aadl_instance.specs.Flat.{Parts, IsFlat};
-ghost use Rattle.model_violations.specs.Use.{IsUse};
+ghost use Rattle.aadl_instance.specs.FlattenedDesign.{Parts, IsFlat};
+ghost use Rattle.model_violations.specs.UsedDeclarations.{IsUse};
 ghost use Rattle.model_violations.specs.Violations.{shown_by, used_findings};
-ghost use Rattle.design_laws.specs.proof.Kinds.{port_kind};
+ghost use Rattle.design_laws.specs.proof.PortKinds.{port_kind};
 
 /// Where nothing is found in the declarations that are in use, all ports on a chain of connections have
 /// one type.

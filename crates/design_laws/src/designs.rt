@@ -3,10 +3,10 @@ ghost use Rattle.std.specs.Prelude.{◌≡◌, ℕ};
 ghost use Rattle.aadl_tree.specs.Declarations.{PackageTree};
 ghost use Rattle.pals_model.specs.declared.design.DesignParts.{DesignParts};
 ghost use Rattle.pals_model.specs.Rules.{IsDesign};
-ghost use Rattle.design_laws.specs.proof.Named.{AreNamed};
+ghost use Rattle.design_laws.specs.proof.PackageNames.{AreNamed};
 ghost use Rattle.model_violations.specs.Violations.{Shown};
-ghost use Rattle.design_laws.specs.proof.Accepted.{IsShown, NothingFound, HasDesign};
-ghost use Rattle.design_laws.specs.Designs.{IsDesignOf};
+ghost use Rattle.design_laws.specs.proof.AcceptedInstances.{IsShown, NothingFound, HasDesign};
+ghost use Rattle.design_laws.specs.InstanceDesigns.{IsDesignOf};
 
 use crate::behaviours::no_findings_make_a_thread_behave;
 

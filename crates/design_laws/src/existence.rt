@@ -4,8 +4,8 @@ ghost use Rattle.aadl_tree.specs.Declarations.{PackageTree};
 ghost use Rattle.aadl_names.specs.declared.fault.PackageFault.{PackageFault};
 ghost use Rattle.aadl_names.specs.declared.fault.PackageFault.TheVariants.{Memory};
 ghost use Rattle.aadl_instance.specs.Faults.{IsFault};
-ghost use Rattle.aadl_instance.specs.Flat.{Parts, IsFlat};
-ghost use Rattle.design_laws.specs.proof.Packages.{HasFirstFault, HasInstance, HasList};
+ghost use Rattle.aadl_instance.specs.FlattenedDesign.{Parts, IsFlat};
+ghost use Rattle.design_laws.specs.proof.PackageOutcomes.{HasFirstFault, HasInstance, HasList};
 
 /// Below the root of a name a package has an instance, or a first fault.
 pub fn instance_or_fault()

@@ -2,10 +2,10 @@
 ghost use Rattle.std.specs.Prelude.{◌≡◌, ℕ, [], Some, slice_get};
 ghost use Rattle.aadl_tree.specs.declared.package.PackageTree as source;
 ghost use Rattle.aadl_tree.specs.Declarations.{PackageTree, Implementation, implementation};
-ghost use Rattle.aadl_tree.specs.proof.Given.{IsGiven};
+ghost use Rattle.aadl_tree.specs.proof.GrammarTrees.{IsGiven};
 ghost use Rattle.aadl_tree.specs.proof.PackageViews.{placed};
 ghost use Rattle.aadl_names.specs.PackageFaults.{package_faults};
-ghost use Rattle.design_laws.specs.proof.Named.{HasWords, NamesDiffer, AreNamed};
+ghost use Rattle.design_laws.specs.proof.PackageNames.{HasWords, NamesDiffer, AreNamed};
 
 /// The names of ports, subcomponents, variables and states are words: a letter, and letters, digits
 /// and `_` behind it, at most 64.

@@ -1,10 +1,10 @@
 //! What the findings of an instance leave out. Each law is the contract of a function that does nothing.
 ghost use Rattle.std.specs.Prelude.{ℕ, [], All};
 ghost use Rattle.aadl_tree.specs.Declarations.{PackageTree};
-ghost use Rattle.design_laws.specs.proof.Named.{AreNamed};
+ghost use Rattle.design_laws.specs.proof.PackageNames.{AreNamed};
 ghost use Rattle.model_violations.specs.Violations.{Shown, AreViolations};
-ghost use Rattle.design_laws.specs.proof.Accepted.{IsShown, NothingFound};
-ghost use Rattle.design_laws.specs.Designs.{HasRules};
+ghost use Rattle.design_laws.specs.proof.AcceptedInstances.{IsShown, NothingFound};
+ghost use Rattle.design_laws.specs.InstanceDesigns.{HasRules};
 
 use crate::behaviours::no_findings_make_a_thread_behave;
 

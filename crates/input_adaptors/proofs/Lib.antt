@@ -1,9 +1,9 @@
 pub mod Extremes
 pub mod Groups
 pub mod Means
-pub mod Present
+pub mod PresentNumbers
 pub mod Quotient
-pub mod Rates
-pub mod Silence
-pub mod Sources
-pub mod Spreads
+pub mod AdaptedPlaces
+pub mod SilenceAndLatest
+pub mod NumberSources
+pub mod SpreadPlaces

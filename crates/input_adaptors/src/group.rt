@@ -4,12 +4,12 @@ ghost use Rattle.std.specs.List.{reduce};
 ghost use Rattle.std.specs.Int.{int_max, int_min};
 ghost use Rattle.pals_base.specs.Adaptors.{joined, present, of_present, average_of};
 ghost use Rattle.pals_base.specs.declared.values.PortValue.TheVariants.{Absent};
-ghost use Rattle.input_adaptors.specs.proof.Numbers.{number_of, port_of, mean_of};
+ghost use Rattle.input_adaptors.specs.proof.OptionalNumbers.{number_of, port_of, mean_of};
 
 use pals_base::{Adaptor, PortValue};
 
 /// What the group gives by the adaptor: a certain place of it, or a number made of its present ones.
-#[tactic(auto, using(crate::proofs::Present::as_ports))]
+#[tactic(auto, using(crate::proofs::PresentNumbers::as_ports))]
 pub fn joined(adaptor: Adaptor, group: &[PortValue]) -> PortValue
     ensures { result ≡ joined adaptor group.now }
 {

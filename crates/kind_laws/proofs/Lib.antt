@@ -1,6 +1,6 @@
 mod Lists
-mod Readings
-mod Stepping
-pub mod Voting
-pub mod Fusing
-pub mod Standing
+mod InPortKinds
+mod OutPortKinds
+pub mod VotedKinds
+pub mod FusedKinds
+pub mod BusKinds

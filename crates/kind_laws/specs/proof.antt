@@ -1,4 +1,4 @@
 -- What the theorem of the program does not rest on: definitions of laws.
-pub mod Votes
-pub mod Fused
-pub mod Buses
+pub mod VotedKinds
+pub mod FusedKinds
+pub mod BusKinds

@@ -1,7 +1,7 @@
 //! Laws of the kinds of values. Each is the contract of a function that does nothing.
-ghost use Rattle.kind_laws.specs.proof.Buses.{BusesFit};
-ghost use Rattle.kind_laws.specs.proof.Fused.{SolutionsFit};
-ghost use Rattle.kind_laws.specs.proof.Votes.{ShownFit, VotesFit};
+ghost use Rattle.kind_laws.specs.proof.BusKinds.{BusesFit};
+ghost use Rattle.kind_laws.specs.proof.FusedKinds.{SolutionsFit};
+ghost use Rattle.kind_laws.specs.proof.VotedKinds.{ShownFit, VotesFit};
 
 /// Where the values of the root in ports and those of faults fit their kinds, so do those of each frame of
 /// each replica, of each tuple that a replica receives, faulty or voted, and of each root out port: a

@@ -4,10 +4,10 @@
 
 ghost use Rattle.std.specs.Prelude.{◌≡◌, ◌∷◌, [], OnOk, IsTrue, None};
 ghost use Rattle.pals_base.specs.declared.values.PortValue.TheVariants.{Present};
-ghost use Rattle.sync_product.specs.proof.State.{advanced};
+ghost use Rattle.sync_product.specs.proof.ProductStates.{advanced};
 ghost use Rattle.bus_machine.specs.Machine.{Arrive};
 ghost use Rattle.bus_machine.specs.Agreement.{Agrees};
-ghost use Rattle.pals_bus.specs.Values.{Happens};
+ghost use Rattle.pals_bus.specs.BusValues.{Happens};
 
 use bundle_designs::accept;
 use design_codes::compile_all;

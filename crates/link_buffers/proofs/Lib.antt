@@ -1,8 +1,8 @@
 pub mod FirstItems
 pub mod MovedItems
-pub mod Parts
+pub mod PartitionPoints
 pub mod Rings
-pub mod Splits
-pub mod Order
-pub mod Entries
-pub mod Counts
+pub mod PassingFronts
+pub mod DueOrder
+pub mod EntryPlaces
+pub mod BufferLaws

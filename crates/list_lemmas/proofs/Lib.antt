@@ -3,6 +3,6 @@ pub mod Numbers
 pub mod Lists
 pub mod Places
 pub mod Elements
-pub mod Pairs
+pub mod ElementPairs
 pub mod Options
 pub mod Results

@@ -4,13 +4,13 @@ use Rattle.std.proofs.Common.{None, refl, sym, ap, ap₂, ◌∙◌, subst, arit
 use Rattle.std.specs.Prelude.{nat_lt, is_some, if◌then◌else◌}
 use Rattle.std.proofs.lemmas.Bool.{ltb-false, false≢true}
 use Rattle.std.proofs.lemmas.Option.{slice_get_within}
-use Rattle.bus_machine.proofs.Moves.{sent_at_start, sent_behind, grows_at, stays_at}
+use Rattle.bus_machine.proofs.NodeQuantities.{sent_at_start, sent_behind, grows_at, stays_at}
 use Rattle.list_lemmas.proofs.Numbers.{add_zero_from}
 use Rattle.pals_base.specs.declared.values.NodeNo.{NodeNo}
 use Rattle.pals_base.specs.declared.values.LinkNo.{LinkNo}
 use Rattle.pals_base.specs.declared.values.PortValue.{PortValue}
 use Rattle.pals_model.specs.declared.rounds.Part.{Part}
-use Rattle.pals_model.specs.Inputs.{rate_of, rate_in, values_at}
+use Rattle.pals_model.specs.ComponentInputs.{rate_of, rate_in, values_at}
 use Rattle.pals_runs.specs.declared.journal.Phase.{Phase}
 use Rattle.pals_runs.specs.declared.journal.Phase.TheVariants.{Waiting, Running, Between, Holding, Done}
 use Rattle.pals_runs.specs.declared.journal.Arrived.{Arrived}
@@ -23,15 +23,15 @@ use Rattle.bus_machine.specs.NodeEvents.{is_waiting, started, next_step, stepped
 use Rattle.bus_machine.specs.NodeEvents.{sent_from, with_message, arrived, received, after_send as phase_after_send}
 use Rattle.bus_machine.specs.LinkEvents.{arriving}
 use Rattle.bus_machine.specs.States.{Run, BusState, node_at, flight_at, link_at, with_node}
-use Rattle.bus_machine.specs.Stops.{missing_link, sent_rounds}
+use Rattle.bus_machine.specs.MissedStarts.{missing_link, sent_rounds}
 use Rattle.bus_machine.specs.Machine.{BusEvent, Start, Step, Finish, Send, Arrive, Drop, Repeat, IsStep, after}
 use Rattle.bus_machine.specs.Machine.{after_start, after_send, after_arrive, on_step, is_allowed}
 use Rattle.bus_machine.specs.Agreement.{PhaseAgrees, Agrees}
 use Rattle.bus_machine.specs.proof.MachineLaws.{IsRunOf}
-use Rattle.bus_machine.proofs.Nodes.{finish_keeps, MaySend, may_send_of}
-use Rattle.bus_machine.proofs.States.{is_component}
-use Rattle.loose_world.specs.proof.Counts.{steps_in_hand, steps_finished, IsCounted}
-use Rattle.loose_world.specs.proof.Histories.{event_of}
+use Rattle.bus_machine.proofs.NodeAgreement.{finish_keeps, MaySend, may_send_of}
+use Rattle.bus_machine.proofs.AgreementChanges.{is_component}
+use Rattle.loose_world.specs.proof.EventCounts.{steps_in_hand, steps_finished, IsCounted}
+use Rattle.loose_world.specs.proof.UndergoneEvents.{event_of}
 
 -- ---- the two quantities
 abbrev steps_of : Run → ℕ → NodeState → ℕ

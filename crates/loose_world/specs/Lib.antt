@@ -1,4 +1,4 @@
-pub mod Sent
-pub mod Worlds
-pub mod Steps
+pub mod SentLines
+pub mod LooseRuns
+pub mod MachineSteps
 pub mod proof

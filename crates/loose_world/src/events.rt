@@ -2,9 +2,9 @@
 ghost use Rattle.std.specs.Prelude.{◌≡◌, ◌≤◌, ◌++◌, length, All, IfOk, OnOk, OnErr, None, false};
 ghost use Rattle.pals_base.specs.declared.limits.TheConstants.{LIST_ITEMS};
 ghost use Rattle.pals_model.specs.RoundTexts.{text_of};
-ghost use Rattle.pals_bus.specs.Loose.{IsNamedIn};
-ghost use Rattle.loose_world.specs.Sent.{AreOutLinks};
-ghost use Rattle.loose_world.specs.Worlds.{IsLooseIn, Tells, IsCutShort, told_by};
+ghost use Rattle.pals_bus.specs.LooseEvents.{IsNamedIn};
+ghost use Rattle.loose_world.specs.SentLines.{AreOutLinks};
+ghost use Rattle.loose_world.specs.LooseRuns.{IsLooseIn, Tells, IsCutShort, told_by};
 
 use crate::OutLinks;
 use pals_base::NoMemory;

@@ -2,7 +2,7 @@
 ghost use Rattle.std.specs.Prelude.{◌≡◌, ◌++◌, map, OnOk, OnErr};
 ghost use Rattle.pals_model.specs.RoundTexts.{text_of};
 ghost use Rattle.pals_runs.specs.Journal.{entry_line};
-ghost use Rattle.pals_report.specs.proof.Appended.{BeginsWith};
+ghost use Rattle.pals_report.specs.proof.PartialWrites.{BeginsWith};
 
 use pals_base::NoMemory;
 use pals_bus::Bus;

@@ -1,8 +1,8 @@
 //! The messages that the nodes of a bus have sent.
 ghost use Rattle.std.specs.Prelude.{◌≡◌, ◌<◌, ◌++◌, length, IfOk, OnOk, OnErr};
 ghost use Rattle.pals_model.specs.RoundTexts.{text_of};
-ghost use Rattle.pals_report.specs.proof.Appended.{BeginsWith};
-ghost use Rattle.loose_world.specs.Sent.{AreOutLinks, message_lines, sent_lines};
+ghost use Rattle.pals_report.specs.proof.PartialWrites.{BeginsWith};
+ghost use Rattle.loose_world.specs.SentLines.{AreOutLinks, message_lines, sent_lines};
 
 use pals_base::{Items, LinkNo, NoMemory, NodeNo};
 use pals_bus::Bus;

@@ -2,8 +2,8 @@
 ghost use Rattle.std.specs.Prelude.{◌≡◌, ◌++◌, OnOk, OnErr, fold, max};
 ghost use Rattle.pals_model.specs.RoundTexts.{text_of};
 ghost use Rattle.bus_machine.specs.States.{finished_by_all};
-ghost use Rattle.pals_report.specs.proof.Appended.{BeginsWith};
-ghost use Rattle.loose_world.specs.proof.Finished.{lines_before, finished, finished_lines, common_lines};
+ghost use Rattle.pals_report.specs.proof.PartialWrites.{BeginsWith};
+ghost use Rattle.loose_world.specs.proof.FinishedRows.{lines_before, finished, finished_lines, common_lines};
 
 use pals_base::{NoMemory, NodeNo};
 use pals_bus::Bus;
@@ -19,7 +19,7 @@ struct FinishedParts<'b> {
 }
 
 impl RoundParts for FinishedParts<'_> {
-    ghost use Rattle.loose_world.specs.proof.Finished.{part_of_round};
+    ghost use Rattle.loose_world.specs.proof.FinishedRows.{part_of_round};
 
     ghost part_of = { λ parts node. part_of_round parts.bus.now parts.round node };
 

@@ -3,10 +3,10 @@
 ghost use Rattle.loose_world.specs.proof.WorldLaws.{StepCounts, EventsReplay, RoundsAreFinished, RoundsAreSent};
 ghost use Rattle.loose_world.specs.proof.WorldLaws.{FinishedRows, CommonRows, RoundsWithoutNodes, SendsAreInFlight};
 ghost use Rattle.loose_world.specs.proof.WorldLaws.{LinesAreTold, WorldIsTold, TextIsTold, StopIsTold};
-ghost use Rattle.loose_world.specs.proof.Journals.{JournalReplays};
-ghost use Rattle.loose_world.specs.proof.Reports.{WorldIsReported, WorldTextIsReported};
-ghost use Rattle.loose_world.specs.proof.Steps.{EventsAreSteps};
-ghost use Rattle.loose_world.specs.proof.Ends.{OneEnd};
+ghost use Rattle.loose_world.specs.proof.JournalReplays.{JournalReplays};
+ghost use Rattle.loose_world.specs.proof.ReportedWorlds.{WorldIsReported, WorldTextIsReported};
+ghost use Rattle.loose_world.specs.proof.EventsAsSteps.{EventsAreSteps};
+ghost use Rattle.loose_world.specs.proof.UniqueEnds.{OneEnd};
 
 /// A finish adds one to the steps that its node has finished, a send one to the rounds that its node
 /// has sent, and every other event leaves both.

@@ -1,3 +1,3 @@
-pub mod AllParts
-pub mod Threads
+pub mod ListsOfOptions
+pub mod ThreadLimits
 pub mod KeptBehaviours

@@ -5,10 +5,10 @@ ghost use Rattle.pals_base.specs.declared.behaviour.BehaviourParts.{BehaviourPar
 ghost use Rattle.pals_base.specs.Rules.{IsBehaviour};
 ghost use Rattle.aadl_tree.specs.Declarations.{Implementation};
 ghost use Rattle.aadl_tree.specs.proof.PackageViews.{placed};
-ghost use Rattle.aadl_names.specs.Resolving.{implementation_at};
+ghost use Rattle.aadl_names.specs.ReferenceResolution.{implementation_at};
 ghost use Rattle.model_violations.specs.Threads.{IsSmall};
-ghost use Rattle.design_laws.specs.Designs.{HasRules, thread_behaviour};
-ghost use Rattle.model_checks.specs.proof.Limits.{IsWithinLimits};
+ghost use Rattle.design_laws.specs.InstanceDesigns.{HasRules, thread_behaviour};
+ghost use Rattle.model_checks.specs.proof.ThreadLimits.{IsWithinLimits};
 ghost use Rattle.model_checks.specs.proof.KeptBehaviours.{behaviour_at, AreKept};
 
 use aadl_instance::ThreadAt;

@@ -2,10 +2,10 @@
 ghost use Rattle.std.specs.Prelude.{◌≡◌, IfOk, OnOk, All, MatchOption, map};
 ghost use Rattle.aadl_tree.specs.proof.PackageViews.{placed};
 ghost use Rattle.model_violations.specs.proof.Violations.{shown};
-ghost use Rattle.design_laws.specs.Designs as spec;
+ghost use Rattle.design_laws.specs.InstanceDesigns as spec;
 ghost use Rattle.model_checks.specs.proof.KeptBehaviours.{AreKept};
-ghost use Rattle.model_checks.specs.proof.Limits.{IsWithinLimits};
-ghost use Rattle.model_checks.specs.proof.Refused.{HasNoDesign};
+ghost use Rattle.model_checks.specs.proof.ThreadLimits.{IsWithinLimits};
+ghost use Rattle.model_checks.specs.proof.RefusedInstances.{HasNoDesign};
 
 use crate::behaviours::behaviour;
 use aadl_instance::{Chain, ChainEnd, Instance, ThreadAt};

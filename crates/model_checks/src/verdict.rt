@@ -3,8 +3,8 @@ ghost use Rattle.std.specs.Prelude.{◌≡◌, [], IfOk, IfErr};
 ghost use Rattle.aadl_tree.specs.proof.PackageViews.{placed};
 ghost use Rattle.model_violations.specs.proof.Violations.{shown};
 ghost use Rattle.model_violations.specs.Violations.{AreViolations};
-ghost use Rattle.design_laws.specs.Designs.{IsDesignOf};
-ghost use Rattle.model_checks.specs.proof.Refused.{IsRefused};
+ghost use Rattle.design_laws.specs.InstanceDesigns.{IsDesignOf};
+ghost use Rattle.model_checks.specs.proof.RefusedInstances.{IsRefused};
 
 use crate::design::design_parts;
 use aadl_instance::Instance;

@@ -5,7 +5,7 @@ use Rattle.std.specs.Option.{option_and_then}
 use Rattle.aadl_tree.specs.Declarations.{Connection, PackageTree}
 use Rattle.aadl_names.specs.declared.holder.PropertyName.TheVariants.{Timing, Adaptor}
 use Rattle.aadl_names.specs.Properties.{association_named, association_value, name_of, text_of}
-use Rattle.aadl_names.specs.Resolving.{implementation_at, connections_of}
+use Rattle.aadl_names.specs.ReferenceResolution.{implementation_at, connections_of}
 use Rattle.aadl_instance.specs.declared.parts.ConnAt.{ConnAt}
 use Rattle.component_checks.specs.Threads.{says}
 

@@ -8,11 +8,11 @@ use Rattle.aadl_tree.specs.Names.{Identifier}
 use Rattle.aadl_tree.specs.Declarations.{Feature, Connection, ConnectionEnd, Implementation, PackageTree}
 use Rattle.aadl_names.specs.declared.site.PortPlace.{PortPlace}
 use Rattle.aadl_names.specs.declared.site.PortPlace.TheVariants.{Own, Inner}
-use Rattle.aadl_names.specs.Resolving.{port_named, ports_of, inner_ports, site}
+use Rattle.aadl_names.specs.ReferenceResolution.{port_named, ports_of, inner_ports, site}
 use Rattle.annex_resolve.specs.declared.violation.Violation.{Violation}
 use Rattle.annex_resolve.specs.declared.violation.TheConstants.{DELAYED_ROOT, STRAY_ADAPTOR}
 use Rattle.annex_resolve.specs.Scopes.{found_if}
-use Rattle.annex_resolve.specs.Types.{kind_in, misfit}
+use Rattle.annex_resolve.specs.ExpressionTypes.{kind_in, misfit}
 use Rattle.model_violations.specs.Carriers.{is_delayed, adaptor_text}
 
 -- ---- the type of a port, by its number and by its name

@@ -3,12 +3,12 @@ use Rattle.std.specs.Prelude.{◌≡◌, ℕ, nat_eq, Bool, true, List, [], ◌+
 use Rattle.std.specs.List.{enumerate_from}
 use Rattle.aadl_tree.specs.Declarations.{Subcomponent, TypeDeclaration, Implementation, Declaration, type}
 use Rattle.aadl_tree.specs.Declarations.{implementation, PackageTree}
-use Rattle.aadl_names.specs.Resolving.{is_thread, implementation_at}
+use Rattle.aadl_names.specs.ReferenceResolution.{is_thread, implementation_at}
 use Rattle.annex_resolve.specs.declared.violation.Violation.{Violation}
 use Rattle.component_checks.specs.Times.{list_big}
 use Rattle.component_checks.specs.Types.{port_findings}
 use Rattle.model_violations.specs.Connections.{connections_findings}
-use Rattle.model_violations.specs.Ignored.{is_root_type}
+use Rattle.model_violations.specs.IgnoredProperties.{is_root_type}
 use Rattle.aadl_names.specs.declared.holder.PropertyHolder.TheVariants as holders
 use Rattle.model_violations.specs.Threads as threads
 

@@ -1,10 +1,10 @@
-pub mod Values
+pub mod PortsAndVariables
 pub mod Threads
-pub mod Ignored
-pub mod Use
+pub mod IgnoredProperties
+pub mod UsedDeclarations
 pub mod Declarations
 pub mod Violations
-pub mod Ports
+pub mod ChainEnds
 pub mod Carriers
 pub mod Chains
 pub mod Connections

@@ -5,13 +5,13 @@ use Rattle.pals_base.specs.declared.behaviour.BehaviourParts.{BehaviourParts}
 use Rattle.aadl_tree.specs.Declarations.{Implementation, PackageTree}
 use Rattle.aadl_tree.specs.Annexes.{AnnexTree}
 use Rattle.aadl_names.specs.Behaviours.{behaviours}
-use Rattle.aadl_names.specs.Resolving.{ports_of}
+use Rattle.aadl_names.specs.ReferenceResolution.{ports_of}
 use Rattle.annex_resolve.specs.declared.violation.Violation.{Violation}
 use Rattle.annex_resolve.specs.declared.violation.TheConstants.{NO_INITIAL}
 use Rattle.annex_resolve.specs.Scopes.{finding}
 use Rattle.annex_resolve.specs.Behaviours.{behaviour_of, annex_findings}
 use Rattle.component_checks.specs.Types.{variables_findings}
-use Rattle.model_violations.specs.Values.{variables_of, values_of, scope_of}
+use Rattle.model_violations.specs.PortsAndVariables.{variables_of, values_of, scope_of}
 
 -- the first behaviour annex, with its place
 abbrev pub first_annex : Implementation ℕ → Option (ℕ × AnnexTree ℕ)

@@ -1,8 +1,8 @@
 //! What connections say, and which of them carry chains.
 ghost use Rattle.std.specs.Prelude.{◌≡◌, IfSome, option_map, option_copied};
-ghost use Rattle.aadl_tree.specs.proof.Maps.{kept_place};
+ghost use Rattle.aadl_tree.specs.proof.PlaceMaps.{kept_place};
 ghost use Rattle.aadl_tree.specs.proof.PackageViews.{placed};
-ghost use Rattle.aadl_tree.specs.proof.Views.{connection_view};
+ghost use Rattle.aadl_tree.specs.proof.DeclarationViews.{connection_view};
 ghost use Rattle.component_checks.specs.proof.ChainProperties.{carried_by};
 ghost use Rattle.model_violations.specs.Carriers as spec;
 
@@ -26,7 +26,7 @@ pub fn connection_of<'t>(tree: &'t PackageTree, place: ConnAt) -> Option<&'t Con
 }
 
 /// The connection of two numbers, with what it says of the chains that it carries.
-#[tactic(auto, using(crate::proofs::Mapped::of_mapped))]
+#[tactic(auto, using(crate::proofs::MappedOptions::of_mapped))]
 pub fn carrier_of<'t>(
     properties: &Properties<'t>,
     place: ConnAt,

@@ -1,10 +1,10 @@
 //! What is wrong with links, feeds and taps.
 ghost use Rattle.std.specs.Prelude.{◌≡◌, ◌<◌, ◌++◌, ℕ, OnOk, Some};
-ghost use Rattle.aadl_tree.specs.proof.Maps.{kept_place};
-ghost use Rattle.aadl_tree.specs.proof.Views.{connection_view};
+ghost use Rattle.aadl_tree.specs.proof.PlaceMaps.{kept_place};
+ghost use Rattle.aadl_tree.specs.proof.DeclarationViews.{connection_view};
 ghost use Rattle.component_checks.specs.proof.ChainProperties.{carried_by};
 ghost use Rattle.model_violations.specs.Chains as spec;
-ghost use Rattle.model_violations.specs.proof.Chains.{tree_of, ArePositive};
+ghost use Rattle.model_violations.specs.proof.ThreadRates.{tree_of, ArePositive};
 
 use crate::carriers::carrier_of;
 use crate::ports::{end_kind, end_name, end_rate};
@@ -156,7 +156,7 @@ pub fn add_feed_findings(
 }
 
 /// Adds the finding that a tap has an adaptor.
-#[tactic(auto, using(crate::proofs::Mapped::has_mapped))]
+#[tactic(auto, using(crate::proofs::MappedOptions::has_mapped))]
 pub fn add_tap_findings(
     alloc: Global,
     rated: &RatedThreads<'_>,

@@ -1,18 +1,18 @@
 //! What is wrong with the connections of an implementation, whatever they carry.
 ghost use Rattle.std.specs.Prelude.{◌≡◌, ◌||◌, ◌++◌, ℕ, OnOk, Some, option_map, slice_get};
 ghost use Rattle.std.specs.Option.{option_and_then};
-ghost use Rattle.aadl_tree.specs.proof.Maps.{kept_place};
+ghost use Rattle.aadl_tree.specs.proof.PlaceMaps.{kept_place};
 ghost use Rattle.aadl_tree.specs.Declarations as trees;
 ghost use Rattle.aadl_tree.specs.Declarations.{implementation};
 ghost use Rattle.aadl_tree.specs.proof.NameViews.{identifier_view};
 ghost use Rattle.aadl_tree.specs.proof.PackageViews.{placed};
-ghost use Rattle.aadl_tree.specs.proof.Views.{connection_view, implementation_view};
-ghost use Rattle.aadl_names.specs.Resolving.{features_of, implementation_at, type_numbered};
+ghost use Rattle.aadl_tree.specs.proof.DeclarationViews.{connection_view, implementation_view};
+ghost use Rattle.aadl_names.specs.ReferenceResolution.{features_of, implementation_at, type_numbered};
 ghost use Rattle.aadl_uses.specs.Wiring.{wire_of};
 ghost use Rattle.component_checks.specs.proof.ChainProperties.{carried_by};
 ghost use Rattle.model_violations.specs.Carriers.{carries};
 ghost use Rattle.model_violations.specs.Connections as spec;
-ghost use Rattle.model_violations.specs.proof.Connections.{IsConnection};
+ghost use Rattle.model_violations.specs.proof.NumberedConnections.{IsConnection};
 
 use crate::carriers::Carriers;
 use aadl_instance::ConnAt;
@@ -134,7 +134,7 @@ fn add_delay_findings(
 }
 
 // Adds the finding that a connection which carries no chain has an adaptor.
-#[tactic(auto, using(crate::proofs::Mapped::has_mapped))]
+#[tactic(auto, using(crate::proofs::MappedOptions::has_mapped))]
 fn add_adaptor_findings(
     alloc: Global,
     carried: bool,

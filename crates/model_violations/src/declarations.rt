@@ -1,14 +1,15 @@
 //! What is wrong with the declarations that are in use.
 ghost use Rattle.std.specs.Prelude.{◌≡◌, ◌++◌, true, OnOk, Some, slice_get, map, flat_map};
-ghost use Rattle.aadl_tree.specs.proof.Maps.{kept_place};
+ghost use Rattle.aadl_tree.specs.proof.PlaceMaps.{kept_place};
 ghost use Rattle.aadl_tree.specs.proof.PackageViews.{placed};
 ghost use Rattle.aadl_tree.specs.Declarations.{implementation};
-ghost use Rattle.aadl_tree.specs.proof.Views.{declaration_view, implementation_view, subcomponent_view, type_view};
-ghost use Rattle.aadl_names.specs.Resolving.{implementation_at, is_thread};
+ghost use Rattle.aadl_tree.specs.proof.DeclarationViews.{declaration_view, implementation_view, subcomponent_view};
+ghost use Rattle.aadl_tree.specs.proof.DeclarationViews.{type_view};
+ghost use Rattle.aadl_names.specs.ReferenceResolution.{implementation_at, is_thread};
 ghost use Rattle.model_violations.specs.Threads.{IsSmall};
-ghost use Rattle.model_violations.specs.Ignored.{is_root_type};
+ghost use Rattle.model_violations.specs.IgnoredProperties.{is_root_type};
 ghost use Rattle.model_violations.specs.Carriers.{carries};
-ghost use Rattle.model_violations.specs.Use.{has};
+ghost use Rattle.model_violations.specs.UsedDeclarations.{has};
 ghost use Rattle.model_violations.specs.Declarations as spec;
 
 use crate::carriers::Carriers;

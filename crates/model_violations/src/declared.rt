@@ -1,8 +1,8 @@
 //! What a thread declares.
 ghost use Rattle.std.specs.Prelude.{◌≡◌, ◌∷◌, ◌++◌, [], IfOk, OnOk, if◌then◌else◌, map};
-ghost use Rattle.aadl_tree.specs.proof.Maps.{kept_place};
-ghost use Rattle.aadl_tree.specs.proof.Views.{feature_view};
-ghost use Rattle.model_violations.specs.Values as spec;
+ghost use Rattle.aadl_tree.specs.proof.PlaceMaps.{kept_place};
+ghost use Rattle.aadl_tree.specs.proof.DeclarationViews.{feature_view};
+ghost use Rattle.model_violations.specs.PortsAndVariables as spec;
 
 use aadl_tree::Feature;
 use component_checks::types::{is_in, kind_in};

@@ -2,7 +2,7 @@
 ghost use Rattle.std.specs.Prelude.{◌≡◌, ◌++◌, IfOk, OnOk, flat_map};
 ghost use Rattle.std.specs.List.{enumerate_from};
 ghost use Rattle.aadl_tree.specs.proof.PackageViews.{placed};
-ghost use Rattle.model_violations.specs.Ignored as spec;
+ghost use Rattle.model_violations.specs.IgnoredProperties as spec;
 
 use crate::ignored_declarations::add_declaration;
 use crate::spellings::first_spellings;

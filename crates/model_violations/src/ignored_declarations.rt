@@ -1,9 +1,9 @@
 //! The properties of a declaration that mean nothing where they stand.
 ghost use Rattle.std.specs.Prelude.{◌≡◌, ◌++◌, OnOk, map, flat_map};
-ghost use Rattle.aadl_tree.specs.proof.Maps.{kept_place};
-ghost use Rattle.aadl_tree.specs.proof.Views.{connection_view, declaration_view, feature_view, implementation_view};
-ghost use Rattle.aadl_tree.specs.proof.Views.{subcomponent_view, type_view};
-ghost use Rattle.model_violations.specs.Ignored as spec;
+ghost use Rattle.aadl_tree.specs.proof.PlaceMaps.{kept_place};
+ghost use Rattle.aadl_tree.specs.proof.DeclarationViews.{connection_view, declaration_view, feature_view};
+ghost use Rattle.aadl_tree.specs.proof.DeclarationViews.{implementation_view, subcomponent_view, type_view};
+ghost use Rattle.model_violations.specs.IgnoredProperties as spec;
 
 use crate::ignored_properties::{add_annexes, add_list};
 use aadl_names::PropertyHolder;

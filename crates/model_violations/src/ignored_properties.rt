@@ -2,13 +2,13 @@
 ghost use Rattle.std.specs.Prelude.{◌≡◌, ◌++◌, OnOk, map, flat_map};
 ghost use Rattle.aadl_tree.specs.Names.{same_name};
 ghost use Rattle.std.specs.List.{list_any};
-ghost use Rattle.aadl_tree.specs.proof.Maps.{kept_place};
+ghost use Rattle.aadl_tree.specs.proof.PlaceMaps.{kept_place};
 ghost use Rattle.aadl_tree.specs.proof.NameViews.{name_view};
 ghost use Rattle.aadl_tree.specs.proof.ValueViews.{association_view, associations_view};
-ghost use Rattle.aadl_tree.specs.proof.Views.{annex_view, variable_view};
+ghost use Rattle.aadl_tree.specs.proof.DeclarationViews.{annex_view, variable_view};
 ghost use Rattle.aadl_names.specs.Properties.{name_of, recognised};
 ghost use Rattle.aadl_names.specs.Spelling.{spelled_name};
-ghost use Rattle.model_violations.specs.Ignored as spec;
+ghost use Rattle.model_violations.specs.IgnoredProperties as spec;
 
 use aadl_names::PropertyHolder;
 use aadl_names::name_comparison::is_spelled;

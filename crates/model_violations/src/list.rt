@@ -5,7 +5,7 @@ ghost use Rattle.component_checks.specs.Threads as threads_spec;
 ghost use Rattle.model_violations.specs.Carriers.{carries};
 ghost use Rattle.model_violations.specs.Chains.{link_findings, feed_findings, tap_findings};
 ghost use Rattle.model_violations.specs.Violations as spec;
-ghost use Rattle.model_violations.specs.proof.Chains.{tree_of, ArePositive};
+ghost use Rattle.model_violations.specs.proof.ThreadRates.{tree_of, ArePositive};
 ghost use Rattle.model_violations.specs.proof.Violations as inner;
 
 use crate::carriers::Carriers;

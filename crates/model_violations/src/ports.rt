@@ -1,12 +1,12 @@
 //! The ports at which chains end.
 ghost use Rattle.std.specs.Prelude.{◌≡◌, ◌<◌, ℕ, IfOk, Some, filter, map, option_map, option_copied, slice_get};
 ghost use Rattle.std.specs.Option.{option_and_then};
-ghost use Rattle.aadl_tree.specs.proof.Maps.{kept_place};
+ghost use Rattle.aadl_tree.specs.proof.PlaceMaps.{kept_place};
 ghost use Rattle.aadl_tree.specs.proof.PackageViews.{placed};
-ghost use Rattle.aadl_tree.specs.proof.Views.{feature_view};
-ghost use Rattle.aadl_names.specs.Resolving.{implementation_at};
+ghost use Rattle.aadl_tree.specs.proof.DeclarationViews.{feature_view};
+ghost use Rattle.aadl_names.specs.ReferenceResolution.{implementation_at};
 ghost use Rattle.component_checks.specs.Types.{is_in};
-ghost use Rattle.model_violations.specs.Ports as spec;
+ghost use Rattle.model_violations.specs.ChainEnds as spec;
 
 use aadl_instance::{ChainEnd, ThreadAt};
 use aadl_tree::Feature;
@@ -16,7 +16,7 @@ use pals_base::{Kind, NoMemory, NodeNo, Text, TryClone};
 use std::alloc::Global;
 
 /// The number of the implementation of a thread.
-#[tactic(auto, using(crate::proofs::Ends::target_below))]
+#[tactic(auto, using(crate::proofs::ConnectionEnds::target_below))]
 pub fn component_number(uses: &Uses<'_>, thread: &ThreadAt) -> Option<usize>
     ensures { option_and_then (implementation_at (placed uses.now.names.tree.now)) result ≡ spec.component_of (placed uses.now.names.tree.now) thread.now }
 {

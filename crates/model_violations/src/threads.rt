@@ -2,14 +2,14 @@
 ghost use Rattle.std.specs.Prelude.{◌≡◌, ◌++◌, ◌≤◌, ℕ, IfOk, OnOk, length, map, option_map, slice_get, Some};
 ghost use Rattle.std.specs.Option.{option_and_then};
 ghost use Rattle.pals_base.specs.declared.limits.TheConstants.{PORTS, VARIABLES};
-ghost use Rattle.aadl_tree.specs.proof.Maps.{kept_place};
+ghost use Rattle.aadl_tree.specs.proof.PlaceMaps.{kept_place};
 ghost use Rattle.aadl_tree.specs.proof.PackageViews.{placed};
 ghost use Rattle.aadl_tree.specs.Declarations as trees;
-ghost use Rattle.aadl_tree.specs.proof.Views.{annex_view, annex_tree_view, implementation_view};
+ghost use Rattle.aadl_tree.specs.proof.DeclarationViews.{annex_view, annex_tree_view, implementation_view};
 ghost use Rattle.aadl_names.specs.Behaviours.{behaviour_in, behaviours};
-ghost use Rattle.aadl_names.specs.Resolving.{implementation_at, ports_of};
+ghost use Rattle.aadl_names.specs.ReferenceResolution.{implementation_at, ports_of};
 ghost use Rattle.model_violations.specs.Threads as spec;
-ghost use Rattle.model_violations.specs.Values.{variables_of, values_of, scope_of};
+ghost use Rattle.model_violations.specs.PortsAndVariables.{variables_of, values_of, scope_of};
 
 use crate::declared::{ins_in, outs_in};
 use crate::values::setting_by;

@@ -1,9 +1,9 @@
 //! Which declarations are in use below the root.
 ghost use Rattle.std.specs.Prelude.{◌≡◌, ◌<◌, ◌&&◌, ◌||◌, ℕ, IfOk, OnOk, length};
 ghost use Rattle.aadl_tree.specs.proof.PackageViews.{placed};
-ghost use Rattle.aadl_uses.specs.proof.Types.{type_number_at};
-ghost use Rattle.model_violations.specs.Ignored.{is_number};
-ghost use Rattle.model_violations.specs.Use.{has, IsUse, type_used};
+ghost use Rattle.aadl_uses.specs.proof.ImplementationTypes.{type_number_at};
+ghost use Rattle.model_violations.specs.IgnoredProperties.{is_number};
+ghost use Rattle.model_violations.specs.UsedDeclarations.{has, IsUse, type_used};
 
 use aadl_uses::Uses;
 use indexmap::IndexSet;

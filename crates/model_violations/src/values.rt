@@ -1,7 +1,7 @@
 //! The values of a behaviour, and what their names stand for.
 ghost use Rattle.std.specs.Prelude.{◌≡◌, ◌++◌, ◌<◌, ◌^◌, IfOk, OnOk, length, map};
 ghost use Rattle.std.specs.List.{enumerate_from};
-ghost use Rattle.model_violations.specs.Values as spec;
+ghost use Rattle.model_violations.specs.PortsAndVariables as spec;
 
 use crate::declared::Declared;
 use annex_resolve::{DeclaredName, DeclaredValues, Meaning, Scope};

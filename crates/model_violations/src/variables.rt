@@ -1,13 +1,13 @@
 //! The variables of a behaviour, with their first values.
 ghost use Rattle.std.specs.Prelude.{◌≡◌, ◌++◌, ◌∷◌, [], pos, nat_le, IfOk, OnOk, Some, None, if◌then◌else◌};
 ghost use Rattle.aadl_lex.specs.Rules.{decimal, most};
-ghost use Rattle.aadl_tree.specs.proof.Maps.{kept_place};
+ghost use Rattle.aadl_tree.specs.proof.PlaceMaps.{kept_place};
 ghost use Rattle.aadl_tree.specs.proof.NameViews.{identifier_view};
 ghost use Rattle.aadl_tree.specs.proof.ValueViews.{value_view, values_view};
 ghost use Rattle.aadl_tree.specs.Values.{list};
-ghost use Rattle.aadl_tree.specs.proof.Views.{variable_view, annex_tree_view};
+ghost use Rattle.aadl_tree.specs.proof.DeclarationViews.{variable_view, annex_tree_view};
 ghost use Rattle.aadl_names.specs.Properties.{only_text, text_of};
-ghost use Rattle.model_violations.specs.Values as spec;
+ghost use Rattle.model_violations.specs.PortsAndVariables as spec;
 
 use crate::declared::Declared;
 use aadl_names::PropertyName;

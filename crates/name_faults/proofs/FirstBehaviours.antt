@@ -5,11 +5,11 @@ use Rattle.aadl_tree.specs.declared.annex.AnnexContent as source_content
 use Rattle.aadl_tree.specs.declared.annex.Annex.{Annex}
 use Rattle.aadl_tree.specs.Annexes.{AnnexTree, AnnexContent}
 use Rattle.aadl_tree.specs.Annexes as plain
-use Rattle.aadl_tree.specs.proof.Views.{annex_view, content_view}
+use Rattle.aadl_tree.specs.proof.DeclarationViews.{annex_view, content_view}
 use Rattle.aadl_tree.specs.proof.NameViews.{identifier_view}
-use Rattle.aadl_tree.specs.proof.Maps.{kept_place}
+use Rattle.aadl_tree.specs.proof.PlaceMaps.{kept_place}
 use Rattle.aadl_names.specs.Behaviours.{behaviours, first_behaviour}
-use Rattle.aadl_names.proofs.Finds.{none_left}
+use Rattle.aadl_names.proofs.FindingSoFar.{none_left}
 
 -- an annex of some content, and others behind it
 abbrev first_with : Annex → AnnexContent ℕ → List (plain.Annex ℕ) → Option (AnnexTree ℕ)

@@ -4,8 +4,8 @@ use Rattle.std.proofs.Common.{Option, None, refl, sym, ap, ◌∙◌}
 use Rattle.std.specs.Option.{option_or}
 use Rattle.list_lemmas.proofs.Lists.{drop-next}
 use Rattle.list_lemmas.proofs.Options.{option_or_assoc, option_or-none}
-use Rattle.aadl_names.proofs.Finds.{none_left}
-use Rattle.name_faults.specs.proof.Marks.{value_if, is_marked}
+use Rattle.aadl_names.proofs.FindingSoFar.{none_left}
+use Rattle.name_faults.specs.proof.OptionalValues.{value_if, is_marked}
 
 -- One turn of a loop adds what the first of the things that are left stands for.
 pub next_role : {A V : Type 0} (parts : List A → Option V) (here : A → Option V)

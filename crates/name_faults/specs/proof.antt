@@ -1,6 +1,6 @@
 -- What the theorem of the program does not rest on: definitions of contracts below it, of laws, and of proofs.
 pub mod Scopes
-pub mod Marks
-pub mod PortNames
-pub mod Expected
+pub mod OptionalValues
+pub mod TypePortNames
+pub mod ExpectedBehaviours
 pub mod NumberedImplementations

@@ -3,16 +3,16 @@
 
 ghost use Rattle.std.specs.Prelude.{◌≡◌, OnOk};
 ghost use Rattle.aadl_tree.specs.proof.PackageViews.{placed};
-ghost use Rattle.aadl_tree.specs.proof.Views.{annex_tree_view, annex_view, implementation_view};
-ghost use Rattle.aadl_tree.specs.proof.Maps.{kept_place};
-ghost use Rattle.aadl_names.specs.proof.Found.{found};
-ghost use Rattle.aadl_names.specs.proof.Tables.{value_of};
+ghost use Rattle.aadl_tree.specs.proof.DeclarationViews.{annex_tree_view, annex_view, implementation_view};
+ghost use Rattle.aadl_tree.specs.proof.PlaceMaps.{kept_place};
+ghost use Rattle.aadl_names.specs.proof.FindingSoFar.{found};
+ghost use Rattle.aadl_names.specs.proof.NameTables.{value_of};
 ghost use Rattle.aadl_names.specs.Behaviours.{behaviours};
-ghost use Rattle.aadl_names.specs.Resolving.{ports_of, type_number, type_numbered};
+ghost use Rattle.aadl_names.specs.ReferenceResolution.{ports_of, type_number, type_numbered};
 ghost use Rattle.aadl_names.specs.PackageFaults as spec;
 ghost use Rattle.name_faults.specs.proof.Scopes.{known_by};
-ghost use Rattle.name_faults.specs.proof.PortNames.{HasRolesOf};
-ghost use Rattle.name_faults.specs.proof.Expected.{annex_uses, still_expected};
+ghost use Rattle.name_faults.specs.proof.TypePortNames.{HasRolesOf};
+ghost use Rattle.name_faults.specs.proof.ExpectedBehaviours.{annex_uses, still_expected};
 
 use crate::categories::is_thread;
 use crate::parts::transitions_in;

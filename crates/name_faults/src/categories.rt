@@ -1,6 +1,6 @@
 //! Categories of components.
 ghost use Rattle.std.specs.Prelude.{◌≡◌};
-ghost use Rattle.aadl_names.specs.Resolving.{is_thread};
+ghost use Rattle.aadl_names.specs.ReferenceResolution.{is_thread};
 
 use aadl_tree::Category;
 

@@ -5,10 +5,10 @@ ghost use Rattle.std.specs.Prelude.{◌≡◌, OnOk, map, flat_map, option_map, 
 ghost use Rattle.std.specs.Option.{option_and_then};
 ghost use Rattle.aadl_tree.specs.proof.PackageViews.{placed};
 ghost use Rattle.aadl_tree.specs.proof.NameViews.{reference_view};
-ghost use Rattle.aadl_tree.specs.proof.Views.{feature_view, implementation_view, subcomponent_view};
-ghost use Rattle.aadl_tree.specs.proof.Maps.{kept_place};
-ghost use Rattle.aadl_names.specs.proof.Found.{found};
-ghost use Rattle.aadl_names.specs.Resolving.{implementation_at, referred};
+ghost use Rattle.aadl_tree.specs.proof.DeclarationViews.{feature_view, implementation_view, subcomponent_view};
+ghost use Rattle.aadl_tree.specs.proof.PlaceMaps.{kept_place};
+ghost use Rattle.aadl_names.specs.proof.FindingSoFar.{found};
+ghost use Rattle.aadl_names.specs.ReferenceResolution.{implementation_at, referred};
 ghost use Rattle.aadl_names.specs.PackageFaults as spec;
 ghost use Rattle.name_faults.specs.proof.NumberedImplementations.{StandsAt};
 

@@ -4,14 +4,14 @@
 ghost use Rattle.std.specs.Prelude.{◌≡◌, not, Some, OnOk, slice_get};
 ghost use Rattle.aadl_tree.specs.Names.{same_name};
 ghost use Rattle.aadl_tree.specs.proof.PackageViews.{placed};
-ghost use Rattle.aadl_tree.specs.proof.Views.{implementation_view, declaration_view};
-ghost use Rattle.aadl_tree.specs.proof.Maps.{kept_place};
-ghost use Rattle.aadl_names.specs.proof.Found.{found};
-ghost use Rattle.aadl_names.specs.Findings.{wrong_if};
+ghost use Rattle.aadl_tree.specs.proof.DeclarationViews.{implementation_view, declaration_view};
+ghost use Rattle.aadl_tree.specs.proof.PlaceMaps.{kept_place};
+ghost use Rattle.aadl_names.specs.proof.FindingSoFar.{found};
+ghost use Rattle.aadl_names.specs.FirstFindings.{wrong_if};
 ghost use Rattle.aadl_names.specs.Spelling.{spelled_name};
-ghost use Rattle.aadl_names.specs.Resolving.{implementation_at};
+ghost use Rattle.aadl_names.specs.ReferenceResolution.{implementation_at};
 ghost use Rattle.aadl_names.specs.PackageFaults as spec;
-ghost use Rattle.name_faults.specs.proof.PortNames.{AreAllNamesOf};
+ghost use Rattle.name_faults.specs.proof.TypePortNames.{AreAllNamesOf};
 ghost use Rattle.name_faults.specs.proof.NumberedImplementations.{StandsAt};
 
 use crate::behaviours::{TypedImplementation, check_behaviours};

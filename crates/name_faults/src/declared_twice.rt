@@ -2,12 +2,12 @@
 #![tactic(auto, using(aadl_names::proofs::Finds::found_append))]
 
 ghost use Rattle.std.specs.Prelude.{◌≡◌, Some, OnOk, map, slice_get};
-ghost use Rattle.aadl_tree.specs.proof.Views.{feature_view};
-ghost use Rattle.aadl_tree.specs.proof.Maps.{kept_place};
-ghost use Rattle.aadl_names.specs.proof.Found.{found};
-ghost use Rattle.aadl_names.specs.Spaces.{port_entries};
-ghost use Rattle.aadl_names.specs.proof.DeclaredTwice as spec;
-ghost use Rattle.name_faults.specs.proof.PortNames.{AreNamesOf};
+ghost use Rattle.aadl_tree.specs.proof.DeclarationViews.{feature_view};
+ghost use Rattle.aadl_tree.specs.proof.PlaceMaps.{kept_place};
+ghost use Rattle.aadl_names.specs.proof.FindingSoFar.{found};
+ghost use Rattle.aadl_names.specs.DuplicatesBySpace.{port_entries};
+ghost use Rattle.aadl_names.specs.proof.PortDuplicates as spec;
+ghost use Rattle.name_faults.specs.proof.TypePortNames.{AreNamesOf};
 
 use crate::port_names::PortNames;
 use aadl_names::earliest::{earliest_of, is_before};

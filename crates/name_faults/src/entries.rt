@@ -4,11 +4,11 @@ ghost use Rattle.aadl_tree.specs.Names.{identifiers};
 ghost use Rattle.std.specs.List.{filter_map};
 ghost use Rattle.aadl_tree.specs.proof.PackageViews.{placed};
 ghost use Rattle.aadl_tree.specs.proof.NameViews.{identifier_view, identifiers_view};
-ghost use Rattle.aadl_tree.specs.proof.Views.{feature_view, subcomponent_view, connection_view, annex_tree_view};
-ghost use Rattle.aadl_tree.specs.proof.Views.{implementation_view, declaration_view};
-ghost use Rattle.aadl_tree.specs.proof.Maps.{kept_place};
+ghost use Rattle.aadl_tree.specs.proof.DeclarationViews.{feature_view, subcomponent_view, connection_view};
+ghost use Rattle.aadl_tree.specs.proof.DeclarationViews.{annex_tree_view, implementation_view, declaration_view};
+ghost use Rattle.aadl_tree.specs.proof.PlaceMaps.{kept_place};
 ghost use Rattle.aadl_names.specs.Spelling.{entry_of};
-ghost use Rattle.aadl_names.specs.Spaces as spec;
+ghost use Rattle.aadl_names.specs.DuplicatesBySpace as spec;
 
 use crate::parts::{states_in, variables_in};
 use aadl_names::SpelledName;

@@ -3,15 +3,15 @@ ghost use Rattle.std.specs.Prelude.{◌≡◌, ℕ, List, OnOk, IfOk, map, if◌
 ghost use Rattle.aadl_tree.specs.Names.{same_name};
 ghost use Rattle.std.specs.Option.{option_or};
 ghost use Rattle.aadl_tree.specs.proof.PackageViews.{placed};
-ghost use Rattle.aadl_tree.specs.proof.Views.{feature_view, declaration_view};
-ghost use Rattle.aadl_tree.specs.proof.Maps.{kept_place};
-ghost use Rattle.aadl_names.specs.proof.Found.{found};
-ghost use Rattle.aadl_names.specs.proof.Tables.{value_of};
-ghost use Rattle.aadl_names.specs.Twice.{twice};
-ghost use Rattle.aadl_names.specs.Spaces.{port_entries};
-ghost use Rattle.aadl_names.specs.Resolving.{features_of, type_in, type_numbered};
+ghost use Rattle.aadl_tree.specs.proof.DeclarationViews.{feature_view, declaration_view};
+ghost use Rattle.aadl_tree.specs.proof.PlaceMaps.{kept_place};
+ghost use Rattle.aadl_names.specs.proof.FindingSoFar.{found};
+ghost use Rattle.aadl_names.specs.proof.NameTables.{value_of};
+ghost use Rattle.aadl_names.specs.DuplicateNames.{twice};
+ghost use Rattle.aadl_names.specs.DuplicatesBySpace.{port_entries};
+ghost use Rattle.aadl_names.specs.ReferenceResolution.{features_of, type_in, type_numbered};
 ghost use Rattle.aadl_names.specs.PackageFaults.{role_in, port_roles};
-ghost use Rattle.name_faults.specs.proof.PortNames.{AreNamesOf, AreAllNamesOf, HasRolesOf, names_at};
+ghost use Rattle.name_faults.specs.proof.TypePortNames.{AreNamesOf, AreAllNamesOf, HasRolesOf, names_at};
 
 use crate::entries::port_entries;
 use crate::port_names::{AllPortNames, PortNames};

@@ -7,12 +7,12 @@ ghost use Rattle.std.specs.List.{list_any};
 ghost use Rattle.aadl_tree.specs.Values.{associate, no_associations};
 ghost use Rattle.aadl_tree.specs.proof.NameViews.{name_view};
 ghost use Rattle.aadl_tree.specs.proof.ValueViews.{value_view, association_view, associations_view};
-ghost use Rattle.aadl_tree.specs.proof.Maps.{kept_place};
-ghost use Rattle.aadl_names.specs.proof.Found.{found};
+ghost use Rattle.aadl_tree.specs.proof.PlaceMaps.{kept_place};
+ghost use Rattle.aadl_names.specs.proof.FindingSoFar.{found};
 ghost use Rattle.aadl_names.specs.Properties as spec;
 ghost use Rattle.aadl_names.specs.Properties.{property_entries};
 ghost use Rattle.aadl_names.specs.Spelling as spelling;
-ghost use Rattle.aadl_names.specs.Twice.{twice};
+ghost use Rattle.aadl_names.specs.DuplicateNames.{twice};
 
 use crate::shapes::has_shape;
 use aadl_names::name_comparison::is_spelled;
@@ -89,7 +89,7 @@ fn property_entries(alloc: Global, list: &[Association]) -> Result<Items<Spelled
 }
 
 // Finds the properties that are given twice in one list.
-#[tactic(auto, using(crate::proofs::Single::none_twice))]
+#[tactic(auto, using(crate::proofs::SingleProperties::none_twice))]
 fn check_repeated(finder: &mut Finder, list: &[Association]) -> Result<(), AllocError>
     ensures { OnOk result (finder.new ≡ found finder.old (twice (property_entries (associations_view kept_place list.now)))) }
 {

@@ -3,12 +3,12 @@ ghost use Rattle.std.specs.Prelude.{◌≡◌, ℕ, List, OnOk, IfOk};
 ghost use Rattle.aadl_tree.specs.Names.{same_name, identifiers};
 ghost use Rattle.std.specs.Option.{option_or};
 ghost use Rattle.aadl_tree.specs.proof.NameViews.{identifier_view, identifiers_view};
-ghost use Rattle.aadl_tree.specs.proof.Views.{annex_tree_view};
-ghost use Rattle.aadl_tree.specs.proof.Maps.{kept_place};
-ghost use Rattle.aadl_names.specs.proof.Tables.{value_of};
+ghost use Rattle.aadl_tree.specs.proof.DeclarationViews.{annex_tree_view};
+ghost use Rattle.aadl_tree.specs.proof.PlaceMaps.{kept_place};
+ghost use Rattle.aadl_names.specs.proof.NameTables.{value_of};
 ghost use Rattle.aadl_names.specs.Behaviours.{variables_of, states_of};
 ghost use Rattle.aadl_names.specs.PackageFaults.{is_among, variable_roles};
-ghost use Rattle.name_faults.specs.proof.Marks.{value_if, is_marked};
+ghost use Rattle.name_faults.specs.proof.OptionalValues.{value_if, is_marked};
 
 use crate::parts::{states_in, variables_in};
 use aadl_names::{NameTable, Role};

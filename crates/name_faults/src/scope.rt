@@ -30,9 +30,9 @@ impl<'t> Model for BehaviourScope<'t> {
 impl<'t> BehaviourScope<'t> {
     ghost use Rattle.std.specs.Prelude.{◌≡◌, IfOk};
     ghost use Rattle.aadl_tree.specs.proof.NameViews.{identifier_view};
-    ghost use Rattle.aadl_tree.specs.proof.Maps.{kept_place};
+    ghost use Rattle.aadl_tree.specs.proof.PlaceMaps.{kept_place};
     ghost use Rattle.aadl_names.specs.AnnexNames.{either, with_loop};
-    ghost use Rattle.aadl_names.specs.proof.Tables.{value_of};
+    ghost use Rattle.aadl_names.specs.proof.NameTables.{value_of};
     ghost use Rattle.name_faults.specs.proof.Scopes.{loop_roles, known_by};
 
     /// The names of a behaviour, outside its loops.

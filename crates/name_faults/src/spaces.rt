@@ -3,13 +3,14 @@
 
 ghost use Rattle.std.specs.Prelude.{◌≡◌, Some, OnOk, map, option_map, slice_get};
 ghost use Rattle.aadl_tree.specs.proof.PackageViews.{placed};
-ghost use Rattle.aadl_tree.specs.proof.Views.{annex_tree_view, annex_view, implementation_view, declaration_view};
-ghost use Rattle.aadl_tree.specs.proof.Maps.{kept_place};
-ghost use Rattle.aadl_names.specs.proof.Found.{found};
+ghost use Rattle.aadl_tree.specs.proof.DeclarationViews.{annex_tree_view, annex_view, implementation_view};
+ghost use Rattle.aadl_tree.specs.proof.DeclarationViews.{declaration_view};
+ghost use Rattle.aadl_tree.specs.proof.PlaceMaps.{kept_place};
+ghost use Rattle.aadl_names.specs.proof.FindingSoFar.{found};
 ghost use Rattle.aadl_names.specs.Behaviours.{behaviours, first_behaviour};
-ghost use Rattle.aadl_names.specs.Resolving.{type_number};
-ghost use Rattle.aadl_names.specs.proof.DeclaredTwice as spec;
-ghost use Rattle.name_faults.specs.proof.PortNames.{AreAllNamesOf};
+ghost use Rattle.aadl_names.specs.ReferenceResolution.{type_number};
+ghost use Rattle.aadl_names.specs.proof.PortDuplicates as spec;
+ghost use Rattle.name_faults.specs.proof.TypePortNames.{AreAllNamesOf};
 
 use crate::categories::is_thread;
 use crate::declared_twice::check_beside;

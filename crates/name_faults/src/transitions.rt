@@ -4,9 +4,9 @@
 ghost use Rattle.std.specs.Prelude.{◌≡◌, OnOk, map, flat_map, option_map};
 ghost use Rattle.aadl_tree.specs.proof.NameViews.{identifier_view};
 ghost use Rattle.aadl_tree.specs.proof.ActionViews.{block_view};
-ghost use Rattle.aadl_tree.specs.proof.Views.{guard_view, transition_view};
-ghost use Rattle.aadl_tree.specs.proof.Maps.{kept_place};
-ghost use Rattle.aadl_names.specs.proof.Found.{found};
+ghost use Rattle.aadl_tree.specs.proof.DeclarationViews.{guard_view, transition_view};
+ghost use Rattle.aadl_tree.specs.proof.PlaceMaps.{kept_place};
+ghost use Rattle.aadl_names.specs.proof.FindingSoFar.{found};
 ghost use Rattle.aadl_names.specs.PackageFaults as spec;
 ghost use Rattle.name_faults.specs.proof.Scopes.{known_by, is_state_by};
 

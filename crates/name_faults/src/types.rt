@@ -2,9 +2,9 @@
 #![tactic(auto, using(aadl_names::proofs::Finds::found_append))]
 
 ghost use Rattle.std.specs.Prelude.{◌≡◌, OnOk, map, flat_map};
-ghost use Rattle.aadl_tree.specs.proof.Views.{variable_view, annex_view, type_view};
-ghost use Rattle.aadl_tree.specs.proof.Maps.{kept_place};
-ghost use Rattle.aadl_names.specs.proof.Found.{found};
+ghost use Rattle.aadl_tree.specs.proof.DeclarationViews.{variable_view, annex_view, type_view};
+ghost use Rattle.aadl_tree.specs.proof.PlaceMaps.{kept_place};
+ghost use Rattle.aadl_names.specs.proof.FindingSoFar.{found};
 ghost use Rattle.aadl_names.specs.Behaviours.{variables_in};
 ghost use Rattle.aadl_names.specs.PackageFaults as spec;
 

@@ -1,5 +1,5 @@
 -- What the theorem of the program does not rest on: definitions of contracts below it, of laws, and of proofs.
-pub mod Courses
-pub mod Ends
+pub mod SharedCourses
+pub mod NodeEnds
 pub mod Sleepers
 pub mod Codes

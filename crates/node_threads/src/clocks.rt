@@ -3,7 +3,7 @@ ghost use Rattle.std.specs.Prelude.{◌≡◌, List, map, All, IsTrue, IfOk, OnE
 ghost use Rattle.std.specs.List.Sorted.{IsNonDecreasing};
 ghost use Rattle.pals_clock.specs.Clock.{ClockState, unpicked};
 ghost use Rattle.pals_clock.specs.declared.clock.Clocks.TheVariants.{Lists};
-ghost use Rattle.node_threads.specs.proof.Courses.{Stays, IsOpen, IsNext, IsReady, Looks, EndsAt, fresh_of};
+ghost use Rattle.node_threads.specs.proof.SharedCourses.{Stays, IsOpen, IsNext, IsReady, Looks, EndsAt, fresh_of};
 
 use crate::course::SharedRun;
 use bus_machine::Next;

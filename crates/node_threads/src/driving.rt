@@ -1,8 +1,8 @@
 //! What comes of a run once its threads have ended. The parts of nodes that have not ended, as where a
 //! thread came back without its job, are driven to their ends with no other thread.
 ghost use Rattle.std.specs.Prelude.{IfOk};
-ghost use Rattle.node_threads.specs.proof.Courses.{Stays};
-ghost use Rattle.node_threads.specs.proof.Ends.{EndsFit, IsOutcome};
+ghost use Rattle.node_threads.specs.proof.SharedCourses.{Stays};
+ghost use Rattle.node_threads.specs.proof.NodeEnds.{EndsFit, IsOutcome};
 
 use crate::course::SharedRun;
 use crate::ends::NodeEnd;
@@ -81,7 +81,7 @@ fn drive<R: Wait, G: Gate>(
 }
 
 // One turn of each node.
-#[tactic(auto, using(crate::proofs::Steps::stays_on))]
+#[tactic(auto, using(crate::proofs::LockedSteps::stays_on))]
 fn go_round<G: Gate>(course: &mut SharedRun, gate: &G)
     ensures { Stays course.old course.new }
 {
@@ -91,7 +91,7 @@ fn go_round<G: Gate>(course: &mut SharedRun, gate: &G)
 }
 
 // A node's turn, with the job that it asks for.
-#[tactic(auto, using(crate::proofs::Steps::stays_on))]
+#[tactic(auto, using(crate::proofs::LockedSteps::stays_on))]
 fn go_on<G: Gate>(course: &mut SharedRun, gate: &G, node: NodeNo)
     ensures { Stays course.old course.new }
 {

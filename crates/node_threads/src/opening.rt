@@ -1,7 +1,7 @@
 //! The course of a run before its first event.
 ghost use Rattle.std.specs.Prelude.{◌≡◌, IfOk};
-ghost use Rattle.pals_bus.specs.proof.Values.{opening_bus};
-ghost use Rattle.node_threads.specs.proof.Courses.{AreClocksOf, IsOf};
+ghost use Rattle.pals_bus.specs.proof.BusPartValues.{opening_bus};
+ghost use Rattle.node_threads.specs.proof.SharedCourses.{AreClocksOf, IsOf};
 
 use crate::clocks::fresh_lists;
 use crate::course::SharedRun;

@@ -1,7 +1,7 @@
 //! Who sleeps until the course of a run goes on.
 ghost use Rattle.std.specs.Prelude.{◌≡◌, ◌<◌, ◌≤◌, ℕ, length, replicate, IsTrue, IfOk, IfSome, Some, true, false};
 ghost use Rattle.run_laws.specs.Runs.{IsLeast};
-ghost use Rattle.node_threads.specs.proof.Courses.{IsOpen, IsDone};
+ghost use Rattle.node_threads.specs.proof.SharedCourses.{IsOpen, IsDone};
 ghost use Rattle.node_threads.specs.declared.bell.Sleeper.{Sleeper};
 ghost use Rattle.node_threads.specs.proof.Sleepers.{no_wakes, is_to_ring, without_bell, free_seat, seat_at, with_seat};
 ghost use Rattle.node_threads.specs.proof.Sleepers.{IsAbove, IsHourOver, Waits, Rouses};

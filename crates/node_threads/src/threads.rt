@@ -1,8 +1,8 @@
 //! A run of nodes in threads.
 ghost use Rattle.std.specs.Prelude.{◌≡◌, length, vec_len, IfOk};
-ghost use Rattle.pals_bus.specs.proof.Values.{opening_bus};
-ghost use Rattle.node_threads.specs.proof.Courses.{AreClocksOf};
-ghost use Rattle.node_threads.specs.proof.Ends.{IsOutcome};
+ghost use Rattle.pals_bus.specs.proof.BusPartValues.{opening_bus};
+ghost use Rattle.node_threads.specs.proof.SharedCourses.{AreClocksOf};
+ghost use Rattle.node_threads.specs.proof.NodeEnds.{IsOutcome};
 
 use crate::bells::WakeSignals;
 use crate::course::SharedRun;

@@ -3,8 +3,8 @@
 ghost use Rattle.std.specs.Prelude.{◌<◌, ◌≤◌, length, OnOk, Some};
 ghost use Rattle.pals_base.specs.declared.limits.TheConstants.{READING};
 ghost use Rattle.bus_machine.specs.Machine.{Start, Step, Send};
-ghost use Rattle.node_threads.specs.proof.Courses.{Stays, IsOpen, IsNext, IsReady, EndsAt, IsToStartIn, IsAwaitedIn};
-ghost use Rattle.node_threads.specs.proof.Courses.{Allows};
+ghost use Rattle.node_threads.specs.proof.SharedCourses.{Stays, IsOpen, IsNext, IsReady, EndsAt, IsToStartIn};
+ghost use Rattle.node_threads.specs.proof.SharedCourses.{IsAwaitedIn, Allows};
 
 use crate::clocks::ClockAnswer;
 use crate::course::SharedRun;

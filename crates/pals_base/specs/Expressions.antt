@@ -8,8 +8,8 @@ use Rattle.pals_base.specs.declared.behaviour.Op.TheVariants.{Add, Sub, Mul, Quo
 use Rattle.pals_base.specs.declared.behaviour.Op.TheVariants.{And, Or, Xor, AndThen, OrElse}
 use Rattle.pals_base.specs.Arithmetic.{sum_of, difference_of, product_of, quotient_of, remainder_of, modulus_of}
 use Rattle.pals_base.specs.Arithmetic.{negation_of, magnitude_of}
-use Rattle.pals_base.specs.Tree.{Expression, Literal, Variable, PortRead, Fresh, Neg, Abs, Not, Chain, Operands, NoMore}
-use Rattle.pals_base.specs.Tree.{Then}
+use Rattle.pals_base.specs.PlainTrees.{Expression, Literal, Variable, PortRead, Fresh, Neg, Abs, Not, Chain, Operands}
+use Rattle.pals_base.specs.PlainTrees.{NoMore, Then}
 
 -- goes on with a value; the first trap is the answer
 abbrev pub on_value : {A B : Type 0} → Result A Trap → (A → Result B Trap) → Result B Trap

@@ -1,6 +1,6 @@
 //! Which adaptors are allowed between two rates, and for which types of ports.
 ghost use Rattle.std.specs.Prelude.{◌≡◌, ◌/◌, ◌%◌};
-ghost use Rattle.pals_base.specs.Allowed.{divides_or_divided, may_spread, may_join, is_allowed, suits_kind};
+ghost use Rattle.pals_base.specs.AllowedAdaptors.{divides_or_divided, may_spread, may_join, is_allowed, suits_kind};
 
 use crate::behaviour::Kind;
 use crate::values::Adaptor;

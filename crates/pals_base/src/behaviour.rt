@@ -176,14 +176,14 @@ pub struct Transition {
 }
 
 impl Model for Transition {
-    ghost use Rattle.pals_base.specs.Tree.{Edge};
-    ghost use Rattle.pals_base.specs.proof.TreeCode.{edge_code};
+    ghost use Rattle.pals_base.specs.PlainTrees.{Edge};
+    ghost use Rattle.pals_base.specs.proof.TreeEncoding.{edge_code};
 
     ghost Value = { Edge };
 
     ghost coded = { edge_code };
 
-    ghost use Rattle.pals_base.specs.proof.Seen.{trigger_of, actions_along};
+    ghost use Rattle.pals_base.specs.proof.SourceTrees.{trigger_of, actions_along};
 
     ghost view = { λ t. record { source = t.source; target = t.target; trigger = trigger_of t.guard; actions = actions_along t.acts.items } };
 }

@@ -1,7 +1,7 @@
 //! The bound: what a period has to meet, and which steps of a round are sent. All times are
 //! nanoseconds. The calls are exact at any numbers and take no memory.
 ghost use Rattle.std.specs.Prelude.{◌≡◌, ◌/◌};
-ghost use Rattle.pals_base.specs.Bound.{backoff, least_period, step_period, sent_steps, release_offset};
+ghost use Rattle.pals_base.specs.PeriodBound.{backoff, least_period, step_period, sent_steps, release_offset};
 
 use crate::values::{Gamma, Nanos};
 

@@ -1,6 +1,6 @@
 //! Frames: the one that a component starts with, and copies.
 ghost use Rattle.std.specs.Prelude.{◌≡◌, IfOk, map, replicate, pos, length};
-ghost use Rattle.pals_base.specs.Fire.{initial};
+ghost use Rattle.pals_base.specs.SingleStep.{initial};
 
 use crate::behaviour::{Behaviour, VarDecl};
 use crate::items::Items;

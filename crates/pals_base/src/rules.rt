@@ -1,9 +1,9 @@
 //! Whether parts keep the rules of a behaviour.
 ghost use Rattle.std.specs.Prelude.{◌≡◌, ◌↔◌, length, IsTrue, IfOk, IfSome, Option, slice_get};
 ghost use Rattle.std.specs.List.{list_all};
-ghost use Rattle.pals_base.specs.proof.Seen.{trigger_of};
-ghost use Rattle.pals_base.specs.Steps.{upwards};
-ghost use Rattle.pals_base.specs.Fire.{may_begin};
+ghost use Rattle.pals_base.specs.proof.SourceTrees.{trigger_of};
+ghost use Rattle.pals_base.specs.StepSequences.{upwards};
+ghost use Rattle.pals_base.specs.SingleStep.{may_begin};
 ghost use Rattle.pals_base.specs.Rules.{HasNames, value_names, has_first, has_condition, is_edge, has_ways, IsAcyclic};
 ghost use Rattle.pals_base.specs.Rules.{IsBehaviour};
 
@@ -112,7 +112,7 @@ impl BehaviourParts {
     }
 
     // The right transitions leave each state.
-    #[tactic(auto, using(crate::proofs::Upwards::upwards_next))]
+    #[tactic(auto, using(crate::proofs::UpwardNumbers::upwards_next))]
     fn has_ways(&self) -> bool
         ensures { result ≡ list_all (has_ways self.now) (upwards 0 (length self.now.states)) }
     {
@@ -125,7 +125,7 @@ impl BehaviourParts {
     }
 
     // No way outside the complete states comes back to where it began: each state settles.
-    #[tactic(auto, using(crate::proofs::Ways::marks_tell))]
+    #[tactic(auto, using(crate::proofs::WaysAndCycles::marks_tell))]
     fn is_acyclic(&self, alloc: Global) -> Result<bool, NoMemory>
         ensures { IfOk result (λ acyclic. IsTrue acyclic ↔ IsAcyclic self.now) }
     {

@@ -9,7 +9,7 @@ use Rattle.pals_base.specs.declared.values.LinkNo.{LinkNo}
 use Rattle.pals_model.specs.declared.design.Component.{Component}
 use Rattle.pals_model.specs.declared.flight.FlightCopy.{FlightCopy}
 use Rattle.pals_model.specs.Flights.{oldest, without_oldest}
-use Rattle.pals_model.specs.Ports.{ins_in}
+use Rattle.pals_model.specs.PortKinds.{ins_in}
 use Rattle.pals_runs.specs.declared.journal.Arrived.{Arrived}
 use Rattle.pals_runs.specs.declared.journal.Arrived.TheVariants.{Kept, Ignored, Early}
 use Rattle.pals_runs.specs.declared.journal.JournalEntry.{JournalEntry}
@@ -21,20 +21,20 @@ use Rattle.bus_machine.specs.LinkEvents.{tuple_in, arriving}
 use Rattle.bus_machine.specs.States.{BusState, no_link, node_at, flight_at}
 use Rattle.bus_machine.specs.Machine.{Arrive, arrival, early_stop}
 use Rattle.bus_machine.specs.Replay.{Replays, goes_on, stop_entry}
-use Rattle.pals_node.specs.proof.Values.{NodeValue, with_state}
+use Rattle.pals_node.specs.proof.NodeValues.{NodeValue, with_state}
 use Rattle.pals_bus.specs.declared.fields.BusFields.{BusFields}
-use Rattle.pals_bus.specs.proof.Values.{node_value}
-use Rattle.pals_bus.specs.Values.{Happens}
+use Rattle.pals_bus.specs.proof.BusPartValues.{node_value}
+use Rattle.pals_bus.specs.BusValues.{Happens}
 use Rattle.pals_bus.specs.proof.BusInvariant.{Keeps, owed, run_of, state_of, value_of, copies_in}
-use Rattle.pals_bus.specs.proof.Absent.{no_flight, no_node_value}
+use Rattle.pals_bus.specs.proof.AbsentItems.{no_flight, no_node_value}
 use Rattle.pals_bus.specs.proof.NodeLists.{node_of}
 use Rattle.pals_bus.proofs.NodeChanges.{nodes-set, node_is, same_node}
-use Rattle.pals_bus.proofs.Rooms.{flight_is, rooms-set}
-use Rattle.pals_bus.proofs.QueueRooms.{queues-set}
-use Rattle.pals_bus.proofs.Events.{node_happens}
-use Rattle.pals_bus.proofs.NodeSteps.{unsent_before}
-use Rattle.pals_bus.proofs.Taken.{Takes, same_count, some_in_flight, copies_left, target_within}
-use Rattle.pals_bus.proofs.Views.{agrees}
+use Rattle.pals_bus.proofs.FlightRooms.{flight_is, rooms-set}
+use Rattle.pals_bus.proofs.QueueChanges.{queues-set}
+use Rattle.pals_bus.proofs.EventInvariants.{node_happens}
+use Rattle.pals_bus.proofs.NodeEvents.{unsent_before}
+use Rattle.pals_bus.proofs.TakenMessages.{Takes, same_count, some_in_flight, copies_left, target_within}
+use Rattle.pals_bus.proofs.BusViews.{agrees}
 
 -- ---- the slot
 wide_slots : (o : Option Component) (port n : ℕ) → ((c : Component) → o ≡ Some c → n ≡ length c.behaviour.ins)

@@ -16,18 +16,18 @@ use Rattle.pals_model.specs.declared.design.Link.{Link}
 use Rattle.pals_model.specs.declared.flight.FlightCopy.{FlightCopy}
 use Rattle.link_buffers.specs.declared.queue.DueEntry.{DueEntry}
 use Rattle.link_buffers.specs.proof.Queues.{QueueState, is_entry, is_due_at}
-use Rattle.link_buffers.proofs.Order.{entry_from_test}
+use Rattle.link_buffers.proofs.DueOrder.{entry_from_test}
 use Rattle.bus_machine.specs.LinkEvents.{is_in_flight}
 use Rattle.bus_machine.specs.States.{flight_at, link_at, no_link}
 use Rattle.pals_model.specs.Flights.{is_of}
 use Rattle.pals_bus.specs.declared.fields.BusFields.{BusFields}
-use Rattle.pals_bus.specs.Values.{BusValue}
+use Rattle.pals_bus.specs.BusValues.{BusValue}
 use Rattle.pals_bus.specs.proof.BusInvariant.{Keeps, value_of}
-use Rattle.pals_bus.specs.proof.Absent.{no_queue}
+use Rattle.pals_bus.specs.proof.AbsentItems.{no_queue}
 use Rattle.pals_bus.specs.proof.Queues.{AreDueEntries, comes_first, is_copy_of}
-use Rattle.pals_bus.specs.proof.Due.{IsDueTo, HasDue, AreLeft, flying}
-use Rattle.pals_bus.proofs.Rooms.{flight_is}
-use Rattle.pals_bus.proofs.QueueRooms.{one_or_none}
+use Rattle.pals_bus.specs.proof.DueMessages.{IsDueTo, HasDue, AreLeft, flying}
+use Rattle.pals_bus.proofs.FlightRooms.{flight_is}
+use Rattle.pals_bus.proofs.QueueChanges.{one_or_none}
 use Rattle.pals_bus.proofs.QueueMessages.{count_none}
 
 -- what stands in the place of an entry that is not there

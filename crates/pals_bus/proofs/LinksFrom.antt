@@ -17,8 +17,8 @@ use Rattle.pals_model.specs.Rules.{IsDesign}
 use Rattle.link_buffers.specs.proof.Flights.{FlightState}
 use Rattle.link_buffers.specs.proof.Queues.{QueueState}
 use Rattle.bus_machine.specs.States.{no_link}
-use Rattle.pals_bus.specs.proof.Absent.{no_flight, no_queue}
-use Rattle.pals_bus.specs.proof.Sending.{is_from, HasRoomFor, HasRoomOn}
+use Rattle.pals_bus.specs.proof.AbsentItems.{no_flight, no_queue}
+use Rattle.pals_bus.specs.proof.RoundMessages.{is_from, HasRoomFor, HasRoomOn}
 use Rattle.pals_bus.specs.proof.Queues.{HasQueueRoomFor, HasQueueRoomOn}
 use Rattle.pals_bus.specs.proof.LinksFrom.{AreOutgoing, links_from, no_numbers, number_of}
 use Rattle.pals_bus.proofs.QueueSends.{all_the_same}

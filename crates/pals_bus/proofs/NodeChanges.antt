@@ -9,9 +9,9 @@ use Rattle.std.proofs.lemmas.List.{length-map, map-set, length-set, get_or-map, 
 use Rattle.std.proofs.lemmas.List.Elements.{All-from_get_or}
 use Rattle.std.proofs.lemmas.List.Sums.{sum_by-set, sum_by-le}
 use Rattle.std.proofs.lemmas.Grind.{get_or-set_at}
-use Rattle.pals_base.specs.Steps.{with_places}
+use Rattle.pals_base.specs.StepSequences.{with_places}
 use Rattle.step_code.specs.declared.instr.CodeParts.{CodeParts}
-use Rattle.step_code.specs.proof.Means.{Means}
+use Rattle.step_code.specs.proof.CodeMeaning.{Means}
 use Rattle.pals_model.specs.declared.design.DesignParts.{DesignParts}
 use Rattle.pals_runs.specs.declared.journal.Phase.{Phase}
 use Rattle.pals_runs.specs.declared.journal.Phase.TheVariants.{Waiting, Running, Between, Holding, Done}
@@ -21,12 +21,12 @@ use Rattle.bus_machine.specs.NodeEvents.{running_step, finished, fired, after_se
 use Rattle.bus_machine.specs.NodeEvents.{sent_from}
 use Rattle.bus_machine.specs.Plans.{component_at}
 use Rattle.bus_machine.specs.States.{no_node}
-use Rattle.bus_machine.proofs.Nodes.{finish_keeps}
-use Rattle.pals_node.specs.proof.Values.{Program, NodeValue, with_state}
+use Rattle.bus_machine.proofs.NodeAgreement.{finish_keeps}
+use Rattle.pals_node.specs.proof.NodeValues.{Program, NodeValue, with_state}
 use Rattle.pals_bus.specs.declared.fields.BusFields.{BusFields}
-use Rattle.pals_bus.specs.proof.Values.{AreCodes, codes_in, no_code, code_at, node_value}
+use Rattle.pals_bus.specs.proof.BusPartValues.{AreCodes, codes_in, no_code, code_at, node_value}
 use Rattle.pals_bus.specs.proof.BusInvariant.{IsNodeOf, AreNodes, Keeps, owed, value_of}
-use Rattle.pals_bus.specs.proof.Absent.{no_node_value}
+use Rattle.pals_bus.specs.proof.AbsentItems.{no_node_value}
 
 abbrev pub states : List NodeValue → List NodeState
 states nodes = map (λ (n : NodeValue). n.state) nodes

@@ -9,7 +9,7 @@ use Rattle.std.proofs.lemmas.List.{get_or_append_left, get_or_push}
 use Rattle.std.proofs.lemmas.List.Elements.{All-from_get_or}
 use Rattle.std.proofs.lemmas.List.Sums.{sum_by-le}
 use Rattle.pals_base.specs.declared.limits.TheConstants.{ROUNDS}
-use Rattle.pals_base.specs.Steps.{upwards}
+use Rattle.pals_base.specs.StepSequences.{upwards}
 use Rattle.pals_model.specs.declared.design.DesignParts.{DesignParts}
 use Rattle.pals_model.specs.declared.design.Link.{Link}
 use Rattle.pals_model.specs.declared.flight.FlightCopy.{FlightCopy}
@@ -20,7 +20,7 @@ use Rattle.pals_model.specs.Rules.{IsDesign}
 use Rattle.pals_runs.specs.declared.journal.JournalEntry.{JournalEntry}
 use Rattle.pals_runs.specs.declared.journal.Stop.{Stop}
 use Rattle.step_code.specs.declared.instr.CodeParts.{CodeParts}
-use Rattle.step_code.specs.proof.Means.{Means}
+use Rattle.step_code.specs.proof.CodeMeaning.{Means}
 use Rattle.link_buffers.specs.proof.Flights.{FlightState}
 use Rattle.link_buffers.specs.proof.Queues.{QueueState}
 use Rattle.bus_machine.specs.Plans.{component_at, plan_of}
@@ -28,13 +28,13 @@ use Rattle.bus_machine.specs.Nodes.{NodeState, opening_node}
 use Rattle.bus_machine.specs.States.{Run, BusState, opening, no_node}
 use Rattle.bus_machine.specs.Replay.{Replays, opens}
 use Rattle.bus_machine.specs.declared.plan.Plan.{Plan}
-use Rattle.pals_node.specs.proof.Values.{NodeValue, Program, program_of, opening_value}
+use Rattle.pals_node.specs.proof.NodeValues.{NodeValue, Program, program_of, opening_value}
 use Rattle.pals_bus.specs.declared.fields.BusFields.{BusFields}
-use Rattle.pals_bus.specs.proof.Values.{AreCodes, codes_in, code_at, no_code, opening_bus}
+use Rattle.pals_bus.specs.proof.BusPartValues.{AreCodes, codes_in, code_at, no_code, opening_bus}
 use Rattle.pals_bus.specs.proof.BusInvariant.{AreNodes, HasRooms, Keeps, copies_in, owed, run_of, state_of, value_of}
 use Rattle.pals_bus.specs.proof.LinksFrom.{AreOutgoing}
 use Rattle.pals_bus.specs.proof.Queues.{AreQueues}
-use Rattle.pals_bus.specs.proof.Absent.{no_flight, no_queue, no_node_value}
+use Rattle.pals_bus.specs.proof.AbsentItems.{no_flight, no_queue, no_node_value}
 use Rattle.pals_bus.specs.proof.Openings.{AreOpening}
 use Rattle.pals_bus.proofs.NodeChanges.{states}
 use Rattle.pals_bus.proofs.QueueSends.{queues_open}

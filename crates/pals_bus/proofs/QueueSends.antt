@@ -12,8 +12,8 @@ use Rattle.pals_model.specs.declared.flight.FlightCopy.{FlightCopy}
 use Rattle.link_buffers.specs.proof.Flights.{FlightState}
 use Rattle.link_buffers.specs.proof.Queues.{QueueState, is_entry}
 use Rattle.bus_machine.specs.States.{no_link}
-use Rattle.pals_node.specs.proof.Values.{NodeValue}
-use Rattle.pals_bus.specs.proof.Absent.{no_node_value, no_flight, no_queue}
+use Rattle.pals_node.specs.proof.NodeValues.{NodeValue}
+use Rattle.pals_bus.specs.proof.AbsentItems.{no_node_value, no_flight, no_queue}
 use Rattle.pals_bus.specs.proof.Queues.{AreQueues, AreQueuesAmid, is_awaited, is_between, is_copy_of, with_due}
 use Rattle.pals_bus.proofs.QueueMessages.{copy_added, count_none}
 

@@ -18,20 +18,20 @@ use Rattle.bus_machine.specs.LinkEvents.{once_more, repeated}
 use Rattle.bus_machine.specs.States.{no_link, flight_at}
 use Rattle.bus_machine.specs.Machine.{Repeat}
 use Rattle.bus_machine.specs.Replay.{Replays, goes_on}
-use Rattle.pals_node.specs.proof.Values.{NodeValue}
+use Rattle.pals_node.specs.proof.NodeValues.{NodeValue}
 use Rattle.pals_bus.specs.declared.fields.BusFields.{BusFields}
-use Rattle.pals_bus.specs.Values.{Happens}
+use Rattle.pals_bus.specs.BusValues.{Happens}
 use Rattle.pals_bus.specs.proof.BusInvariant.{HasRooms, Keeps, owed, run_of, state_of, value_of, copies_in}
-use Rattle.pals_bus.specs.proof.Sending.{with_copy}
+use Rattle.pals_bus.specs.proof.RoundMessages.{with_copy}
 use Rattle.pals_bus.specs.proof.Queues.{AreQueues, is_awaited, with_due}
-use Rattle.pals_bus.specs.proof.Absent.{no_flight, no_queue}
-use Rattle.pals_bus.proofs.Rooms.{copies-set, flight_is, flight_here}
-use Rattle.pals_bus.proofs.QueueRooms.{IsFewInto, count-less, few_into}
+use Rattle.pals_bus.specs.proof.AbsentItems.{no_flight, no_queue}
+use Rattle.pals_bus.proofs.FlightRooms.{copies-set, flight_is, flight_here}
+use Rattle.pals_bus.proofs.QueueChanges.{IsFewInto, count-less, few_into}
 use Rattle.pals_bus.proofs.QueueMessages.{copy_added}
 use Rattle.pals_bus.proofs.QueueSends.{with_due_spare}
-use Rattle.pals_bus.proofs.Events.{flights_happen}
-use Rattle.pals_bus.proofs.NodeSteps.{longer}
-use Rattle.pals_bus.proofs.Taken.{target_within}
+use Rattle.pals_bus.proofs.EventInvariants.{flights_happen}
+use Rattle.pals_bus.proofs.NodeEvents.{longer}
+use Rattle.pals_bus.proofs.TakenMessages.{target_within}
 
 -- ---- room
 -- a link keeps room for its source's message, where it had room for two

@@ -1,3 +1,3 @@
-pub mod Values
-pub mod Loose
+pub mod BusValues
+pub mod LooseEvents
 pub mod proof

@@ -6,7 +6,7 @@ ghost use Rattle.bus_machine.specs.Machine.{Arrive, arrival, early_stop};
 ghost use Rattle.bus_machine.specs.Replay.{stop_entry};
 ghost use Rattle.bus_machine.specs.LinkEvents.{is_in_flight};
 ghost use Rattle.bus_machine.specs.States.{no_link, flight_at};
-ghost use Rattle.pals_bus.specs.Values.{Happens};
+ghost use Rattle.pals_bus.specs.BusValues.{Happens};
 ghost use Rattle.pals_bus.specs.proof.BusInvariant.{Keeps, owed, run_of, state_of, value_of};
 
 use crate::fields::BusFields;

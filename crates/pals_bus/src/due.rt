@@ -1,7 +1,7 @@
 //! All messages that are due to a node.
 ghost use Rattle.std.specs.Prelude.{◌≡◌, ◌+◌, ◌*◌, ◌^◌, ◌<◌, ◌≤◌, ◌↔◌, [], None, length, sum_by, IsTrue, IfOk, IfErr};
 ghost use Rattle.std.specs.Prelude.{IfNone, OnOk, vec_capacity};
-ghost use Rattle.pals_bus.specs.proof.Due.{AreLeft, TakesDue, TakesAllDue, DueEnds, HasDue};
+ghost use Rattle.pals_bus.specs.proof.DueMessages.{AreLeft, TakesDue, TakesAllDue, DueEnds, HasDue};
 ghost use Rattle.pals_bus.specs.proof.BusInvariant.{Keeps, owed, value_of};
 ghost use Rattle.pals_bus.specs.proof.Queues.{AreDueEntries};
 

@@ -1,6 +1,6 @@
 //! Why nothing happens, as a loose world says it.
 ghost use Rattle.std.specs.Prelude.{◌≡◌};
-ghost use Rattle.pals_bus.specs.proof.Loose.{start_fault, step_fault, finish_fault, send_fault, link_fault};
+ghost use Rattle.pals_bus.specs.proof.LooseEnds.{start_fault, step_fault, finish_fault, send_fault, link_fault};
 
 use crate::answers::LooseFault;
 use crate::refusals::{

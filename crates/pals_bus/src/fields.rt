@@ -2,13 +2,13 @@
 ghost use Rattle.std.specs.Prelude.{◌≡◌, ◌+◌, ◌^◌, ◌<◌, ◌≤◌, length, sum_by, OnOk, slice_index_or, vec_capacity};
 ghost use Rattle.std.specs.Arc.{arc_value};
 ghost use Rattle.pals_base.specs.declared.limits.TheConstants.{PORTS};
-ghost use Rattle.pals_model.specs.Inputs.{values_at};
+ghost use Rattle.pals_model.specs.ComponentInputs.{values_at};
 ghost use Rattle.bus_machine.specs.Nodes.{round_of};
 ghost use Rattle.bus_machine.specs.States.{link_at, node_at};
-ghost use Rattle.pals_bus.specs.proof.Absent.{no_flight, no_queue};
+ghost use Rattle.pals_bus.specs.proof.AbsentItems.{no_flight, no_queue};
 ghost use Rattle.pals_bus.specs.proof.BusInvariant.{Keeps, owed, copies_in, state_of};
 ghost use Rattle.pals_bus.specs.proof.Queues.{HasQueueRoomFor};
-ghost use Rattle.pals_bus.specs.proof.Sending.{HasRoomFor};
+ghost use Rattle.pals_bus.specs.proof.RoundMessages.{HasRoomFor};
 
 use crate::flights::{reserve_links, reserve_queues};
 use crate::node_list::NodeList;

@@ -9,9 +9,9 @@ ghost use Rattle.pals_model.specs.Rules.{IsDesign};
 ghost use Rattle.pals_bus.specs.proof.BusInvariant.{Keeps, copies_in};
 ghost use Rattle.pals_bus.specs.proof.Queues.{AreQueues, AreQueuesAmid, HasQueueRoomOn, NoLessQueueRoom, entries_in};
 ghost use Rattle.pals_bus.specs.proof.Queues.{with_due, without_due};
-ghost use Rattle.pals_bus.specs.proof.Sending.{is_from, HasRoomFor, HasRoomOn, NoLessRoom, with_copy};
-ghost use Rattle.pals_bus.specs.proof.Messages.{IsRoundSent, flight_on, target_of, queue_to, queues_with};
-ghost use Rattle.pals_bus.specs.proof.Messages.{copies_without};
+ghost use Rattle.pals_bus.specs.proof.RoundMessages.{is_from, HasRoomFor, HasRoomOn, NoLessRoom, with_copy};
+ghost use Rattle.pals_bus.specs.proof.FlightMessages.{IsRoundSent, flight_on, target_of, queue_to, queues_with};
+ghost use Rattle.pals_bus.specs.proof.FlightMessages.{copies_without};
 ghost use Rattle.pals_bus.specs.proof.LinksFrom.{AreOutgoing};
 
 use crate::fields::BusFields;

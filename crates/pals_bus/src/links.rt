@@ -1,7 +1,7 @@
 //! The events of the messages in flight.
 ghost use Rattle.std.specs.Prelude.{◌≡◌, ◌<◌, length, IfOk, IfErr, OnOk, OnErr};
 ghost use Rattle.bus_machine.specs.Machine.{Arrive, Drop, Repeat, arrival};
-ghost use Rattle.pals_bus.specs.Values.{Happens};
+ghost use Rattle.pals_bus.specs.BusValues.{Happens};
 ghost use Rattle.pals_bus.specs.proof.Answers.{LinkEnds};
 
 use crate::bus::Bus;

@@ -1,8 +1,8 @@
 //! The events of a loose world, which has no time: messages may be lost, repeated and reordered.
 ghost use Rattle.std.specs.Prelude.{◌≡◌, ◌<◌, length, false, OnOk, IfErr};
 ghost use Rattle.pals_runs.specs.declared.events.Event.TheVariants as event;
-ghost use Rattle.pals_bus.specs.Loose.{IsNamedIn, GoesOn};
-ghost use Rattle.pals_bus.specs.proof.Loose.{LooseEnds};
+ghost use Rattle.pals_bus.specs.LooseEvents.{IsNamedIn, GoesOn};
+ghost use Rattle.pals_bus.specs.proof.LooseEnds.{LooseEnds};
 
 use crate::answers::LooseFault;
 use crate::bus::Bus;

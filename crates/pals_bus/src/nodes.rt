@@ -3,7 +3,7 @@ ghost use Rattle.std.specs.Prelude.{◌≡◌, ◌<◌, ◌≤◌, length, IfOk,
 ghost use Rattle.pals_base.specs.declared.limits.TheConstants.{READING};
 ghost use Rattle.bus_machine.specs.Machine.{Finish};
 ghost use Rattle.pals_bus.specs.proof.Meeting.{GoesAt};
-ghost use Rattle.pals_bus.specs.Values.{Happens};
+ghost use Rattle.pals_bus.specs.BusValues.{Happens};
 ghost use Rattle.pals_bus.specs.proof.Answers.{StartsRound, BusStartEnds, StepsOn, BusStepEnds, FinishesStep};
 ghost use Rattle.pals_bus.specs.proof.Answers.{BusFinishEnds, SendsRound, BusSendEnds};
 

@@ -4,11 +4,11 @@ ghost use Rattle.std.specs.Prelude.{if◌then◌else◌};
 ghost use Rattle.std.specs.Option.{unwrap_or};
 ghost use Rattle.std.specs.Arc.{arc_value};
 ghost use Rattle.pals_base.specs.declared.limits.TheConstants.{LINKS};
-ghost use Rattle.pals_model.specs.Inputs.{link_goes_to};
+ghost use Rattle.pals_model.specs.ComponentInputs.{link_goes_to};
 ghost use Rattle.bus_machine.specs.LinkEvents.{is_in_flight};
 ghost use Rattle.bus_machine.specs.Machine.{missed_stop};
 ghost use Rattle.bus_machine.specs.States.{no_link};
-ghost use Rattle.bus_machine.specs.Stops.{link_into, cause_of, sent_rounds};
+ghost use Rattle.bus_machine.specs.MissedStarts.{link_into, cause_of, sent_rounds};
 ghost use Rattle.pals_bus.specs.proof.BusInvariant.{Keeps, run_of, state_of, copies_in_option};
 
 use crate::fields::BusFields;

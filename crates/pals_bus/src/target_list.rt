@@ -1,6 +1,6 @@
 //! The targets of the nodes of a run.
 ghost use Rattle.std.specs.Prelude.{◌≡◌, ◌<◌, length, None, slice_index_or, slice_set};
-ghost use Rattle.pals_bus.specs.proof.TargetLists.{is_below, IsFirst, IsBound};
+ghost use Rattle.pals_bus.specs.proof.LeastTargets.{is_below, IsFirst, IsBound};
 
 use pals_base::{Items, Nanos};
 use std::marker::Model;
@@ -18,7 +18,7 @@ impl Model for TargetList {
 
     ghost Value = { List (Option ℕ) };
 
-    ghost use Rattle.pals_bus.specs.proof.TargetLists.{IsFirst};
+    ghost use Rattle.pals_bus.specs.proof.LeastTargets.{IsFirst};
 
     ghost view = { λ list. list.targets };
 

@@ -1,7 +1,7 @@
 -- What a clock that is a list of readings stands at.
 use Rattle.std.specs.Prelude.{ℕ, ◌≤◌, List, All, fold}
 use Rattle.pals_base.specs.declared.limits.TheConstants.{READING}
-use Rattle.pals_base.specs.Picks.{reached}
+use Rattle.pals_base.specs.ClockPicks.{reached}
 
 -- all readings of the list, and those that are left: the last pick, if there is one, and the later ones
 pub record ClockState : Type 0 where

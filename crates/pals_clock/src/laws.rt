@@ -1,7 +1,7 @@
 //! Laws of the picks of a clock, one call after another.
 ghost use Rattle.std.specs.Prelude.{◌≡◌, ◌<◌, ◌≤◌, ℕ, List, [], ◌∷◌, ◌++◌, length, All, filter, nat_le, slice_get};
 ghost use Rattle.std.specs.List.Sorted.{IsNonDecreasing};
-ghost use Rattle.pals_base.specs.Picks.{picks, reached};
+ghost use Rattle.pals_base.specs.ClockPicks.{picks, reached};
 ghost use Rattle.pals_clock.specs.Clock.{left_after};
 
 /// A clock that answers gives the first of the picks, and what it then has left gives the others.

@@ -4,16 +4,16 @@ use Rattle.std.proofs.Common.{◌≡◌, ℕ, zero, suc, List, [], ◌∷◌, le
 use Rattle.std.proofs.lemmas.List.{length-map}
 use Rattle.std.proofs.lemmas.List.Elements.{All-nil, All-cons}
 use Rattle.pals_base.specs.declared.behaviour.BehaviourParts.{BehaviourParts}
-use Rattle.pals_base.specs.Steps.{upwards}
+use Rattle.pals_base.specs.StepSequences.{upwards}
 use Rattle.pals_model.specs.declared.design.Component.{Component}
 use Rattle.pals_model.specs.declared.design.DesignParts.{DesignParts}
 use Rattle.pals_model.specs.Rules.{IsDesign}
 use Rattle.step_code.specs.declared.instr.CodeParts.{CodeParts}
-use Rattle.step_compiler.specs.Blocks.{start_of, entry_of}
-use Rattle.step_compiler.specs.LaidOut.{states_of, IsLaidOut, AreLaidOut}
+use Rattle.step_compiler.specs.BlockLayout.{start_of, entry_of}
+use Rattle.step_compiler.specs.LaidOutCode.{states_of, IsLaidOut, AreLaidOut}
 use Rattle.design_codes.specs.Behaviours.{behaviours}
-use Rattle.code_listing.specs.Numbers.{AllFit}
-use Rattle.code_listing.specs.proof.Told.{IsCodeOf, AreListed}
+use Rattle.code_listing.specs.NumberRanges.{AllFit}
+use Rattle.code_listing.specs.proof.ToldDesigns.{IsCodeOf, AreListed}
 
 length-upwards : (from n : ℕ) → length (upwards from n) ≡ n
 length-upwards from zero = refl

@@ -1,2 +1,2 @@
-pub mod Bundles
+pub mod BundleAnswers
 pub mod LaidOutCodes

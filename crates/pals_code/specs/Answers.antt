@@ -2,10 +2,10 @@
 use Rattle.std.specs.Prelude.{◌≡◌, ◌≤◌, ℕ, nat_eq, Bool, true, not, if◌then◌else◌, List, [], ◌∷◌, length, Option, Some}
 use Rattle.std.specs.Prelude.{None, ◌⊎◌}
 use Rattle.pals_base.specs.declared.limits.TheConstants.{BUNDLE_BYTES}
-use Rattle.pals_io.specs.Stream.{SourceView, GivesAll, GivesTooMany, FailsWithin}
+use Rattle.pals_io.specs.SourcesAndSinks.{SourceView, GivesAll, GivesTooMany, FailsWithin}
 use Rattle.pals_code.specs.declared.status.TheConstants.{USAGE, READ_FAULT, TOO_LONG}
-use Rattle.pals_code.specs.Bundles.{IsListingAnswer}
-use Rattle.pals_code.specs.Texts.{usage_line, read_fault_line, too_long_line}
+use Rattle.pals_code.specs.BundleAnswers.{IsListingAnswer}
+use Rattle.pals_code.specs.FixedTexts.{usage_line, read_fault_line, too_long_line}
 
 -- no flag: it does not begin with `-`
 abbrev pub is_plain : List ℕ → Bool

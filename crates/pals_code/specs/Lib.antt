@@ -1,4 +1,4 @@
 pub mod Answers
-pub mod Texts
-pub mod Bundles
+pub mod FixedTexts
+pub mod BundleAnswers
 pub mod proof

@@ -1,12 +1,12 @@
 //! The answer to a bundle.
 ghost use Rattle.std.specs.Prelude.{◌++◌, ℕ, List, IfOk, OnOk};
 ghost use Rattle.pals_model.specs.RoundTexts.{line_end};
-ghost use Rattle.bundle_designs.specs.Accepted.{IsAccepted};
+ghost use Rattle.bundle_designs.specs.BundleMeanings.{IsAccepted};
 ghost use Rattle.code_listing.specs.Listings.{listing};
-ghost use Rattle.code_listing.specs.Numbers.{AllFit};
+ghost use Rattle.code_listing.specs.NumberRanges.{AllFit};
 ghost use Rattle.pals_code.specs.declared.status.TheConstants.{CODE_TOO_LONG, DONE};
-ghost use Rattle.pals_code.specs.Bundles.{code_fault_line, IsListingAnswer};
-ghost use Rattle.pals_code.specs.proof.Statuses.{status_of, text_of, Says};
+ghost use Rattle.pals_code.specs.BundleAnswers.{code_fault_line, IsListingAnswer};
+ghost use Rattle.pals_code.specs.proof.AnswerStatuses.{status_of, text_of, Says};
 
 use crate::answer::Answer;
 use bundle_designs::accept;

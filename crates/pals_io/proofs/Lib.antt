@@ -1,1 +1,1 @@
-pub mod Transfer
+pub mod RepeatedTransfers

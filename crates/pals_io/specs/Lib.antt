@@ -1,2 +1,2 @@
-pub mod Stream
+pub mod SourcesAndSinks
 pub mod proof

@@ -1,7 +1,7 @@
 //! A sink in memory.
 ghost use Rattle.std.specs.Prelude.{◌≡◌, ◌↔◌, ◌⊎◌, ◌<◌, ◌≤◌, [], length, Some, IsErr, IfOk, OnErr, Contains};
-ghost use Rattle.pals_io.specs.Stream.{one_more};
-ghost use Rattle.pals_io.specs.proof.Memory.{count_taken, after_taking, after_failed_write};
+ghost use Rattle.pals_io.specs.SourcesAndSinks.{one_more};
+ghost use Rattle.pals_io.specs.proof.MemoryStreams.{count_taken, after_taking, after_failed_write};
 
 use super::ends::Failed;
 use super::streams::Sink;
@@ -21,7 +21,7 @@ pub struct MemSink {
 
 impl Model for MemSink {
     ghost use Rattle.std.specs.Prelude.{◌<◌, ◌≤◌, length, vec_capacity};
-    ghost use Rattle.pals_io.specs.proof.Memory.{SinkState};
+    ghost use Rattle.pals_io.specs.proof.MemoryStreams.{SinkState};
 
     ghost Value = { SinkState };
 

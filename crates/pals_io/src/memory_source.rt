@@ -1,8 +1,8 @@
 //! A source in memory.
 ghost use Rattle.std.specs.Prelude.{◌≡◌, ◌↔◌, ◌<◌, ◌≤◌, [], ◌++◌, length, take, drop, Some, IsErr, IfOk, OnErr};
 ghost use Rattle.std.specs.Prelude.{Contains};
-ghost use Rattle.pals_io.specs.Stream.{one_more};
-ghost use Rattle.pals_io.specs.proof.Memory.{count_given, after_giving, after_failed_read};
+ghost use Rattle.pals_io.specs.SourcesAndSinks.{one_more};
+ghost use Rattle.pals_io.specs.proof.MemoryStreams.{count_given, after_giving, after_failed_read};
 
 use super::ends::Failed;
 use super::streams::Source;
@@ -21,7 +21,7 @@ pub struct MemSource {
 
 impl Model for MemSource {
     ghost use Rattle.std.specs.Prelude.{◌<◌, ◌≤◌, length, drop};
-    ghost use Rattle.pals_io.specs.proof.Memory.{SourceState};
+    ghost use Rattle.pals_io.specs.proof.MemoryStreams.{SourceState};
 
     ghost Value = { SourceState };
 

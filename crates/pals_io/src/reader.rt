@@ -1,7 +1,7 @@
 //! A source over a reader of std.
 ghost use Rattle.std.specs.Prelude.{◌≡◌, ◌<◌, ◌≤◌, length, None, IfOk, OnOk, OnErr};
 ghost use Rattle.std.specs.Io.KnownBytes.{ReadConsumes};
-ghost use Rattle.pals_io.specs.Stream.{one_more};
+ghost use Rattle.pals_io.specs.SourcesAndSinks.{one_more};
 
 use super::ends::Failed;
 use super::streams::Source;
@@ -17,7 +17,7 @@ pub struct ReadSource<R> {
 }
 
 impl<R> Model for ReadSource<R> {
-    ghost use Rattle.pals_io.specs.proof.Counted.{Counted};
+    ghost use Rattle.pals_io.specs.proof.CountedFailures.{Counted};
 
     ghost Value = { Counted R };
 

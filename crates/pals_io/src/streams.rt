@@ -1,6 +1,7 @@
 //! Sources, which give bytes, and sinks, which take them.
 ghost use Rattle.std.specs.Prelude.{◌≡◌, ◌<◌, ◌≤◌, length, take, IfOk, OnErr};
-ghost use Rattle.pals_io.specs.Stream.{SourceView, SinkView, Gives, after_read_fault, after_taking, after_write_fault};
+ghost use Rattle.pals_io.specs.SourcesAndSinks.{SourceView, SinkView, Gives, after_read_fault, after_taking};
+ghost use Rattle.pals_io.specs.SourcesAndSinks.{after_write_fault};
 
 use super::ends::Failed;
 

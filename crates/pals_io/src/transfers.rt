@@ -1,6 +1,7 @@
 //! All bytes of a source, and all bytes to a sink.
 ghost use Rattle.std.specs.Prelude.{◌≡◌, ◌≤◌, [], vec_len, Err, IfOk, OnOk, OnErr};
-ghost use Rattle.pals_io.specs.Stream.{GivesAll, GivesWithin, GivesTooMany, FailsWithin, after_taking, TakesPart};
+ghost use Rattle.pals_io.specs.SourcesAndSinks.{GivesAll, GivesWithin, GivesTooMany, FailsWithin, after_taking};
+ghost use Rattle.pals_io.specs.SourcesAndSinks.{TakesPart};
 
 use super::ends::{ReadEnd, WriteFault};
 use super::streams::{Sink, Source};

@@ -1,7 +1,7 @@
 //! A sink over a writer of std.
 ghost use Rattle.std.specs.Prelude.{◌≡◌, ◌<◌, ◌≤◌, length, None, IfOk, OnOk, OnErr};
 ghost use Rattle.std.specs.Io.KnownBytes.{WriteAppends};
-ghost use Rattle.pals_io.specs.Stream.{one_more};
+ghost use Rattle.pals_io.specs.SourcesAndSinks.{one_more};
 
 use super::ends::Failed;
 use super::streams::Sink;
@@ -18,7 +18,7 @@ pub struct WriteSink<W> {
 }
 
 impl<W> Model for WriteSink<W> {
-    ghost use Rattle.pals_io.specs.proof.Counted.{Counted};
+    ghost use Rattle.pals_io.specs.proof.CountedFailures.{Counted};
 
     ghost Value = { Counted W };
 

@@ -10,23 +10,23 @@ use Rattle.std.proofs.lemmas.Option.{slice_get-map, get_or_from_slice_get}
 use Rattle.std.specs.Option.{option_map}
 use Rattle.std.specs.List.{position_from}
 use Rattle.std.proofs.lemmas.Iterator.Adapters.{position_from-zero}
-use Rattle.pals_base.proofs.Steps.{frame_after-append}
-use Rattle.pals_base.proofs.Upwards.{upwards-more}
+use Rattle.pals_base.proofs.StepSequences.{frame_after-append}
+use Rattle.pals_base.proofs.UpwardNumbers.{upwards-more}
 use Rattle.std.proofs.lemmas.Grind.{flat_map-append}
 use Rattle.pals_base.specs.declared.values.PortValue.{PortValue}
 use Rattle.pals_base.specs.declared.values.PortValue.TheVariants.{Absent}
 use Rattle.pals_base.specs.declared.values.Frame.{Frame}
-use Rattle.pals_base.specs.Fire.{initial}
-use Rattle.pals_base.specs.Steps.{steps, Stepped, cut, columns, frame_after, upwards}
-use Rattle.pals_base.specs.Bound.{sent_steps}
+use Rattle.pals_base.specs.SingleStep.{initial}
+use Rattle.pals_base.specs.StepSequences.{steps, Stepped, cut, columns, frame_after, upwards}
+use Rattle.pals_base.specs.PeriodBound.{sent_steps}
 use Rattle.pals_model.specs.declared.design.Component.{Component}
 use Rattle.pals_model.specs.declared.design.Link.{Link}
 use Rattle.pals_model.specs.declared.design.Tap.{Tap}
 use Rattle.pals_model.specs.declared.rounds.Part.{Part}
 use Rattle.pals_model.specs.declared.design.DesignParts.{DesignParts}
 use Rattle.pals_model.specs.declared.rounds.Env.{Env}
-use Rattle.pals_model.specs.Inputs.{rate_of, rate_in, values_at, feed, inputs_of, inputs_in, source_of, from_link}
-use Rattle.pals_model.specs.Inputs.{from_feed, link_goes_to, feed_goes_to, reading}
+use Rattle.pals_model.specs.ComponentInputs.{rate_of, rate_in, values_at, feed, inputs_of, inputs_in, source_of}
+use Rattle.pals_model.specs.ComponentInputs.{from_link, from_feed, link_goes_to, feed_goes_to, reading}
 use Rattle.pals_model.specs.Composition.{comp, next, state, msg, no_frame, steps_from, steps_of_round, message_of}
 use Rattle.pals_model.specs.Composition.{tuple_in, part, taps_of}
 use Rattle.pals_model.specs.proof.CompositionLaws.{own_steps, OneFrameEach, OneMessageEach, StateBegins}

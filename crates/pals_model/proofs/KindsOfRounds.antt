@@ -13,17 +13,18 @@ use Rattle.pals_base.specs.declared.values.PortValue.{PortValue}
 use Rattle.pals_base.specs.declared.values.PortValue.TheVariants.{Absent}
 use Rattle.pals_base.specs.declared.behaviour.Kind.{Kind}
 use Rattle.pals_base.specs.declared.behaviour.PortDecl.{PortDecl}
-use Rattle.pals_base.specs.Allowed.{suits_kind}
-use Rattle.pals_base.specs.Bound.{sent_steps}
-use Rattle.pals_base.specs.Steps.{upwards, column, columns, outputs, cut}
+use Rattle.pals_base.specs.AllowedAdaptors.{suits_kind}
+use Rattle.pals_base.specs.PeriodBound.{sent_steps}
+use Rattle.pals_base.specs.StepSequences.{upwards, column, columns, outputs, cut}
 use Rattle.pals_model.specs.declared.design.Component.{Component}
 use Rattle.pals_model.specs.declared.design.Link.{Link}
 use Rattle.pals_model.specs.declared.design.Tap.{Tap}
 use Rattle.pals_model.specs.declared.design.DesignParts.{DesignParts}
 use Rattle.pals_model.specs.declared.rounds.Env.{Env}
-use Rattle.pals_model.specs.Inputs.{rate_of, root_of, values_at, link_goes_to, feed_goes_to, from_feed, from_link}
-use Rattle.pals_model.specs.Inputs.{source_of, sources_of, read_feed, read_link, reading, inputs_of, inputs_in, feed}
-use Rattle.pals_model.specs.Ports.{kind_of, in_kind, out_kind, outs_in, root_kind}
+use Rattle.pals_model.specs.ComponentInputs.{rate_of, root_of, values_at, link_goes_to, feed_goes_to, from_feed}
+use Rattle.pals_model.specs.ComponentInputs.{from_link, source_of, sources_of, read_feed, read_link, reading, inputs_of}
+use Rattle.pals_model.specs.ComponentInputs.{inputs_in, feed}
+use Rattle.pals_model.specs.PortKinds.{kind_of, in_kind, out_kind, outs_in, root_kind}
 use Rattle.pals_model.specs.Composition.{comp, state, msg, taps_of}
 use Rattle.pals_model.specs.Rules.{IsDesign, IsLink, IsFeed, IsTap}
 use Rattle.pals_model.specs.proof.CompositionLaws.{own_steps}
@@ -31,7 +32,7 @@ use Rattle.pals_model.proofs.CompositionLaws.{state_begins, state_goes_on, messa
 use Rattle.pals_model.proofs.CompositionLaws.{links_begin_absent}
 use Rattle.pals_model.proofs.RootInputLaws.{feed_has_root, feeds_have_root_kind}
 use Rattle.pals_model.proofs.ShapeLaws.{state_has_shape, is_behaviour, component_at}
-use Rattle.pals_model.proofs.Lookups.{found_at, at_element}
+use Rattle.pals_model.proofs.FirstElements.{found_at, at_element}
 use Rattle.pals_model.specs.proof.FittingValues.{PortFits, TupleFits, PortsFit, FrameFits, link_kind, EnvFits}
 use Rattle.pals_model.specs.proof.CompositionLaws.Kinds.{StatesFit, MessagesFit, PartFits, PartsFit}
 use Rattle.pals_model.proofs.KindLists.{index_fits, map_all, every}

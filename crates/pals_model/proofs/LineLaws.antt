@@ -24,7 +24,7 @@ use Rattle.pals_base.specs.declared.behaviour.BehaviourParts.{BehaviourParts}
 use Rattle.pals_base.specs.Expressions.{is_true}
 use Rattle.pals_base.specs.Names.{is_word}
 use Rattle.pals_base.specs.Rules.{IsBehaviour, has_word}
-use Rattle.pals_base.specs.Steps.{upwards}
+use Rattle.pals_base.specs.StepSequences.{upwards}
 use Rattle.pals_model.specs.declared.design.Component.{Component}
 use Rattle.pals_model.specs.declared.design.Tap.{Tap}
 use Rattle.pals_model.specs.declared.design.DesignParts.{DesignParts}
@@ -37,8 +37,8 @@ use Rattle.pals_model.specs.RoundTexts.{tap_lines, composed_lines, report_lines,
 use Rattle.pals_model.specs.Rules.{IsDesign, IsComponent, IsTap}
 use Rattle.pals_model.specs.proof.CompositionLaws.Lines.{IsLine, RowHasLines, ReportHasLines, TextSplits, RowSplits}
 use Rattle.pals_model.specs.proof.CompositionLaws.Lines.{ReportSplits}
-use Rattle.pals_model.proofs.Lookups.{at_element}
-use Rattle.pals_model.proofs.Words.{all_pass, word_without, path_without}
+use Rattle.pals_model.proofs.FirstElements.{at_element}
+use Rattle.pals_model.proofs.WordBytes.{all_pass, word_without, path_without}
 
 -- ---- pieces of lines
 none : IsLine []

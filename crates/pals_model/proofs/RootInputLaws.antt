@@ -12,14 +12,14 @@ use Rattle.std.proofs.lemmas.List.Elements.{Contains-append_right}
 use Rattle.std.proofs.lemmas.List.Kept.{AllPairs-cons}
 use Rattle.std.proofs.lemmas.List.Folds.{list_any-append}
 use Rattle.std.proofs.lemmas.Option.{slice_get-map, slice_get_within, get_or_from_slice_get}
-use Rattle.list_lemmas.proofs.Pairs.{AllPairs-slice_get}
+use Rattle.list_lemmas.proofs.ElementPairs.{AllPairs-slice_get}
 use Rattle.pals_model.specs.declared.design.Feed.{Feed}
-use Rattle.pals_model.specs.Inputs.{new_names, feed_names, root_inputs, place_of}
-use Rattle.pals_model.specs.Ports.{first_kind, feed_kind}
+use Rattle.pals_model.specs.ComponentInputs.{new_names, feed_names, root_inputs, place_of}
+use Rattle.pals_model.specs.PortKinds.{first_kind, feed_kind}
 use Rattle.pals_model.specs.Rules.{AgreeInKind}
 use Rattle.pals_model.specs.proof.CompositionLaws.RootInputs.{RootInputsDiffer, RootInputsAreFeeds, RootInputsInOrder}
 use Rattle.pals_model.specs.proof.CompositionLaws.RootInputs.{FeedHasRoot, FeedsHaveRootKind}
-use Rattle.pals_model.proofs.Words.{same_bytes, other_bytes}
+use Rattle.pals_model.proofs.WordBytes.{same_bytes, other_bytes}
 
 abbrev is_in : List ℕ → List (List ℕ) → Bool
 is_in name names = list_any (λ other. bytes_eq name other) names

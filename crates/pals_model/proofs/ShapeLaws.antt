@@ -11,19 +11,19 @@ use Rattle.pals_base.specs.declared.values.PortValue.{PortValue}
 use Rattle.pals_base.specs.declared.values.PortValue.TheVariants.{Absent}
 use Rattle.pals_base.specs.declared.values.Frame.{Frame}
 use Rattle.pals_base.specs.declared.behaviour.BehaviourParts.{BehaviourParts}
-use Rattle.pals_base.specs.Fire.{fire, HasShape}
+use Rattle.pals_base.specs.SingleStep.{fire, HasShape}
 use Rattle.pals_base.specs.Rules.{IsBehaviour}
-use Rattle.pals_base.specs.Steps.{frame_after, outputs, column, columns, cut, upwards}
-use Rattle.pals_base.proofs.Ending.{fires_well, starts_well}
-use Rattle.pals_base.proofs.Steps.{length-columns, length-each_column}
+use Rattle.pals_base.specs.StepSequences.{frame_after, outputs, column, columns, cut, upwards}
+use Rattle.pals_base.proofs.StepTermination.{fires_well, starts_well}
+use Rattle.pals_base.proofs.StepSequences.{length-columns, length-each_column}
 use Rattle.pals_model.specs.declared.design.Component.{Component}
 use Rattle.pals_model.specs.declared.design.Link.{Link}
 use Rattle.pals_model.specs.declared.design.Tap.{Tap}
 use Rattle.pals_model.specs.declared.design.DesignParts.{DesignParts}
 use Rattle.pals_model.specs.declared.rounds.Env.{Env}
-use Rattle.pals_model.specs.Inputs.{rate_of, rate_in, values_at, feed, inputs_of, inputs_in, sources_of, source_of}
-use Rattle.pals_model.specs.Inputs.{reading}
-use Rattle.pals_model.specs.Ports.{outs_in}
+use Rattle.pals_model.specs.ComponentInputs.{rate_of, rate_in, values_at, feed, inputs_of, inputs_in, sources_of}
+use Rattle.pals_model.specs.ComponentInputs.{source_of, reading}
+use Rattle.pals_model.specs.PortKinds.{outs_in}
 use Rattle.pals_model.specs.Composition.{comp, state, msg, taps_of}
 use Rattle.pals_model.specs.Rules.{IsDesign, IsComponent, IsLink, IsTap}
 use Rattle.pals_model.specs.proof.CompositionLaws.{own_steps}
@@ -31,7 +31,7 @@ use Rattle.pals_model.specs.proof.CompositionLaws.Shapes.{AreVectors, AreTuples,
 use Rattle.pals_model.specs.proof.CompositionLaws.Shapes.{StepsGiveTuples, MessageHasRate, WaitingMessageHasRate}
 use Rattle.pals_model.specs.proof.CompositionLaws.Shapes.{PartHasShape}
 use Rattle.pals_model.proofs.CompositionLaws.{state_begins, state_goes_on, message_from_source, part_from_steps}
-use Rattle.pals_model.proofs.Lookups.{at_element}
+use Rattle.pals_model.proofs.FirstElements.{at_element}
 
 -- ---- columns
 length-upwards : (n : ℕ) → length (upwards 0 n) ≡ n

@@ -3,11 +3,11 @@ use Rattle.std.proofs.Common.{◌≡◌, ◌≢◌, ℕ, true, false, ◌&&◌, 
 use Rattle.std.proofs.Common.{ne_of_lt}
 use Rattle.std.specs.Prelude.{position}
 use Rattle.std.proofs.lemmas.Bool.{eq-eqb, eqb-true, and_parts, false_from_ne_true}
-use Rattle.list_lemmas.proofs.Pairs.{AllPairs-slice_get}
-use Rattle.pals_model.specs.Inputs.{link_goes_to, feed_goes_to, from_link, from_feed}
+use Rattle.list_lemmas.proofs.ElementPairs.{AllPairs-slice_get}
+use Rattle.pals_model.specs.ComponentInputs.{link_goes_to, feed_goes_to, from_link, from_feed}
 use Rattle.pals_model.specs.Rules.{port_place, LinkPrecedes, FeedPrecedes, IsApart}
 use Rattle.pals_model.specs.proof.CompositionLaws.Sources.{LinkIsSource, FeedIsSource, NothingIsSource}
-use Rattle.pals_model.proofs.Lookups.{at_element, first_at, none_passes}
+use Rattle.pals_model.proofs.FirstElements.{at_element, first_at, none_passes}
 
 -- two in ports of other places are not the same
 goes_elsewhere : (node port n p : ℕ) → port_place n p ≢ port_place node port → (nat_eq n node && nat_eq p port) ≡ false

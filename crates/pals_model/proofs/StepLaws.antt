@@ -9,17 +9,17 @@ use Rattle.pals_base.specs.declared.values.Frame.{Frame}
 use Rattle.pals_base.specs.declared.values.PortValue.{PortValue}
 use Rattle.pals_base.specs.declared.values.PortValue.TheVariants.{Absent}
 use Rattle.pals_base.specs.declared.behaviour.BehaviourParts.{BehaviourParts}
-use Rattle.pals_base.specs.Tree.{Edge}
+use Rattle.pals_base.specs.PlainTrees.{Edge}
 use Rattle.pals_base.specs.Expressions.{on_value}
 use Rattle.pals_base.specs.Actions.{acts}
-use Rattle.pals_base.specs.Fire.{Fired, HasShape, fire, holding, silence, is_present, is_complete, leaving, first_open}
-use Rattle.pals_base.specs.Fire.{along, settled, dispatched, reaction, outcome, unless_halted}
+use Rattle.pals_base.specs.SingleStep.{Fired, HasShape, fire, holding, silence, is_present, is_complete, leaving}
+use Rattle.pals_base.specs.SingleStep.{first_open, along, settled, dispatched, reaction, outcome, unless_halted}
 use Rattle.pals_base.specs.Rules.{IsBehaviour}
-use Rattle.pals_base.specs.Steps.{Stepped, steps, frame_after, outputs, so_far, with_places}
-use Rattle.pals_base.proofs.Ending.{fires_well}
-use Rattle.pals_base.proofs.Steps.{frame_after-append, outputs-append}
+use Rattle.pals_base.specs.StepSequences.{Stepped, steps, frame_after, outputs, so_far, with_places}
+use Rattle.pals_base.proofs.StepTermination.{fires_well}
+use Rattle.pals_base.proofs.StepSequences.{frame_after-append, outputs-append}
 use Rattle.pals_base.proofs.RoundUnderWay.{so_far-none, so_far-one_more, so_far-all}
-use Rattle.pals_model.specs.Inputs.{feed}
+use Rattle.pals_model.specs.ComponentInputs.{feed}
 use Rattle.pals_model.specs.Composition.{comp, state, under_way}
 use Rattle.pals_model.specs.proof.CompositionLaws.Steps.{stepped_on, RoundBegins, RoundGoesOn, RoundEnds, PlacesStay}
 use Rattle.pals_model.specs.proof.CompositionLaws.Steps.{TrapIsSilent}

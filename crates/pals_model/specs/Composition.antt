@@ -5,16 +5,16 @@ use Rattle.std.specs.Prelude.{slice_get, slice_index_or, length, take}
 use Rattle.pals_base.specs.declared.values.PortValue.{PortValue}
 use Rattle.pals_base.specs.declared.values.PortValue.TheVariants.{Absent}
 use Rattle.pals_base.specs.declared.values.Frame.{Frame}
-use Rattle.pals_base.specs.Fire.{initial}
-use Rattle.pals_base.specs.Steps.{steps, cut, Stepped, frame_after, outputs, so_far}
-use Rattle.pals_base.specs.Bound.{sent_steps}
+use Rattle.pals_base.specs.SingleStep.{initial}
+use Rattle.pals_base.specs.StepSequences.{steps, cut, Stepped, frame_after, outputs, so_far}
+use Rattle.pals_base.specs.PeriodBound.{sent_steps}
 use Rattle.pals_model.specs.declared.design.Component.{Component}
 use Rattle.pals_model.specs.declared.design.Link.{Link}
 use Rattle.pals_model.specs.declared.design.Tap.{Tap}
 use Rattle.pals_model.specs.declared.design.DesignParts.{DesignParts}
 use Rattle.pals_model.specs.declared.rounds.Env.{Env}
 use Rattle.pals_model.specs.declared.rounds.Part.{Part}
-use Rattle.pals_model.specs.Inputs.{rate_of, inputs_of, values_at, feed}
+use Rattle.pals_model.specs.ComponentInputs.{rate_of, inputs_of, values_at, feed}
 use Rattle.pals_base.specs.declared.behaviour.BehaviourParts.{BehaviourParts}
 
 -- the frames after some rounds, and the messages of the last of these rounds

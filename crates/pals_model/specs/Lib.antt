@@ -1,8 +1,8 @@
-pub mod Ports
-pub mod Inputs
+pub mod PortKinds
+pub mod ComponentInputs
 pub mod Composition
 pub mod RoundTexts
-pub mod LinkNames
+pub mod NamesInTexts
 pub mod Delays
 pub mod Rules
 pub mod Flights

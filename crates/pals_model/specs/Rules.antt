@@ -3,8 +3,8 @@ use Rattle.std.specs.Prelude.{◌≡◌, ◌≢◌, ℕ, ◌+◌, ◌*◌, ◌%�
 use Rattle.std.specs.Prelude.{slice_get}
 use Rattle.pals_base.specs.declared.values.Gamma.{Gamma}
 use Rattle.pals_base.specs.declared.behaviour.BehaviourParts.{BehaviourParts}
-use Rattle.pals_base.specs.Allowed.{divides_or_divided, is_allowed, suits_kind}
-use Rattle.pals_base.specs.Bound.{least_period}
+use Rattle.pals_base.specs.AllowedAdaptors.{divides_or_divided, is_allowed, suits_kind}
+use Rattle.pals_base.specs.PeriodBound.{least_period}
 use Rattle.pals_base.specs.Names.{is_word, is_path}
 use Rattle.pals_base.specs.Rules.{IsBehaviour}
 use Rattle.pals_base.specs.declared.limits.TheConstants.{HOUR, RATE, PORTS, VARIABLES, STATES, COMPONENTS, LINKS}
@@ -14,8 +14,8 @@ use Rattle.pals_model.specs.declared.design.Link.{Link}
 use Rattle.pals_model.specs.declared.design.Feed.{Feed}
 use Rattle.pals_model.specs.declared.design.Tap.{Tap}
 use Rattle.pals_model.specs.declared.design.DesignParts.{DesignParts}
-use Rattle.pals_model.specs.Inputs.{rate_of}
-use Rattle.pals_model.specs.Ports.{ins_in, outs_in, in_kind, out_kind, feed_kind}
+use Rattle.pals_model.specs.ComponentInputs.{rate_of}
+use Rattle.pals_model.specs.PortKinds.{ins_in, outs_in, in_kind, out_kind, feed_kind}
 
 -- a clock may be off, no range is reversed, and no number is above one hour
 pub record IsGamma (g : Gamma) : Type 0 where

@@ -2,4 +2,4 @@
 pub mod SourceTables
 pub mod CompositionLaws
 pub mod FittingValues
-pub mod Counters
+pub mod TwoCounters

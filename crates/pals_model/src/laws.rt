@@ -3,7 +3,7 @@
 ghost use Rattle.pals_model.specs.proof.CompositionLaws.{OneFrameEach, OneMessageEach, StateBegins, LinksBeginAbsent};
 ghost use Rattle.pals_model.specs.proof.CompositionLaws.{StateGoesOn, MessageFromSource, PartFromSteps, RunsAlone};
 ghost use Rattle.pals_model.specs.proof.CompositionLaws.{DependsOnPast};
-ghost use Rattle.pals_model.specs.proof.Counters.{CountersCount};
+ghost use Rattle.pals_model.specs.proof.TwoCounters.{CountersCount};
 
 mod kinds;
 mod lines;

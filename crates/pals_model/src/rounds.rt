@@ -1,6 +1,6 @@
 //! What a run is given and what it leaves, round by round.
 ghost use Rattle.std.specs.Prelude.{◌≡◌, ◌<◌, [], length, map};
-ghost use Rattle.pals_model.specs.Inputs.{values_at};
+ghost use Rattle.pals_model.specs.ComponentInputs.{values_at};
 ghost use Rattle.pals_model.specs.Delays.{delay_in, delay_of};
 
 use pals_base::tuples::place;

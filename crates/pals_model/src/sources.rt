@@ -1,7 +1,7 @@
 //! Where each in port reads from, found once for a design in time that is in line with its feeds,
 //! links and ports.
 ghost use Rattle.std.specs.Prelude.{◌≡◌, IfOk, [], map};
-ghost use Rattle.pals_model.specs.Inputs.{new_names, root_inputs, all_sources, place_of};
+ghost use Rattle.pals_model.specs.ComponentInputs.{new_names, root_inputs, all_sources, place_of};
 ghost use Rattle.pals_model.specs.proof.SourceTables.{table_of, nothing, fed_from, with_source};
 
 use crate::design::{Component, Design, Feed, Link};

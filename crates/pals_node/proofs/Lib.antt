@@ -1,7 +1,7 @@
-pub mod Places
-pub mod Programs
-pub mod Ends
+pub mod TuplePlaces
+pub mod ProgramResults
+pub mod StepEnds
 pub mod Plans
-pub mod Starts
-pub mod KeyLaws
-pub mod Memories
+pub mod RoundStarts
+pub mod InstructionKeys
+pub mod JobMemories

@@ -8,17 +8,17 @@ use Rattle.std.proofs.lemmas.List.{length-map}
 use Rattle.std.proofs.lemmas.List.Elements.{All-map, All-filter, filter_passes}
 use Rattle.std.proofs.lemmas.Option.{slice_get-get_or}
 use Rattle.pals_base.specs.declared.values.Gamma.{Gamma}
-use Rattle.pals_base.specs.Bound.{backoff, step_period, sent_steps, release_offset, least_period}
+use Rattle.pals_base.specs.PeriodBound.{backoff, step_period, sent_steps, release_offset, least_period}
 use Rattle.pals_model.specs.declared.design.Link.{Link}
 use Rattle.pals_model.specs.declared.design.Tap.{Tap}
 use Rattle.pals_model.specs.declared.design.DesignParts.{DesignParts}
-use Rattle.pals_model.specs.Inputs.{sources_of}
-use Rattle.pals_model.specs.Ports.{outs_in}
+use Rattle.pals_model.specs.ComponentInputs.{sources_of}
+use Rattle.pals_model.specs.PortKinds.{outs_in}
 use Rattle.pals_model.specs.Composition.{taps_of}
 use Rattle.pals_model.specs.Rules.{IsDesign, IsComponent, IsLink, IsTap, greatest_rate}
-use Rattle.pals_model.proofs.Lookups.{at_element}
+use Rattle.pals_model.proofs.FirstElements.{at_element}
 use Rattle.bus_machine.specs.Plans.{component_at, no_component, plan_of, input_of, out_links_of}
-use Rattle.bus_machine.proofs.Vectors.{length_sources}
+use Rattle.bus_machine.proofs.InputVectors.{length_sources}
 use Rattle.pals_node.specs.proof.NodeInvariants.{IsPlan}
 
 -- ---- times

@@ -1,9 +1,9 @@
 //! The job of one step, which may run anywhere, and what it leaves.
 ghost use Rattle.std.specs.Prelude.{◌≡◌, ◌↔◌, length, IsTrue, IfOk};
 ghost use Rattle.std.specs.Arc.{arc_value};
-ghost use Rattle.step_code.specs.proof.Exec.{FitsCode};
-ghost use Rattle.pals_node.specs.proof.Values.{IsResult, job_value};
-ghost use Rattle.pals_node.specs.proof.Memories.{HasMemory, IsLeft};
+ghost use Rattle.step_code.specs.proof.CodeRuns.{FitsCode};
+ghost use Rattle.pals_node.specs.proof.NodeValues.{IsResult, job_value};
+ghost use Rattle.pals_node.specs.proof.JobMemories.{HasMemory, IsLeft};
 
 use crate::keys::same_instr;
 use crate::memory::{Memory, memory_for};
@@ -57,7 +57,7 @@ impl Drop for Job {
 
 impl Model for Job {
     ghost use Rattle.std.specs.Arc.{arc_value};
-    ghost use Rattle.pals_node.specs.proof.Values.{JobValue, job_value};
+    ghost use Rattle.pals_node.specs.proof.NodeValues.{JobValue, job_value};
 
     ghost Value = { JobValue };
 
@@ -97,8 +97,8 @@ impl Drop for Done {
 
 impl Model for Done {
     ghost use Rattle.std.specs.Arc.{arc_value};
-    ghost use Rattle.step_vm.specs.proof.Rooms.{IsRoomOf};
-    ghost use Rattle.pals_node.specs.proof.Values.{JobValue, IsResult, job_value};
+    ghost use Rattle.step_vm.specs.proof.RoomCapacity.{IsRoomOf};
+    ghost use Rattle.pals_node.specs.proof.NodeValues.{JobValue, IsResult, job_value};
 
     ghost Value = { JobValue };
 

@@ -1,6 +1,6 @@
 //! Instructions as numbers, by which two are told apart.
 ghost use Rattle.std.specs.Prelude.{◌≡◌, ◌↔◌, IsTrue};
-ghost use Rattle.pals_node.specs.proof.Keys.{key_of};
+ghost use Rattle.pals_node.specs.proof.InstructionKeys.{key_of};
 
 use step_code::Instr;
 

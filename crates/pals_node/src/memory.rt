@@ -1,7 +1,7 @@
 //! The memory of a job, which goes from one job of a node to the next.
 ghost use Rattle.std.specs.Prelude.{◌≡◌, length, IfOk};
-ghost use Rattle.step_code.specs.proof.Exec.{FitsCode};
-ghost use Rattle.pals_node.specs.proof.Memories.{IsMemoryFor, HasMemory, IsFilled};
+ghost use Rattle.step_code.specs.proof.CodeRuns.{FitsCode};
+ghost use Rattle.pals_node.specs.proof.JobMemories.{IsMemoryFor, HasMemory, IsFilled};
 
 use pals_base::{Frame, NoMemory, PortValue, TryClone, Tuple};
 use std::alloc::Global;

@@ -8,7 +8,7 @@ ghost use Rattle.pals_base.specs.declared.limits.TheConstants.{ROUNDS, PORTS};
 ghost use Rattle.bus_machine.specs.Nodes.{finished_steps};
 ghost use Rattle.bus_machine.specs.NodeEvents.{arrived, received, lacks};
 ghost use Rattle.bus_machine.specs.Targets.{target, action_of, next_of};
-ghost use Rattle.pals_node.specs.proof.Values.{opening_value, with_state};
+ghost use Rattle.pals_node.specs.proof.NodeValues.{opening_value, with_state};
 ghost use Rattle.pals_node.specs.proof.Answers.{is_early, Starts, StartEnds, Steps, StepEnds, FinishesWith};
 ghost use Rattle.pals_node.specs.proof.Answers.{FinishesHere, NoneRuns, Sends, SendEnds};
 
@@ -41,7 +41,7 @@ impl Drop for Node {
 }
 
 impl Model for Node {
-    ghost use Rattle.pals_node.specs.proof.Values.{NodeValue};
+    ghost use Rattle.pals_node.specs.proof.NodeValues.{NodeValue};
 
     ghost Value = { NodeValue };
 

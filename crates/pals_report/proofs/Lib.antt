@@ -1,8 +1,8 @@
-pub mod Begins
-pub mod WordLines
+pub mod TextPrefixes
+pub mod ItemLines
 mod Columns
-mod Listed
-pub mod Counts
+mod JoinedLines
+pub mod TapCounts
 pub mod RowLines
-pub mod Texts
-pub mod Spaces
+pub mod ListTexts
+pub mod SpacedWords

@@ -3,16 +3,16 @@ use Rattle.std.specs.Prelude.{◌≡◌, ℕ, codes, decimal, List, [], ◌∷�
 use Rattle.std.specs.Prelude.{MatchOption}
 use Rattle.pals_base.specs.declared.values.Adaptor.{Adaptor}
 use Rattle.pals_base.specs.declared.values.Adaptor.TheVariants.{Repeat, First, Last, At, Latest, Max, Min, Average}
-use Rattle.pals_base.specs.Bound.{backoff, least_period}
+use Rattle.pals_base.specs.PeriodBound.{backoff, least_period}
 use Rattle.pals_model.specs.declared.design.Component.{Component}
 use Rattle.pals_model.specs.declared.design.Link.{Link}
 use Rattle.pals_model.specs.declared.design.Feed.{Feed}
 use Rattle.pals_model.specs.declared.design.Tap.{Tap}
 use Rattle.pals_model.specs.declared.design.DesignParts.{DesignParts}
-use Rattle.pals_model.specs.LinkNames.{port_name, target_name, link_name}
+use Rattle.pals_model.specs.NamesInTexts.{port_name, target_name, link_name}
 use Rattle.pals_model.specs.RoundTexts.{text_of}
 use Rattle.pals_model.specs.Rules.{greatest_rate}
-use Rattle.bound_checker.specs.Multiple.{IsLeastMultiple, HasNoMultiple}
+use Rattle.bound_checker.specs.ShortestPeriods.{IsLeastMultiple, HasNoMultiple}
 
 -- ---- adaptors, each behind a space
 abbrev pub adaptor_text : Adaptor → List ℕ

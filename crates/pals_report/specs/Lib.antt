@@ -4,7 +4,7 @@ pub mod PackageFaultLines
 pub mod Violations
 pub mod TextFaults
 pub mod EventFaults
-pub mod Runs
+pub mod VerdictLines
 pub mod ScenarioFaults
 pub mod SentLines
 pub mod proof

@@ -1,6 +1,6 @@
 //! Places in a text, as lines and columns.
 ghost use Rattle.std.specs.Prelude.{◌≡◌, ◌++◌, ◌≤◌, length, min, OnOk, OnErr};
-ghost use Rattle.pals_report.specs.proof.Appended.{BeginsWith};
+ghost use Rattle.pals_report.specs.proof.PartialWrites.{BeginsWith};
 ghost use Rattle.pals_report.specs.Positions.{line_of, column_of, position_text};
 
 use itoa::Buffer;

@@ -1,7 +1,7 @@
 //! Lines of components, links, feeds, taps and ignored names.
 ghost use Rattle.std.specs.Prelude.{◌≡◌, ◌++◌, map, OnOk, OnErr};
 ghost use Rattle.pals_model.specs.RoundTexts.{text_of, line_end};
-ghost use Rattle.pals_report.specs.proof.Appended.{BeginsWith};
+ghost use Rattle.pals_report.specs.proof.PartialWrites.{BeginsWith};
 ghost use Rattle.pals_report.specs.CheckReports.{component_line, link_line, feed_line, tap_line, ignored_line};
 
 use crate::names::{add_adaptor, add_source, add_target};
@@ -77,7 +77,7 @@ pub fn add_components(out: &mut Vec<u8>, components: &[Component]) -> Result<(),
 }
 
 /// Adds a line for each of these links of the design.
-#[tactic(auto, using(crate::proofs::WordLines::lines_turn))]
+#[tactic(auto, using(crate::proofs::ItemLines::lines_turn))]
 pub fn add_links(out: &mut Vec<u8>, design: &DesignParts, links: &[Link]) -> Result<(), NoMemory>
     ensures ok { OnOk result
         (out.new.items ≡ out.old.items ++ text_of (map (link_line design.now) links.now)) }

@@ -1,7 +1,7 @@
 //! Why a package has no instance, as a line of text.
 ghost use Rattle.std.specs.Prelude.{◌≡◌, ◌++◌, OnOk, OnErr};
 ghost use Rattle.pals_model.specs.RoundTexts.{line_end};
-ghost use Rattle.pals_report.specs.proof.Appended.{BeginsWith};
+ghost use Rattle.pals_report.specs.proof.PartialWrites.{BeginsWith};
 ghost use Rattle.pals_report.specs.PackageFaultLines.{and_word, flat_words, flat_fault_line};
 ghost use Rattle.pals_report.specs.Positions.{position_text};
 

@@ -1,7 +1,7 @@
 //! The line of a root out port: its name, and the whole tuple of its source.
 ghost use Rattle.std.specs.Prelude.{◌≡◌, ◌++◌, [], OnOk, OnErr, slice_index_or, option_copied};
 ghost use Rattle.pals_model.specs.RoundTexts.{text_of, line_end, tap_line, taps_before};
-ghost use Rattle.pals_report.specs.proof.Appended.{BeginsWith};
+ghost use Rattle.pals_report.specs.proof.PartialWrites.{BeginsWith};
 ghost use Rattle.pals_report.specs.proof.RowLines.{lines_at_place};
 
 use crate::value::add_tuple;

@@ -1,10 +1,10 @@
 //! Lines, word by word.
 ghost use Rattle.std.specs.Prelude.{◌≡◌, ◌++◌, map, Some, OnOk, OnErr};
-ghost use Rattle.pals_model.specs.LinkNames.{in_port_name};
+ghost use Rattle.pals_model.specs.NamesInTexts.{in_port_name};
 ghost use Rattle.pals_model.specs.RoundTexts.{line_end};
 ghost use Rattle.pals_runs.specs.Journal.{node_word, link_word, reading_word, spaced};
-ghost use Rattle.pals_report.specs.proof.Words.{word_text};
-ghost use Rattle.pals_report.specs.proof.Appended.{BeginsWith};
+ghost use Rattle.pals_report.specs.proof.LineWords.{word_text};
+ghost use Rattle.pals_report.specs.proof.PartialWrites.{BeginsWith};
 
 use crate::{add_tuple, whole_or_none};
 use itoa::Buffer;

@@ -5,12 +5,12 @@ use Rattle.pals_model.specs.declared.design.DesignParts.{DesignParts}
 use Rattle.pals_runs.specs.declared.verdicts.Verdict.{Verdict}
 use Rattle.scenario_json.specs.declared.scenario.Scenario.{Scenario}
 use Rattle.bus_machine.specs.proof.MachineLaws.{IsRunOf}
-use Rattle.run_laws.specs.Traces.{verdict}
-use Rattle.run_laws.proofs.SoundHistories.{sound_are_traces}
+use Rattle.run_laws.specs.TraceVerdicts.{verdict}
+use Rattle.run_laws.proofs.SoundTraces.{sound_are_traces}
 use Rattle.run_laws.proofs.HistoryVerdicts.{traces_are_sound}
 use Rattle.pals_top.specs.declared.answer.Answer.{Answer}
 use Rattle.pals_top.specs.Audit.{SaysVerdict, IsAudited}
-use Rattle.pals_top.specs.Loose.{run_of}
+use Rattle.pals_top.specs.LooseWorlds.{run_of}
 use Rattle.pals_top.specs.proof.Statuses.{status_of, text_of}
 
 pub audit_of : (design : DesignParts) (scenario : Scenario) (status : ℕ) (text : List ℕ)

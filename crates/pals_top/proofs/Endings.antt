@@ -2,7 +2,7 @@
 use Rattle.std.proofs.Common.{◌≡◌, ◌≢◌, ◌∙◌, inl, inr, ℕ, List, Result, Ok, Err, Option, Some, refl, sym, subst}
 use Rattle.std.specs.Prelude.{IfOk, OnErr, IsSome}
 use Rattle.pals_base.specs.declared.limits.TheConstants.{BUNDLE_BYTES}
-use Rattle.pals_io.specs.Stream.{SinkView, after_taking, TakesPart, GivesWithin}
+use Rattle.pals_io.specs.SourcesAndSinks.{SinkView, after_taking, TakesPart, GivesWithin}
 use Rattle.pals_runs.specs.declared.commands.Command.{Command}
 use Rattle.pals_top.specs.declared.answer.Answer.{Answer}
 use Rattle.pals_top.specs.declared.answer.Answer.TheVariants.{Done, NotSo, Usage, TextRefused, DesignRefused}
@@ -10,7 +10,7 @@ use Rattle.pals_top.specs.declared.answer.Answer.TheVariants.{ScenarioRefused, S
 use Rattle.pals_top.specs.declared.answer.Answer.TheVariants.{ReadFault, TooLong}
 use Rattle.pals_top.specs.declared.status.TheConstants.{WRITE_FAULT, NO_MEMORY}
 use Rattle.pals_top.specs.Answers.{IsAnswer, IsFormAnswer}
-use Rattle.pals_top.specs.Outside.{Reading}
+use Rattle.pals_top.specs.ProgramInput.{Reading}
 use Rattle.pals_top.specs.proof.Statuses.{status_of, text_of, IsWritten}
 
 -- no answer says that a write failed, or that there was not enough memory

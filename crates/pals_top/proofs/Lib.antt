@@ -1,9 +1,9 @@
-mod Analyses
+mod AnalysisAnswers
 mod Endings
-mod Executions
-mod Forms
+mod ExecutionAnswers
+mod CommandForms
 pub mod LooseWorlds
 mod Refusals
-mod Scenarios
+mod ScenarioFaults
 pub mod Audits
-pub mod Budgets
+pub mod TimelyProcessors

@@ -3,12 +3,12 @@ use Rattle.std.proofs.Common.{◌≡◌, inl, inr, ℕ, List, sym, subst}
 use Rattle.bundle_designs.specs.declared.refusal.Refusal.{Refusal}
 use Rattle.bundle_designs.specs.declared.refusal.Refusal.TheVariants.{Text, Design, Memory}
 use Rattle.bundle_designs.specs.RefusedTexts.{IsTextRefused}
-use Rattle.bundle_designs.specs.Accepted.{IsPackageRefused}
+use Rattle.bundle_designs.specs.BundleMeanings.{IsPackageRefused}
 use Rattle.bundle_designs.specs.proof.Refusals.{IsTextRefusal, IsRefusal}
 use Rattle.pals_top.specs.declared.answer.Answer.{Answer}
 use Rattle.pals_top.specs.declared.status.TheConstants.{TEXT_REFUSED}
 use Rattle.pals_top.specs.Refusals.{IsBundleRefused}
-use Rattle.pals_top.specs.proof.Refusals.{SaysWhy}
+use Rattle.pals_top.specs.proof.RefusalLines.{SaysWhy}
 use Rattle.pals_top.specs.proof.Statuses.{status_of, text_of}
 
 pub text_refused : (bundle : List ℕ) (refusal : Refusal) (a : Answer) → IsTextRefusal bundle refusal → SaysWhy refusal a

@@ -4,13 +4,13 @@ use Rattle.pals_runs.specs.declared.commands.Command.{Command}
 use Rattle.pals_runs.specs.declared.commands.Command.TheVariants.{Print, Check, Sync, World, Run, Audit, Ring, Watch}
 use Rattle.pals_runs.specs.declared.commands.Command.TheVariants.{Vote, Fuse, Budget}
 use Rattle.pals_top.specs.declared.status.TheConstants.{USAGE}
-use Rattle.pals_top.specs.Outside.{Reading, HasRead, IsReadFault}
+use Rattle.pals_top.specs.ProgramInput.{Reading, HasRead, IsReadFault}
 use Rattle.pals_top.specs.AnswerTexts.{usage_line}
 use Rattle.pals_top.specs.Print.{IsPrintAnswer}
 use Rattle.pals_top.specs.Check.{IsCheckAnswer}
-use Rattle.pals_top.specs.Ring.{IsRingAnswer}
-use Rattle.pals_top.specs.Analyses.{IsAnalysisAnswer}
-use Rattle.pals_top.specs.Executions.{IsExecutionAnswer}
+use Rattle.pals_top.specs.SelfAnswer.{IsRingAnswer}
+use Rattle.pals_top.specs.AnalysisAnswers.{IsAnalysisAnswer}
+use Rattle.pals_top.specs.ExecutionAnswers.{IsExecutionAnswer}
 use Rattle.pals_top.specs.AnalysisKinds as analysis
 use Rattle.pals_top.specs.ExecutionKinds as execution
 

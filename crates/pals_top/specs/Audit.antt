@@ -2,15 +2,15 @@
 use Rattle.std.specs.Prelude.{◌≡◌, ◌↔◌, ℕ, Bool, true, false, List, ◌++◌, Option, if◌then◌else◌}
 use Rattle.pals_model.specs.declared.design.DesignParts.{DesignParts}
 use Rattle.pals_model.specs.RoundTexts.{line_end}
-use Rattle.pals_report.specs.Runs.{verdict_line}
+use Rattle.pals_report.specs.VerdictLines.{verdict_line}
 use Rattle.pals_runs.specs.declared.journal.Stop.{Stop}
 use Rattle.pals_runs.specs.declared.verdicts.Verdict.{Verdict}
 use Rattle.pals_runs.specs.declared.verdicts.Verdict.TheVariants.{Sound, Wrong}
 use Rattle.scenario_json.specs.declared.scenario.Scenario.{Scenario}
 use Rattle.run_laws.specs.Histories.{IsTraceOf}
-use Rattle.run_laws.specs.Traces.{verdict}
+use Rattle.run_laws.specs.TraceVerdicts.{verdict}
 use Rattle.pals_top.specs.declared.status.TheConstants.{DONE, NOT_SO}
-use Rattle.pals_top.specs.Loose.{run_of}
+use Rattle.pals_top.specs.LooseWorlds.{run_of}
 
 abbrev pub is_sound : Verdict → Bool
 is_sound (Sound rounds stop) = true

@@ -1,13 +1,13 @@
 -- What `budget` makes of a design and a scenario.
 use Rattle.std.specs.Prelude.{◌≡◌, ℕ, true, List, map, All, if◌then◌else◌}
 use Rattle.step_code.specs.declared.instr.CodeParts.{CodeParts}
-use Rattle.step_compiler.specs.LaidOut.{AreLaidOut}
+use Rattle.step_compiler.specs.LaidOutCode.{AreLaidOut}
 use Rattle.pals_model.specs.declared.design.DesignParts.{DesignParts}
 use Rattle.scenario_json.specs.declared.scenario.Scenario.{Scenario}
 use Rattle.design_codes.specs.Behaviours.{behaviours}
 use Rattle.round_budget.specs.BudgetText.{Processor, fits_on, some_is_over, budget_text}
 use Rattle.round_budget.specs.Responses.{RespondInTime}
-use Rattle.analysis_texts.specs.Budgeted.{processor_of}
+use Rattle.analysis_texts.specs.BudgetedProcessors.{processor_of}
 use Rattle.pals_top.specs.declared.status.TheConstants.{DONE, NOT_SO}
 
 abbrev pub processors_of : Scenario → List Processor

@@ -1,6 +1,6 @@
 -- What `print` answers to a bundle.
 use Rattle.std.specs.Prelude.{◌≡◌, ℕ, List, ◌⊎◌}
-use Rattle.bundle_designs.specs.Printed.{IsPrinted}
+use Rattle.bundle_designs.specs.CanonicalTexts.{IsPrinted}
 use Rattle.bundle_designs.specs.RefusedTexts.{IsTextRefused}
 use Rattle.pals_top.specs.declared.status.TheConstants.{DONE, TEXT_REFUSED}
 

@@ -1,5 +1,5 @@
 -- What the theorem of the program does not rest on: definitions of contracts below it, of laws, and of proofs.
-pub mod Code
-pub mod Executions
-pub mod Refusals
+pub mod PrivateFunctions
+pub mod CodedBundles
+pub mod RefusalLines
 pub mod Statuses

@@ -1,9 +1,9 @@
 //! The commands that need a design and a scenario.
 ghost use Rattle.std.specs.Prelude.{◌≡◌, IfOk};
-ghost use Rattle.scenario_json.specs.proof.Facts.{IsScenarioOf};
-ghost use Rattle.plant_fuse.specs.Fused.{ArePairs};
+ghost use Rattle.scenario_json.specs.proof.ScenarioFacts.{IsScenarioOf};
+ghost use Rattle.plant_fuse.specs.FusedComposition.{ArePairs};
 ghost use Rattle.pals_top.specs.AnalysisKinds.{Analysis};
-ghost use Rattle.pals_top.specs.Analyses.{command_of, Makes, IsAnalysisAnswer};
+ghost use Rattle.pals_top.specs.AnalysisAnswers.{command_of, Makes, IsAnalysisAnswer};
 ghost use Rattle.pals_top.specs.proof.Statuses.{status_of, text_of};
 
 use crate::answer::Answer;

@@ -1,8 +1,8 @@
 //! The command `audit`: the verdict on a trace.
 ghost use Rattle.std.specs.Prelude.{◌≡◌, ◌≤◌, length, IfOk};
 ghost use Rattle.pals_base.specs.declared.limits.TheConstants.{LIST_ITEMS};
-ghost use Rattle.pals_bus.specs.proof.Values.{AreCodes};
-ghost use Rattle.scenario_json.specs.proof.Facts.{IsScenarioOf};
+ghost use Rattle.pals_bus.specs.proof.BusPartValues.{AreCodes};
+ghost use Rattle.scenario_json.specs.proof.ScenarioFacts.{IsScenarioOf};
 ghost use Rattle.pals_top.specs.ExecutionKinds.{Audit};
 ghost use Rattle.pals_top.specs.Audit.{IsAudited, SaysVerdict, is_sound};
 ghost use Rattle.pals_top.specs.proof.Statuses.{status_of, text_of};

@@ -1,8 +1,8 @@
 //! The command `budget`: whether processors have time for the steps of their components.
 ghost use Rattle.std.specs.Prelude.{IfOk};
-ghost use Rattle.pals_bus.specs.proof.Values.{AreCodes};
-ghost use Rattle.step_compiler.specs.LaidOut.{AreLaidOut};
-ghost use Rattle.scenario_json.specs.proof.Facts.{IsScenarioOf};
+ghost use Rattle.pals_bus.specs.proof.BusPartValues.{AreCodes};
+ghost use Rattle.step_compiler.specs.LaidOutCode.{AreLaidOut};
+ghost use Rattle.scenario_json.specs.proof.ScenarioFacts.{IsScenarioOf};
 ghost use Rattle.design_codes.specs.Behaviours.{behaviours};
 ghost use Rattle.pals_top.specs.ExecutionKinds.{Budget};
 ghost use Rattle.pals_top.specs.Budget.{IsBudgeted};

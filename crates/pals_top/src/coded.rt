@@ -3,8 +3,8 @@ ghost use Rattle.std.specs.Prelude.{◌≡◌, ◌++◌, IfOk};
 ghost use Rattle.pals_model.specs.RoundTexts.{line_end};
 ghost use Rattle.pals_top.specs.declared.status.TheConstants.{CODE_TOO_LONG};
 ghost use Rattle.pals_top.specs.ExecutionKinds.{Execution};
-ghost use Rattle.pals_top.specs.Executions.{code_fault_line, command_of};
-ghost use Rattle.pals_top.specs.proof.Executions.{IsMeaning};
+ghost use Rattle.pals_top.specs.ExecutionAnswers.{code_fault_line, command_of};
+ghost use Rattle.pals_top.specs.proof.CodedBundles.{IsMeaning};
 ghost use Rattle.pals_top.specs.proof.Statuses.{Says};
 
 use crate::answer::Answer;

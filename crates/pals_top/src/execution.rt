@@ -1,12 +1,12 @@
 //! The commands that need a design, its step codes and a scenario, and no host.
 ghost use Rattle.std.specs.Prelude.{IfOk};
 ghost use Rattle.pals_model.specs.Rules.{IsDesign};
-ghost use Rattle.pals_bus.specs.proof.Values.{AreCodes};
-ghost use Rattle.scenario_json.specs.proof.Facts.{IsScenarioOf};
-ghost use Rattle.step_compiler.specs.LaidOut.{AreLaidOut};
+ghost use Rattle.pals_bus.specs.proof.BusPartValues.{AreCodes};
+ghost use Rattle.scenario_json.specs.proof.ScenarioFacts.{IsScenarioOf};
+ghost use Rattle.step_compiler.specs.LaidOutCode.{AreLaidOut};
 ghost use Rattle.design_codes.specs.Behaviours.{behaviours};
-ghost use Rattle.pals_top.specs.Executions.{Makes, IsExecutionAnswer};
-ghost use Rattle.pals_top.specs.proof.Executions.{HasEvents};
+ghost use Rattle.pals_top.specs.ExecutionAnswers.{Makes, IsExecutionAnswer};
+ghost use Rattle.pals_top.specs.proof.CodedBundles.{HasEvents};
 ghost use Rattle.pals_top.specs.proof.Statuses.{status_of, text_of};
 
 use crate::answer::Answer;

@@ -1,18 +1,18 @@
 //! The command `world --loose`: what a list of events without time leaves.
 ghost use Rattle.std.specs.Prelude.{◌≡◌, ℕ, List, [], ◌++◌, false, map, None, IfOk};
 ghost use Rattle.loose_world.specs.declared.events.LooseEnd.{LooseEnd};
-ghost use Rattle.loose_world.specs.Worlds.{Tells};
-ghost use Rattle.loose_world.specs.Sent.{AreOutLinks};
+ghost use Rattle.loose_world.specs.LooseRuns.{Tells};
+ghost use Rattle.loose_world.specs.SentLines.{AreOutLinks};
 ghost use Rattle.pals_model.specs.RoundTexts.{text_of as lines_text};
 ghost use Rattle.pals_runs.specs.Journal.{entry_line};
-ghost use Rattle.pals_bus.specs.proof.Values.{AreCodes};
-ghost use Rattle.scenario_json.specs.proof.Facts.{IsScenarioOf};
-ghost use Rattle.loose_world.specs.proof.Finished.{finished_lines, common_lines};
-ghost use Rattle.scenario_laws.specs.proof.Events.{AreLooseEvents};
+ghost use Rattle.pals_bus.specs.proof.BusPartValues.{AreCodes};
+ghost use Rattle.scenario_json.specs.proof.ScenarioFacts.{IsScenarioOf};
+ghost use Rattle.loose_world.specs.proof.FinishedRows.{finished_lines, common_lines};
+ghost use Rattle.scenario_laws.specs.proof.EventsAndTraces.{AreLooseEvents};
 ghost use Rattle.pals_top.specs.declared.status.TheConstants.{DONE, STOPPED};
 ghost use Rattle.pals_top.specs.ExecutionKinds.{LooseWorld};
-ghost use Rattle.pals_top.specs.Loose.{IsWorldAnswer};
-ghost use Rattle.pals_top.specs.proof.Code.{status_at, text_at};
+ghost use Rattle.pals_top.specs.LooseWorlds.{IsWorldAnswer};
+ghost use Rattle.pals_top.specs.proof.PrivateFunctions.{status_at, text_at};
 ghost use Rattle.pals_top.specs.proof.Statuses.{status_of, text_of, Says};
 
 use crate::answer::Answer;

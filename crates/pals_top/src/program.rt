@@ -1,10 +1,10 @@
 //! The one call that does all the program does.
 ghost use Rattle.std.specs.Prelude.{◌≡◌, ◌≢◌, ℕ, true, false, List, IfOk, OnErr, IsSome};
-ghost use Rattle.pals_io.specs.Stream.{GivesWithin, after_taking, TakesPart};
-ghost use Rattle.pals_top.specs.Words.{form, HasForm};
-ghost use Rattle.pals_top.specs.Outside.{reading};
+ghost use Rattle.pals_io.specs.SourcesAndSinks.{GivesWithin, after_taking, TakesPart};
+ghost use Rattle.pals_top.specs.CommandWords.{form, HasForm};
+ghost use Rattle.pals_top.specs.ProgramInput.{reading};
 ghost use Rattle.pals_top.specs.Answers.{reads_source, IsAnswer, IsFormAnswer, IsSourceAnswer, IsCommandAnswer};
-ghost use Rattle.pals_top.specs.proof.Code.{is_run};
+ghost use Rattle.pals_top.specs.proof.PrivateFunctions.{is_run};
 ghost use Rattle.pals_top.specs.proof.Statuses.{status_of, text_of, IsWritten};
 
 use crate::analysis::answer_analysis;

@@ -1,13 +1,13 @@
 //! The command `run`: the nodes in threads. It is the one command that is given the program's host.
 ghost use Rattle.std.specs.Prelude.{IfOk, OnErr};
-ghost use Rattle.pals_bus.specs.proof.Values.{AreCodes};
-ghost use Rattle.pals_io.specs.Stream.{GivesWithin};
+ghost use Rattle.pals_bus.specs.proof.BusPartValues.{AreCodes};
+ghost use Rattle.pals_io.specs.SourcesAndSinks.{GivesWithin};
 ghost use Rattle.pals_runs.specs.declared.commands.Command.TheVariants as command;
-ghost use Rattle.scenario_json.specs.proof.Facts.{IsScenarioOf};
+ghost use Rattle.scenario_json.specs.proof.ScenarioFacts.{IsScenarioOf};
 ghost use Rattle.pals_top.specs.ExecutionKinds.{Run};
 ghost use Rattle.pals_top.specs.Answers.{IsSourceAnswer};
-ghost use Rattle.pals_top.specs.Executions.{IsExecutionAnswer};
-ghost use Rattle.pals_top.specs.Outside.{reading};
+ghost use Rattle.pals_top.specs.ExecutionAnswers.{IsExecutionAnswer};
+ghost use Rattle.pals_top.specs.ProgramInput.{reading};
 ghost use Rattle.pals_top.specs.Run.{IsRunAnswer};
 ghost use Rattle.pals_top.specs.proof.Statuses.{status_of, text_of};
 

@@ -1,9 +1,9 @@
 //! The words of the command line.
 ghost use Rattle.std.specs.Prelude.{◌≡◌, [], ◌∷◌, true};
 ghost use Rattle.std.specs.List.{list_all};
-ghost use Rattle.pals_top.specs.Words.{form, plain_form, rooted_form, is_flag, is_plain, is_digit, is_number, value_of};
-ghost use Rattle.pals_top.specs.Words.{number_in, IsRead};
-ghost use Rattle.pals_top.specs.proof.Code.{flagged_form};
+ghost use Rattle.pals_top.specs.CommandWords.{form, plain_form, rooted_form, is_flag, is_plain, is_digit, is_number};
+ghost use Rattle.pals_top.specs.CommandWords.{value_of, number_in, IsRead};
+ghost use Rattle.pals_top.specs.proof.PrivateFunctions.{flagged_form};
 
 use pals_base::limits::COMPONENTS;
 use pals_base::{Text, TryClone};

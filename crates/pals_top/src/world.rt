@@ -1,10 +1,10 @@
 //! The command `world`: what a list of timed events within the bounds leaves.
 ghost use Rattle.std.specs.Prelude.{◌≤◌, length, IfOk};
 ghost use Rattle.pals_base.specs.declared.limits.TheConstants.{LIST_ITEMS};
-ghost use Rattle.pals_bus.specs.proof.Values.{AreCodes};
-ghost use Rattle.scenario_json.specs.proof.Facts.{IsScenarioOf};
+ghost use Rattle.pals_bus.specs.proof.BusPartValues.{AreCodes};
+ghost use Rattle.scenario_json.specs.proof.ScenarioFacts.{IsScenarioOf};
 ghost use Rattle.pals_top.specs.ExecutionKinds.{TimedWorld};
-ghost use Rattle.pals_top.specs.Worlds.{IsTimedAnswer};
+ghost use Rattle.pals_top.specs.TimedWorlds.{IsTimedAnswer};
 ghost use Rattle.pals_top.specs.proof.Statuses.{status_of, text_of};
 
 use crate::answer::Answer;

@@ -1,6 +1,6 @@
 //! Code from its instructions, frames, and steps over one in port and one out port.
 ghost use Rattle.std.specs.Prelude.{◌≡◌, IsTrue, slice_get};
-ghost use Rattle.step_code.specs.proof.Exec.{FitsCode, has_entry};
+ghost use Rattle.step_code.specs.proof.CodeRuns.{FitsCode, has_entry};
 
 use crate::running::wrong_steps;
 use crate::verifying::wrong_codes;

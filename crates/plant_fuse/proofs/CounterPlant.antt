@@ -1,12 +1,12 @@
 -- The two counters as a plant and its controller can be fused, and what they count, computed.
 use Rattle.std.proofs.Common.{◌≡◌, ℕ, [], ◌∷◌, All, None, refl, arith}
 use Rattle.std.proofs.lemmas.List.Elements.{All-nil, All-cons}
-use Rattle.pals_base.specs.Fire.{fire}
+use Rattle.pals_base.specs.SingleStep.{fire}
 use Rattle.pals_model.specs.declared.design.Link.{Link}
-use Rattle.pals_model.specs.proof.Counters.{two_counters}
+use Rattle.pals_model.specs.proof.TwoCounters.{two_counters}
 use Rattle.pals_runs.specs.declared.pairs.Pair.{Pair}
-use Rattle.plant_fuse.specs.Fused.{IsPair, reads}
-use Rattle.plant_fuse.specs.proof.Fused.{fused}
+use Rattle.plant_fuse.specs.FusedComposition.{IsPair, reads}
+use Rattle.plant_fuse.specs.proof.FusedRounds.{fused}
 use Rattle.plant_fuse.specs.proof.CounterPlant.{CountersArePairs, CountersFuse, FusedCountersCount}
 
 pub counters_fuse : CountersFuse

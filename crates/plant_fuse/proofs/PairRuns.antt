@@ -6,7 +6,7 @@ use Rattle.std.proofs.lemmas.Option.{slice_get-map}
 use Rattle.pals_base.specs.declared.values.PortValue.{PortValue}
 use Rattle.pals_base.specs.declared.values.Frame.{Frame}
 use Rattle.pals_base.specs.declared.values.NodeNo.{NodeNo}
-use Rattle.pals_base.specs.Steps.{frame_after, outputs, column}
+use Rattle.pals_base.specs.StepSequences.{frame_after, outputs, column}
 use Rattle.pals_model.specs.declared.design.Component.{Component}
 use Rattle.pals_model.specs.declared.design.DesignParts.{DesignParts}
 use Rattle.pals_model.specs.declared.rounds.Part.{Part}
@@ -16,17 +16,17 @@ use Rattle.pals_runs.specs.declared.pairs.Pair.{Pair}
 use Rattle.sync_product.specs.declared.reads.RoundInputs.{RoundInputs}
 use Rattle.sync_product.specs.declared.stage.Stage.{Stage}
 use Rattle.sync_product.specs.declared.wiring.WiredComponent.{WiredComponent}
-use Rattle.sync_product.specs.proof.Wired.{IsWired}
+use Rattle.sync_product.specs.proof.ComponentWiring.{IsWired}
 use Rattle.sync_product.specs.proof.Rounds.{IsStepped, vectors, own_rows, frames_of}
-use Rattle.sync_product.proofs.Tables.{slice_get-set_same, entry_at}
+use Rattle.sync_product.proofs.ComponentLists.{slice_get-set_same, entry_at}
 use Rattle.plant_fuse.specs.declared.sides.PairedComponent.{PairedComponent}
 use Rattle.plant_fuse.specs.declared.tables.Tables.{Tables}
 use Rattle.plant_fuse.specs.proof.Partners.{partner_of, all_partners}
-use Rattle.plant_fuse.specs.proof.Tables.{AreTables}
-use Rattle.plant_fuse.specs.proof.Sides.{Seat, Work, seat_of, side_work, AreMade, AreSidesRun}
-use Rattle.plant_fuse.specs.proof.Runs.{seat, IsPaired, HasWork, IsRun, StayBeside, IsRunAlone}
-use Rattle.plant_fuse.proofs.Numbered.{counted_at}
-use Rattle.plant_fuse.proofs.TakenOut.{get_set_other}
+use Rattle.plant_fuse.specs.proof.DesignTables.{AreTables}
+use Rattle.plant_fuse.specs.proof.PairSides.{Seat, Work, seat_of, side_work, AreMade, AreSidesRun}
+use Rattle.plant_fuse.specs.proof.RoundRuns.{seat, IsPaired, HasWork, IsRun, StayBeside, IsRunAlone}
+use Rattle.plant_fuse.proofs.FunctionTables.{counted_at}
+use Rattle.plant_fuse.proofs.TakenElements.{get_set_other}
 
 seat_is : (design : DesignParts) (parts : List Part) (node partner : ℕ) (side : PairedComponent)
     → IsPaired design parts node partner side

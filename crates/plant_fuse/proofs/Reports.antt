@@ -3,21 +3,21 @@ use Rattle.std.proofs.Common.{◌≡◌, ◌∙◌, ◌++◌, ℕ, zero, suc, �
 use Rattle.std.proofs.Common.{arith, append-nil, zero-add}
 use Rattle.std.specs.Prelude.{flat_map}
 use Rattle.std.proofs.lemmas.Grind.{flat_map-append}
-use Rattle.pals_base.specs.Steps.{upwards}
-use Rattle.pals_base.proofs.Upwards.{upwards-more}
+use Rattle.pals_base.specs.StepSequences.{upwards}
+use Rattle.pals_base.proofs.UpwardNumbers.{upwards-more}
 use Rattle.pals_model.specs.declared.design.DesignParts.{DesignParts}
 use Rattle.pals_model.specs.declared.rounds.Env.{Env}
 use Rattle.pals_model.specs.declared.rounds.Part.{Part}
 use Rattle.pals_model.specs.RoundTexts.{line_end, text_of, row_lines}
 use Rattle.pals_model.specs.Rules.{IsDesign}
 use Rattle.pals_runs.specs.declared.pairs.Pair.{Pair}
-use Rattle.plant_fuse.specs.Fused.{ArePairs, Inputs, IsFused}
-use Rattle.plant_fuse.specs.proof.Fused.{first_rounds}
+use Rattle.plant_fuse.specs.FusedComposition.{ArePairs, Inputs, IsFused}
+use Rattle.plant_fuse.specs.proof.FusedRounds.{first_rounds}
 use Rattle.plant_fuse.specs.FusedText.{fused_parts, fused_lines, freport}
 use Rattle.plant_fuse.specs.proof.FusedLaws.{ReportExists, ReportIsOne}
 use Rattle.plant_fuse.proofs.Solutions.{solution_exists, solution_is_one}
-use Rattle.plant_fuse.proofs.Prefixes.{solution_goes_on}
-use Rattle.plant_fuse.proofs.Leaving.{earlier_parts}
+use Rattle.plant_fuse.proofs.SolutionPrefixes.{solution_goes_on}
+use Rattle.plant_fuse.proofs.SolutionParts.{earlier_parts}
 
 pub rows_same : {X : Type 0} (f g : ℕ → List X) (from n : ℕ) → ((k : ℕ) → from ≤ k → k < from + n → f k ≡ g k)
     → flat_map f (upwards from n) ≡ flat_map g (upwards from n)

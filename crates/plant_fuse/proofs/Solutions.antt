@@ -4,9 +4,9 @@ use Rattle.pals_model.specs.declared.design.DesignParts.{DesignParts}
 use Rattle.pals_model.specs.declared.rounds.Env.{Env}
 use Rattle.pals_model.specs.Rules.{IsDesign}
 use Rattle.pals_runs.specs.declared.pairs.Pair.{Pair}
-use Rattle.plant_fuse.specs.Fused.{ArePairs, Inputs, reads, IsFused}
+use Rattle.plant_fuse.specs.FusedComposition.{ArePairs, Inputs, reads, IsFused}
 use Rattle.plant_fuse.specs.proof.FusedLaws.{SolutionExists, SolutionIsOne}
-use Rattle.plant_fuse.proofs.Causes.{Agree, same_reads, next_agree}
+use Rattle.plant_fuse.proofs.StepDependencies.{Agree, same_reads, next_agree}
 
 module _ (design : DesignParts) (pairs : List Pair) (env : Env) (rounds : ℕ) (sound : IsDesign design)
     (are : ArePairs design pairs) where

@@ -2,7 +2,7 @@
 -- equations.
 use Rattle.std.specs.Prelude.{◌≡◌, ℕ, suc, ◌*◌, List, map, flat_map, slice_get}
 use Rattle.std.specs.List.{enumerate_from}
-use Rattle.pals_base.specs.Steps.{upwards}
+use Rattle.pals_base.specs.StepSequences.{upwards}
 use Rattle.pals_model.specs.declared.design.Component.{Component}
 use Rattle.pals_model.specs.declared.design.Tap.{Tap}
 use Rattle.pals_model.specs.declared.design.DesignParts.{DesignParts}
@@ -11,7 +11,7 @@ use Rattle.pals_model.specs.declared.rounds.Part.{Part}
 use Rattle.pals_model.specs.Composition.{taps_of}
 use Rattle.pals_model.specs.RoundTexts.{text_of, row_lines}
 use Rattle.pals_runs.specs.declared.pairs.Pair.{Pair}
-use Rattle.plant_fuse.specs.Fused.{Inputs, round_tuple, frame_before, IsFused}
+use Rattle.plant_fuse.specs.FusedComposition.{Inputs, round_tuple, frame_before, IsFused}
 
 -- what a component leaves after the steps of a round: its frame, and the whole tuple of each of its taps
 abbrev pub fused_part : DesignParts → Inputs → ℕ → ℕ → Component → Part

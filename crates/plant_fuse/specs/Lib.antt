@@ -1,3 +1,3 @@
-pub mod Fused
+pub mod FusedComposition
 pub mod FusedText
 pub mod proof

@@ -1,8 +1,8 @@
 //! Which pairs of a plant and a controller can be fused.
 ghost use Rattle.std.specs.Prelude.{◌≡◌, ◌<◌, ◌↔◌, IsTrue, IfSome, IfNone, length};
 ghost use Rattle.std.specs.List.{list_all};
-ghost use Rattle.plant_fuse.specs.Fused.{IsPair, AreApart, ArePairs};
-ghost use Rattle.plant_fuse.specs.proof.Ends.{stays_inside, AreTwo, StandsApart, CanBeFused, IsFirstBad};
+ghost use Rattle.plant_fuse.specs.FusedComposition.{IsPair, AreApart, ArePairs};
+ghost use Rattle.plant_fuse.specs.proof.Fusibility.{stays_inside, AreTwo, StandsApart, CanBeFused, IsFirstBad};
 
 use pals_model::{DesignParts, Link};
 use pals_runs::Pair;

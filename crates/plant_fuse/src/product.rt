@@ -2,8 +2,8 @@
 ghost use Rattle.std.specs.Prelude.{◌≡◌, ◌<◌, IfOk, IfErr, OnOk, OnErr, Some, length, slice_get};
 ghost use Rattle.std.specs.Arc.{arc_value};
 ghost use Rattle.pals_model.specs.Rules.{IsDesign};
-ghost use Rattle.plant_fuse.specs.Fused.{ArePairs};
-ghost use Rattle.plant_fuse.specs.proof.Ends.{IsEnd};
+ghost use Rattle.plant_fuse.specs.FusedComposition.{ArePairs};
+ghost use Rattle.plant_fuse.specs.proof.Fusibility.{IsEnd};
 ghost use Rattle.plant_fuse.specs.proof.State.{begun, IsAdvanced};
 
 use crate::ends::FuseEnd;
@@ -59,8 +59,8 @@ impl Model for FuseProduct {
 
     ghost use Rattle.std.specs.Arc.{arc_value};
     ghost use Rattle.sync_product.specs.proof.Rounds.{frames_of};
-    ghost use Rattle.sync_product.specs.proof.Ready.{HasRoom};
-    ghost use Rattle.plant_fuse.specs.proof.Ready.{IsReady};
+    ghost use Rattle.sync_product.specs.proof.ProductInvariant.{HasRoom};
+    ghost use Rattle.plant_fuse.specs.proof.ProductInvariant.{IsReady};
 
     ghost view = { λ p. record {
       design = arc_value p.design;

@@ -1,6 +1,6 @@
 //! Stages and parts that are taken out of their lists and put back. The calls take no memory.
 ghost use Rattle.std.specs.Prelude.{◌≡◌, ◌<◌, length, slice_set};
-ghost use Rattle.plant_fuse.specs.proof.TakenFrom.{TakenFrom};
+ghost use Rattle.plant_fuse.specs.proof.TakenElements.{TakenFrom};
 
 use pals_base::{Frame, Items};
 use pals_model::Part;

@@ -1,10 +1,10 @@
 //! The steps of all components in a round.
 ghost use Rattle.std.specs.Prelude.{◌≡◌, ◌<◌, OnOk, length, map};
-ghost use Rattle.sync_product.specs.proof.Sizes.{part_size, part_sizes, stage_size, stage_sizes};
+ghost use Rattle.sync_product.specs.proof.ProductSizes.{part_size, part_sizes, stage_size, stage_sizes};
 ghost use Rattle.sync_product.specs.proof.Rounds.{frames_of};
-ghost use Rattle.plant_fuse.specs.Fused.{IsPair, ArePairs};
-ghost use Rattle.plant_fuse.specs.proof.Tables.{AreTables};
-ghost use Rattle.plant_fuse.specs.proof.Runs.{IsPaired, IsRunAlone, AreAlone, IsRun, AreRun, StayBeside};
+ghost use Rattle.plant_fuse.specs.FusedComposition.{IsPair, ArePairs};
+ghost use Rattle.plant_fuse.specs.proof.DesignTables.{AreTables};
+ghost use Rattle.plant_fuse.specs.proof.RoundRuns.{IsPaired, IsRunAlone, AreAlone, IsRun, AreRun, StayBeside};
 
 use crate::rooms::{put_stage, take_part, take_stage};
 use crate::sides::{FusedPair, PairedComponent, run_sides};

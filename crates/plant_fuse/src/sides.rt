@@ -1,9 +1,10 @@
 //! The steps of a plant and its controller, hand in hand.
 ghost use Rattle.std.specs.Prelude.{◌≡◌, ◌<◌, ◌≤◌, OnOk, length};
 ghost use Rattle.std.specs.Option.{option_copied};
-ghost use Rattle.sync_product.specs.proof.Sizes.{frame_size, frame_size_of, part_size, stage_size, stage_size_of};
-ghost use Rattle.plant_fuse.specs.proof.Sides.{seat_of, from_partner, side_value, side_vector, row_before, AreMade};
-ghost use Rattle.plant_fuse.specs.proof.Sides.{work, FitsSteps, AreSidesRun};
+ghost use Rattle.sync_product.specs.proof.ProductSizes.{frame_size, frame_size_of, part_size, stage_size};
+ghost use Rattle.sync_product.specs.proof.ProductSizes.{stage_size_of};
+ghost use Rattle.plant_fuse.specs.proof.PairSides.{seat_of, from_partner, side_value, side_vector, row_before, AreMade};
+ghost use Rattle.plant_fuse.specs.proof.PairSides.{work, FitsSteps, AreSidesRun};
 
 use pals_base::tuples::place;
 use pals_base::{Frame, NoMemory, PortValue, Tuple};

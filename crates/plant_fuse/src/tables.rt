@@ -28,7 +28,7 @@ impl Drop for Tables {
 }
 
 impl Tables {
-    ghost use Rattle.plant_fuse.specs.proof.Tables.{AreTables};
+    ghost use Rattle.plant_fuse.specs.proof.DesignTables.{AreTables};
 
     /// The tables of a design and its pairs.
     pub fn new(alloc: Global, design: &Design, pairs: Items<Pair>) -> Result<Tables, NoMemory>

@@ -10,11 +10,11 @@ use Rattle.list_lemmas.proofs.Elements.{AllByRecursion-weaker}
 use Rattle.pals_base.specs.declared.values.Frame.{Frame}
 use Rattle.pals_base.specs.declared.values.PortValue.{PortValue}
 use Rattle.pals_base.specs.declared.limits.TheConstants.{HOUR}
-use Rattle.pals_base.specs.Bound.{alarm}
+use Rattle.pals_base.specs.PeriodBound.{alarm}
 use Rattle.step_code.specs.declared.instr.CodeParts.{CodeParts}
-use Rattle.step_code.specs.Capped.{capped}
-use Rattle.step_code.specs.Paths.{weight_of}
-use Rattle.step_code.proofs.Heaviest.{made_within}
+use Rattle.step_code.specs.CappedWeights.{capped}
+use Rattle.step_code.specs.PathWeights.{weight_of}
+use Rattle.step_code.proofs.HeaviestPaths.{made_within}
 use Rattle.pals_model.specs.declared.design.DesignParts.{DesignParts}
 use Rattle.pals_model.specs.declared.rounds.Env.{Env}
 use Rattle.pals_model.specs.Rules.{IsDesign}
@@ -25,12 +25,13 @@ use Rattle.round_budget.specs.proof.BudgetLaws.{NoneBeginsEarly, OneAtATime, Res
 use Rattle.round_budget.specs.proof.BudgetLaws.{ExecResponsesFit, RoundsAreApart}
 use Rattle.round_budget.proofs.Elements.{every_both, Pairs, pairs_weaker, pairs_both, all_pairs_from, Member, member_of}
 use Rattle.round_budget.proofs.Elements.{contains_of}
-use Rattle.round_budget.proofs.Orders.{NotAfter, every_in_order, pairs_in_order, sorted_in_order, length_in_order}
-use Rattle.round_budget.proofs.Orders.{member_in_order, in_order_member, strict_numbers}
-use Rattle.round_budget.proofs.Weights.{one_le}
-use Rattle.round_budget.proofs.Times.{rate_fits, gap_of, AreFar, far_either, IsRelease, releases_are, releases_are_far}
-use Rattle.round_budget.proofs.InTime.{served_releases, length_serve, every_serve, pairs_serve, TakesItsTime}
-use Rattle.round_budget.proofs.InTime.{none_early, one_at_a_time, IsApart, IsWeighed, all_in_time}
+use Rattle.round_budget.proofs.ReleaseOrders.{NotAfter, every_in_order, pairs_in_order, sorted_in_order}
+use Rattle.round_budget.proofs.ReleaseOrders.{length_in_order, member_in_order, in_order_member, strict_numbers}
+use Rattle.round_budget.proofs.FilteredSums.{one_le}
+use Rattle.round_budget.proofs.ReleaseTimes.{rate_fits, gap_of, AreFar, far_either, IsRelease, releases_are}
+use Rattle.round_budget.proofs.ReleaseTimes.{releases_are_far}
+use Rattle.round_budget.proofs.TimelyService.{served_releases, length_serve, every_serve, pairs_serve, TakesItsTime}
+use Rattle.round_budget.proofs.TimelyService.{none_early, one_at_a_time, IsApart, IsWeighed, all_in_time}
 
 -- ---- what is served
 pub each_is_served : EachIsServed

@@ -4,13 +4,13 @@ use Rattle.std.specs.Prelude.{ℕ, ◌+◌, ◌-◌, ◌*◌, max, nat_eq, nat_l
 use Rattle.std.specs.Prelude.{◌∷◌, flat_map, map, Option, Some, None, slice_get}
 use Rattle.std.specs.List.{sum_by}
 use Rattle.pals_base.specs.declared.values.Gamma.{Gamma}
-use Rattle.pals_base.specs.Bound.{alarm, step_period}
-use Rattle.pals_base.specs.Steps.{upwards}
+use Rattle.pals_base.specs.PeriodBound.{alarm, step_period}
+use Rattle.pals_base.specs.StepSequences.{upwards}
 use Rattle.step_code.specs.declared.instr.CodeParts.{CodeParts}
-use Rattle.step_code.specs.Capped.{capped}
-use Rattle.step_code.specs.Paths.{weight_of}
+use Rattle.step_code.specs.CappedWeights.{capped}
+use Rattle.step_code.specs.PathWeights.{weight_of}
 use Rattle.pals_model.specs.declared.design.DesignParts.{DesignParts}
-use Rattle.pals_model.specs.Inputs.{rate_of}
+use Rattle.pals_model.specs.ComponentInputs.{rate_of}
 use Rattle.pals_base.specs.declared.values.NodeNo.{NodeNo}
 
 -- ---- releases

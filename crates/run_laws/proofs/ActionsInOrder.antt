@@ -3,7 +3,7 @@ use Rattle.std.proofs.Common.{◌≡◌, inl, inr, ℕ, ◌+◌, ◌<◌, false,
 use Rattle.std.proofs.lemmas.Bool.{cases_eq}
 use Rattle.std.proofs.lemmas.Grind.{get_or-set_at}
 use Rattle.pals_base.specs.declared.values.NodeNo.{NodeNo}
-use Rattle.pals_model.specs.Inputs.{values_at}
+use Rattle.pals_model.specs.ComponentInputs.{values_at}
 use Rattle.pals_runs.specs.declared.journal.Phase.{Phase}
 use Rattle.pals_runs.specs.declared.journal.Phase.TheVariants.{Waiting, Running, Between, Holding, Done}
 use Rattle.pals_runs.specs.declared.journal.JournalEntry.{JournalEntry}
@@ -13,20 +13,20 @@ use Rattle.bus_machine.specs.NodeEvents.{started, stepped, finished, sent_from, 
 use Rattle.bus_machine.specs.NodeEvents.{arrived}
 use Rattle.bus_machine.specs.LinkEvents.{arriving}
 use Rattle.bus_machine.specs.States.{Run, BusState, node_at, no_node, flight_at, link_at, with_node}
-use Rattle.bus_machine.specs.Stops.{missing_link}
+use Rattle.bus_machine.specs.MissedStarts.{missing_link}
 use Rattle.bus_machine.specs.Machine.{BusEvent, Start, Step, Finish, Send, Arrive, Drop, Repeat, after, after_start}
 use Rattle.bus_machine.specs.Machine.{on_step}
 use Rattle.bus_machine.specs.Agreement.{PhaseAgrees, Agrees}
 use Rattle.bus_machine.specs.proof.MachineLaws.{IsRunOf}
 use Rattle.bus_machine.specs.declared.action.NodeAction.TheVariants as action
-use Rattle.bus_machine.proofs.States.{node_stays}
+use Rattle.bus_machine.proofs.AgreementChanges.{node_stays}
 use Rattle.run_laws.specs.NodeActions.{Follows}
 use Rattle.pals_clock.specs.declared.clock.Clocks.{Clocks}
 use Rattle.pals_clock.specs.declared.clock.Clocks.TheVariants.{Lists}
 use Rattle.run_laws.specs.Runs.{Does, KeepsTo, Runs, opens, picks_for, goes_on}
-use Rattle.run_laws.proofs.Follows.{next_is, starts_follow, steps_follow, sends_follow, finish_follows}
-use Rattle.run_laws.proofs.Follows.{received_follows}
-use Rattle.run_laws.proofs.Picking.{runs_agree, node_opens, plan_rules, held_of, node_agrees, below_nodes}
+use Rattle.run_laws.proofs.ActionEffects.{next_is, starts_follow, steps_follow, sends_follow, finish_follows}
+use Rattle.run_laws.proofs.ActionEffects.{received_follows}
+use Rattle.run_laws.proofs.NodePicks.{runs_agree, node_opens, plan_rules, held_of, node_agrees, below_nodes}
 
 abbrev pub HasDone : Run → ℕ → NodeState → Type 0
 HasDone run k n = (done : ℕ) × Follows (plan_of run.design k) done n

@@ -8,11 +8,11 @@ use Rattle.std.proofs.lemmas.Bool.{leb-true, not-true}
 use Rattle.std.proofs.lemmas.Grind.{common_steps}
 use Rattle.std.proofs.lemmas.List.Elements.{All-weaker}
 use Rattle.std.proofs.lemmas.Option.{slice_get_within}
-use Rattle.pals_base.specs.Steps.{upwards}
+use Rattle.pals_base.specs.StepSequences.{upwards}
 use Rattle.pals_clock.specs.Clock.{ClockState, unpicked, standing_at}
 use Rattle.pals_model.specs.declared.design.Link.{Link}
-use Rattle.pals_model.proofs.Lookups.{at_element}
-use Rattle.pals_model.proofs.Words.{all_pass}
+use Rattle.pals_model.proofs.FirstElements.{at_element}
+use Rattle.pals_model.proofs.WordBytes.{all_pass}
 use Rattle.pals_runs.specs.declared.journal.JournalEntry.{JournalEntry}
 use Rattle.pals_runs.specs.declared.journal.Phase.TheVariants.{Done}
 use Rattle.bus_machine.specs.States.{Run, BusState, opening, node_at, flight_at, link_at}
@@ -24,8 +24,8 @@ use Rattle.pals_clock.specs.declared.clock.Clocks.TheVariants.{Meet, Lists}
 use Rattle.run_laws.specs.Runs.{clock_at, target_of, IsLeast, HasEnded, NoneDue, IsAwaited, Runs, opens, picks_for}
 use Rattle.run_laws.specs.Runs.{goes_on}
 use Rattle.run_laws.specs.proof.CounterRuns.{counters_for, SomeMeetingEnds, SomeListEnds}
-use Rattle.run_laws.proofs.Missing.{upwards_get}
-use Rattle.run_laws.proofs.Clauses.{link_is}
+use Rattle.run_laws.proofs.MissedLinks.{upwards_get}
+use Rattle.run_laws.proofs.MeetingStops.{link_is}
 
 -- ---- what a test tells
 abbrev no_less : Run → BusState → ℕ → Bool

@@ -6,7 +6,7 @@ use Rattle.std.proofs.lemmas.List.{append-nil, append_assoc}
 use Rattle.std.proofs.lemmas.List.Elements.{All-nil, All-cons, All-append}
 use Rattle.std.proofs.lemmas.Option.{same_Some, get_or_from_slice_get}
 use Rattle.list_lemmas.proofs.Numbers.{nat_eq-self}
-use Rattle.pals_base.specs.Bound.{alarm}
+use Rattle.pals_base.specs.PeriodBound.{alarm}
 use Rattle.pals_base.specs.declared.values.NodeNo.{NodeNo}
 use Rattle.pals_base.specs.declared.values.LinkNo.{LinkNo}
 use Rattle.pals_model.specs.declared.design.Link.{Link}
@@ -18,19 +18,19 @@ use Rattle.pals_runs.specs.declared.journal.JournalEntry.TheVariants as entry
 use Rattle.bus_machine.specs.Plans.{plan_of}
 use Rattle.bus_machine.specs.Nodes.{round_of}
 use Rattle.bus_machine.specs.NodeEvents.{next_step}
-use Rattle.bus_machine.specs.Alarms.{start_alarm, step_alarm, release_alarm}
+use Rattle.bus_machine.specs.EarliestReadings.{start_alarm, step_alarm, release_alarm}
 use Rattle.bus_machine.specs.States.{Run, BusState, no_link, node_at, link_at}
-use Rattle.bus_machine.specs.Stops.{missing_link}
+use Rattle.bus_machine.specs.MissedStarts.{missing_link}
 use Rattle.bus_machine.specs.Machine.{BusEvent, Start, Step, Finish, Send, Arrive, Drop, Repeat, arrival, early_stop}
 use Rattle.bus_machine.specs.Replay.{Replays, entries, start_entry, stop_entry, opens as replay_opens}
 use Rattle.bus_machine.specs.Replay.{goes_on as replay_goes_on}
-use Rattle.run_laws.specs.Shown.{last_of, latest}
+use Rattle.run_laws.specs.ShownReadings.{last_of, latest}
 use Rattle.run_laws.specs.TraceLines.{Timed, timed}
 use Rattle.run_laws.specs.proof.RisingReadings.{LinesRise}
-use Rattle.run_laws.proofs.Missing.{missed_link}
+use Rattle.run_laws.proofs.MissedLinks.{missed_link}
 use Rattle.run_laws.specs.Histories.{IsRead, IsInTime, History, opens, goes_on}
 use Rattle.run_laws.specs.proof.SoundTraces.{ShowsFrom, ShowsTime, HistoriesReplay}
-use Rattle.run_laws.proofs.SoundHistories.{latest_one}
+use Rattle.run_laws.proofs.SoundTraces.{latest_one}
 
 pub replays : (run : Run) (journal : List JournalEntry) (s : BusState) → History run journal s → Replays run journal s
 replays run journal s opens = replay_opens

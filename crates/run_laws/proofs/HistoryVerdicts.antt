@@ -17,7 +17,7 @@ use Rattle.pals_model.specs.declared.design.Link.{Link}
 use Rattle.pals_model.specs.declared.design.DesignParts.{DesignParts}
 use Rattle.pals_model.specs.RoundTexts.{report_lines}
 use Rattle.pals_model.specs.Rules.{IsDesign}
-use Rattle.pals_model.proofs.Words.{same_bytes}
+use Rattle.pals_model.proofs.WordBytes.{same_bytes}
 use Rattle.pals_runs.specs.declared.journal.Arrived.{Arrived}
 use Rattle.pals_runs.specs.declared.journal.Arrived.TheVariants.{Kept, Ignored, Early}
 use Rattle.pals_runs.specs.declared.journal.Stop.{Stop}
@@ -31,31 +31,31 @@ use Rattle.pals_runs.specs.Journal.{entry_line}
 use Rattle.bus_machine.specs.Plans.{plan_of}
 use Rattle.bus_machine.specs.Nodes.{NodeState, round_of}
 use Rattle.bus_machine.specs.NodeEvents.{is_waiting, next_step}
-use Rattle.bus_machine.specs.Alarms.{start_alarm, step_alarm, release_alarm}
+use Rattle.bus_machine.specs.EarliestReadings.{start_alarm, step_alarm, release_alarm}
 use Rattle.bus_machine.specs.States.{Run, BusState, no_node, no_link, node_at, link_at, finished_by_all}
-use Rattle.bus_machine.specs.Stops.{missing_link}
+use Rattle.bus_machine.specs.MissedStarts.{missing_link}
 use Rattle.bus_machine.specs.Machine.{BusEvent, Start, Step, Finish, Send, Arrive, Drop, Repeat, is_allowed, after}
 use Rattle.bus_machine.specs.Machine.{arrival, early_stop}
 use Rattle.bus_machine.specs.Replay.{entries, start_entry, stop_entry}
-use Rattle.bus_machine.proofs.Arrivals.{replay_agrees}
-use Rattle.run_laws.specs.Shown.{latest}
+use Rattle.bus_machine.proofs.ReplayAgreement.{replay_agrees}
+use Rattle.run_laws.specs.ShownReadings.{latest}
 use Rattle.run_laws.specs.TraceLines.{timed, has_reading, event_of}
 use Rattle.run_laws.specs.TraceRules.{same_result, is_in_order, falls, is_before, too_early, is_due, waits, is_line_of}
 use Rattle.run_laws.specs.TraceRules.{first_entry, tells_stop, broken}
-use Rattle.run_laws.specs.Traces.{Audit, opening_audit, noted, second_entry, audit_event, audit_after, line_broken}
-use Rattle.run_laws.specs.Traces.{is_done, wrong_or, verdict}
+use Rattle.run_laws.specs.TraceVerdicts.{Audit, opening_audit, noted, second_entry, audit_event, audit_after}
+use Rattle.run_laws.specs.TraceVerdicts.{line_broken, is_done, wrong_or, verdict}
 use Rattle.run_laws.specs.Meetings.{AllDone}
 use Rattle.run_laws.specs.Entries.{IsEntryIn}
 use Rattle.run_laws.specs.Histories.{IsStoppedOrDone, IsRead, StepsInTime, StartsInTime, ArrivesInTime, IsInTime}
 use Rattle.run_laws.specs.Histories.{History, opens, goes_on}
-use Rattle.run_laws.proofs.Entries.{lines_tell_entries}
-use Rattle.run_laws.proofs.Forms.{lines_have_forms}
-use Rattle.run_laws.proofs.Missing.{missed_link}
-use Rattle.run_laws.proofs.Judged.{BreakNone, audited, break_append, verdict_is, not_before, none_of, none_due}
-use Rattle.run_laws.proofs.ReportEnds.{FirstHasForm, behind_report}
+use Rattle.run_laws.proofs.EntryLines.{lines_tell_entries}
+use Rattle.run_laws.proofs.EntryForms.{lines_have_forms}
+use Rattle.run_laws.proofs.MissedLinks.{missed_link}
+use Rattle.run_laws.proofs.UnbrokenLines.{BreakNone, audited, break_append, verdict_is, not_before, none_of, none_due}
+use Rattle.run_laws.proofs.JournalVerdicts.{FirstHasForm, behind_report}
 use Rattle.run_laws.specs.proof.SoundTraces.{TracesAreSound}
 use Rattle.run_laws.proofs.SoundEntries.{AreLast, target_within}
-use Rattle.run_laws.proofs.SoundHistories.{noted_many, noted_last, opening_many, opening_last}
+use Rattle.run_laws.proofs.SoundTraces.{noted_many, noted_last, opening_many, opening_last}
 use Rattle.run_laws.proofs.HistoryReplay.{replays}
 
 -- ---- an audit that has come as far as a history

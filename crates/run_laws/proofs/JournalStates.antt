@@ -9,7 +9,7 @@ use Rattle.pals_runs.specs.declared.journal.Arrived.TheVariants.{Kept, Ignored, 
 use Rattle.pals_runs.specs.declared.journal.JournalEntry.{JournalEntry}
 use Rattle.pals_runs.specs.declared.journal.JournalEntry.TheVariants as entry
 use Rattle.bus_machine.specs.States.{Run, BusState, opening}
-use Rattle.bus_machine.specs.Stops.{missing_link}
+use Rattle.bus_machine.specs.MissedStarts.{missing_link}
 use Rattle.bus_machine.specs.Machine.{BusEvent, Start, Step, Finish, Send, Arrive, Drop, Repeat, IsStep, after}
 use Rattle.bus_machine.specs.Machine.{after_start, after_arrive, arrival, early_stop}
 use Rattle.bus_machine.specs.Replay.{Replays, opens, goes_on, entries, start_entry, stop_entry}

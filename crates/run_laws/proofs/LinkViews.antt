@@ -13,12 +13,12 @@ use Rattle.bus_machine.specs.NodeEvents.{slot_at}
 use Rattle.bus_machine.specs.States.{Run, BusState, node_at, no_node, flight_at, with_node}
 use Rattle.bus_machine.specs.Machine.{BusEvent}
 use Rattle.bus_machine.specs.Replay.{entries}
-use Rattle.bus_machine.proofs.States.{node_stays}
-use Rattle.run_laws.specs.Shown.{listed, if_at, start_in, send_in, starts, sends, latest}
+use Rattle.bus_machine.proofs.AgreementChanges.{node_stays}
+use Rattle.run_laws.specs.ShownReadings.{listed, if_at, start_in, send_in, starts, sends, latest}
 use Rattle.pals_clock.specs.declared.clock.Clocks.{Clocks}
-use Rattle.run_laws.specs.proof.Timing.{LinkView, early_on, view, IsTimed}
-use Rattle.run_laws.proofs.Timed.{goes_later}
-use Rattle.run_laws.proofs.Reading.{Told, none_told, is_told, latest_after, NoFall}
+use Rattle.run_laws.specs.proof.LinkTiming.{LinkView, early_on, view, IsTimed}
+use Rattle.run_laws.proofs.LinkEvents.{goes_later}
+use Rattle.run_laws.proofs.EventReadings.{Told, none_told, is_told, latest_after, NoFall}
 
 -- ---- equal views
 pub same_view : (delay : ℕ → ℕ) (v w : LinkView) → v.sends ≡ w.sends → v.starts ≡ w.starts → v.latest ≡ w.latest

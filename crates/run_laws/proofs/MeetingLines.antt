@@ -7,7 +7,7 @@ use Rattle.std.proofs.lemmas.List.{append-nil, append_assoc}
 use Rattle.std.proofs.lemmas.Option.{same_Some}
 use Rattle.pals_base.specs.declared.values.NodeNo.{NodeNo}
 use Rattle.pals_base.specs.declared.values.LinkNo.{LinkNo}
-use Rattle.pals_base.specs.Bound.{alarm}
+use Rattle.pals_base.specs.PeriodBound.{alarm}
 use Rattle.pals_model.specs.declared.design.Link.{Link}
 use Rattle.pals_runs.specs.declared.journal.Phase.{Phase}
 use Rattle.pals_runs.specs.declared.journal.Phase.TheVariants.{Waiting, Running, Between, Holding, Done}
@@ -20,23 +20,23 @@ use Rattle.bus_machine.specs.Plans.{plan_of}
 use Rattle.bus_machine.specs.Nodes.{NodeState, round_of}
 use Rattle.bus_machine.specs.NodeEvents.{next_step}
 use Rattle.bus_machine.specs.States.{Run, BusState, node_at, link_at}
-use Rattle.bus_machine.specs.Stops.{missing_link}
+use Rattle.bus_machine.specs.MissedStarts.{missing_link}
 use Rattle.bus_machine.specs.Machine.{BusEvent, Start, Step, Finish, Send, Arrive, Drop, Repeat, arrival, early_stop}
 use Rattle.bus_machine.specs.Replay.{entries, start_entry, stop_entry}
 use Rattle.bus_machine.specs.declared.action.NodeAction.{NodeAction}
 use Rattle.bus_machine.specs.declared.action.NodeAction.TheVariants as action
 use Rattle.bus_machine.specs.Targets.{Progress, target, send_is_next, next_in}
 use Rattle.bus_machine.specs.proof.MachineLaws.{IsRunOf}
-use Rattle.run_laws.specs.Shown.{start_in, starts}
+use Rattle.run_laws.specs.ShownReadings.{start_in, starts}
 use Rattle.pals_clock.specs.declared.clock.Clocks.{Clocks}
 use Rattle.pals_clock.specs.declared.clock.Clocks.TheVariants.{Meet, Lists}
 use Rattle.run_laws.specs.Runs.{Does, KeepsTo, Runs, opens, picks_for, goes_on}
 use Rattle.run_laws.specs.Meetings.{AtNext, ShowTargets}
-use Rattle.run_laws.specs.proof.Meetings.{MeetingsShowTargets}
-use Rattle.run_laws.proofs.Missing.{missed_link}
-use Rattle.run_laws.proofs.Counting.{rounds_are_shown}
-use Rattle.run_laws.proofs.Times.{send_round}
-use Rattle.run_laws.proofs.Clauses.{link_is}
+use Rattle.run_laws.specs.proof.MeetingLaws.{MeetingsShowTargets}
+use Rattle.run_laws.proofs.MissedLinks.{missed_link}
+use Rattle.run_laws.proofs.ShownActions.{rounds_are_shown}
+use Rattle.run_laws.proofs.ActionReadings.{send_round}
+use Rattle.run_laws.proofs.MeetingStops.{link_is}
 
 at_target : (run : Run) (s : BusState) (node : NodeNo) (reading : Option ℕ) (action : NodeAction)
     (d : Does run Meet s node reading action) → reading ≡ Some (target (plan_of run.design node.0) action)

@@ -7,7 +7,7 @@ use Rattle.std.proofs.lemmas.Grind.{get_or-set_at}
 use Rattle.std.proofs.lemmas.Option.{same_Some}
 use Rattle.pals_base.specs.declared.values.NodeNo.{NodeNo}
 use Rattle.pals_base.specs.declared.values.PortValue.{PortValue}
-use Rattle.pals_model.specs.Inputs.{values_at}
+use Rattle.pals_model.specs.ComponentInputs.{values_at}
 use Rattle.pals_runs.specs.declared.journal.Phase.{Phase}
 use Rattle.pals_runs.specs.declared.journal.Phase.TheVariants.{Waiting, Running, Between, Holding, Done}
 use Rattle.pals_runs.specs.declared.journal.Arrived.{Arrived}
@@ -20,7 +20,7 @@ use Rattle.bus_machine.specs.NodeEvents.{is_waiting, started, stepped, finished,
 use Rattle.bus_machine.specs.NodeEvents.{received, arrived, with_message}
 use Rattle.bus_machine.specs.LinkEvents.{arriving}
 use Rattle.bus_machine.specs.States.{Run, BusState, opening, node_at, no_node, flight_at, link_at, with_node}
-use Rattle.bus_machine.specs.Stops.{missing_link}
+use Rattle.bus_machine.specs.MissedStarts.{missing_link}
 use Rattle.bus_machine.specs.Machine.{BusEvent, Start, Step, Finish, Send, Arrive, Drop, Repeat, is_allowed, after}
 use Rattle.bus_machine.specs.Machine.{after_start, on_step}
 use Rattle.bus_machine.specs.Replay.{entries}
@@ -29,17 +29,17 @@ use Rattle.bus_machine.specs.proof.MachineLaws.{IsRunOf}
 use Rattle.bus_machine.specs.declared.action.NodeAction.{NodeAction}
 use Rattle.bus_machine.specs.declared.action.NodeAction.TheVariants as action
 use Rattle.bus_machine.specs.Targets.{target, action_in, next_in}
-use Rattle.bus_machine.proofs.States.{node_stays}
-use Rattle.run_laws.specs.Shown.{latest}
+use Rattle.bus_machine.proofs.AgreementChanges.{node_stays}
+use Rattle.run_laws.specs.ShownReadings.{latest}
 use Rattle.pals_clock.specs.declared.clock.Clocks.{Clocks}
 use Rattle.pals_clock.specs.declared.clock.Clocks.TheVariants.{Meet, Lists}
 use Rattle.run_laws.specs.Runs.{target_of, Does, KeepsTo, Runs, opens, picks_for, goes_on}
-use Rattle.run_laws.proofs.Picking.{runs_agree, node_agrees, below_nodes, component_is}
+use Rattle.run_laws.proofs.NodePicks.{runs_agree, node_agrees, below_nodes, component_is}
 use Rattle.run_laws.proofs.ActionsInOrder.{HasDone, follows_in}
 use Rattle.run_laws.proofs.RisingTargets.{IsTimedPlan, plan_times, step_was, aim_in, aim, Rises, same_aim, start_rises}
 use Rattle.run_laws.proofs.RisingTargets.{step_rises, send_rises, finish_rises, Steps}
-use Rattle.run_laws.proofs.Reading.{Told, none_told, is_told, event_tells, latest_after, NoFall, lists_no_fall}
-use Rattle.run_laws.proofs.Counting.{is_waiting_phase}
+use Rattle.run_laws.proofs.EventReadings.{Told, none_told, is_told, event_tells, latest_after, NoFall, lists_no_fall}
+use Rattle.run_laws.proofs.ShownActions.{is_waiting_phase}
 
 -- ---- each event raises targets
 one_aim : (run : Run) (s : BusState) (j k : ℕ) (m : NodeState) → j < length s.nodes

@@ -4,20 +4,20 @@ use Rattle.std.proofs.Common.{Option, Some, refl, ap, ◌∙◌, arith}
 use Rattle.std.specs.Prelude.{if◌then◌else◌}
 use Rattle.std.proofs.lemmas.Bool.{ltb-false}
 use Rattle.std.proofs.lemmas.Grind.{common_steps}
-use Rattle.pals_base.specs.Bound.{alarm}
+use Rattle.pals_base.specs.PeriodBound.{alarm}
 use Rattle.pals_runs.specs.declared.journal.Phase.{Phase}
 use Rattle.pals_runs.specs.declared.journal.Phase.TheVariants.{Waiting, Running, Between, Holding, Done}
 use Rattle.bus_machine.specs.declared.plan.Plan.{Plan}
 use Rattle.bus_machine.specs.Plans.{plan_of, component_at}
 use Rattle.bus_machine.specs.Nodes.{NodeState, round_of}
 use Rattle.bus_machine.specs.States.{Run, BusState, node_at}
-use Rattle.bus_machine.specs.Stops.{sent_rounds}
+use Rattle.bus_machine.specs.MissedStarts.{sent_rounds}
 use Rattle.bus_machine.specs.Agreement.{PhaseAgrees, Agrees}
 use Rattle.bus_machine.specs.proof.MachineLaws.{IsRunOf}
 use Rattle.bus_machine.specs.declared.action.NodeAction.TheVariants as action
 use Rattle.bus_machine.specs.Targets.{Progress, target, send_is_next, next_action}
 use Rattle.run_laws.specs.Runs.{IsLeast}
-use Rattle.run_laws.proofs.Picking.{node_agrees}
+use Rattle.run_laws.proofs.NodePicks.{node_agrees}
 use Rattle.run_laws.proofs.RisingTargets.{IsTimedPlan, next_alarm, aim_in, running_aim}
 use Rattle.run_laws.proofs.MeetingReadings.{times_of}
 

@@ -25,25 +25,25 @@ use Rattle.pals_base.specs.declared.behaviour.BehaviourParts.{BehaviourParts}
 use Rattle.pals_base.specs.Expressions.{is_true}
 use Rattle.pals_base.specs.Names.{is_word}
 use Rattle.pals_base.specs.Rules.{IsBehaviour, has_word, value_names}
-use Rattle.pals_base.specs.Steps.{upwards}
+use Rattle.pals_base.specs.StepSequences.{upwards}
 use Rattle.pals_model.specs.declared.design.Component.{Component}
 use Rattle.pals_model.specs.declared.design.Tap.{Tap}
 use Rattle.pals_model.specs.declared.design.DesignParts.{DesignParts}
 use Rattle.pals_model.specs.declared.rounds.Env.{Env}
 use Rattle.pals_model.specs.declared.rounds.Part.{Part}
 use Rattle.pals_model.specs.Composition.{part}
-use Rattle.pals_model.specs.Ports.{out_kind}
+use Rattle.pals_model.specs.PortKinds.{out_kind}
 use Rattle.pals_model.specs.RoundTexts.{value_text, state_name, state_text, variable_text, vars_text, component_line}
 use Rattle.pals_model.specs.RoundTexts.{tuple_text, taps_before, tap_line, round_line, part_lines, tap_lines}
 use Rattle.pals_model.specs.RoundTexts.{composed_lines}
 use Rattle.pals_model.specs.Rules.{IsDesign, IsComponent}
-use Rattle.pals_model.proofs.Lookups.{at_element}
-use Rattle.pals_model.proofs.Words.{IsWithout, all_pass, word_without, path_without, other_bytes}
+use Rattle.pals_model.proofs.FirstElements.{at_element}
+use Rattle.pals_model.proofs.WordBytes.{IsWithout, all_pass, word_without, path_without, other_bytes}
 use Rattle.run_laws.specs.LineForms.{Form, is, is_there, spelled, round_in, words_of, with_step, arrive_line}
 use Rattle.run_laws.specs.LineForms.{start_line, step_line, finish_line, send_line, drop_line, repeat_line, early_line}
 use Rattle.run_laws.specs.LineForms.{missed_line, stop_line, form_of_words, form_of, named}
-use Rattle.run_laws.specs.proof.Reports.{ReportsHaveNoForms}
-use Rattle.run_laws.proofs.Words.{NoSpace, no_space}
+use Rattle.run_laws.specs.proof.ReportVerdicts.{ReportsHaveNoForms}
+use Rattle.run_laws.proofs.SpacedWords.{NoSpace, no_space}
 use Rattle.run_laws.proofs.ReportRows.{numbered_all}
 
 -- ---- digits

@@ -3,7 +3,7 @@ use Rattle.std.proofs.Common.{◌≡◌, ℕ, ◌+◌, ◌*◌, ◌≤◌, true,
 use Rattle.std.specs.Prelude.{is_some}
 use Rattle.std.specs.Option.{unwrap_or}
 use Rattle.std.proofs.lemmas.Bool.{false≢true}
-use Rattle.pals_base.specs.Bound.{alarm}
+use Rattle.pals_base.specs.PeriodBound.{alarm}
 use Rattle.pals_base.specs.declared.values.NodeNo.{NodeNo}
 use Rattle.pals_clock.specs.declared.clock.Clocks.{Clocks}
 use Rattle.pals_clock.specs.declared.clock.Clocks.TheVariants.{Lists}
@@ -18,11 +18,11 @@ use Rattle.bus_machine.specs.proof.MachineLaws.{IsRunOf}
 use Rattle.bus_machine.specs.declared.action.NodeAction.{NodeAction}
 use Rattle.bus_machine.specs.declared.action.NodeAction.TheVariants as action
 use Rattle.run_laws.specs.Runs.{Does, KeepsTo, Runs, next_start, opens as run_opens, picks_for, goes_on as run_goes_on}
-use Rattle.run_laws.proofs.Clauses.{no_less}
+use Rattle.run_laws.proofs.MeetingStops.{no_less}
 use Rattle.run_laws.proofs.MeetingReadings.{no_fall}
 use Rattle.run_laws.proofs.MeetingLines.{step_now}
-use Rattle.run_laws.proofs.Reading.{does_read}
-use Rattle.run_laws.proofs.Times.{shown_for, send_round}
+use Rattle.run_laws.proofs.EventReadings.{does_read}
+use Rattle.run_laws.proofs.ActionReadings.{shown_for, send_round}
 use Rattle.run_laws.specs.Histories.{IsRead, IsInTime, History, opens, goes_on}
 use Rattle.run_laws.specs.proof.SoundTraces.{RunsAreHistories}
 

@@ -4,7 +4,7 @@ use Rattle.pals_runs.specs.declared.journal.Phase.{Phase}
 use Rattle.pals_runs.specs.declared.journal.Phase.TheVariants.{Waiting, Running, Between, Holding, Done}
 use Rattle.bus_machine.specs.Plans.{plan_of}
 use Rattle.bus_machine.specs.NodeEvents.{may_send}
-use Rattle.bus_machine.specs.Alarms.{start_alarm, step_alarm, release_alarm}
+use Rattle.bus_machine.specs.EarliestReadings.{start_alarm, step_alarm, release_alarm}
 use Rattle.bus_machine.specs.States.{Run, node_at}
 use Rattle.run_laws.specs.Worlds.{World, since_at, ready_at, flight_since}
 

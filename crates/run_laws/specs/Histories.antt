@@ -8,11 +8,11 @@ use Rattle.pals_runs.specs.declared.journal.JournalEntry.{JournalEntry}
 use Rattle.pals_runs.specs.Journal.{entry_line}
 use Rattle.bus_machine.specs.Plans.{plan_of}
 use Rattle.bus_machine.specs.NodeEvents.{next_step}
-use Rattle.bus_machine.specs.Alarms.{start_alarm, step_alarm, release_alarm}
+use Rattle.bus_machine.specs.EarliestReadings.{start_alarm, step_alarm, release_alarm}
 use Rattle.bus_machine.specs.States.{Run, BusState, opening, node_at, flight_at, link_at, finished_by_all}
 use Rattle.bus_machine.specs.Machine.{BusEvent, Start, Step, Finish, Send, Arrive, Drop, Repeat, IsStep}
 use Rattle.bus_machine.specs.Replay.{entries}
-use Rattle.run_laws.specs.Shown.{latest}
+use Rattle.run_laws.specs.ShownReadings.{latest}
 use Rattle.run_laws.specs.TraceRules.{is_due}
 use Rattle.run_laws.specs.Runs.{NoneDue}
 use Rattle.run_laws.specs.Entries.{IsEntryIn}

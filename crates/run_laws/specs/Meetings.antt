@@ -1,6 +1,6 @@
 -- With nodes that meet: what each line shows, and when a run stops.
 use Rattle.std.specs.Prelude.{◌≡◌, ℕ, ◌+◌, ◌*◌, ◌<◌, ◌≤◌, List, [], ◌∷◌, ◌++◌, length, Option, Some}
-use Rattle.pals_base.specs.Bound.{alarm}
+use Rattle.pals_base.specs.PeriodBound.{alarm}
 use Rattle.pals_base.specs.declared.values.LinkNo.{LinkNo}
 use Rattle.pals_model.specs.Delays.{delay_of}
 use Rattle.pals_runs.specs.declared.journal.Phase.TheVariants.{Done}
@@ -9,8 +9,8 @@ use Rattle.pals_runs.specs.declared.journal.Stop.{Stop}
 use Rattle.pals_runs.specs.declared.journal.JournalEntry.{JournalEntry}
 use Rattle.bus_machine.specs.Plans.{plan_of}
 use Rattle.bus_machine.specs.States.{Run, BusState, node_at, link_at}
-use Rattle.run_laws.specs.Shown.{starts}
-use Rattle.run_laws.specs.EachRun.{EachNode}
+use Rattle.run_laws.specs.ShownReadings.{starts}
+use Rattle.run_laws.specs.NodeLinkQuantifiers.{EachNode}
 use Rattle.pals_runs.specs.declared.journal.Stop.TheVariants as stop
 use Rattle.pals_runs.specs.declared.journal.JournalEntry.TheVariants as entry
 

@@ -4,7 +4,7 @@ use Rattle.std.specs.Prelude.{ℕ, List, Option, Some, None, is_some, option_map
 use Rattle.pals_base.specs.declared.values.NodeNo.{NodeNo}
 use Rattle.pals_base.specs.declared.values.LinkNo.{LinkNo}
 use Rattle.pals_model.specs.declared.design.DesignParts.{DesignParts}
-use Rattle.pals_model.specs.LinkNames.{node_named, link_named}
+use Rattle.pals_model.specs.NamesInTexts.{node_named, link_named}
 use Rattle.pals_runs.specs.declared.journal.Stop.{Stop}
 use Rattle.pals_runs.specs.declared.journal.JournalEntry.{JournalEntry}
 use Rattle.run_laws.specs.LineForms.{Form, ArriveLine, StartLine, StepLine, FinishLine, SendLine, DropLine, RepeatLine}

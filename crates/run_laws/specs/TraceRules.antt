@@ -6,7 +6,7 @@ use Rattle.std.specs.Option.{unwrap_or, option_map_or}
 use Rattle.pals_model.specs.declared.design.DesignParts.{DesignParts}
 use Rattle.pals_model.specs.declared.flight.FlightCopy.{FlightCopy}
 use Rattle.pals_model.specs.Flights.{oldest}
-use Rattle.pals_model.specs.Inputs.{links_into}
+use Rattle.pals_model.specs.ComponentInputs.{links_into}
 use Rattle.pals_runs.specs.declared.journal.Arrived.{Arrived}
 use Rattle.pals_runs.specs.declared.journal.Arrived.TheVariants.{Kept, Ignored, Early}
 use Rattle.pals_runs.specs.declared.journal.Stop.{Stop}
@@ -16,7 +16,7 @@ use Rattle.pals_runs.specs.Journal.{entry_line}
 use Rattle.bus_machine.specs.Plans.{plan_of}
 use Rattle.bus_machine.specs.Nodes.{round_of}
 use Rattle.bus_machine.specs.NodeEvents.{next_step}
-use Rattle.bus_machine.specs.Alarms.{start_alarm, step_alarm, release_alarm}
+use Rattle.bus_machine.specs.EarliestReadings.{start_alarm, step_alarm, release_alarm}
 use Rattle.bus_machine.specs.States.{Run, BusState, node_at, flight_at, link_at}
 use Rattle.bus_machine.specs.Machine.{BusEvent, is_allowed, arrival}
 use Rattle.bus_machine.specs.Replay.{entries}

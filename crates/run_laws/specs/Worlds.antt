@@ -12,7 +12,7 @@ use Rattle.pals_runs.specs.declared.events.Event.{Event}
 use Rattle.bus_machine.specs.Plans.{plan_of}
 use Rattle.bus_machine.specs.NodeEvents.{running_step}
 use Rattle.bus_machine.specs.States.{Run, BusState, opening, node_at, link_at}
-use Rattle.bus_machine.specs.Stops.{missing_link}
+use Rattle.bus_machine.specs.MissedStarts.{missing_link}
 use Rattle.bus_machine.specs.Machine.{BusEvent, Start, Step, Finish, Send, Arrive, Drop, Repeat, after}
 use Rattle.pals_runs.specs.declared.events.Event.TheVariants as event
 

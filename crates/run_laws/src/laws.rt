@@ -1,17 +1,17 @@
 //! What each run keeps. Each law is the contract of a function that does nothing.
-ghost use Rattle.run_laws.specs.proof.Bounds.{StopsAreBounded};
-ghost use Rattle.run_laws.specs.proof.Clauses.{ClausesAreKept};
-ghost use Rattle.run_laws.specs.proof.Ending.{EachGoesOn, EachRunEnds, EndsAreNamed, JournalsEnd};
+ghost use Rattle.run_laws.specs.proof.StopBounds.{StopsAreBounded};
+ghost use Rattle.run_laws.specs.proof.RunGuarantees.{ClausesAreKept};
+ghost use Rattle.run_laws.specs.proof.RunTermination.{EachGoesOn, EachRunEnds, EndsAreNamed, JournalsEnd};
 ghost use Rattle.run_laws.specs.proof.RisingReadings.{HourIsLeast, ReadingsRise};
-ghost use Rattle.run_laws.specs.proof.InTime.{BoundsAreInTime, EndsAreOne, NoneStops, PickedAreDone};
-ghost use Rattle.run_laws.specs.proof.Locked.{DueArrives, EndsStay, ListEnds, ListPicks, RunsReplay};
-ghost use Rattle.run_laws.specs.proof.Meetings.{MeetingsEnd, MeetingsShowTargets, MeetingsStop, NoMeetingStops};
-ghost use Rattle.run_laws.specs.proof.Picked.{LinesArePicks, NodesPick, ReadingsArePicks};
+ghost use Rattle.run_laws.specs.proof.TimelyRuns.{BoundsAreInTime, EndsAreOne, NoneStops, PickedAreDone};
+ghost use Rattle.run_laws.specs.proof.LockedSteps.{DueArrives, EndsStay, ListEnds, ListPicks, RunsReplay};
+ghost use Rattle.run_laws.specs.proof.MeetingLaws.{MeetingsEnd, MeetingsShowTargets, MeetingsStop, NoMeetingStops};
+ghost use Rattle.run_laws.specs.proof.ListPicks.{LinesArePicks, NodesPick, ReadingsArePicks};
 ghost use Rattle.run_laws.specs.proof.CounterRuns.{SomeListEnds, SomeMeetingEnds};
-ghost use Rattle.run_laws.specs.proof.Sound.{RunsAreSound, TracesAreTexts};
-ghost use Rattle.run_laws.specs.proof.Stopping.{AllTimesFit, StopsFit};
-ghost use Rattle.run_laws.specs.proof.Timely.{DoneArePicked, EndedPicksEnd, EndsAreTimely, ListsStop};
-ghost use Rattle.run_laws.specs.proof.Timing.{LinksAreTimed, RoundsAreShown};
+ghost use Rattle.run_laws.specs.proof.RunTraces.{RunsAreSound, TracesAreTexts};
+ghost use Rattle.run_laws.specs.proof.StopReadings.{AllTimesFit, StopsFit};
+ghost use Rattle.run_laws.specs.proof.ListClockEnds.{DoneArePicked, EndedPicksEnd, EndsAreTimely, ListsStop};
+ghost use Rattle.run_laws.specs.proof.LinkTiming.{LinksAreTimed, RoundsAreShown};
 
 /// With list clocks a node does its actions in their order, each at its list's pick for it, so that
 /// the readings of its lines are a prefix of its picks. An arrival or a stop shows the pick for the

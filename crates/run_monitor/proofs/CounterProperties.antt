@@ -1,9 +1,9 @@
 -- The properties of the two counters, computed.
 use Rattle.std.proofs.Common.{refl}
 use Rattle.std.specs.Fmt.{digits}
-use Rattle.pals_base.specs.Fire.{fire}
+use Rattle.pals_base.specs.SingleStep.{fire}
 use Rattle.pals_model.specs.Composition.{comp}
-use Rattle.run_monitor.specs.Monitors.{holds}
+use Rattle.run_monitor.specs.FormulaSemantics.{holds}
 use Rattle.run_monitor.specs.proof.CounterProperties.{SmallIsWatched, UpIsWatched, QuietIsWatched, TwoText, OneText}
 use Rattle.run_monitor.specs.proof.CounterProperties.{AreViolated}
 

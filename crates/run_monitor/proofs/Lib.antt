@@ -1,10 +1,10 @@
-pub mod Times
-pub mod Histories
-pub mod Watching
+pub mod TemporalOperators
+pub mod FormulaHistories
+pub mod HistoryGrowth
 pub mod Violations
-pub mod Texts
+pub mod PropertyRows
 pub mod CounterProperties
-pub mod Adding
-pub mod Writing
+pub mod FlatForms
+pub mod BitWrites
 pub mod MonitorHistories
-pub mod Several
+pub mod SeveralMonitors

@@ -7,17 +7,17 @@ use Rattle.std.proofs.lemmas.List.{length-map, ext_get_or, get_or-map}
 use Rattle.std.proofs.lemmas.Option.{slice_get_within, slice_get-get_or, get_or_from_slice_get}
 use Rattle.pals_base.specs.declared.values.Frame.{Frame}
 use Rattle.pals_runs.specs.Formula.{Formula, Var, Halted}
-use Rattle.run_monitor.specs.Monitors.{frame_in, variable_in, compares, holds}
+use Rattle.run_monitor.specs.FormulaSemantics.{frame_in, variable_in, compares, holds}
 use Rattle.run_monitor.specs.proof.MonitorSteps.{bit_of, further, bits_after}
-use Rattle.run_monitor.proofs.Histories.{one_bit_each}
+use Rattle.run_monitor.proofs.FormulaHistories.{one_bit_each}
 use Rattle.run_monitor.specs.declared.forms.FlatForm.{FlatForm}
 use Rattle.run_monitor.specs.declared.forms.FlatForm.TheVariants as flat
-use Rattle.pals_runs.specs.proof.FormulaNames.{reads, names}
-use Rattle.run_monitor.specs.proof.Flat.{formula_at, built, forms_of, HasParts, IsFlat, Adds}
-use Rattle.run_monitor.specs.proof.Bits.{bit_at, seen_bit, row_bit, next_bit, AreSeen, AreOfRow, AreNext}
-use Rattle.run_monitor.specs.proof.States.{MonitorState, whole, said, HasKept, StandsFor, HasSeen, IsNew, Sees, SeesAll}
-use Rattle.run_monitor.specs.proof.States.{AdvancesBy, Advances, GoesOn, IsReady}
-use Rattle.run_monitor.proofs.Adding.{length-forms, form-is}
+use Rattle.pals_runs.specs.proof.FormulaComponents.{reads, names}
+use Rattle.run_monitor.specs.proof.FlatForms.{formula_at, built, forms_of, HasParts, IsFlat, Adds}
+use Rattle.run_monitor.specs.proof.FormBits.{bit_at, seen_bit, row_bit, next_bit, AreSeen, AreOfRow, AreNext}
+use Rattle.run_monitor.specs.proof.MonitorState.{MonitorState, whole, said, HasKept, StandsFor, HasSeen, IsNew, Sees}
+use Rattle.run_monitor.specs.proof.MonitorState.{SeesAll, AdvancesBy, Advances, GoesOn, IsReady}
+use Rattle.run_monitor.proofs.FlatForms.{length-forms, form-is}
 
 abbrev pub state : List FlatForm → Bool → List Bool → List Bool → MonitorState
 state es begun kept seen = record { forms = forms_of es; begun = begun; kept = kept; seen = seen }

@@ -8,14 +8,14 @@ use Rattle.std.proofs.lemmas.Bool.{or_from, or_left, or_right, false≢true}
 use Rattle.std.proofs.lemmas.Iterator.Adapters.{position_from-zero}
 use Rattle.list_lemmas.proofs.Places.{slice_get-map_some}
 use Rattle.pals_base.specs.declared.values.Frame.{Frame}
-use Rattle.pals_base.specs.Steps.{upwards}
-use Rattle.pals_base.proofs.Upwards.{upwards-more}
+use Rattle.pals_base.specs.StepSequences.{upwards}
+use Rattle.pals_base.proofs.UpwardNumbers.{upwards-more}
 use Rattle.pals_runs.specs.Formula.{Formula}
 use Rattle.run_monitor.specs.declared.violation.FalseProperty.{FalseProperty}
-use Rattle.run_monitor.specs.Monitors.{holds}
+use Rattle.run_monitor.specs.FormulaSemantics.{holds}
 use Rattle.run_monitor.specs.Violations.{history, verdicts, violation_at, violation_in, violation}
-use Rattle.run_monitor.specs.proof.Found.{ViolatedIsFirst, OthersHold}
-use Rattle.run_monitor.proofs.Histories.{past_stays}
+use Rattle.run_monitor.specs.proof.FirstViolation.{ViolatedIsFirst, OthersHold}
+use Rattle.run_monitor.proofs.FormulaHistories.{past_stays}
 
 -- ---- the place of the first that is false
 -- none is, or one at this place, with all before it true

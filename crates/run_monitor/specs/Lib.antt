@@ -1,5 +1,5 @@
-pub mod Times
-pub mod Monitors
+pub mod TemporalOperators
+pub mod FormulaSemantics
 pub mod Violations
 pub mod WatchText
 pub mod proof

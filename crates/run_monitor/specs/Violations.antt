@@ -3,13 +3,13 @@ use Rattle.std.specs.Prelude.{ℕ, suc, Bool, not, List, [], ◌∷◌, map, pos
 use Rattle.std.specs.Option.{option_map, option_or}
 use Rattle.std.specs.List.{list_any}
 use Rattle.pals_base.specs.declared.values.Frame.{Frame}
-use Rattle.pals_base.specs.Steps.{upwards}
+use Rattle.pals_base.specs.StepSequences.{upwards}
 use Rattle.pals_model.specs.declared.design.DesignParts.{DesignParts}
 use Rattle.pals_model.specs.declared.rounds.Env.{Env}
 use Rattle.pals_model.specs.Composition.{comp}
 use Rattle.pals_runs.specs.Formula.{Formula}
 use Rattle.run_monitor.specs.declared.violation.FalseProperty.{FalseProperty}
-use Rattle.run_monitor.specs.Monitors.{holds}
+use Rattle.run_monitor.specs.FormulaSemantics.{holds}
 
 -- the frames of all components after each of the first rounds
 abbrev pub history : DesignParts → Env → ℕ → List (List Frame)

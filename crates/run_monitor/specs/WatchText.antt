@@ -2,13 +2,13 @@
 use Rattle.std.specs.Prelude.{ℕ, codes, decimal, Bool, true, false, List, [], ◌∷◌, ◌++◌, map, flat_map, slice_index_or}
 use Rattle.std.specs.Prelude.{Option, Some, None}
 use Rattle.pals_base.specs.declared.values.Frame.{Frame}
-use Rattle.pals_base.specs.Steps.{upwards}
+use Rattle.pals_base.specs.StepSequences.{upwards}
 use Rattle.pals_model.specs.declared.design.DesignParts.{DesignParts}
 use Rattle.pals_model.specs.declared.rounds.Env.{Env}
 use Rattle.pals_model.specs.RoundTexts.{text_of, round_line}
 use Rattle.pals_runs.specs.Formula.{Formula}
 use Rattle.run_monitor.specs.declared.violation.FalseProperty.{FalseProperty}
-use Rattle.run_monitor.specs.Monitors.{holds}
+use Rattle.run_monitor.specs.FormulaSemantics.{holds}
 use Rattle.run_monitor.specs.Violations.{history, violation}
 
 -- a property is a name and its formula; they come in byte order of their names

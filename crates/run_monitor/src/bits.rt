@@ -1,8 +1,9 @@
 //! The bits of forms.
 ghost use Rattle.std.specs.Prelude.{◌≡◌, ◌<◌, length, is_some, Some, slice_get};
-ghost use Rattle.run_monitor.specs.Monitors.{frame_in, variable_in, compares};
-ghost use Rattle.run_monitor.specs.proof.Flat.{IsFlat};
-ghost use Rattle.run_monitor.specs.proof.Bits.{bit_at, seen_bit, row_bit, next_bit, row_of, AreSeen, AreOfRow, AreNext};
+ghost use Rattle.run_monitor.specs.FormulaSemantics.{frame_in, variable_in, compares};
+ghost use Rattle.run_monitor.specs.proof.FlatForms.{IsFlat};
+ghost use Rattle.run_monitor.specs.proof.FormBits.{bit_at, seen_bit, row_bit, next_bit, row_of, AreSeen, AreOfRow};
+ghost use Rattle.run_monitor.specs.proof.FormBits.{AreNext};
 
 use crate::forms::FlatForm;
 use pals_base::{Frame, Items, NodeNo};

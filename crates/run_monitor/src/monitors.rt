@@ -7,10 +7,10 @@ ghost use Rattle.pals_model.specs.declared.rounds.Env.{Env};
 ghost use Rattle.pals_model.specs.Composition.{comp};
 ghost use Rattle.pals_runs.specs.Formula.{Formula};
 ghost use Rattle.pals_runs.specs.proof.FormulaOf.{formula_of};
-ghost use Rattle.run_monitor.specs.proof.Bits.{row_of};
+ghost use Rattle.run_monitor.specs.proof.FormBits.{row_of};
 ghost use Rattle.run_monitor.specs.Violations.{history};
-ghost use Rattle.run_monitor.specs.proof.States.{said, GoesOn};
-ghost use Rattle.run_monitor.specs.proof.MonitorStates.{said_by, EachGoesOn, HasWatched, WatchesOn, WatchesRound};
+ghost use Rattle.run_monitor.specs.proof.MonitorState.{said, GoesOn};
+ghost use Rattle.run_monitor.specs.proof.SeveralMonitors.{said_by, EachGoesOn, HasWatched, WatchesOn, WatchesRound};
 
 use crate::monitor::Monitor;
 use crate::violation::FalseProperty;
@@ -28,7 +28,7 @@ pub struct Monitors {
 }
 
 impl Model for Monitors {
-    ghost use Rattle.run_monitor.specs.proof.MonitorStates.{MonitorsState, monitors_code};
+    ghost use Rattle.run_monitor.specs.proof.SeveralMonitors.{MonitorsState, monitors_code};
 
     ghost Value = { MonitorsState };
 

@@ -1,4 +1,4 @@
-pub mod Done
-pub mod Courses
+pub mod FinishedRounds
+pub mod RunTexts
 pub mod NodeEnds
-pub mod Outcomes
+pub mod BusOutcomes

@@ -5,7 +5,7 @@ use Rattle.std.specs.Option.{option_or}
 use Rattle.pals_base.specs.declared.values.NodeNo.{NodeNo}
 use Rattle.node_threads.specs.declared.ends.NodeEnd.{NodeEnd}
 use Rattle.node_threads.specs.declared.ends.NodeEnd.TheVariants.{Finished, ClockEnded}
-use Rattle.run_texts.specs.proof.Ends.{IsComeEnd, AreFirst}
+use Rattle.run_texts.specs.proof.NodeEnds.{IsComeEnd, AreFirst}
 
 pub no_ends : (ends : List NodeEnd) → AreFirst ends 0 None
 no_ends ends =

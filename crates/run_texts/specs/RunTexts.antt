@@ -3,7 +3,7 @@ use Rattle.std.specs.Prelude.{◌≡◌, ℕ, ◌<◌, Bool, true, if◌then◌e
 use Rattle.pals_clock.specs.declared.clock.Clocks.{Clocks}
 use Rattle.pals_clock.specs.declared.clock.Clocks.TheVariants.{Meet, Lists}
 use Rattle.pals_model.specs.RoundTexts.{line_end, text_of, report}
-use Rattle.pals_report.specs.Runs.{clock_end_line}
+use Rattle.pals_report.specs.VerdictLines.{clock_end_line}
 use Rattle.pals_runs.specs.declared.journal.JournalEntry.{JournalEntry}
 use Rattle.pals_runs.specs.declared.journal.Phase.TheVariants.{Done}
 use Rattle.pals_runs.specs.declared.journal.Stop.{Stop}
@@ -12,10 +12,10 @@ use Rattle.pals_runs.specs.Journal.{entry_line}
 use Rattle.bus_machine.specs.Plans.{plan_of}
 use Rattle.bus_machine.specs.States.{Run, BusState, node_at, finished_by_all}
 use Rattle.bus_machine.specs.Targets.{target}
-use Rattle.run_laws.specs.Reports.{lines_of}
-use Rattle.run_laws.specs.Traces.{verdict}
-use Rattle.run_laws.specs.Clauses.{KeepsClauses}
-use Rattle.run_laws.specs.Timely.{AllAtEnd}
+use Rattle.run_laws.specs.ReportVerdicts.{lines_of}
+use Rattle.run_laws.specs.TraceVerdicts.{verdict}
+use Rattle.run_laws.specs.RunGuarantees.{KeepsClauses}
+use Rattle.run_laws.specs.TimelyRounds.{AllAtEnd}
 use Rattle.run_laws.specs.Meetings.{AllDone}
 use Rattle.run_laws.specs.Runs.{Runs, HasEnded, lists_in}
 use Rattle.run_texts.specs.declared.told.RunReport.{RunReport}
@@ -23,7 +23,7 @@ use Rattle.run_texts.specs.declared.told.RunReport.TheVariants.{Completed, Stopp
 
 -- the nodes have kept to clocks with these lists from the opening of a run on, in some order, and this is what they
 -- have left
-pub record Course (run : Run) (clocks : Clocks) : Type 0 where
+pub record RunOutcome (run : Run) (clocks : Clocks) : Type 0 where
   pub later : Clocks
   pub lists : lists_in later ≡ lists_in clocks
   pub journal : List JournalEntry
@@ -38,20 +38,20 @@ journal_text run journal = text_of (map (entry_line run.design) journal)
 -- the rows of all rounds, which are those of the composition, and in a trace the journal; an audit finds such a trace
 -- sound
 pub record IsCompletedRun (run : Run) (clocks : Clocks) (trace : Bool) (text : List ℕ) : Type 0 where
-  pub course : Course run clocks
-  pub done : AllDone run course.state
-  pub going : course.state.stop ≡ None
-  pub text_is : text ≡ report run.design run.env run.rounds ++ (if trace then journal_text run course.journal else [])
+  pub outcome : RunOutcome run clocks
+  pub done : AllDone run outcome.state
+  pub going : outcome.state.stop ≡ None
+  pub text_is : text ≡ report run.design run.env run.rounds ++ (if trace then journal_text run outcome.journal else [])
   pub sound : trace ≡ true → verdict run (lines_of text) ≡ Sound run.rounds None
 
 -- ---- a stop stands
 -- the rows of the rounds that all nodes have finished, and the journal; an audit finds it sound, with that stop
 pub record IsStoppedRun (run : Run) (clocks : Clocks) (text : List ℕ) : Type 0 where
-  pub course : Course run clocks
+  pub outcome : RunOutcome run clocks
   pub why : Stop
-  pub stop : course.state.stop ≡ Some why
-  pub text_is : text ≡ report run.design run.env (finished_by_all run course.state) ++ journal_text run course.journal
-  pub sound : verdict run (lines_of text) ≡ Sound (finished_by_all run course.state) (Some why)
+  pub stop : outcome.state.stop ≡ Some why
+  pub text_is : text ≡ report run.design run.env (finished_by_all run outcome.state) ++ journal_text run outcome.journal
+  pub sound : verdict run (lines_of text) ≡ Sound (finished_by_all run outcome.state) (Some why)
 
 -- ---- a clock has ended
 -- a node's list holds no reading for this target, which is its next one
@@ -63,13 +63,13 @@ EndsAt run (Lists lists) s node goal =
 -- each node is done or its list has ended, and the first whose list has ended is named, with the target that it waits
 -- for
 pub record IsEndedRun (run : Run) (clocks : Clocks) (text : List ℕ) : Type 0 where
-  pub course : Course run clocks
-  pub going : course.state.stop ≡ None
-  pub all : AllAtEnd run course.later course.state
+  pub outcome : RunOutcome run clocks
+  pub going : outcome.state.stop ≡ None
+  pub all : AllAtEnd run outcome.later outcome.state
   pub node : ℕ
   pub goal : ℕ
-  pub ends : EndsAt run course.later course.state node goal
-  pub first : (other : ℕ) → other < node → (node_at course.state other).phase ≡ Done
+  pub ends : EndsAt run outcome.later outcome.state node goal
+  pub first : (other : ℕ) → other < node → (node_at outcome.state other).phase ≡ Done
   pub text_is : text ≡ clock_end_line run.design node goal ++ line_end
 
 abbrev pub TellsRun : Run → Clocks → Bool → RunReport → Type 0

@@ -2,7 +2,7 @@
 ghost use Rattle.std.specs.Prelude.{◌≡◌, ◌≤◌, ℕ, length, Some, IfOk, slice_get};
 ghost use Rattle.pals_base.specs.declared.limits.TheConstants.{COMPONENTS};
 ghost use Rattle.node_threads.specs.declared.ends.NodeEnd.TheVariants as end;
-ghost use Rattle.run_texts.specs.proof.Ends.{AreFirst};
+ghost use Rattle.run_texts.specs.proof.NodeEnds.{AreFirst};
 
 use node_threads::NodeEnd;
 use pals_base::{Nanos, NoMemory, NodeNo};

@@ -3,14 +3,14 @@ ghost use Rattle.std.specs.Prelude.{◌≡◌, ◌≢◌, ◌≤◌, ◌++◌, [
 ghost use Rattle.pals_base.specs.declared.limits.TheConstants.{COMPONENTS};
 ghost use Rattle.pals_model.specs.RoundTexts.{line_end, text_of};
 ghost use Rattle.pals_clock.specs.declared.clock.Clocks.{Clocks};
-ghost use Rattle.pals_report.specs.Runs.{clock_end_line};
-ghost use Rattle.pals_bus.specs.proof.Values.{opening_bus};
-ghost use Rattle.loose_world.specs.proof.Finished.{common_lines};
-ghost use Rattle.node_threads.specs.proof.Courses.{AreClocksOf};
+ghost use Rattle.pals_report.specs.VerdictLines.{clock_end_line};
+ghost use Rattle.pals_bus.specs.proof.BusPartValues.{opening_bus};
+ghost use Rattle.loose_world.specs.proof.FinishedRows.{common_lines};
+ghost use Rattle.node_threads.specs.proof.SharedCourses.{AreClocksOf};
 ghost use Rattle.node_threads.specs.declared.ends.NodeEnd.TheVariants as ended;
-ghost use Rattle.run_laws.specs.proof.Sound.{AreReadings};
+ghost use Rattle.run_laws.specs.proof.RunTraces.{AreReadings};
 ghost use Rattle.run_texts.specs.RunTexts.{TellsRun};
-ghost use Rattle.run_texts.specs.proof.Ends.{TellsEnd, journal_lines};
+ghost use Rattle.run_texts.specs.proof.NodeEnds.{TellsEnd, journal_lines};
 
 use crate::ends::first_ended;
 use loose_world::{add_finished_by_all, add_journal};

@@ -1,3 +1,3 @@
 pub mod ScenarioFields
-pub mod Readings
-pub mod RunFacts
+pub mod RisingReadings
+pub mod RunFields

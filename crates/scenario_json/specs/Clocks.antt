@@ -11,8 +11,8 @@ use Rattle.pals_model.specs.declared.design.DesignParts.{DesignParts}
 use Rattle.scenario_values.specs.declared.fault.ScenarioFault.{ScenarioFault}
 use Rattle.scenario_values.specs.Outcomes.{◌>>=◌, through}
 use Rattle.scenario_values.specs.FaultPlaces.{inside}
-use Rattle.scenario_values.specs.Values.{entries, short_list, whole}
-use Rattle.scenario_values.specs.Names.{node_at}
+use Rattle.scenario_values.specs.FieldValues.{entries, short_list, whole}
+use Rattle.scenario_values.specs.NameLookup.{node_at}
 
 -- the last reading so far, 0 before the first
 abbrev pub last_of : List ℕ → ℕ

@@ -18,8 +18,8 @@ use Rattle.scenario_json.specs.declared.events.EventWord.TheVariants.{Pass, Star
 use Rattle.scenario_json.specs.declared.events.EventWord.TheVariants.{Repeat}
 use Rattle.scenario_values.specs.Outcomes.{◌>>=◌, given, only_if, through}
 use Rattle.scenario_values.specs.FaultPlaces.{inside}
-use Rattle.scenario_values.specs.Values.{elements, short_list, text, whole, is_whole}
-use Rattle.scenario_values.specs.Names.{node_no, link_no, node_at, link_at}
+use Rattle.scenario_values.specs.FieldValues.{elements, short_list, text, whole, is_whole}
+use Rattle.scenario_values.specs.NameLookup.{node_no, link_no, node_at, link_at}
 use Rattle.pals_runs.specs.declared.events.Event.TheVariants as event
 
 -- ---- words

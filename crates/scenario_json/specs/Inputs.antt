@@ -5,14 +5,14 @@ use Rattle.pals_base.specs.declared.behaviour.Kind.{Kind}
 use Rattle.pals_base.specs.declared.values.PortValue.{PortValue}
 use Rattle.pals_base.specs.declared.limits.TheConstants.{HOUR}
 use Rattle.pals_model.specs.declared.design.DesignParts.{DesignParts}
-use Rattle.pals_model.specs.Inputs.{root_inputs}
-use Rattle.pals_model.specs.Ports.{root_kind}
+use Rattle.pals_model.specs.ComponentInputs.{root_inputs}
+use Rattle.pals_model.specs.PortKinds.{root_kind}
 use Rattle.scenario_values.specs.declared.fault.ScenarioFault.{ScenarioFault}
 use Rattle.scenario_values.specs.declared.fault.ScenarioFault.TheVariants.{OutOfRange}
 use Rattle.scenario_values.specs.Outcomes.{◌>>=◌, only_if, through}
 use Rattle.scenario_values.specs.FaultPlaces.{inside}
-use Rattle.scenario_values.specs.Values.{elements, entries, port_value, whole}
-use Rattle.scenario_values.specs.Names.{link_at, root_at}
+use Rattle.scenario_values.specs.FieldValues.{elements, entries, port_value, whole}
+use Rattle.scenario_values.specs.NameLookup.{link_at, root_at}
 
 -- ---- inputs
 -- one more value of a list, whose place ends with its index

@@ -1,5 +1,5 @@
 pub mod Scenarios
-pub mod Cells
+pub mod RunSizes
 pub mod Clocks
 pub mod Events
 pub mod Inputs

@@ -12,7 +12,7 @@ use Rattle.pals_base.specs.declared.values.PortValue.{PortValue}
 use Rattle.pals_clock.specs.declared.clock.Clocks.{Clocks}
 use Rattle.pals_clock.specs.declared.clock.Clocks.TheVariants.{Meet}
 use Rattle.pals_model.specs.declared.design.DesignParts.{DesignParts}
-use Rattle.pals_model.specs.Inputs.{root_inputs}
+use Rattle.pals_model.specs.ComponentInputs.{root_inputs}
 use Rattle.pals_runs.specs.declared.commands.Command.{Command}
 use Rattle.pals_runs.specs.declared.commands.Command.TheVariants.{World, Audit, Watch, Budget}
 use Rattle.pals_runs.specs.declared.events.Event.{Event}
@@ -21,8 +21,8 @@ use Rattle.scenario_values.specs.declared.fault.ScenarioFault.{ScenarioFault}
 use Rattle.scenario_values.specs.declared.fault.ScenarioFault.TheVariants.{NotJson, Field, Unknown, TooBig, Memory}
 use Rattle.scenario_json.specs.declared.scenario.Scenario.{Scenario}
 use Rattle.scenario_values.specs.Outcomes.{◌>>=◌, only_if}
-use Rattle.scenario_values.specs.Values.{entries, whole}
-use Rattle.scenario_json.specs.Cells.{cells_of}
+use Rattle.scenario_values.specs.FieldValues.{entries, whole}
+use Rattle.scenario_json.specs.RunSizes.{cells_of}
 use Rattle.scenario_json.specs.Inputs.{inputs_in, delays_in}
 use Rattle.scenario_json.specs.Traces.{trace_in}
 use Rattle.scenario_json.specs.Clocks.{clocks_in}

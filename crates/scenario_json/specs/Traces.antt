@@ -5,7 +5,7 @@ use Rattle.pals_base.specs.declared.limits.TheConstants.{LIST_ITEMS}
 use Rattle.scenario_values.specs.declared.fault.ScenarioFault.{ScenarioFault}
 use Rattle.scenario_values.specs.Outcomes.{◌>>=◌, through}
 use Rattle.scenario_values.specs.FaultPlaces.{inside}
-use Rattle.scenario_values.specs.Values.{short_list, text}
+use Rattle.scenario_values.specs.FieldValues.{short_list, text}
 
 abbrev pub with_line : List (List ℕ) → Data → Result (List (List ℕ)) ScenarioFault
 with_line lines d = text (inside (codes "trace") (decimal (length lines))) d >>= λ line. Ok (lines ++ line ∷ [])

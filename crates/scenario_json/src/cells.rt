@@ -3,8 +3,8 @@ ghost use Rattle.std.specs.Prelude.{◌≡◌, ◌<◌, ◌≤◌, ◌^◌, leng
 ghost use Rattle.pals_base.specs.declared.limits.TheConstants.{COMPONENTS};
 ghost use Rattle.pals_model.specs.declared.design.Link.{Link};
 ghost use Rattle.pals_model.specs.declared.design.Tap.{Tap};
-ghost use Rattle.pals_model.specs.Inputs.{rate_of};
-ghost use Rattle.scenario_json.specs.Cells.{component_cells, cells_of};
+ghost use Rattle.pals_model.specs.ComponentInputs.{rate_of};
+ghost use Rattle.scenario_json.specs.RunSizes.{component_cells, cells_of};
 
 use pals_model::{Component, Design, DesignParts, Link, Tap};
 

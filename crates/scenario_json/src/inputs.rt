@@ -1,7 +1,7 @@
 //! The values of the root in ports, and how long messages take.
 ghost use Rattle.std.specs.Prelude.{◌≡◌, [], ◌∷◌, IfOk, codes, length, replicate};
 ghost use Rattle.serde_json.specs.View.{view};
-ghost use Rattle.pals_model.specs.Inputs.{root_inputs};
+ghost use Rattle.pals_model.specs.ComponentInputs.{root_inputs};
 ghost use Rattle.scenario_values.specs.Outcomes.{Answers, Makes};
 ghost use Rattle.scenario_values.specs.FaultPlaces.{inside};
 ghost use Rattle.scenario_json.specs.Inputs.{value_list, with_input, inputs_in, delay_list, with_link_delays};

@@ -3,7 +3,7 @@ ghost use Rattle.std.specs.Prelude.{◌≡◌, find, map, not, option_map, IfOk}
 ghost use Rattle.serde_json.specs.View.{view};
 ghost use Rattle.pals_clock.specs.declared.clock.Clocks.TheVariants.{Meet};
 ghost use Rattle.scenario_values.specs.Outcomes.{Answers};
-ghost use Rattle.scenario_values.specs.Values.{entry_of};
+ghost use Rattle.scenario_values.specs.FieldValues.{entry_of};
 ghost use Rattle.scenario_json.specs.Inputs.{inputs_in, delays_in};
 ghost use Rattle.scenario_json.specs.Traces.{trace_in};
 ghost use Rattle.scenario_json.specs.Clocks.{clocks_in};
@@ -12,7 +12,7 @@ ghost use Rattle.analysis_fields.specs.Properties.{properties_in};
 ghost use Rattle.analysis_fields.specs.Replicas.{replicas_in, faults_in};
 ghost use Rattle.analysis_fields.specs.Plants.{plants_in};
 ghost use Rattle.analysis_fields.specs.Processors.{processors_in};
-ghost use Rattle.scenario_json.specs.proof.Facts.{IsScenarioOf};
+ghost use Rattle.scenario_json.specs.proof.ScenarioFacts.{IsScenarioOf};
 ghost use Rattle.scenario_json.specs.Scenarios.{is_field, needs_events, needs_trace, needs_properties};
 ghost use Rattle.scenario_json.specs.Scenarios.{needs_processors, rounds_in, inputs_field, events_field, clocks_field};
 ghost use Rattle.scenario_json.specs.Scenarios.{delays_field, trace_field, properties_field, replicas_field};

@@ -16,17 +16,17 @@ use Rattle.pals_runs.specs.declared.events.Event.TheVariants as event
 use Rattle.scenario_values.specs.declared.fault.ScenarioFault.TheVariants.{WrongKind, OutOfRange}
 use Rattle.scenario_values.specs.Outcomes.{◌>>=◌, given, only_if, through}
 use Rattle.scenario_values.specs.FaultPlaces.{inside}
-use Rattle.scenario_values.specs.Values.{elements, short_list, text, whole, is_whole}
-use Rattle.scenario_values.proofs.PassedValues.{ok_same, ok_bind, ok_only_if}
-use Rattle.scenario_values.specs.Names.{node_at, link_at, node_no, link_no}
+use Rattle.scenario_values.specs.FieldValues.{elements, short_list, text, whole, is_whole}
+use Rattle.scenario_values.proofs.SuccessfulOutcomes.{ok_same, ok_bind, ok_only_if}
+use Rattle.scenario_values.specs.NameLookup.{node_at, link_at, node_no, link_no}
 use Rattle.scenario_json.specs.declared.events.EventWord.{EventWord}
 use Rattle.scenario_json.specs.declared.events.EventWord.TheVariants.{Pass, Start, Step, Finish, Send, Arrive, Drop}
 use Rattle.scenario_json.specs.declared.events.EventWord.TheVariants.{Repeat}
 use Rattle.scenario_json.specs.Events.{word_of, is_usual, node_part, link_parts, event_of, usual_word, event_from}
 use Rattle.scenario_json.specs.Events.{event_in, with_event, events_in}
-use Rattle.loose_world.specs.Worlds.{IsLooseIn}
-use Rattle.scenario_laws.specs.proof.Events.{loosely, AreLooseEvents}
-use Rattle.scenario_laws.proofs.Names.{node_below, link_below}
+use Rattle.loose_world.specs.LooseRuns.{IsLooseIn}
+use Rattle.scenario_laws.specs.proof.EventsAndTraces.{loosely, AreLooseEvents}
+use Rattle.scenario_laws.proofs.NamesInDesign.{node_below, link_below}
 
 -- ---- nodes and links
 node_part_below : (design : DesignParts) (place : List ℕ) (ds : List Data) (node : NodeNo)

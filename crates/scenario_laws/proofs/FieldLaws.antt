@@ -11,15 +11,15 @@ use Rattle.scenario_json.specs.Events.{events_in}
 use Rattle.scenario_json.specs.Traces.{trace_in}
 use Rattle.analysis_fields.specs.Plants.{plants_in}
 use Rattle.scenario_json.specs.declared.scenario.Scenario.{Scenario}
-use Rattle.scenario_json.specs.proof.Facts.{IsScenarioOf}
+use Rattle.scenario_json.specs.proof.ScenarioFacts.{IsScenarioOf}
 use Rattle.scenario_json.specs.Scenarios.{needs_events, needs_trace, Means}
 use Rattle.scenario_json.proofs.ScenarioFields.{answer_keeps}
-use Rattle.plant_fuse.specs.Fused.{ArePairs}
-use Rattle.scenario_laws.specs.proof.Events.{loosely, AreLooseEvents}
-use Rattle.scenario_laws.proofs.Fields.{field_keeps, means_fields, means_read}
+use Rattle.plant_fuse.specs.FusedComposition.{ArePairs}
+use Rattle.scenario_laws.specs.proof.EventsAndTraces.{loosely, AreLooseEvents}
+use Rattle.scenario_laws.proofs.FieldOutcomes.{field_keeps, means_fields, means_read}
 use Rattle.scenario_laws.proofs.EventLists.{events_few, events_loose}
 use Rattle.scenario_laws.proofs.TraceLists.{trace_few}
-use Rattle.scenario_laws.proofs.PairLists.{no_pairs, pairs_fit}
+use Rattle.scenario_laws.proofs.FusiblePairs.{no_pairs, pairs_fit}
 
 pub events_are_few : (bytes : List ℕ) (command : Command) (design : DesignParts) (s : Scenario)
     → Means bytes design command (Ok s)

@@ -8,8 +8,8 @@ use Rattle.pals_base.specs.declared.limits.TheConstants.{LIST_ITEMS}
 use Rattle.scenario_values.specs.declared.fault.ScenarioFault.TheVariants.{OutOfRange}
 use Rattle.scenario_values.specs.Outcomes.{only_if, through}
 use Rattle.scenario_values.specs.FaultPlaces.{inside}
-use Rattle.scenario_values.specs.Values.{elements, short_list, text}
-use Rattle.scenario_values.proofs.PassedValues.{ok_same, ok_bind, ok_only_if}
+use Rattle.scenario_values.specs.FieldValues.{elements, short_list, text}
+use Rattle.scenario_values.proofs.SuccessfulOutcomes.{ok_same, ok_bind, ok_only_if}
 use Rattle.scenario_json.specs.Traces.{with_line, trace_in}
 
 one_more : (lines more : List (List ℕ)) (d : Data) → with_line lines d ≡ Ok more → length more ≡ length lines + 1

@@ -1,5 +1,5 @@
 -- What the theorem of the program does not rest on: definitions of contracts below it, of laws, and of proofs.
-pub mod Events
-pub mod Facts
-pub mod Meanings
-pub mod Plants
+pub mod EventsAndTraces
+pub mod ScenarioSuitability
+pub mod ScenarioOrFault
+pub mod FusiblePairs

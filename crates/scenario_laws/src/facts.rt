@@ -1,5 +1,5 @@
 //! A law of whole scenarios. The function does nothing: its contract is the law.
-ghost use Rattle.scenario_laws.specs.proof.Facts.{ScenariosSuit};
+ghost use Rattle.scenario_laws.specs.proof.ScenarioSuitability.{ScenariosSuit};
 
 /// A scenario that was read for a design suits it, whatever the command: its rounds are within their
 /// limits, there is a list of values for each root in port and one of delays for each link, and where

@@ -2,7 +2,7 @@
 ghost use Rattle.std.specs.Prelude.{◌⊎◌, ℕ, List};
 ghost use Rattle.pals_model.specs.declared.design.DesignParts.{DesignParts};
 ghost use Rattle.pals_runs.specs.declared.commands.Command.{Command};
-ghost use Rattle.scenario_laws.specs.proof.Meanings.{HasScenario, HasFault};
+ghost use Rattle.scenario_laws.specs.proof.ScenarioOrFault.{HasScenario, HasFault};
 
 /// Bytes mean a scenario for a design and a command, or have a first fault. That fault is never
 /// `Memory`.

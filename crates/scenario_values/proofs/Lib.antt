@@ -1,3 +1,3 @@
-pub mod Lists
-pub mod PassedValues
-pub mod Search
+pub mod JsonLists
+pub mod SuccessfulOutcomes
+pub mod NameSearch

@@ -1,5 +1,5 @@
 pub mod Outcomes
 pub mod FaultPlaces
-pub mod Values
-pub mod Names
+pub mod FieldValues
+pub mod NameLookup
 pub mod proof

@@ -3,8 +3,8 @@ ghost use Rattle.std.specs.Prelude.{◌≡◌, ◌≤◌, map, IfOk, IfErr};
 ghost use Rattle.serde_json.specs.View.{view};
 ghost use Rattle.scenario_values.specs.Outcomes.{Answers, Shows};
 ghost use Rattle.scenario_values.specs.FaultPlaces.{place_text};
-ghost use Rattle.scenario_values.specs.Values.{elements, entries, entry_of, short_list, integer_of, is_whole, in_range};
-ghost use Rattle.scenario_values.specs.Values.{whole, number, text, present, port_value};
+ghost use Rattle.scenario_values.specs.FieldValues.{elements, entries, entry_of, short_list, integer_of, is_whole};
+ghost use Rattle.scenario_values.specs.FieldValues.{in_range, whole, number, text, present, port_value};
 
 use crate::fault::ScenarioFault;
 use crate::place::{Place, out_of_range, wrong_kind};
@@ -47,7 +47,7 @@ fn in_range(
 }
 
 /// A whole number from a least to a most.
-#[tactic(auto, unfolding(crate::specs::Values::whole))]
+#[tactic(auto, unfolding(crate::specs::FieldValues::whole))]
 pub fn whole(
     alloc: Global,
     place: Place<'_>,
@@ -65,7 +65,7 @@ pub fn whole(
 }
 
 /// A whole number of 64 bits.
-#[tactic(auto, unfolding(crate::specs::Values::number))]
+#[tactic(auto, unfolding(crate::specs::FieldValues::number))]
 pub fn number(alloc: Global, place: Place<'_>, value: &Value) -> Result<i64, ScenarioFault>
     ensures { Answers (number (place_text place.entry) (view value.now)) result }
 {
@@ -79,7 +79,7 @@ pub fn number(alloc: Global, place: Place<'_>, value: &Value) -> Result<i64, Sce
 }
 
 /// A text.
-#[tactic(auto, unfolding(crate::specs::Values::text))]
+#[tactic(auto, unfolding(crate::specs::FieldValues::text))]
 pub fn text<'v>(alloc: Global, place: Place<'_>, value: &'v Value) -> Result<&'v str, ScenarioFault>
     ensures { Shows (λ t. t.now) (text (place_text place.entry) (view value.now)) result }
 {
@@ -90,7 +90,7 @@ pub fn text<'v>(alloc: Global, place: Place<'_>, value: &'v Value) -> Result<&'v
 }
 
 /// The elements of a list.
-#[tactic(auto, using(crate::proofs::Lists::values_seen), unfolding(crate::specs::Values::elements))]
+#[tactic(auto, using(crate::proofs::JsonLists::values_seen), unfolding(crate::specs::FieldValues::elements))]
 pub fn elements<'v>(
     alloc: Global,
     place: Place<'_>,
@@ -105,7 +105,7 @@ pub fn elements<'v>(
 }
 
 /// The elements of a list of no more than `most`.
-#[tactic(auto, unfolding(crate::specs::Values::short_list))]
+#[tactic(auto, unfolding(crate::specs::FieldValues::short_list))]
 pub fn short_list<'v>(
     alloc: Global,
     place: Place<'_>,
@@ -122,7 +122,7 @@ pub fn short_list<'v>(
 }
 
 /// The members of an object, which stand in byte order of their names.
-#[tactic(auto, using(crate::proofs::Lists::entries_seen), unfolding(crate::specs::Values::entries))]
+#[tactic(auto, using(crate::proofs::JsonLists::entries_seen), unfolding(crate::specs::FieldValues::entries))]
 pub fn entries<'v>(
     alloc: Global,
     place: Place<'_>,
@@ -156,7 +156,7 @@ fn present(
 }
 
 /// A value of a port of a type, or null for an absent one.
-#[tactic(auto, unfolding(crate::specs::Values::port_value))]
+#[tactic(auto, unfolding(crate::specs::FieldValues::port_value))]
 pub fn port_value(
     alloc: Global,
     kind: Kind,

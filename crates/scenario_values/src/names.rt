@@ -2,8 +2,8 @@
 ghost use Rattle.std.specs.Prelude.{◌≡◌, [], IfOk, map, string_bytes};
 ghost use Rattle.pals_model.specs.declared.design.Component.{Component};
 ghost use Rattle.pals_model.specs.declared.design.Feed.{Feed};
-ghost use Rattle.pals_model.specs.Inputs.{new_names};
-ghost use Rattle.pals_model.specs.LinkNames.{link_name};
+ghost use Rattle.pals_model.specs.ComponentInputs.{new_names};
+ghost use Rattle.pals_model.specs.NamesInTexts.{link_name};
 ghost use Rattle.scenario_values.specs.proof.NameTables.{Numbers};
 
 use crate::ScenarioFault;
@@ -115,14 +115,14 @@ fn root_names(alloc: Global, feeds: &[Feed]) -> Result<IndexSet<Text>, NoMemory>
 impl<'a> DesignNames<'a> {
     ghost use Rattle.std.specs.Prelude.{◌≡◌, ◌<◌, IfOk, IfSome, length, option_map, option_copied, find, position};
     ghost use Rattle.std.specs.Prelude.{bytes_eq};
-    ghost use Rattle.pals_model.specs.Inputs.{root_inputs};
-    ghost use Rattle.pals_model.specs.LinkNames.{node_named, link_named};
-    ghost use Rattle.pals_model.specs.Ports.{root_kind};
+    ghost use Rattle.pals_model.specs.ComponentInputs.{root_inputs};
+    ghost use Rattle.pals_model.specs.NamesInTexts.{node_named, link_named};
+    ghost use Rattle.pals_model.specs.PortKinds.{root_kind};
     ghost use Rattle.pals_model.specs.Rules.{IsDesign};
     ghost use Rattle.pals_runs.specs.Journal.{node_word};
     ghost use Rattle.scenario_values.specs.Outcomes.{Answers, Shows};
     ghost use Rattle.scenario_values.specs.FaultPlaces.{place_text};
-    ghost use Rattle.scenario_values.specs.Names.{node_at, link_at, root_at};
+    ghost use Rattle.scenario_values.specs.NameLookup.{node_at, link_at, root_at};
 
     /// The tables of a design's names.
     pub fn new(alloc: Global, design: &'a Design) -> Result<DesignNames<'a>, NoMemory>
@@ -180,7 +180,7 @@ impl<'a> DesignNames<'a> {
     }
 
     /// The component of a path.
-    #[tactic(auto, unfolding(crate::specs::Names::node_at))]
+    #[tactic(auto, unfolding(crate::specs::NameLookup::node_at))]
     pub fn node(&self, alloc: Global, place: Place<'_>, path: &str) -> Result<NodeNo, ScenarioFault>
         ensures value { Shows (λ node. node.0) (node_at (place_text place.entry) self.now path.now) result }
         ensures within { IfOk result (λ node. node.0 < length self.now.components) }
@@ -203,7 +203,7 @@ impl<'a> DesignNames<'a> {
     }
 
     /// The link of a name.
-    #[tactic(auto, unfolding(crate::specs::Names::link_at))]
+    #[tactic(auto, unfolding(crate::specs::NameLookup::link_at))]
     pub fn link(&self, alloc: Global, place: Place<'_>, name: &str) -> Result<LinkNo, ScenarioFault>
         ensures value { Shows (λ link. link.0) (link_at (place_text place.entry) self.now name.now) result }
         ensures within { IfOk result (λ link. link.0 < length self.now.links) }
@@ -223,7 +223,7 @@ impl<'a> DesignNames<'a> {
     }
 
     /// The place of a root in port among all.
-    #[tactic(auto, unfolding(crate::specs::Names::root_at))]
+    #[tactic(auto, unfolding(crate::specs::NameLookup::root_at))]
     pub fn root(&self, alloc: Global, place: Place<'_>, name: &str) -> Result<usize, ScenarioFault>
         ensures value { Answers (root_at (place_text place.entry) self.now name.now) result }
         ensures within { IfOk result (λ root. root < length (root_inputs self.now)) }

@@ -6,10 +6,10 @@ use Rattle.std.proofs.lemmas.List.{length-set}
 use Rattle.std.proofs.lemmas.Option.{slice_get-get_or}
 use Rattle.std.proofs.lemmas.Bool.{cases_eq}
 use Rattle.step_code.specs.declared.instr.Instr.{Instr}
-use Rattle.step_code.specs.Paths.{jump_of, next_of, onward}
-use Rattle.step_code.specs.proof.Heights.{Member}
-use Rattle.step_code.specs.proof.Checks.{Holds, AreThere, AreSet}
-use Rattle.step_code.proofs.Bound.{get_set_other, get_set_same}
+use Rattle.step_code.specs.PathWeights.{jump_of, next_of, onward}
+use Rattle.step_code.specs.proof.StackHeights.{Member}
+use Rattle.step_code.specs.proof.VerifierChecks.{Holds, AreThere, AreSet}
+use Rattle.step_code.proofs.WeightBounds.{get_set_other, get_set_same}
 
 -- ---- members
 pub member_left : {A : Type 0} (xs ys : List A) (x : A) → Member xs x → Member (xs ++ ys) x

@@ -1,7 +1,7 @@
 pub mod Loops
-pub mod Paths
-pub mod Step
-pub mod Made
-pub mod Capped
-pub mod Lengths
+pub mod PathWeights
+pub mod InstructionEffects
+pub mod InstructionCounts
+pub mod CappedWeights
+pub mod CodeLengths
 pub mod proof

@@ -1,9 +1,9 @@
 -- What the theorem of the program does not rest on: definitions of contracts below it, of laws, and of proofs.
-pub mod Innermost
-pub mod Exec
-pub mod Heights
-pub mod Walks
-pub mod Rules
-pub mod Checks
-pub mod Means
+pub mod InnermostLoops
+pub mod CodeRuns
+pub mod StackHeights
+pub mod PathLists
+pub mod VerifierRules
+pub mod VerifierChecks
+pub mod CodeMeaning
 pub mod Examples

@@ -1,7 +1,7 @@
 //! Code that is verified.
 ghost use Rattle.std.specs.Prelude.{◌≡◌};
-ghost use Rattle.step_code.specs.Paths.{weight_of};
-ghost use Rattle.step_code.specs.Capped.{capped};
+ghost use Rattle.step_code.specs.PathWeights.{weight_of};
+ghost use Rattle.step_code.specs.CappedWeights.{capped};
 
 use crate::instr::CodeParts;
 use std::marker::Model;
@@ -26,18 +26,18 @@ impl Model for Code {
     ghost view = { λ code. code.parts };
 
     ghost use Rattle.std.specs.Prelude.{◌≡◌};
-    ghost use Rattle.step_code.specs.Paths.{weight_of};
-    ghost use Rattle.step_code.specs.proof.Rules.{IsVerified};
-    ghost use Rattle.step_code.specs.Capped.{capped};
+    ghost use Rattle.step_code.specs.PathWeights.{weight_of};
+    ghost use Rattle.step_code.specs.proof.VerifierRules.{IsVerified};
+    ghost use Rattle.step_code.specs.CappedWeights.{capped};
 
     ghost invariant = { λ code. IsVerified code.parts × (code.most ≡ capped (weight_of code.parts)) };
 }
 
 impl Code {
     ghost use Rattle.std.specs.Prelude.{◌≡◌};
-    ghost use Rattle.step_code.specs.Paths.{weight_of};
-    ghost use Rattle.step_code.specs.proof.Rules.{IsVerified};
-    ghost use Rattle.step_code.specs.Capped.{capped};
+    ghost use Rattle.step_code.specs.PathWeights.{weight_of};
+    ghost use Rattle.step_code.specs.proof.VerifierRules.{IsVerified};
+    ghost use Rattle.step_code.specs.CappedWeights.{capped};
 
     /// The code of verified parts and their weight. It takes no memory.
     pub(crate) fn new(parts: CodeParts, most: u64) -> Code

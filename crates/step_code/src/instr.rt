@@ -59,8 +59,8 @@ pub enum Instr {
 
 impl Instr {
     ghost use Rattle.std.specs.Prelude.{◌≡◌, ◌<◌, ◌^◌, ◌-◌};
-    ghost use Rattle.step_code.specs.Paths.{jump_of, next_of};
-    ghost use Rattle.step_code.specs.proof.Heights.{takes, gives, back_of};
+    ghost use Rattle.step_code.specs.PathWeights.{jump_of, next_of};
+    ghost use Rattle.step_code.specs.proof.StackHeights.{takes, gives, back_of};
 
     /// The place to which it jumps.
     pub fn jump(self) -> Option<usize>

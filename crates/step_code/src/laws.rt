@@ -3,14 +3,14 @@ ghost use Rattle.std.specs.Prelude.{◌≡◌, ◌≤◌, ℕ, pos, List, [], �
 ghost use Rattle.pals_base.specs.declared.values.Frame.{Frame};
 ghost use Rattle.pals_base.specs.declared.values.PortValue.{PortValue};
 ghost use Rattle.pals_base.specs.declared.values.PortValue.TheVariants.{Present};
-ghost use Rattle.pals_base.specs.Fire.{Fired};
+ghost use Rattle.pals_base.specs.SingleStep.{Fired};
 ghost use Rattle.step_code.specs.declared.instr.CodeParts.{CodeParts};
-ghost use Rattle.step_code.specs.Paths.{weight_of};
-ghost use Rattle.step_code.specs.proof.Exec.{FitsCode, exec, Leaves};
-ghost use Rattle.step_code.specs.proof.Heights.{Member};
-ghost use Rattle.step_code.specs.proof.Walks.{IsPath, path_weight};
-ghost use Rattle.step_code.specs.Made.{made};
-ghost use Rattle.step_code.specs.proof.Rules.{IsVerified};
+ghost use Rattle.step_code.specs.PathWeights.{weight_of};
+ghost use Rattle.step_code.specs.proof.CodeRuns.{FitsCode, exec, Leaves};
+ghost use Rattle.step_code.specs.proof.StackHeights.{Member};
+ghost use Rattle.step_code.specs.proof.PathLists.{IsPath, path_weight};
+ghost use Rattle.step_code.specs.InstructionCounts.{made};
+ghost use Rattle.step_code.specs.proof.VerifierRules.{IsVerified};
 ghost use Rattle.step_code.specs.proof.Examples.{counter, at_four, surface, nested};
 
 /// A counter at 4 that gets 2 makes its nine instructions, keeps 7 and gives it.

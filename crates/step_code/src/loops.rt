@@ -1,7 +1,7 @@
 //! The loops of instructions.
 ghost use Rattle.std.specs.Prelude.{◌≡◌, ◌<◌, ◌^◌, ◌-◌, length, min, IfOk};
 ghost use Rattle.step_code.specs.Loops.{closes, if_loop, loop_at, turns_of};
-ghost use Rattle.step_code.specs.proof.Innermost.{AreInnermost, innermost};
+ghost use Rattle.step_code.specs.proof.InnermostLoops.{AreInnermost, innermost};
 
 use crate::instr::{Instr, instr_at};
 use pals_base::NoMemory;

@@ -1,9 +1,10 @@
 //! The rules on jumps, loops, slots and ports, at one instruction.
 ghost use Rattle.std.specs.Prelude.{◌≡◌, ◌<◌, ◌+◌, not, Some, length, slice_get};
-ghost use Rattle.step_code.specs.proof.Innermost.{AreInnermost, ends_by, starts_from};
-ghost use Rattle.step_code.specs.proof.Rules.{strays, lacks_next, jumps_badly, jumps_back, lacks_loop, ends_loop};
-ghost use Rattle.step_code.specs.proof.Rules.{misses_slot, misses_loop_slot, is_no_loop_slot, IsCleanBelow};
-ghost use Rattle.step_code.specs.proof.Exec.{has_entry};
+ghost use Rattle.step_code.specs.proof.InnermostLoops.{AreInnermost, ends_by, starts_from};
+ghost use Rattle.step_code.specs.proof.VerifierRules.{strays, lacks_next, jumps_badly, jumps_back, lacks_loop};
+ghost use Rattle.step_code.specs.proof.VerifierRules.{ends_loop, misses_slot, misses_loop_slot, is_no_loop_slot};
+ghost use Rattle.step_code.specs.proof.VerifierRules.{IsCleanBelow};
+ghost use Rattle.step_code.specs.proof.CodeRuns.{has_entry};
 
 use crate::instr::{CodeParts, Instr};
 use crate::loops::{LoopSpan, loop_at};

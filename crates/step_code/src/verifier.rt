@@ -1,8 +1,8 @@
 //! Whether parts are code.
 ghost use Rattle.std.specs.Prelude.{◌≡◌, ◌<◌, ◌≤◌, ◌+◌, ℕ, Bool, false, length, IfOk, IfErr, OnOk};
-ghost use Rattle.step_code.specs.proof.Innermost.{AreInnermost};
-ghost use Rattle.step_code.specs.proof.Rules.{is_bad_entry, enters_badly, IsCleanBelow, IsFaultOf, IsVerified};
-ghost use Rattle.step_code.specs.proof.Checks.{IsLeast, or_bad, AreHeights};
+ghost use Rattle.step_code.specs.proof.InnermostLoops.{AreInnermost};
+ghost use Rattle.step_code.specs.proof.VerifierRules.{is_bad_entry, enters_badly, IsCleanBelow, IsFaultOf, IsVerified};
+ghost use Rattle.step_code.specs.proof.VerifierChecks.{IsLeast, or_bad, AreHeights};
 ghost use Rattle.pals_base.specs.declared.limits.TheConstants.{INSTRUCTIONS};
 
 use crate::code::Code;

@@ -1,11 +1,11 @@
 //! How many instructions one step may take.
 ghost use Rattle.std.specs.Prelude.{◌≡◌, ◌+◌, ◌-◌, ◌<◌, map, option_to_list, slice_index_or, length, IfOk, Some};
-ghost use Rattle.step_code.specs.proof.Innermost.{AreInnermost};
-ghost use Rattle.step_code.specs.Paths.{onward, greatest, weight_at, heaviest, entry_weight, weight_of};
-ghost use Rattle.step_code.specs.proof.Heights.{Member};
-ghost use Rattle.step_code.specs.proof.Rules.{IsVerified};
-ghost use Rattle.step_code.specs.proof.Checks.{AreThere};
-ghost use Rattle.step_code.specs.Capped.{capped, AreWeights, AreBest};
+ghost use Rattle.step_code.specs.proof.InnermostLoops.{AreInnermost};
+ghost use Rattle.step_code.specs.PathWeights.{onward, greatest, weight_at, heaviest, entry_weight, weight_of};
+ghost use Rattle.step_code.specs.proof.StackHeights.{Member};
+ghost use Rattle.step_code.specs.proof.VerifierRules.{IsVerified};
+ghost use Rattle.step_code.specs.proof.VerifierChecks.{AreThere};
+ghost use Rattle.step_code.specs.CappedWeights.{capped, AreWeights, AreBest};
 ghost use Rattle.pals_base.specs.declared.limits.TheConstants.{INSTRUCTIONS};
 
 use crate::instr::{CodeParts, Instr};

@@ -11,18 +11,18 @@ use Rattle.pals_base.specs.declared.values.PortValue.{PortValue as Value}
 use Rattle.pals_base.specs.declared.values.PortValue.TheVariants.{Present}
 use Rattle.pals_base.specs.Expressions.{is_true, eval}
 use Rattle.pals_base.specs.Actions.{Effect, counted_from, count_of, numbers, for_each, with_vars, act, acts, act_first}
-use Rattle.pals_base.proofs.Loops.{no_numbers}
-use Rattle.pals_base.specs.Tree.{Expression, Action, Assign, Emit, If, For, Actions, Nothing, Do, Branches, NoBranch}
-use Rattle.pals_base.specs.Tree.{Where}
+use Rattle.pals_base.proofs.LoopNumbers.{no_numbers}
+use Rattle.pals_base.specs.PlainTrees.{Expression, Action, Assign, Emit, If, For, Actions, Nothing, Do, Branches}
+use Rattle.pals_base.specs.PlainTrees.{NoBranch, Where}
 use Rattle.step_code.specs.declared.instr.Instr.{Instr}
 use Rattle.step_code.specs.declared.instr.Instr.TheVariants as code
-use Rattle.step_code.specs.Step.{Goes, Senses, on_found, step}
-use Rattle.step_code.specs.Lengths.{length_of, length_act, length_acts, length_branches}
-use Rattle.step_compiler.specs.Layout.{code_of, code_act, code_acts, code_branches}
+use Rattle.step_code.specs.InstructionEffects.{Goes, Senses, on_found, step}
+use Rattle.step_code.specs.CodeLengths.{length_of, length_act, length_acts, length_branches}
+use Rattle.step_compiler.specs.ActionLayout.{code_of, code_act, code_acts, code_branches}
 use Rattle.step_compiler.proofs.PlacedCode.{HasAt, has_front, has_back, code-length, act-length, acts-length}
 use Rattle.step_compiler.proofs.PlacedCode.{branches-length}
-use Rattle.step_compiler.proofs.Sight.{Sees, Sizes, SeesAct, SeesActs, SeesBranches}
-use Rattle.step_code.proofs.Bound.{get_set_other, get_set_same, spans}
+use Rattle.step_compiler.proofs.AccessBounds.{Sees, Sizes, SeesAct, SeesActs, SeesBranches}
+use Rattle.step_code.proofs.WeightBounds.{get_set_other, get_set_same, spans}
 use Rattle.step_compiler.proofs.ExpressionRuns.{At, at, Gives, stays, leads_on, goes, jumps, passes, expr_runs}
 use Rattle.step_compiler.proofs.LoopTurns.{Fits, Arrives, Comes, come_after, comes_at, then_comes, with_value}
 use Rattle.step_compiler.proofs.LoopTurns.{next_fits, assigned, sent, loop_fits, turn, Bodies, turns_run}

@@ -9,20 +9,20 @@ use Rattle.pals_base.specs.declared.values.PortValue.{PortValue as Value}
 use Rattle.pals_base.specs.declared.behaviour.BehaviourParts.{BehaviourParts}
 use Rattle.pals_base.specs.Expressions.{is_true, on_value, eval}
 use Rattle.pals_base.specs.Actions.{Effect, acts}
-use Rattle.pals_base.specs.Tree.{Edge, Trigger, Dispatch, Always, When}
-use Rattle.pals_base.specs.Fire.{Fired, is_complete, leaving, is_dispatch, opens, first_open, along, settled}
+use Rattle.pals_base.specs.PlainTrees.{Edge, Trigger, Dispatch, Always, When}
+use Rattle.pals_base.specs.SingleStep.{Fired, is_complete, leaving, is_dispatch, opens, first_open, along, settled}
 use Rattle.pals_base.specs.Rules.{is_always}
-use Rattle.pals_base.specs.proof.Settling.{settles}
+use Rattle.pals_base.specs.proof.SettledStates.{settles}
 use Rattle.step_code.specs.declared.instr.Instr.{Instr}
 use Rattle.step_code.specs.declared.instr.Instr.TheVariants as code
-use Rattle.step_code.specs.Step.{Senses, step}
-use Rattle.step_code.specs.proof.Exec.{Ended, then_run, run}
-use Rattle.step_code.specs.Lengths.{length_of, length_acts, length_trigger, length_edge}
-use Rattle.step_compiler.specs.Layout.{code_of, code_acts}
+use Rattle.step_code.specs.InstructionEffects.{Senses, step}
+use Rattle.step_code.specs.proof.CodeRuns.{Ended, then_run, run}
+use Rattle.step_code.specs.CodeLengths.{length_of, length_acts, length_trigger, length_edge}
+use Rattle.step_compiler.specs.ActionLayout.{code_of, code_acts}
 use Rattle.step_compiler.proofs.PlacedCode.{HasAt, has_front, has_back, code-length, acts-length, trigger-length}
 use Rattle.step_compiler.proofs.PlacedCode.{edge-length}
-use Rattle.step_compiler.proofs.Sight.{Sizes, SeesTrigger, IsGood, AreGood}
-use Rattle.step_compiler.specs.Blocks.{trigger_code, last_instr, edge_code, block_code}
+use Rattle.step_compiler.proofs.AccessBounds.{Sizes, SeesTrigger, IsGood, AreGood}
+use Rattle.step_compiler.specs.BlockLayout.{trigger_code, last_instr, edge_code, block_code}
 use Rattle.step_compiler.proofs.ExpressionRuns.{At, at, runs, Leads, Traps', Gives, leads_on, leads_trap, goes, jumps}
 use Rattle.step_compiler.proofs.ExpressionRuns.{passes}
 use Rattle.step_compiler.proofs.LoopTurns.{Fits, Comes}

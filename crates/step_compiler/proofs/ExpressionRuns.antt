@@ -9,16 +9,16 @@ use Rattle.pals_base.specs.declared.behaviour.Op.{Op}
 use Rattle.pals_base.specs.declared.behaviour.Op.TheVariants as op
 use Rattle.pals_base.specs.Arithmetic.{negation_of, magnitude_of}
 use Rattle.pals_base.specs.Expressions.{is_true, truth, applied, combined, on_value, eval, eval_rest}
-use Rattle.pals_base.specs.Tree.{Expression, Literal, Variable, PortRead, Fresh, Neg, Abs, Not, Chain, Operands, NoMore}
-use Rattle.pals_base.specs.Tree.{Then}
+use Rattle.pals_base.specs.PlainTrees.{Expression, Literal, Variable, PortRead, Fresh, Neg, Abs, Not, Chain, Operands}
+use Rattle.pals_base.specs.PlainTrees.{NoMore, Then}
 use Rattle.step_code.specs.declared.instr.Instr.{Instr}
 use Rattle.step_code.specs.declared.instr.Instr.TheVariants as code
-use Rattle.step_code.specs.Step.{Goes, Traps, Senses, on_found, on_result, on_two, step}
-use Rattle.step_code.specs.proof.Exec.{Outcome, Trapped, then_run, run}
-use Rattle.step_code.specs.Lengths.{operand_length, length_of, length_rest}
-use Rattle.step_compiler.specs.Layout.{operator, operand_code, code_of, code_rest}
+use Rattle.step_code.specs.InstructionEffects.{Goes, Traps, Senses, on_found, on_result, on_two, step}
+use Rattle.step_code.specs.proof.CodeRuns.{Outcome, Trapped, then_run, run}
+use Rattle.step_code.specs.CodeLengths.{operand_length, length_of, length_rest}
+use Rattle.step_compiler.specs.ActionLayout.{operator, operand_code, code_of, code_rest}
 use Rattle.step_compiler.proofs.PlacedCode.{HasAt, has_front, has_back, code-length, operand-length}
-use Rattle.step_compiler.proofs.Sight.{Sees, SeesAll}
+use Rattle.step_compiler.proofs.AccessBounds.{Sees, SeesAll}
 
 -- ---- runs
 pub record At : Type 0 where

@@ -5,17 +5,19 @@ use Rattle.std.specs.Prelude.{slice_get}
 use Rattle.pals_base.specs.declared.behaviour.BehaviourParts.{BehaviourParts}
 use Rattle.pals_base.specs.declared.behaviour.Op.{Op}
 use Rattle.pals_base.specs.declared.behaviour.Op.TheVariants as op
-use Rattle.pals_base.specs.Fire.{is_complete, leaving}
-use Rattle.pals_base.specs.Tree.{Expression, Literal, Variable, PortRead, Fresh, Neg, Abs, Not, Chain, Operands, NoMore}
-use Rattle.pals_base.specs.Tree.{Then, Action, Assign, Emit, If, For, Actions, Nothing, Do, Branches, NoBranch, Where}
-use Rattle.pals_base.specs.Tree.{Edge, Trigger, Dispatch, Always, When}
+use Rattle.pals_base.specs.SingleStep.{is_complete, leaving}
+use Rattle.pals_base.specs.PlainTrees.{Expression, Literal, Variable, PortRead, Fresh, Neg, Abs, Not, Chain, Operands}
+use Rattle.pals_base.specs.PlainTrees.{NoMore, Then, Action, Assign, Emit, If, For, Actions, Nothing, Do, Branches}
+use Rattle.pals_base.specs.PlainTrees.{NoBranch, Where, Edge, Trigger, Dispatch, Always, When}
 use Rattle.step_code.specs.declared.instr.Instr.{Instr}
 use Rattle.step_code.specs.declared.instr.Instr.TheVariants as code
-use Rattle.step_code.specs.Lengths.{operand_length, length_of, length_rest, length_act, length_acts, length_branches}
-use Rattle.step_code.specs.Lengths.{length_trigger, length_edge, length_edges}
-use Rattle.step_compiler.specs.Layout.{operator, operand_code, code_of, code_rest, code_act, code_acts, code_branches}
-use Rattle.step_compiler.specs.Blocks.{trigger_code, last_instr, past, edge_code, block_code, block_length, blocks_code}
-use Rattle.step_compiler.specs.proof.Blocks.{order_length}
+use Rattle.step_code.specs.CodeLengths.{operand_length, length_of, length_rest, length_act, length_acts}
+use Rattle.step_code.specs.CodeLengths.{length_branches, length_trigger, length_edge, length_edges}
+use Rattle.step_compiler.specs.ActionLayout.{operator, operand_code, code_of, code_rest, code_act, code_acts}
+use Rattle.step_compiler.specs.ActionLayout.{code_branches}
+use Rattle.step_compiler.specs.BlockLayout.{trigger_code, last_instr, past, edge_code, block_code, block_length}
+use Rattle.step_compiler.specs.BlockLayout.{blocks_code}
+use Rattle.step_compiler.specs.proof.BlockLengths.{order_length}
 
 -- ---- code at a place
 abbrev pub HasAt : List Instr → ℕ → List Instr → Type 0

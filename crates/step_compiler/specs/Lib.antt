@@ -1,5 +1,5 @@
-pub mod Layout
-pub mod Depths
-pub mod Blocks
-pub mod LaidOut
+pub mod ActionLayout
+pub mod LoopDepths
+pub mod BlockLayout
+pub mod LaidOutCode
 pub mod proof

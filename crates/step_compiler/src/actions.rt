@@ -1,9 +1,9 @@
 //! The instructions of actions.
 ghost use Rattle.std.specs.Prelude.{[], ◌∷◌, OnOk};
-ghost use Rattle.pals_base.specs.proof.Seen.{action_of, actions_along, branches_along};
-ghost use Rattle.pals_base.specs.Tree.{For};
-ghost use Rattle.step_compiler.specs.Layout.{code_act, code_acts, code_branches};
-ghost use Rattle.step_compiler.specs.proof.Adding.{Adds};
+ghost use Rattle.pals_base.specs.proof.SourceTrees.{action_of, actions_along, branches_along};
+ghost use Rattle.pals_base.specs.PlainTrees.{For};
+ghost use Rattle.step_compiler.specs.ActionLayout.{code_act, code_acts, code_branches};
+ghost use Rattle.step_compiler.specs.proof.AppendedCode.{Adds};
 
 use crate::expressions::push_expr;
 use crate::lengths::{acts_length, branches_length, expr_length};

@@ -1,12 +1,12 @@
 //! The blocks of states, one behind the other.
 ghost use Rattle.std.specs.Prelude.{◌≡◌, ◌<◌, [], ◌∷◌, filter, map, nat_eq, length, IfOk, OnOk};
 ghost use Rattle.std.specs.List.{All};
-ghost use Rattle.step_code.specs.Capped.{capped};
-ghost use Rattle.step_code.specs.Lengths.{length_edges};
-ghost use Rattle.step_compiler.specs.LaidOut.{states_of};
-ghost use Rattle.step_compiler.specs.Blocks.{block_length, start_of, blocks_code, dispatch_offset, entry_of};
-ghost use Rattle.step_compiler.specs.proof.Blocks.{start_in, in_list, capped_length, leaving_code};
-ghost use Rattle.step_compiler.specs.proof.Adding.{Adds};
+ghost use Rattle.step_code.specs.CappedWeights.{capped};
+ghost use Rattle.step_code.specs.CodeLengths.{length_edges};
+ghost use Rattle.step_compiler.specs.LaidOutCode.{states_of};
+ghost use Rattle.step_compiler.specs.BlockLayout.{block_length, start_of, blocks_code, dispatch_offset, entry_of};
+ghost use Rattle.step_compiler.specs.proof.BlockLengths.{start_in, in_list, capped_length, leaving_code};
+ghost use Rattle.step_compiler.specs.proof.AppendedCode.{Adds};
 
 use crate::lengths::transition_length;
 use crate::numbering::{behind, item_at};

@@ -1,10 +1,10 @@
 //! Code of behaviours.
 ghost use Rattle.std.specs.Prelude.{◌≡◌, length, IfOk, IfErr};
-ghost use Rattle.step_code.specs.Lengths.{code_length};
-ghost use Rattle.step_code.specs.proof.Means.{Means};
-ghost use Rattle.step_compiler.specs.proof.Blocks.{compiled};
-ghost use Rattle.step_compiler.specs.LaidOut.{IsLaidOut};
-ghost use Rattle.step_compiler.specs.proof.Refusals.{IsCauseFor};
+ghost use Rattle.step_code.specs.CodeLengths.{code_length};
+ghost use Rattle.step_code.specs.proof.CodeMeaning.{Means};
+ghost use Rattle.step_compiler.specs.proof.BlockLengths.{compiled};
+ghost use Rattle.step_compiler.specs.LaidOutCode.{IsLaidOut};
+ghost use Rattle.step_compiler.specs.proof.CompileRefusals.{IsCauseFor};
 
 use crate::blocks::{entries, push_blocks, starts};
 use crate::depths::transitions_depth;

@@ -1,8 +1,8 @@
 //! How deep loops nest in actions. For a depth past what a number can count, the error is that
 //! there is not enough memory.
 ghost use Rattle.std.specs.Prelude.{◌≡◌, IfOk};
-ghost use Rattle.pals_base.specs.proof.Seen.{action_of, actions_along, branches_along};
-ghost use Rattle.step_compiler.specs.Depths.{depth_act, depth_acts, depth_branches, depth_edges};
+ghost use Rattle.pals_base.specs.proof.SourceTrees.{action_of, actions_along, branches_along};
+ghost use Rattle.step_compiler.specs.LoopDepths.{depth_act, depth_acts, depth_branches, depth_edges};
 
 use crate::numbering::deeper;
 use pals_base::{Act, Branch, NoMemory, Transition};

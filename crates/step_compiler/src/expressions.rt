@@ -1,8 +1,8 @@
 //! The instructions of expressions.
 ghost use Rattle.std.specs.Prelude.{◌≡◌, OnOk};
-ghost use Rattle.pals_base.specs.proof.Seen.{tree_of, operands_along};
-ghost use Rattle.step_compiler.specs.Layout.{operator, operand_of, code_of, code_rest};
-ghost use Rattle.step_compiler.specs.proof.Adding.{Adds};
+ghost use Rattle.pals_base.specs.proof.SourceTrees.{tree_of, operands_along};
+ghost use Rattle.step_compiler.specs.ActionLayout.{operator, operand_of, code_of, code_rest};
+ghost use Rattle.step_compiler.specs.proof.AppendedCode.{Adds};
 
 use crate::lengths::expr_length;
 use crate::numbering::behind;

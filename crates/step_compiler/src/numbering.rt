@@ -1,7 +1,7 @@
 //! Places and numbers that fit the instructions. For a number that does not fit, the error is that
 //! there is not enough memory.
 ghost use Rattle.std.specs.Prelude.{◌≡◌, ◌+◌, ℕ, IfOk, slice_index_or, slice_set, true};
-ghost use Rattle.step_code.specs.Capped.{capped};
+ghost use Rattle.step_code.specs.CappedWeights.{capped};
 
 use pals_base::NoMemory;
 use std::alloc::AllocError;

@@ -1,8 +1,8 @@
 //! The order of the blocks of states.
 ghost use Rattle.std.specs.Prelude.{◌≡◌, IfOk, OnOk, false};
-ghost use Rattle.step_compiler.specs.proof.Order.{is_placed, next_state, block_order, with_next, awaited_marks};
-ghost use Rattle.step_compiler.specs.proof.Order.{states_outside};
-ghost use Rattle.step_compiler.specs.LaidOut.{complete_states};
+ghost use Rattle.step_compiler.specs.proof.BlockOrder.{is_placed, next_state, block_order, with_next, awaited_marks};
+ghost use Rattle.step_compiler.specs.proof.BlockOrder.{states_outside};
+ghost use Rattle.step_compiler.specs.LaidOutCode.{complete_states};
 
 use crate::numbering::{item_at, mark};
 use crate::transitions::is_complete;
@@ -12,7 +12,7 @@ use std::alloc::Global;
 /// All states, the complete ones first, and then the others, each behind all that jump to its
 /// block. Once for each state it looks at all transitions, and at each pair of states: with 64
 /// states that is at most 64 looks at each transition.
-#[tactic(auto, using(crate::proofs::Ordering::next_round))]
+#[tactic(auto, using(crate::proofs::OrderExtension::next_round))]
 pub fn block_order(alloc: Global, behaviour: &Behaviour) -> Result<Vec<usize>, NoMemory>
     ensures { IfOk result (λ order. order.items ≡ block_order behaviour.now) }
 {

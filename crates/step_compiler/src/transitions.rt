@@ -1,10 +1,10 @@
 //! The instructions of transitions.
 ghost use Rattle.std.specs.Prelude.{◌≡◌, IfOk, OnOk, slice_get};
-ghost use Rattle.pals_base.specs.proof.Seen.{trigger_of};
-ghost use Rattle.pals_base.specs.Fire.{completes};
-ghost use Rattle.step_compiler.specs.Blocks.{trigger_code, last_instr, past};
-ghost use Rattle.step_compiler.specs.proof.Blocks.{transition_code, in_list};
-ghost use Rattle.step_compiler.specs.proof.Adding.{Adds};
+ghost use Rattle.pals_base.specs.proof.SourceTrees.{trigger_of};
+ghost use Rattle.pals_base.specs.SingleStep.{completes};
+ghost use Rattle.step_compiler.specs.BlockLayout.{trigger_code, last_instr, past};
+ghost use Rattle.step_compiler.specs.proof.BlockLengths.{transition_code, in_list};
+ghost use Rattle.step_compiler.specs.proof.AppendedCode.{Adds};
 
 use crate::actions::push_acts;
 use crate::expressions::push_expr;

@@ -1,5 +1,5 @@
-pub mod Cells
-pub mod Holding
-pub mod Running
-pub mod Leaving
-pub mod Fitting
+pub mod StackCells
+pub mod HeldInputs
+pub mod MachineInvariant
+pub mod StepOutcomes
+pub mod FittingFrames

@@ -1,6 +1,6 @@
 //! The room that the steps of a code need.
 ghost use Rattle.std.specs.Prelude.{IfOk};
-ghost use Rattle.step_vm.specs.proof.Rooms.{IsRoomOf};
+ghost use Rattle.step_vm.specs.proof.RoomCapacity.{IsRoomOf};
 
 use crate::stack::Stack;
 use pals_base::NoMemory;
@@ -17,7 +17,7 @@ pub struct Room {
 }
 
 impl Model for Room {
-    ghost use Rattle.step_vm.specs.proof.Rooms.{Capacity};
+    ghost use Rattle.step_vm.specs.proof.RoomCapacity.{Capacity};
 
     ghost Value = { Capacity };
 

@@ -1,6 +1,6 @@
 //! A stack of operands with a fixed number of cells.
 ghost use Rattle.std.specs.Prelude.{◌≡◌, [], ◌∷◌, ◌<◌, length, IfOk};
-ghost use Rattle.step_vm.specs.proof.Stacks.{stack_of};
+ghost use Rattle.step_vm.specs.proof.OperandStacks.{stack_of};
 
 use pals_base::NoMemory;
 use std::alloc::Global;
@@ -15,7 +15,7 @@ pub struct Stack {
 
 impl Model for Stack {
     ghost use Rattle.std.specs.Prelude.{◌≤◌, length};
-    ghost use Rattle.step_vm.specs.proof.Stacks.{StackState, stacked};
+    ghost use Rattle.step_vm.specs.proof.OperandStacks.{StackState, stacked};
 
     ghost Value = { StackState };
 

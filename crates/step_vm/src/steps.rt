@@ -1,13 +1,13 @@
 //! Steps of code.
 ghost use Rattle.std.specs.Prelude.{◌≡◌, ◌≤◌, ◌-◌, ◌++◌, [], length, take, replicate, pos, Some, true, slice_get, ◌+◌};
-ghost use Rattle.pals_base.specs.Fire.{holding};
-ghost use Rattle.step_code.specs.proof.Exec.{FitsCode, Sized, Leaves, exec, has_entry, left, run_from};
-ghost use Rattle.step_code.specs.Made.{silent};
-ghost use Rattle.step_code.specs.proof.Heights.{Member};
-ghost use Rattle.step_code.specs.proof.Rules.{IsVerified};
-ghost use Rattle.step_vm.specs.proof.Stacks.{stack_of};
-ghost use Rattle.step_vm.specs.proof.Outcomes.{HasEnded, LeavesBehind, ran};
-ghost use Rattle.step_vm.specs.proof.Rooms.{IsRoomOf};
+ghost use Rattle.pals_base.specs.SingleStep.{holding};
+ghost use Rattle.step_code.specs.proof.CodeRuns.{FitsCode, Sized, Leaves, exec, has_entry, left, run_from};
+ghost use Rattle.step_code.specs.InstructionCounts.{silent};
+ghost use Rattle.step_code.specs.proof.StackHeights.{Member};
+ghost use Rattle.step_code.specs.proof.VerifierRules.{IsVerified};
+ghost use Rattle.step_vm.specs.proof.OperandStacks.{stack_of};
+ghost use Rattle.step_vm.specs.proof.StepOutcomes.{HasEnded, LeavesBehind, ran};
+ghost use Rattle.step_vm.specs.proof.RoomCapacity.{IsRoomOf};
 
 use crate::machine::{CodeInputs, Continuation, advance};
 use crate::room::Room;

@@ -5,8 +5,8 @@ use Rattle.std.proofs.lemmas.List.Elements.{All-head, All-tail}
 use Rattle.pals_base.specs.declared.values.PortValue.{PortValue}
 use Rattle.pals_model.specs.declared.design.Tap.{Tap}
 use Rattle.pals_model.specs.declared.design.DesignParts.{DesignParts}
-use Rattle.sync_product.specs.proof.Renumbered.{renumbered_tap, IsRenumbered}
-use Rattle.sync_product.proofs.Parts.{same_number}
+use Rattle.sync_product.specs.proof.RenumberedDesigns.{renumbered_tap, IsRenumbered}
+use Rattle.sync_product.proofs.RenumberedDesigns.{same_number}
 
 -- one more element of each of two lists with the same images
 more_or_not : {X Y : Type 0} (f : X → Y) (x y : X) (xs ys : List X) (more : Bool) → f x ≡ f y → map f xs ≡ map f ys

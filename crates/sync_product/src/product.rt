@@ -1,7 +1,7 @@
 //! The composition after some rounds.
 ghost use Rattle.std.specs.Prelude.{◌≡◌, ◌<◌, IfOk, OnOk, OnErr, Some, length, slice_get};
 ghost use Rattle.std.specs.Arc.{arc_value};
-ghost use Rattle.sync_product.specs.proof.State.{begun, advanced};
+ghost use Rattle.sync_product.specs.proof.ProductStates.{begun, advanced};
 
 use crate::messages::send_all;
 use crate::opening::{opening_messages, opening_parts, stages};
@@ -45,7 +45,7 @@ impl Drop for Product {
 }
 
 impl Model for Product {
-    ghost use Rattle.sync_product.specs.proof.State.{ProductState, state_code};
+    ghost use Rattle.sync_product.specs.proof.ProductStates.{ProductState, state_code};
 
     ghost Value = { ProductState };
 
@@ -53,7 +53,7 @@ impl Model for Product {
 
     ghost use Rattle.std.specs.Arc.{arc_value};
     ghost use Rattle.sync_product.specs.proof.Rounds.{frames_of};
-    ghost use Rattle.sync_product.specs.proof.Ready.{IsReady, HasRoom};
+    ghost use Rattle.sync_product.specs.proof.ProductInvariant.{IsReady, HasRoom};
 
     ghost view = { λ p. record {
       design = arc_value p.design;

@@ -7,11 +7,12 @@ ghost use Rattle.pals_model.specs.declared.design.DesignParts.{DesignParts};
 ghost use Rattle.pals_model.specs.declared.rounds.Env.{Env};
 ghost use Rattle.pals_model.specs.Rules.{IsDesign};
 ghost use Rattle.pals_model.specs.Composition.{state, msg, part};
-ghost use Rattle.pals_model.specs.proof.Counters.{two_counters};
-ghost use Rattle.pals_model.specs.Inputs.{no_env};
-ghost use Rattle.sync_product.specs.proof.Renumbered.{renumbered_link, renumbered_tap, IsRenumbered, AreSameInputs};
-ghost use Rattle.sync_product.specs.proof.Exchanged.{exchange, exchanged_counters, fed_counters};
-ghost use Rattle.sync_product.specs.proof.Exchanged.{exchanged_fed_counters, inputs_of_two};
+ghost use Rattle.pals_model.specs.proof.TwoCounters.{two_counters};
+ghost use Rattle.pals_model.specs.ComponentInputs.{no_env};
+ghost use Rattle.sync_product.specs.proof.RenumberedDesigns.{renumbered_link, renumbered_tap, IsRenumbered};
+ghost use Rattle.sync_product.specs.proof.RenumberedDesigns.{AreSameInputs};
+ghost use Rattle.sync_product.specs.proof.ExchangedCounters.{exchange, exchanged_counters, fed_counters};
+ghost use Rattle.sync_product.specs.proof.ExchangedCounters.{exchanged_fed_counters, inputs_of_two};
 
 /// The numbers of the components do not matter: with other numbers and the same inputs, each
 /// component is in the same state after any number of rounds.

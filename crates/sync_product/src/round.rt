@@ -1,7 +1,7 @@
 //! The steps of all components in a round.
 ghost use Rattle.std.specs.Prelude.{◌≡◌, OnOk, map};
-ghost use Rattle.sync_product.specs.proof.Sizes.{part_size, stage_size, part_sizes, stage_sizes};
-ghost use Rattle.sync_product.specs.proof.Wired.{IsWiring};
+ghost use Rattle.sync_product.specs.proof.ProductSizes.{part_size, stage_size, part_sizes, stage_sizes};
+ghost use Rattle.sync_product.specs.proof.ComponentWiring.{IsWiring};
 ghost use Rattle.sync_product.specs.proof.Rounds.{AreStepped, frames_of};
 
 use crate::reads::RoundInputs;

@@ -32,7 +32,7 @@ impl Drop for Wiring {
 }
 
 impl Wiring {
-    ghost use Rattle.sync_product.specs.proof.Wired.{IsWired, IsWiring};
+    ghost use Rattle.sync_product.specs.proof.ComponentWiring.{IsWired, IsWiring};
 
     /// The wiring of a design.
     pub fn new(alloc: Global, design: &Design) -> Result<Wiring, NoMemory>

@@ -1,1 +1,1 @@
-mod Readings
+mod OrderedReadings

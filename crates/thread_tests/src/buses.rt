@@ -1,7 +1,7 @@
 //! A bus before its first event, its run in threads, and what comes out of it.
 ghost use Rattle.std.specs.Prelude.{IsTrue, IfOk, length};
 ghost use Rattle.pals_model.specs.Delays.{AreDelays};
-ghost use Rattle.node_threads.specs.proof.Courses.{AreClocksOf};
+ghost use Rattle.node_threads.specs.proof.SharedCourses.{AreClocksOf};
 
 use crate::designs::design_of;
 use design_codes::compile_all;

@@ -6,9 +6,9 @@ use Rattle.std.specs.Prelude.{slice_index_or}
 use Rattle.std.specs.List.{enumerate_from}
 use Rattle.std.proofs.lemmas.Bool.{lt-ltb, le-ltb, le-leb, lt-leb}
 use Rattle.std.proofs.lemmas.List.{drop_more}
-use Rattle.pals_base.specs.Steps.{upwards}
+use Rattle.pals_base.specs.StepSequences.{upwards}
 use Rattle.pals_runs.specs.declared.events.EventFault.{EventFault}
-use Rattle.run_laws.specs.Faults.{Reading, found_if, or_else, first_of}
+use Rattle.run_laws.specs.EventFaults.{Reading, found_if, or_else, first_of}
 
 -- ---- one after another
 or_past : (o rest : Option EventFault) → o ≡ None → or_else o rest ≡ rest

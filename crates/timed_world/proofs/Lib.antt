@@ -1,7 +1,7 @@
-pub mod Openings
-pub mod Standings
+pub mod OpeningWorlds
+pub mod NodeStandings
 pub mod FaultTable
-pub mod Flights
-pub mod Moving
-pub mod Refusals
-pub mod Leads
+pub mod SingleFlights
+pub mod FaultlessEvents
+pub mod BusRefusals
+pub mod EventLists

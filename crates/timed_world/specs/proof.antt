@@ -1,6 +1,6 @@
 -- What the theorem of the program does not rest on: definitions of contracts below it, of laws, and of proofs.
-pub mod Standings
-pub mod Values
+pub mod NodeStandings
+pub mod WorldValues
 pub mod Codes
-pub mod Passes
+pub mod FlightFaults
 pub mod EventLists

@@ -7,8 +7,8 @@ ghost use Rattle.pals_node.specs.declared.answers.StartEnd.TheVariants as start;
 ghost use Rattle.pals_node.specs.declared.answers.StepEnd.TheVariants as step;
 ghost use Rattle.pals_bus.specs.declared.refusals.BusError.TheVariants.{Refused};
 ghost use Rattle.pals_bus.specs.declared.refusals.MessageError.TheVariants as message;
-ghost use Rattle.run_laws.specs.Faults.{fault_of};
-ghost use Rattle.timed_world.specs.proof.Values.{Moves, world_of};
+ghost use Rattle.run_laws.specs.EventFaults.{fault_of};
+ghost use Rattle.timed_world.specs.proof.WorldValues.{Moves, world_of};
 
 use crate::world::World;
 use pals_base::{Items, LinkNo, Nanos, NoMemory, NodeNo};

@@ -1,8 +1,8 @@
 //! Why a world refuses an event.
 ghost use Rattle.std.specs.Prelude.{◌≡◌, ◌<◌, length, true};
 ghost use Rattle.pals_runs.specs.declared.events.Event.TheVariants as event;
-ghost use Rattle.run_laws.specs.Faults.{fault_of, event_fault, is_named};
-ghost use Rattle.timed_world.specs.proof.Values.{world_of};
+ghost use Rattle.run_laws.specs.EventFaults.{fault_of, event_fault, is_named};
+ghost use Rattle.timed_world.specs.proof.WorldValues.{world_of};
 
 use crate::standing::too_soon;
 use crate::world::World;

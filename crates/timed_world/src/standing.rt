@@ -5,7 +5,7 @@ ghost use Rattle.pals_runs.specs.declared.events.EventFault.TheVariants as fault
 ghost use Rattle.pals_node.specs.proof.NodeInvariants.{IsPlan};
 ghost use Rattle.bus_machine.specs.NodeEvents.{running_step};
 ghost use Rattle.run_laws.specs.Deadlines.{last_before, lesser};
-ghost use Rattle.run_laws.specs.Faults.{found_if, past};
+ghost use Rattle.run_laws.specs.EventFaults.{found_if, past};
 ghost use Rattle.run_laws.specs.Worlds.{is_last_sent, is_held};
 
 use bus_machine::Plan;
@@ -28,9 +28,9 @@ pub struct NodeStanding {
 }
 
 impl NodeStanding {
-    ghost use Rattle.timed_world.specs.proof.Standings.{IsSound, alarm_of_step, release_of, start_fault, step_fault};
-    ghost use Rattle.timed_world.specs.proof.Standings.{finish_fault, send_fault, may_go, phase_last, send_last};
-    ghost use Rattle.timed_world.specs.proof.Standings.{last_time};
+    ghost use Rattle.timed_world.specs.proof.NodeStandings.{IsSound, alarm_of_step, release_of, start_fault};
+    ghost use Rattle.timed_world.specs.proof.NodeStandings.{step_fault, finish_fault, send_fault, may_go, phase_last};
+    ghost use Rattle.timed_world.specs.proof.NodeStandings.{send_last, last_time};
 
     /// Why it may not start its next round, if so.
     pub fn start_fault(&self, plan: &Plan) -> Option<EventFault>

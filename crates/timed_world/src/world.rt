@@ -5,11 +5,11 @@ ghost use Rattle.pals_base.specs.declared.limits.TheConstants.{COMPONENTS, LINKS
 ghost use Rattle.bus_machine.specs.proof.MachineLaws.{IsRunOf};
 ghost use Rattle.bus_machine.specs.Plans.{plan_of};
 ghost use Rattle.pals_node.specs.proof.NodeInvariants.{IsPlan};
-ghost use Rattle.pals_bus.specs.proof.Values.{AreCodes};
-ghost use Rattle.run_laws.specs.proof.WorldsKeep.{KeepsTime};
+ghost use Rattle.pals_bus.specs.proof.BusPartValues.{AreCodes};
+ghost use Rattle.run_laws.specs.proof.WorldInvariant.{KeepsTime};
 ghost use Rattle.run_laws.specs.Worlds.{flight_since};
-ghost use Rattle.timed_world.specs.proof.Standings.{IsSound, standing_of};
-ghost use Rattle.timed_world.specs.proof.Values.{opening_value, world_of};
+ghost use Rattle.timed_world.specs.proof.NodeStandings.{IsSound, standing_of};
+ghost use Rattle.timed_world.specs.proof.WorldValues.{opening_value, world_of};
 
 use crate::opening::{least_delays, no_moments, no_times};
 use crate::standing::NodeStanding;
@@ -37,7 +37,7 @@ pub struct World {
 }
 
 impl Model for World {
-    ghost use Rattle.timed_world.specs.proof.Values.{WorldValue, KeepsWorld};
+    ghost use Rattle.timed_world.specs.proof.WorldValues.{WorldValue, KeepsWorld};
 
     ghost Value = { WorldValue };
 

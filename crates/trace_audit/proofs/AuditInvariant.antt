@@ -3,7 +3,7 @@ use Rattle.std.proofs.Common.{◌≡◌, ℕ, zero, suc, Bool, true, not, cond, 
 use Rattle.std.proofs.Common.{refl, sym, ap, ◌∙◌, length-set}
 use Rattle.std.specs.Prelude.{is_some, replicate, IfSome}
 use Rattle.std.specs.Option.{unwrap_or}
-use Rattle.pals_base.specs.Steps.{upwards}
+use Rattle.pals_base.specs.StepSequences.{upwards}
 use Rattle.pals_model.specs.declared.design.DesignParts.{DesignParts}
 use Rattle.pals_runs.specs.declared.journal.Arrived.TheVariants.{Kept, Ignored, Early}
 use Rattle.pals_runs.specs.declared.journal.JournalEntry.{JournalEntry}
@@ -15,9 +15,9 @@ use Rattle.bus_machine.specs.Machine.{BusEvent, after}
 use Rattle.run_laws.specs.Entries.{IsEntryIn}
 use Rattle.run_laws.specs.TraceLines.{Timed, event_of, has_reading, timed}
 use Rattle.run_laws.specs.TraceRules.{broken, is_line_of}
-use Rattle.run_laws.specs.Traces.{Audit, audit_after, audit_event, line_broken, noted}
+use Rattle.run_laws.specs.TraceVerdicts.{Audit, audit_after, audit_event, line_broken, noted}
 use Rattle.trace_audit.specs.proof.OwedStops.{owed_by}
-use Rattle.trace_audit.proofs.Numbers.{owed_behind}
+use Rattle.trace_audit.proofs.EntryNumbers.{owed_behind}
 
 pub given : (o : Option ℕ) → is_some o ≡ true → Some (unwrap_or o 0) ≡ o
 given None is = absurd (cc)

@@ -1,11 +1,11 @@
 -- What the theorem of the program does not rest on: definitions of contracts below it, of laws, and of proofs.
-pub mod Clocks
+pub mod EntryClocks
 pub mod FirstRules
-pub mod Events
+pub mod ToldEvents
 pub mod OwedStops
-pub mod Replays
-pub mod Lines
+pub mod AuditReplays
+pub mod RemainingLines
 pub mod ReportRows
-pub mod Reports
-pub mod Words
-pub mod Forms
+pub mod ReportEnds
+pub mod RemainingWords
+pub mod LineForms

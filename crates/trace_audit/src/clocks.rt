@@ -2,10 +2,10 @@
 ghost use Rattle.std.specs.Prelude.{◌≡◌, ◌<◌, length, option_map, IfSome};
 ghost use Rattle.run_laws.specs.TraceLines.{timed, has_reading};
 ghost use Rattle.run_laws.specs.TraceRules.{falls};
-ghost use Rattle.run_laws.specs.Traces.{noted};
+ghost use Rattle.run_laws.specs.TraceVerdicts.{noted};
 ghost use Rattle.bus_machine.specs.States.{link_at};
 ghost use Rattle.run_laws.specs.Entries.{IsEntryIn};
-ghost use Rattle.trace_audit.specs.proof.Clocks.{timed_of, read_at};
+ghost use Rattle.trace_audit.specs.proof.EntryClocks.{timed_of, read_at};
 
 use pals_base::{LinkNo, Nanos, NodeNo};
 use pals_model::Design;

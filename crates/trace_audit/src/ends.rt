@@ -3,8 +3,8 @@ ghost use Rattle.std.specs.Prelude.{◌≡◌};
 ghost use Rattle.std.specs.List.{list_all};
 ghost use Rattle.bus_machine.specs.Nodes.{NodeState};
 ghost use Rattle.bus_machine.specs.States.{finished_by_all};
-ghost use Rattle.run_laws.specs.Traces.{end_broken, is_done};
-ghost use Rattle.trace_audit.specs.proof.Replays.{audit_in};
+ghost use Rattle.run_laws.specs.TraceVerdicts.{end_broken, is_done};
+ghost use Rattle.trace_audit.specs.proof.AuditReplays.{audit_in};
 
 use crate::replay::Replay;
 use pals_base::NodeNo;

@@ -5,7 +5,7 @@ ghost use Rattle.pals_runs.specs.declared.journal.JournalEntry.TheVariants as en
 ghost use Rattle.run_laws.specs.Entries.{IsEntryIn};
 ghost use Rattle.run_laws.specs.TraceLines.{has_reading, timed};
 ghost use Rattle.run_laws.specs.TraceRules.{broken};
-ghost use Rattle.trace_audit.specs.proof.Events.{IsReady, IsRedone};
+ghost use Rattle.trace_audit.specs.proof.ToldEvents.{IsReady, IsRedone};
 
 use crate::clocks::{falls, target};
 use crate::events::{arrive, begin, finish, send, step};

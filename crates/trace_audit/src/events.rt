@@ -10,7 +10,7 @@ ghost use Rattle.bus_machine.specs.NodeEvents.{next_step};
 ghost use Rattle.bus_machine.specs.States.{node_at};
 ghost use Rattle.run_laws.specs.Entries.{IsEntryIn};
 ghost use Rattle.run_laws.specs.TraceRules.{broken};
-ghost use Rattle.trace_audit.specs.proof.Events.{IsReady, SaysStart, IsRedone};
+ghost use Rattle.trace_audit.specs.proof.ToldEvents.{IsReady, SaysStart, IsRedone};
 
 use crate::clocks::{falls, target};
 use crate::rules::{early_rule, is_due, is_last, late_rule};

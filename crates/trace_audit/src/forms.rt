@@ -2,8 +2,8 @@
 ghost use Rattle.std.specs.Prelude.{◌≡◌, ℕ, List, Option, is_some, option_and_then};
 ghost use Rattle.pals_runs.specs.declared.journal.Arrived.{Arrived};
 ghost use Rattle.run_laws.specs.LineForms as lines;
-ghost use Rattle.trace_audit.specs.proof.Words.{words_in};
-ghost use Rattle.trace_audit.specs.proof.Forms.{form_shown, shown};
+ghost use Rattle.trace_audit.specs.proof.RemainingWords.{words_in};
+ghost use Rattle.trace_audit.specs.proof.LineForms.{form_shown, shown};
 
 use crate::numerals::{reading_in, round_in};
 use crate::words::{Words, has_words};
@@ -134,7 +134,7 @@ fn reading(words: &mut Words<'_>) -> Option<Option<Nanos>>
 }
 
 // A form, where no word is left behind it.
-#[tactic(auto, using(crate::proofs::Splitting::words_left))]
+#[tactic(auto, using(crate::proofs::FirstWords::words_left))]
 fn at_end<'a>(form: JournalLine<'a>, words: Words<'a>) -> Option<JournalLine<'a>>
     ensures { form_shown result ≡ lines.at_end (shown form.entry) (words_in words.entry.rest) }
 {

@@ -3,8 +3,8 @@ ghost use Rattle.std.specs.Prelude.{◌≡◌, ◌≤◌, ◌<◌, ◌++◌, ◌
 ghost use Rattle.pals_model.specs.proof.CompositionLaws.Lines.{IsLine};
 ghost use Rattle.pals_model.specs.RoundTexts.{is_line_feed};
 ghost use Rattle.pals_model.specs.Rules.{IsDesign};
-ghost use Rattle.run_laws.specs.Traces.{row_size};
-ghost use Rattle.trace_audit.specs.proof.Lines.{HasLeft};
+ghost use Rattle.run_laws.specs.TraceVerdicts.{row_size};
+ghost use Rattle.trace_audit.specs.proof.RemainingLines.{HasLeft};
 
 use pals_model::Design;
 

@@ -8,7 +8,7 @@ use pals_base::Nanos;
 use pals_base::limits::{READING, ROUNDS};
 
 // What the digits of a word spell, or none where that is above the greatest reading.
-#[tactic(auto, using(crate::proofs::Spelling::spelled_more, crate::proofs::Spelling::spelled_above))]
+#[tactic(auto, using(crate::proofs::SpelledNumerals::spelled_more, crate::proofs::SpelledNumerals::spelled_above))]
 fn spelled(word: &[u8]) -> Option<u64>
     ensures some { IfSome result (λ number. number ≡ spelled word.now) }
     ensures none { IfNone result (READING < spelled word.now) }

@@ -3,9 +3,9 @@ ghost use Rattle.std.specs.Prelude.{◌≡◌, ◌<◌, Option, Some, None, Ok, 
 ghost use Rattle.bus_machine.specs.States.{opening};
 ghost use Rattle.run_laws.specs.Entries.{IsEntryIn};
 ghost use Rattle.run_laws.specs.TraceLines.{has_reading};
-ghost use Rattle.run_laws.specs.Traces.{opening_audit, line_broken};
+ghost use Rattle.run_laws.specs.TraceVerdicts.{opening_audit, line_broken};
 ghost use Rattle.trace_audit.specs.proof.OwedStops.{owed_by};
-ghost use Rattle.trace_audit.specs.proof.Replays.{IsReplay, Follows, IsClockOf, audit_in};
+ghost use Rattle.trace_audit.specs.proof.AuditReplays.{IsReplay, Follows, IsClockOf, audit_in};
 
 use crate::clocks::{ClockReading, clock_of, has_reading, note};
 use crate::entries::redo;

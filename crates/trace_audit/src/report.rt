@@ -1,7 +1,7 @@
 //! The report of a trace: the lines before the first that has a journal line's form.
 ghost use Rattle.std.specs.Prelude.{◌≡◌, ◌^◌, ◌<◌, ◌≤◌, length, IfOk};
 ghost use Rattle.std.specs.Arc.{arc_value};
-ghost use Rattle.trace_audit.specs.proof.Reports.{ReportEnds, end_at, index_of};
+ghost use Rattle.trace_audit.specs.proof.ReportEnds.{ReportEnds, end_at, index_of};
 ghost use Rattle.trace_audit.specs.proof.ReportRows.{IsAtLine};
 
 use crate::has_form;

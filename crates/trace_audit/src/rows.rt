@@ -3,8 +3,8 @@ ghost use Rattle.std.specs.Prelude.{◌≡◌, ◌<◌, ◌+◌, ◌/◌, ◌^�
 ghost use Rattle.std.specs.Arc.{arc_value};
 ghost use Rattle.pals_model.specs.RoundTexts.{composed_lines};
 ghost use Rattle.pals_model.specs.Rules.{IsDesign};
-ghost use Rattle.run_laws.specs.Traces.{line_at, row_size};
-ghost use Rattle.trace_audit.specs.proof.Lines.{HasLeft};
+ghost use Rattle.run_laws.specs.TraceVerdicts.{line_at, row_size};
+ghost use Rattle.trace_audit.specs.proof.RemainingLines.{HasLeft};
 ghost use Rattle.trace_audit.specs.proof.ReportRows.{AreRows, IsAtLine, left_at};
 
 use crate::lines::{RowText, row_size};

@@ -2,7 +2,7 @@
 ghost use Rattle.std.specs.Prelude.{◌≡◌};
 ghost use Rattle.std.specs.List.{list_all, slice_split};
 ghost use Rattle.run_laws.specs.LineForms.{is_there, words_of};
-ghost use Rattle.trace_audit.specs.proof.Words.{is_space, words_in, put_back};
+ghost use Rattle.trace_audit.specs.proof.RemainingWords.{is_space, words_in, put_back};
 
 /// The words of a line that are not read yet: parted by exactly one space each.
 #[derive(Clone, Copy)]
@@ -19,7 +19,7 @@ impl<'a> Words<'a> {
     }
 
     /// The next word, if there is one.
-    #[tactic(auto, using(crate::proofs::Splitting::uncut, crate::proofs::Splitting::cut_once))]
+    #[tactic(auto, using(crate::proofs::FirstWords::uncut, crate::proofs::FirstWords::cut_once))]
     pub fn next(&mut self) -> Option<&'a str>
         ensures { words_in self.old.rest ≡ put_back result (words_in self.new.rest) }
     {

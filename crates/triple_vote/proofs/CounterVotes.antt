@@ -2,9 +2,9 @@
 use Rattle.std.proofs.Common.{◌≡◌, ◌∙◌, ℕ, zero, suc, ◌<◌, [], ◌∷◌, Contains, slice_index_or, refl, sym, ap, arith}
 use Rattle.std.proofs.lemmas.List.Elements.{All-nil, All-cons}
 use Rattle.std.specs.Fmt.{digits}
-use Rattle.pals_base.specs.Fire.{fire}
+use Rattle.pals_base.specs.SingleStep.{fire}
 use Rattle.triple_vote.specs.Replicas.{vcomp, vshown}
-use Rattle.pals_model.specs.proof.Counters.{two_counters}
+use Rattle.pals_model.specs.proof.TwoCounters.{two_counters}
 use Rattle.pals_runs.specs.declared.pairs.VoteFault.{VoteFault}
 use Rattle.triple_vote.specs.proof.VoteLaws.{IsFault}
 use Rattle.triple_vote.specs.proof.CounterVotes.{liar, first_round, OneLiarIsOutvoted, TwoLiarsAreNot, OneLiarText}

@@ -1,5 +1,5 @@
 pub mod Votes
 pub mod Replicas
 pub mod VotedText
-pub mod Outvoted
+pub mod OutvotedFaults
 pub mod proof

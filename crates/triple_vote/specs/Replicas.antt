@@ -5,15 +5,15 @@ use Rattle.std.specs.Prelude.{replicate, Option, None, Some, slice_get, slice_in
 use Rattle.pals_base.specs.declared.values.PortValue.{PortValue}
 use Rattle.pals_base.specs.declared.values.PortValue.TheVariants.{Absent}
 use Rattle.pals_base.specs.declared.values.Frame.{Frame}
-use Rattle.pals_base.specs.Fire.{initial}
-use Rattle.pals_base.specs.Steps.{steps, cut, upwards, Stepped}
-use Rattle.pals_base.specs.Bound.{sent_steps}
+use Rattle.pals_base.specs.SingleStep.{initial}
+use Rattle.pals_base.specs.StepSequences.{steps, cut, upwards, Stepped}
+use Rattle.pals_base.specs.PeriodBound.{sent_steps}
 use Rattle.pals_model.specs.declared.design.Component.{Component}
 use Rattle.pals_model.specs.declared.design.Link.{Link}
 use Rattle.pals_model.specs.declared.design.Tap.{Tap}
 use Rattle.pals_model.specs.declared.design.DesignParts.{DesignParts}
 use Rattle.pals_model.specs.declared.rounds.Env.{Env}
-use Rattle.pals_model.specs.Inputs.{rate_of, inputs_of, values_at}
+use Rattle.pals_model.specs.ComponentInputs.{rate_of, inputs_of, values_at}
 use Rattle.pals_model.specs.Composition.{no_frame}
 use Rattle.pals_runs.specs.declared.pairs.VoteFault.{VoteFault}
 use Rattle.triple_vote.specs.Votes.{votes}

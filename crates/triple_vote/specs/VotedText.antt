@@ -4,12 +4,12 @@ use Rattle.std.specs.Prelude.{ℕ, suc, codes, decimal, Bool, if◌then◌else�
 use Rattle.std.specs.List.{enumerate_from}
 use Rattle.pals_base.specs.declared.values.PortValue.{PortValue}
 use Rattle.pals_base.specs.declared.values.Frame.{Frame}
-use Rattle.pals_base.specs.Steps.{upwards}
+use Rattle.pals_base.specs.StepSequences.{upwards}
 use Rattle.pals_model.specs.declared.design.Component.{Component}
 use Rattle.pals_model.specs.declared.design.Tap.{Tap}
 use Rattle.pals_model.specs.declared.design.DesignParts.{DesignParts}
 use Rattle.pals_model.specs.declared.rounds.Env.{Env}
-use Rattle.pals_model.specs.Ports.{out_kind}
+use Rattle.pals_model.specs.PortKinds.{out_kind}
 use Rattle.pals_model.specs.Composition.{state, steps_of_round, tuple_of}
 use Rattle.pals_model.specs.RoundTexts.{text_of, round_line, component_line, tap_line}
 use Rattle.pals_runs.specs.declared.pairs.VoteFault.{VoteFault}

@@ -1,8 +1,8 @@
 //! The replicas of one number.
 ghost use Rattle.std.specs.Prelude.{◌≡◌, IfOk, OnOk, map};
-ghost use Rattle.pals_model.specs.Inputs.{all_sources};
-ghost use Rattle.sync_product.specs.proof.Sizes.{stage_size, stage_sizes};
-ghost use Rattle.triple_vote.specs.proof.Layers.{HasRoom, IsOpened, StaysPut, IsMade, IsTurned};
+ghost use Rattle.pals_model.specs.ComponentInputs.{all_sources};
+ghost use Rattle.sync_product.specs.proof.ProductSizes.{stage_size, stage_sizes};
+ghost use Rattle.triple_vote.specs.proof.ReplicaLayers.{HasRoom, IsOpened, StaysPut, IsMade, IsTurned};
 
 use crate::opening::{opening_frames, opening_shown};
 use crate::rounds::{run_all, send_all, show_all};

@@ -1,12 +1,12 @@
 //! The three layers of replicas.
 ghost use Rattle.std.specs.Prelude.{◌≡◌, All, IfOk, OnOk, length, map, replicate};
-ghost use Rattle.pals_model.specs.Inputs.{all_sources};
+ghost use Rattle.pals_model.specs.ComponentInputs.{all_sources};
 ghost use Rattle.pals_model.specs.Composition.{opening};
-ghost use Rattle.sync_product.specs.proof.Sizes.{stage_size, stage_sizes};
+ghost use Rattle.sync_product.specs.proof.ProductSizes.{stage_size, stage_sizes};
 ghost use Rattle.triple_vote.specs.proof.FaultPlaces.{AreFirst};
 ghost use Rattle.triple_vote.specs.proof.VoteLaws.{IsFault};
-ghost use Rattle.triple_vote.specs.proof.Triples.{AreThree, AreOpened, AreMade, StayPut, AreHeard, AllReceived};
-ghost use Rattle.triple_vote.specs.proof.Triples.{AreTurned};
+ghost use Rattle.triple_vote.specs.proof.ReplicaTriples.{AreThree, AreOpened, AreMade, StayPut, AreHeard, AllReceived};
+ghost use Rattle.triple_vote.specs.proof.ReplicaTriples.{AreTurned};
 
 use crate::first_faults::FaultTable;
 use crate::layer::Layer;

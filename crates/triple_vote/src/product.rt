@@ -5,7 +5,7 @@ ghost use Rattle.std.specs.Arc.{arc_value};
 ghost use Rattle.pals_model.specs.declared.design.Link.{Link};
 ghost use Rattle.triple_vote.specs.Replicas.{copies_of, frame_at, received_at};
 ghost use Rattle.triple_vote.specs.proof.VoteLaws.{IsFault};
-ghost use Rattle.triple_vote.specs.proof.States.{vbegun, vadvanced};
+ghost use Rattle.triple_vote.specs.proof.VotedStates.{vbegun, vadvanced};
 
 use crate::first_faults::{FaultTable, first_faults};
 use crate::layer::Layer;
@@ -53,14 +53,14 @@ impl Drop for VoteProduct {
 }
 
 impl Model for VoteProduct {
-    ghost use Rattle.triple_vote.specs.proof.States.{VotedState, voted_code};
+    ghost use Rattle.triple_vote.specs.proof.VotedStates.{VotedState, voted_code};
 
     ghost Value = { VotedState };
 
     ghost coded = { voted_code };
 
     ghost use Rattle.std.specs.Arc.{arc_value};
-    ghost use Rattle.triple_vote.specs.proof.Triples.{parts_in, voted_of, HasTables, HasReplicas};
+    ghost use Rattle.triple_vote.specs.proof.ReplicaTriples.{parts_in, voted_of, HasTables, HasReplicas};
 
     ghost view = { λ p. record {
       design = arc_value p.design;

@@ -1,12 +1,12 @@
 //! What replicas receive.
 ghost use Rattle.std.specs.Prelude.{◌≡◌, ◌<◌, ◌^◌, All, Option, length, slice_index_or};
-ghost use Rattle.sync_product.specs.proof.Sizes.{message_sizes};
+ghost use Rattle.sync_product.specs.proof.ProductSizes.{message_sizes};
 ghost use Rattle.triple_vote.specs.Replicas.{fault_or};
 ghost use Rattle.triple_vote.specs.proof.FaultPlaces.{fault_at, AreFirstOn, AreFirst};
-ghost use Rattle.triple_vote.specs.proof.Layers.{lengths};
+ghost use Rattle.triple_vote.specs.proof.ReplicaLayers.{lengths};
 ghost use Rattle.triple_vote.specs.proof.VoteLaws.{IsFault};
-ghost use Rattle.triple_vote.specs.proof.Triples.{AreThree, sent_in, tuple_of, received_of, AreReceived, AreOfSize};
-ghost use Rattle.triple_vote.specs.proof.Triples.{FaultsFit};
+ghost use Rattle.triple_vote.specs.proof.ReplicaTriples.{AreThree, sent_in, tuple_of, received_of, AreReceived};
+ghost use Rattle.triple_vote.specs.proof.ReplicaTriples.{AreOfSize, FaultsFit};
 
 use crate::first_faults::{FaultTable, place};
 use crate::layer::Layer;

@@ -1,9 +1,10 @@
 //! The rounds of the replicas of one number.
 ghost use Rattle.std.specs.Prelude.{◌≡◌, [], OnOk, length, map, slice_index_or};
-ghost use Rattle.pals_model.specs.Inputs.{all_sources};
-ghost use Rattle.sync_product.specs.proof.Sizes.{part_size, stage_size, stage_sizes, message_sizes};
+ghost use Rattle.pals_model.specs.ComponentInputs.{all_sources};
+ghost use Rattle.sync_product.specs.proof.ProductSizes.{part_size, stage_size, stage_sizes, message_sizes};
 ghost use Rattle.sync_product.specs.proof.Rounds.{frames_of};
-ghost use Rattle.triple_vote.specs.proof.Layers.{lengths, frame_sizes, tap_sizes, is_there, AreRun, AreSent, AreWhole};
+ghost use Rattle.triple_vote.specs.proof.ReplicaLayers.{lengths, frame_sizes, tap_sizes, is_there, AreRun, AreSent};
+ghost use Rattle.triple_vote.specs.proof.ReplicaLayers.{AreWhole};
 
 use pals_base::{Items, NoMemory, NodeNo, PortValue, Tuple};
 use pals_model::{Design, Part, PortSource};

@@ -1,8 +1,8 @@
 //! What root out ports show.
 ghost use Rattle.std.specs.Prelude.{◌≡◌, length};
 ghost use Rattle.pals_model.specs.Rules.{IsDesign};
-ghost use Rattle.triple_vote.specs.proof.Layers.{lengths, tap_sizes};
-ghost use Rattle.triple_vote.specs.proof.Triples.{AreThree, shown_in, tuple_of, shown_of, AreShown, AreOfSize};
+ghost use Rattle.triple_vote.specs.proof.ReplicaLayers.{lengths, tap_sizes};
+ghost use Rattle.triple_vote.specs.proof.ReplicaTriples.{AreThree, shown_in, tuple_of, shown_of, AreShown, AreOfSize};
 
 use crate::layer::Layer;
 use crate::rounds::{is_there, tuple_at};

@@ -1,6 +1,6 @@
 -- The schedules of two counters and the faults of events that leave them, computed.
 use Rattle.std.proofs.Common.{refl}
-use Rattle.pals_base.specs.Fire.{fire}
+use Rattle.pals_base.specs.SingleStep.{fire}
 use Rattle.world_gen.specs.proof.CounterSchedules.{CountersAreScheduled, FastIsScheduled, FastFaults}
 
 pub counters_are_scheduled : CountersAreScheduled

@@ -2,14 +2,14 @@
 use Rattle.std.proofs.Common.{◌≡◌, ◌≢◌, ◌∙◌, ℕ, zero, suc, List, [], Contains, cond, refl, sym, ap, ap₂, subst, arith}
 use Rattle.std.specs.Prelude.{codes}
 use Rattle.std.proofs.lemmas.Bool.{ne_eqb, true≢false}
-use Rattle.list_lemmas.proofs.Pairs.{AllPairs-one, AllPairs-three, bytes_ne_by_test}
+use Rattle.list_lemmas.proofs.ElementPairs.{AllPairs-one, AllPairs-three, bytes_ne_by_test}
 use Rattle.pals_base.specs.declared.behaviour.BehaviourParts.{BehaviourParts}
 use Rattle.pals_base.specs.declared.behaviour.PortDecl.{PortDecl}
 use Rattle.pals_base.specs.declared.behaviour.VarDecl.{VarDecl}
 use Rattle.pals_base.specs.declared.behaviour.StateDecl.{StateDecl}
 use Rattle.pals_base.specs.Rules.{IsBehaviour, IsAcyclic}
-use Rattle.pals_base.specs.Tree.{Edge}
-use Rattle.pals_base.specs.Fire.{leaving}
+use Rattle.pals_base.specs.PlainTrees.{Edge}
+use Rattle.pals_base.specs.SingleStep.{leaving}
 use Rattle.world_gen.specs.Rings.{ring_behaviour, ring_state}
 
 no_edge : (k : ℕ) (e : Edge) → Contains (leaving ring_behaviour (suc k)) e → ⊥

@@ -6,30 +6,30 @@ use Rattle.std.specs.Fmt.{decimal, digits}
 use Rattle.std.proofs.lemmas.Bool.{and_parts, leb-true}
 use Rattle.std.proofs.lemmas.Fmt.{decimal_injective}
 use Rattle.std.proofs.lemmas.List.Elements.{All-nil, All-head, All-tail}
-use Rattle.list_lemmas.proofs.Pairs.{AllPairs-nil}
+use Rattle.list_lemmas.proofs.ElementPairs.{AllPairs-nil}
 use Rattle.pals_base.specs.declared.limits.TheConstants.{COMPONENTS, PATH_BYTES}
 use Rattle.pals_base.specs.Names.{is_path}
-use Rattle.pals_base.specs.Allowed.{divides_or_divided, is_allowed, suits_kind}
-use Rattle.pals_base.specs.Fire.{fire}
-use Rattle.pals_base.specs.Steps.{upwards}
+use Rattle.pals_base.specs.AllowedAdaptors.{divides_or_divided, is_allowed, suits_kind}
+use Rattle.pals_base.specs.SingleStep.{fire}
+use Rattle.pals_base.specs.StepSequences.{upwards}
 use Rattle.pals_base.specs.declared.behaviour.Kind.TheVariants.{Integer}
 use Rattle.pals_model.specs.declared.design.Component.{Component}
 use Rattle.pals_model.specs.declared.design.Link.{Link}
 use Rattle.pals_model.specs.declared.design.Feed.{Feed}
 use Rattle.pals_model.specs.declared.design.Tap.{Tap}
 use Rattle.pals_model.specs.declared.design.DesignParts.{DesignParts}
-use Rattle.pals_model.specs.Inputs.{rate_of, rate_in, feed}
-use Rattle.pals_model.specs.Ports.{ins_in, outs_in, in_kind, out_kind}
+use Rattle.pals_model.specs.ComponentInputs.{rate_of, rate_in, feed}
+use Rattle.pals_model.specs.PortKinds.{ins_in, outs_in, in_kind, out_kind}
 use Rattle.pals_model.specs.Composition.{comp, state}
 use Rattle.pals_model.specs.Rules.{IsComponent, IsSource, IsTarget, IsLink, IsFeed, IsTap, IsApart, AgreeInKind}
 use Rattle.pals_model.specs.Rules.{LinkPrecedes, FeedPrecedes, greatest_rate, IsDesign}
-use Rattle.pals_model.proofs.Lookups.{at_element}
-use Rattle.pals_model.proofs.Words.{all_pass}
+use Rattle.pals_model.proofs.FirstElements.{at_element}
+use Rattle.pals_model.proofs.WordBytes.{all_pass}
 use Rattle.run_laws.proofs.Lists.{upwards_at}
 use Rattle.world_gen.specs.Rings.{ring_rate, ring_path, rate_by, ring_adaptor, before_in, ring_component, ring_link}
 use Rattle.world_gen.specs.Rings.{ring_bounds, ring}
 use Rattle.world_gen.specs.proof.RingLaws.{RingsAreDesigns, RingsAddUp}
-use Rattle.world_gen.proofs.Numbered.{length-numbered, numbered_get, numbered_all, numbered_pairs}
+use Rattle.world_gen.proofs.NumberedLists.{length-numbered, numbered_get, numbered_all, numbered_pairs}
 use Rattle.world_gen.proofs.RingBehaviours.{ring_behaves}
 
 -- ---- rates

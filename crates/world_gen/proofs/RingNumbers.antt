@@ -14,26 +14,26 @@ use Rattle.pals_base.specs.declared.values.PortValue.{PortValue}
 use Rattle.pals_base.specs.Expressions.{eval, on_value}
 use Rattle.pals_base.specs.Arithmetic.{modulus_of}
 use Rattle.pals_base.specs.Actions.{Effect, acts, with_vars}
-use Rattle.pals_base.specs.Tree.{Edge, Emit, Variable, Do, Nothing, Actions}
-use Rattle.pals_base.specs.Fire.{Fired, holding, is_present, silence, is_dispatch, is_complete, along, settled}
-use Rattle.pals_base.specs.Fire.{dispatched, reaction, unless_halted, fire, initial}
-use Rattle.pals_base.specs.Steps.{Stepped, frame_after, steps, upwards}
+use Rattle.pals_base.specs.PlainTrees.{Edge, Emit, Variable, Do, Nothing, Actions}
+use Rattle.pals_base.specs.SingleStep.{Fired, holding, is_present, silence, is_dispatch, is_complete, along, settled}
+use Rattle.pals_base.specs.SingleStep.{dispatched, reaction, unless_halted, fire, initial}
+use Rattle.pals_base.specs.StepSequences.{Stepped, frame_after, steps, upwards}
 use Rattle.pals_base.proofs.Division.{modulus_of-is}
 use Rattle.pals_model.specs.declared.design.Component.{Component}
 use Rattle.pals_model.specs.declared.design.DesignParts.{DesignParts}
-use Rattle.pals_model.specs.Inputs.{no_env, inputs_of, values_at}
+use Rattle.pals_model.specs.ComponentInputs.{no_env, inputs_of, values_at}
 use Rattle.pals_model.specs.Composition.{steps_from, comp, state, no_frame}
 use Rattle.pals_model.specs.declared.design.Link.{Link}
 use Rattle.pals_runs.specs.declared.journal.Phase.{Phase}
 use Rattle.pals_runs.specs.declared.journal.Phase.TheVariants.{Done}
 use Rattle.bus_machine.specs.Nodes.{NodeState, round_of}
 use Rattle.bus_machine.specs.States.{Run, BusState, node_at, link_at, no_link}
-use Rattle.bus_machine.specs.Stops.{sent_rounds, rounds_sent_on}
+use Rattle.bus_machine.specs.MissedStarts.{sent_rounds, rounds_sent_on}
 use Rattle.bus_machine.specs.Agreement.{IsAtRest, PhaseAgrees, Agrees}
 use Rattle.world_gen.specs.Rings.{number_sum, next_number, ring_actions, ring_edge, ring_behaviour, before_in}
 use Rattle.world_gen.specs.Rings.{ring_component, ring_link, ring, ring_number}
 use Rattle.world_gen.specs.proof.RingLaws.{RingNumbersAreSmall, ring_run, number_at, IsRingDone, DoneRingsAddUp}
-use Rattle.world_gen.proofs.Numbered.{numbered_get, numbered_at, numbered_all}
+use Rattle.world_gen.proofs.NumberedLists.{numbered_get, numbered_at, numbered_all}
 use Rattle.world_gen.proofs.RingDesigns.{before_below}
 
 -- ---- what is left modulo 1000

@@ -13,21 +13,21 @@ use Rattle.pals_runs.specs.declared.events.Event.TheVariants as event
 use Rattle.pals_runs.specs.declared.journal.Arrived.TheVariants.{Kept}
 use Rattle.bus_machine.specs.NodeEvents.{slot_at}
 use Rattle.bus_machine.specs.States.{Run, BusState, node_at, flight_at, link_at}
-use Rattle.bus_machine.specs.Stops.{rounds_sent_on}
+use Rattle.bus_machine.specs.MissedStarts.{rounds_sent_on}
 use Rattle.bus_machine.specs.proof.MachineLaws.{IsRunOf}
 use Rattle.run_laws.specs.Worlds.{World, since_at, ready_at, sendings, flight_since, world_after}
-use Rattle.run_laws.specs.Faults.{fault_of}
-use Rattle.bus_machine.proofs.States.{node_set, node_stays}
-use Rattle.run_laws.specs.proof.WorldsKeep.{copies, one_if}
+use Rattle.run_laws.specs.EventFaults.{fault_of}
+use Rattle.bus_machine.proofs.AgreementChanges.{node_set, node_stays}
+use Rattle.run_laws.specs.proof.WorldInvariant.{copies, one_if}
 use Rattle.world_gen.specs.proof.Schedules.{send_time, arrive_time, which}
 use Rattle.run_laws.proofs.Lists.{count_without}
-use Rattle.run_laws.proofs.Links.{rule_of, under_way, counts_in_flight, one_of_true, one_of_false}
-use Rattle.run_laws.proofs.Faults.{ArrivesInTime, arrives_in_time}
-use Rattle.world_gen.proofs.NoFaults.{arrival_is_fine}
-use Rattle.run_laws.proofs.Arrivals.{the_oldest}
-use Rattle.run_laws.proofs.Arrivals as arrive
+use Rattle.run_laws.proofs.WorldLinks.{rule_of, under_way, counts_in_flight, one_of_true, one_of_false}
+use Rattle.run_laws.proofs.FaultlessEvents.{ArrivesInTime, arrives_in_time}
+use Rattle.world_gen.proofs.FaultlessEvents.{arrival_is_fine}
+use Rattle.run_laws.proofs.ArrivalTiming.{the_oldest}
+use Rattle.run_laws.proofs.ArrivalTiming as arrive
 use Rattle.world_gen.proofs.ScheduleTimes.{which_is, sends_rise}
-use Rattle.world_gen.proofs.Follows.{NodeFollows, LinkFollows, Follows, nodes_follow, follows_put}
+use Rattle.world_gen.proofs.FollowingWorlds.{NodeFollows, LinkFollows, Follows, nodes_follow, follows_put}
 
 module _ (run : Run) (rules : IsRunOf run) (w : World) (moment : ℕ) (fin st se ar : ℕ → ℕ)
     (follows : Follows run w moment fin st se ar)

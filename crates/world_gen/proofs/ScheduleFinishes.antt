@@ -6,7 +6,7 @@ use Rattle.std.proofs.lemmas.Bool.{eqb-true}
 use Rattle.std.proofs.lemmas.Grind.{get_or-set_at}
 use Rattle.std.proofs.lemmas.List.{get_or-set_other}
 use Rattle.pals_base.specs.declared.values.NodeNo.{NodeNo}
-use Rattle.pals_base.specs.Bound.{alarm}
+use Rattle.pals_base.specs.PeriodBound.{alarm}
 use Rattle.pals_runs.specs.declared.events.Event.{Event}
 use Rattle.pals_runs.specs.declared.events.Event.TheVariants as event
 use Rattle.pals_runs.specs.declared.journal.Phase.{Phase}
@@ -18,16 +18,17 @@ use Rattle.bus_machine.specs.NodeEvents.{running_step, may_send}
 use Rattle.bus_machine.specs.States.{Run, node_at, with_node}
 use Rattle.bus_machine.specs.proof.MachineLaws.{IsRunOf}
 use Rattle.run_laws.specs.Worlds.{World, since_at, ready_at, sendings, moved, world_after}
-use Rattle.run_laws.specs.Faults.{fault_of}
-use Rattle.bus_machine.proofs.States.{node_set, node_stays}
+use Rattle.run_laws.specs.EventFaults.{fault_of}
+use Rattle.bus_machine.proofs.AgreementChanges.{node_set, node_stays}
 use Rattle.world_gen.specs.proof.Schedules.{step_time, finish_time, send_time, which, step_count}
-use Rattle.run_laws.proofs.Faults.{FinishesInTime, finishes_in_time}
-use Rattle.world_gen.proofs.NoFaults.{finish_is_fine}
-use Rattle.run_laws.proofs.Changes.{moved_here, moved_other}
-use Rattle.run_laws.proofs.Finishes.{Ends, goes_on, holds, waits_next, is_done, not_running}
-use Rattle.run_laws.proofs.Finishes as finish
+use Rattle.run_laws.proofs.FaultlessEvents.{FinishesInTime, finishes_in_time}
+use Rattle.world_gen.proofs.FaultlessEvents.{finish_is_fine}
+use Rattle.run_laws.proofs.WorldChanges.{moved_here, moved_other}
+use Rattle.run_laws.proofs.FinishTiming.{Ends, goes_on, holds, waits_next, is_done, not_running}
+use Rattle.run_laws.proofs.FinishTiming as finish
 use Rattle.world_gen.proofs.ScheduleTimes.{Made, which_is, which_next, made_next, step_is, finishes_rise}
-use Rattle.world_gen.proofs.Follows.{begun_by, ended_by, NodeFollows, Follows, follows_again, follows_put, links_follow}
+use Rattle.world_gen.proofs.FollowingWorlds.{begun_by, ended_by, NodeFollows, Follows, follows_again, follows_put}
+use Rattle.world_gen.proofs.FollowingWorlds.{links_follow}
 
 -- how many steps are begun where a step ends, and how many are finished
 full_round : (count round k step : ℕ) → count ≡ suc round → step < k → k ≤ step + 1

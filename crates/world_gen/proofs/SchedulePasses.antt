@@ -7,8 +7,8 @@ use Rattle.std.proofs.lemmas.List.{get_or_past}
 use Rattle.std.proofs.lemmas.List.Sums.{get_or-le-sum_by}
 use Rattle.std.proofs.lemmas.Nat.{mul-le}
 use Rattle.std.proofs.lemmas.Option.{slice_get_within, get_or_from_slice_get}
-use Rattle.bus_machine.proofs.Moves.{sent_most}
-use Rattle.pals_base.specs.Bound.{alarm}
+use Rattle.bus_machine.proofs.NodeQuantities.{sent_most}
+use Rattle.pals_base.specs.PeriodBound.{alarm}
 use Rattle.pals_model.specs.declared.flight.FlightCopy.{FlightCopy}
 use Rattle.pals_model.specs.Flights.{is_of}
 use Rattle.pals_runs.specs.declared.events.Event.TheVariants as event
@@ -17,25 +17,25 @@ use Rattle.pals_runs.specs.declared.journal.Phase.TheVariants.{Waiting, Running,
 use Rattle.bus_machine.specs.Plans.{plan_of, component_at}
 use Rattle.bus_machine.specs.Nodes.{NodeState}
 use Rattle.bus_machine.specs.NodeEvents.{may_send, slot_at}
-use Rattle.bus_machine.specs.Alarms.{start_alarm, step_alarm, release_alarm}
+use Rattle.bus_machine.specs.EarliestReadings.{start_alarm, step_alarm, release_alarm}
 use Rattle.bus_machine.specs.States.{Run, node_at, flight_at, link_at}
-use Rattle.bus_machine.specs.Stops.{sent_rounds, rounds_sent_on}
+use Rattle.bus_machine.specs.MissedStarts.{sent_rounds, rounds_sent_on}
 use Rattle.bus_machine.specs.Agreement.{PhaseAgrees}
 use Rattle.bus_machine.specs.proof.MachineLaws.{IsRunOf}
 use Rattle.run_laws.specs.Deadlines.{last_before, node_deadline, message_deadline}
 use Rattle.run_laws.specs.Worlds.{World, reading_at, since_at, ready_at, sendings, world_after}
-use Rattle.run_laws.specs.Faults.{fault_of}
-use Rattle.bus_machine.proofs.Nodes.{MaySend, may_send_of}
-use Rattle.run_laws.specs.proof.WorldsKeep.{IsInTime, copies}
+use Rattle.run_laws.specs.EventFaults.{fault_of}
+use Rattle.bus_machine.proofs.NodeAgreement.{MaySend, may_send_of}
+use Rattle.run_laws.specs.proof.WorldInvariant.{IsInTime, copies}
 use Rattle.world_gen.specs.proof.Schedules.{step_time, finish_time, send_time, arrive_time, step_count, events_at}
-use Rattle.run_laws.proofs.Nodes.{may_is, component_is, phase_agrees, rounds_at_most, both_in_time, sends_in_time}
-use Rattle.run_laws.proofs.Nodes.{phase_last, send_last, deadline_is}
-use Rattle.run_laws.proofs.Links.{rule_of, one_of_true, under_way}
-use Rattle.world_gen.proofs.NoFaults.{pass_is_fine, replicate_at}
-use Rattle.run_laws.proofs.Passes.{passes_in_time, pass_keeps_time}
+use Rattle.run_laws.proofs.WorldNodes.{may_is, component_is, phase_agrees, rounds_at_most, both_in_time, sends_in_time}
+use Rattle.run_laws.proofs.WorldNodes.{phase_last, send_last, deadline_is}
+use Rattle.run_laws.proofs.WorldLinks.{rule_of, one_of_true, under_way}
+use Rattle.world_gen.proofs.FaultlessEvents.{pass_is_fine, replicate_at}
+use Rattle.run_laws.proofs.TimePassage.{passes_in_time, pass_keeps_time}
 use Rattle.world_gen.proofs.ScheduleTimes.{Made, made_later, which_none, step_is, some_rate}
-use Rattle.world_gen.proofs.ScheduleQuiet.{IsQuiet, is_quiet}
-use Rattle.world_gen.proofs.Follows.{begun_by, ended_by, NodeFollows, Follows}
+use Rattle.world_gen.proofs.QuietTimes.{IsQuiet, is_quiet}
+use Rattle.world_gen.proofs.FollowingWorlds.{begun_by, ended_by, NodeFollows, Follows}
 
 abbrev pub all_at : ℕ → ℕ → ℕ
 all_at time j = time

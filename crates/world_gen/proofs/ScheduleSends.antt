@@ -7,7 +7,7 @@ use Rattle.std.proofs.lemmas.List.{get_or-set_other, get_or_append_left}
 use Rattle.std.proofs.lemmas.Nat.{mul-le}
 use Rattle.std.proofs.Math.Seq.{get_or-append_seam}
 use Rattle.pals_base.specs.declared.values.NodeNo.{NodeNo}
-use Rattle.pals_base.specs.Bound.{alarm}
+use Rattle.pals_base.specs.PeriodBound.{alarm}
 use Rattle.pals_model.specs.declared.flight.FlightCopy.{FlightCopy}
 use Rattle.pals_model.specs.Flights.{is_of}
 use Rattle.pals_runs.specs.declared.events.Event.{Event}
@@ -18,25 +18,26 @@ use Rattle.bus_machine.specs.Plans.{plan_of, component_at}
 use Rattle.bus_machine.specs.Nodes.{NodeState, finished_steps, at_rest}
 use Rattle.bus_machine.specs.NodeEvents.{after_send, may_send}
 use Rattle.bus_machine.specs.States.{Run, node_at, flight_at, link_at}
-use Rattle.bus_machine.specs.Stops.{sent_rounds, rounds_sent_on}
+use Rattle.bus_machine.specs.MissedStarts.{sent_rounds, rounds_sent_on}
 use Rattle.bus_machine.specs.Agreement.{PhaseAgrees}
 use Rattle.bus_machine.specs.proof.MachineLaws.{IsRunOf}
 use Rattle.run_laws.specs.Worlds.{World, since_at, ready_at, sendings, moved, is_held, world_after}
-use Rattle.run_laws.specs.Faults.{fault_of}
-use Rattle.bus_machine.proofs.States.{node_set, node_stays}
-use Rattle.run_laws.specs.proof.WorldsKeep.{copies, one_if}
+use Rattle.run_laws.specs.EventFaults.{fault_of}
+use Rattle.bus_machine.proofs.AgreementChanges.{node_set, node_stays}
+use Rattle.run_laws.specs.proof.WorldInvariant.{copies, one_if}
 use Rattle.world_gen.specs.proof.Schedules.{step_time, finish_time, send_time, arrive_time, which, step_count}
 use Rattle.run_laws.proofs.Lists.{count_more}
-use Rattle.run_laws.proofs.Nodes.{fits_at, may_be, phase_agrees, rounds_at_most}
-use Rattle.run_laws.proofs.Links.{one_of_true}
-use Rattle.run_laws.proofs.Faults.{SendsInTime, sends_in_time}
-use Rattle.world_gen.proofs.NoFaults.{send_is_fine}
-use Rattle.run_laws.proofs.Changes.{moved_here, moved_other}
-use Rattle.run_laws.proofs.Sends.{runs_before, one_is}
-use Rattle.run_laws.proofs.Sends as send
+use Rattle.run_laws.proofs.WorldNodes.{fits_at, may_be, phase_agrees, rounds_at_most}
+use Rattle.run_laws.proofs.WorldLinks.{one_of_true}
+use Rattle.run_laws.proofs.FaultlessEvents.{SendsInTime, sends_in_time}
+use Rattle.world_gen.proofs.FaultlessEvents.{send_is_fine}
+use Rattle.run_laws.proofs.WorldChanges.{moved_here, moved_other}
+use Rattle.run_laws.proofs.SendTiming.{runs_before, one_is}
+use Rattle.run_laws.proofs.SendTiming as send
 use Rattle.world_gen.proofs.ScheduleTimes.{Made, which_is, which_next, made_next, step_is, sends_rise, send_after}
 use Rattle.world_gen.proofs.ScheduleTimes.{some_rate}
-use Rattle.world_gen.proofs.Follows.{begun_by, ended_by, NodeFollows, LinkFollows, Follows, follows_again, follows_put}
+use Rattle.world_gen.proofs.FollowingWorlds.{begun_by, ended_by, NodeFollows, LinkFollows, Follows, follows_again}
+use Rattle.world_gen.proofs.FollowingWorlds.{follows_put}
 
 -- a send leaves the steps that are begun and finished
 rest_begun : (k count : ℕ) (all : Bool) → begun_by k count (at_rest all) ≡ count * k

@@ -8,7 +8,7 @@ use Rattle.std.proofs.lemmas.Grind.{get_or-set_at}
 use Rattle.std.proofs.lemmas.List.{get_or-set_other}
 use Rattle.std.proofs.lemmas.Nat.{mod-mul-add}
 use Rattle.pals_base.specs.declared.values.NodeNo.{NodeNo}
-use Rattle.pals_base.specs.Bound.{alarm}
+use Rattle.pals_base.specs.PeriodBound.{alarm}
 use Rattle.pals_runs.specs.declared.events.Event.{Event}
 use Rattle.pals_runs.specs.declared.events.Event.TheVariants as event
 use Rattle.pals_runs.specs.declared.journal.Phase.{Phase}
@@ -16,23 +16,24 @@ use Rattle.pals_runs.specs.declared.journal.Phase.TheVariants.{Waiting, Running,
 use Rattle.bus_machine.specs.Plans.{plan_of, component_at}
 use Rattle.bus_machine.specs.Nodes.{NodeState}
 use Rattle.bus_machine.specs.NodeEvents.{is_waiting, next_step, stepped}
-use Rattle.bus_machine.specs.Alarms.{step_alarm}
+use Rattle.bus_machine.specs.EarliestReadings.{step_alarm}
 use Rattle.bus_machine.specs.States.{Run, node_at, with_node}
-use Rattle.bus_machine.specs.Stops.{sent_rounds}
+use Rattle.bus_machine.specs.MissedStarts.{sent_rounds}
 use Rattle.bus_machine.specs.Agreement.{PhaseAgrees}
 use Rattle.bus_machine.specs.proof.MachineLaws.{IsRunOf}
 use Rattle.run_laws.specs.Worlds.{World, reading_at, since_at, ready_at, sendings, world_after}
-use Rattle.run_laws.specs.Faults.{fault_of}
-use Rattle.bus_machine.proofs.States.{node_set, node_stays}
+use Rattle.run_laws.specs.EventFaults.{fault_of}
+use Rattle.bus_machine.proofs.AgreementChanges.{node_set, node_stays}
 use Rattle.world_gen.specs.proof.Schedules.{step_time, finish_time, send_time, which, step_count, begins}
-use Rattle.run_laws.proofs.Nodes.{fits_at, phase_agrees, rounds_at_most}
-use Rattle.run_laws.proofs.Faults.{StartsInTime, starts_in_time, StepsInTime, steps_in_time}
-use Rattle.world_gen.proofs.NoFaults.{start_is_fine, step_is_fine}
-use Rattle.run_laws.proofs.Starts as start
-use Rattle.run_laws.proofs.StepsOn as on
+use Rattle.run_laws.proofs.WorldNodes.{fits_at, phase_agrees, rounds_at_most}
+use Rattle.run_laws.proofs.FaultlessEvents.{StartsInTime, starts_in_time, StepsInTime, steps_in_time}
+use Rattle.world_gen.proofs.FaultlessEvents.{start_is_fine, step_is_fine}
+use Rattle.run_laws.proofs.StartTiming as start
+use Rattle.run_laws.proofs.StepTiming as on
 use Rattle.world_gen.proofs.ScheduleTimes.{Made, which_is, which_next, made_next, step_is, steps_rise, next_step_after}
 use Rattle.world_gen.proofs.ScheduleTimes.{send_before, some_rate}
-use Rattle.world_gen.proofs.Follows.{begun_by, ended_by, NodeFollows, Follows, follows_again, follows_put, links_follow}
+use Rattle.world_gen.proofs.FollowingWorlds.{begun_by, ended_by, NodeFollows, Follows, follows_again, follows_put}
+use Rattle.world_gen.proofs.FollowingWorlds.{links_follow}
 
 pred_is : (n m : ℕ) → n ≡ suc m → n - 1 ≡ m
 pred_is n m is = omega arith

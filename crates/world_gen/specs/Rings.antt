@@ -12,14 +12,14 @@ use Rattle.pals_base.specs.declared.behaviour.PortDecl.{PortDecl}
 use Rattle.pals_base.specs.declared.behaviour.VarDecl.{VarDecl}
 use Rattle.pals_base.specs.declared.behaviour.StateDecl.{StateDecl}
 use Rattle.pals_base.specs.declared.behaviour.BehaviourParts.{BehaviourParts}
-use Rattle.pals_base.specs.Steps.{upwards}
-use Rattle.pals_base.specs.Tree.{Expression, Literal, Variable, PortRead, Chain, NoMore, Then, Assign, Emit, Actions}
-use Rattle.pals_base.specs.Tree.{Nothing, Do, Dispatch, Edge}
+use Rattle.pals_base.specs.StepSequences.{upwards}
+use Rattle.pals_base.specs.PlainTrees.{Expression, Literal, Variable, PortRead, Chain, NoMore, Then, Assign, Emit}
+use Rattle.pals_base.specs.PlainTrees.{Actions, Nothing, Do, Dispatch, Edge}
 use Rattle.pals_model.specs.declared.design.Component.{Component}
 use Rattle.pals_model.specs.declared.design.Link.{Link}
 use Rattle.pals_model.specs.declared.design.DesignParts.{DesignParts}
 use Rattle.pals_model.specs.Composition.{state}
-use Rattle.pals_model.specs.Inputs.{no_env}
+use Rattle.pals_model.specs.ComponentInputs.{no_env}
 
 -- ---- what each component does
 abbrev pub number_port : List ℕ → PortDecl

@@ -2,5 +2,5 @@
 pub mod Schedules
 pub mod CounterSchedules
 pub mod ScheduleLaws
-pub mod Courses
+pub mod EventSeries
 pub mod RingLaws

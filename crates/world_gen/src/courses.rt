@@ -2,7 +2,7 @@
 //! nanoseconds.
 ghost use Rattle.std.specs.Prelude.{◌≡◌, ◌<◌, IfSome, option_map};
 ghost use Rattle.world_gen.specs.proof.Schedules.{which};
-ghost use Rattle.world_gen.specs.proof.Courses.{HasSteps, deed_event, IsCourse, time_of, next_of};
+ghost use Rattle.world_gen.specs.proof.EventSeries.{HasSteps, deed_event, IsEventSeries, time_of, next_of};
 
 use pals_base::{LinkNo, Nanos, NodeNo};
 use pals_runs::Event;
@@ -54,7 +54,7 @@ pub struct EventSeries {
 impl EventSeries {
     // The time of the deed of a number.
     fn time(&self, number: u32) -> Nanos
-        requires course { IsCourse self.now }
+        requires course { IsEventSeries self.now }
         requires within { number < self.now.count }
         ensures { result ≡ time_of self.now number }
     {
@@ -63,7 +63,7 @@ impl EventSeries {
 
     // The number of the next deed from a time on, or none.
     fn next(&self, from: Nanos) -> Option<u32>
-        requires { IsCourse self.now }
+        requires { IsEventSeries self.now }
         ensures value { result ≡ next_of self.now from }
         ensures within { IfSome result (λ number. number < self.now.count) }
     {
@@ -77,7 +77,7 @@ impl EventSeries {
 
     /// The time of the next deed from a time on, or none.
     pub fn next_time(&self, from: Nanos) -> Option<Nanos>
-        requires { IsCourse self.now }
+        requires { IsEventSeries self.now }
         ensures { result ≡ option_map (time_of self.now) (next_of self.now from) }
     {
         self.next(from).map(|number| self.time(number))
@@ -85,7 +85,7 @@ impl EventSeries {
 
     /// The number of the deed of a moment, or none.
     pub fn number_at(&self, moment: Nanos) -> Option<u32>
-        requires { IsCourse self.now }
+        requires { IsEventSeries self.now }
         ensures value { result ≡ which (time_of self.now) self.now.count moment }
         ensures within { IfSome result (λ number. number < self.now.count) }
     {

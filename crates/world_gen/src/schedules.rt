@@ -6,7 +6,7 @@ ghost use Rattle.pals_model.specs.declared.rounds.Env.{Env};
 ghost use Rattle.run_laws.specs.Worlds.{world_run};
 ghost use Rattle.world_gen.specs.proof.Schedules.{IsScheduleOf};
 ghost use Rattle.world_gen.specs.proof.ScheduleLaws.{IsWhole};
-ghost use Rattle.world_gen.specs.proof.Courses.{IsCourse, moment_events};
+ghost use Rattle.world_gen.specs.proof.EventSeries.{IsEventSeries, moment_events};
 
 use crate::courses::EventSeries;
 use crate::timetables::{add_events, next_moment, timetable};
@@ -30,7 +30,7 @@ fn add_moment(
     courses: &[EventSeries],
     moment: Nanos,
 ) -> Result<(), NoMemory>
-    requires { All IsCourse courses.now }
+    requires { All IsEventSeries courses.now }
     ensures { OnOk result (events.new ≡ events.old ++ moment_events nodes courses.now moment) }
 {
     events.push(Event::Pass {

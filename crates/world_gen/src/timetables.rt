@@ -3,9 +3,9 @@ ghost use Rattle.std.specs.Prelude.{◌≡◌, ◌<◌, ◌≤◌, ◌++◌, len
 ghost use Rattle.pals_base.specs.declared.limits.TheConstants.{ROUNDS};
 ghost use Rattle.run_laws.specs.Deadlines.{lesser};
 ghost use Rattle.world_gen.specs.proof.Schedules.{send_time};
-ghost use Rattle.world_gen.specs.proof.Courses.{IsCourse, begin_course, finish_course, send_course, arrive_course};
-ghost use Rattle.world_gen.specs.proof.Courses.{begin_courses, finish_courses, send_courses, arrive_courses, timetable};
-ghost use Rattle.world_gen.specs.proof.Courses.{next_moment, events_of};
+ghost use Rattle.world_gen.specs.proof.EventSeries.{IsEventSeries, begin_course, finish_course, send_course};
+ghost use Rattle.world_gen.specs.proof.EventSeries.{arrive_course, begin_courses, finish_courses, send_courses};
+ghost use Rattle.world_gen.specs.proof.EventSeries.{arrive_courses, timetable, next_moment, events_of};
 
 use crate::courses::{EventKind, EventSeries};
 use pals_base::bound::step_period;
@@ -86,7 +86,7 @@ fn arrive_course(design: &Design, rounds: u32, link: LinkNo) -> EventSeries
     }
 }
 
-#[tactic(auto, using(crate::proofs::Numbered::add_numbered))]
+#[tactic(auto, using(crate::proofs::NumberedLists::add_numbered))]
 fn add_begins(
     courses: &mut Items<EventSeries>,
     design: &Design,
@@ -101,7 +101,7 @@ fn add_begins(
     Ok(())
 }
 
-#[tactic(auto, using(crate::proofs::Numbered::add_numbered))]
+#[tactic(auto, using(crate::proofs::NumberedLists::add_numbered))]
 fn add_finishes(
     courses: &mut Items<EventSeries>,
     design: &Design,
@@ -116,7 +116,7 @@ fn add_finishes(
     Ok(())
 }
 
-#[tactic(auto, using(crate::proofs::Numbered::add_numbered))]
+#[tactic(auto, using(crate::proofs::NumberedLists::add_numbered))]
 fn add_sends(courses: &mut Items<EventSeries>, design: &Design, rounds: u32) -> Result<(), NoMemory>
     ensures { OnOk result (courses.new ≡ courses.old ++ send_courses design.now rounds) }
 {
@@ -126,7 +126,7 @@ fn add_sends(courses: &mut Items<EventSeries>, design: &Design, rounds: u32) -> 
     Ok(())
 }
 
-#[tactic(auto, using(crate::proofs::Numbered::add_numbered))]
+#[tactic(auto, using(crate::proofs::NumberedLists::add_numbered))]
 fn add_arrivals(
     courses: &mut Items<EventSeries>,
     design: &Design,
@@ -176,7 +176,7 @@ fn lesser(a: Option<Nanos>, b: Option<Nanos>) -> Option<Nanos>
 
 /// The next moment, from a time on, at which one of the courses goes on, or none.
 pub fn next_moment(courses: &[EventSeries], from: Nanos) -> Option<Nanos>
-    requires { All IsCourse courses.now }
+    requires { All IsEventSeries courses.now }
     ensures { result ≡ next_moment courses.now from }
 {
     let mut moment = None;
@@ -192,7 +192,7 @@ pub fn add_events(
     courses: &[EventSeries],
     moment: Nanos,
 ) -> Result<(), NoMemory>
-    requires { All IsCourse courses.now }
+    requires { All IsEventSeries courses.now }
     ensures { OnOk result (events.new ≡ events.old ++ events_of courses.now moment) }
 {
     for course in courses {

@@ -1,3 +1,3 @@
-pub mod Within
+pub mod EventsWithinBounds
 pub mod WorldTexts
-pub mod Rings
+pub mod RingSums

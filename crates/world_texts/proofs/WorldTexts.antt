@@ -15,23 +15,23 @@ use Rattle.pals_runs.specs.declared.events.EventFault.TheVariants.{BadName}
 use Rattle.bus_machine.specs.States.{Run}
 use Rattle.bus_machine.specs.Machine.{Start, Step, Finish, Send, Arrive, Drop, Repeat}
 use Rattle.bus_machine.specs.proof.MachineLaws.{IsRunOf}
-use Rattle.pals_bus.specs.Values.{BusValue}
-use Rattle.pals_bus.specs.Loose.{IsNamedIn}
+use Rattle.pals_bus.specs.BusValues.{BusValue}
+use Rattle.pals_bus.specs.LooseEvents.{IsNamedIn}
 use Rattle.run_laws.specs.Worlds.{World, reading_at}
-use Rattle.run_laws.specs.Faults.{fault_of, event_fault, is_named, IsWithin}
+use Rattle.run_laws.specs.EventFaults.{fault_of, event_fault, is_named, IsWithin}
 use Rattle.run_laws.specs.EventLists.{world_left}
-use Rattle.run_laws.proofs.Worlds.{lists_go_right}
-use Rattle.loose_world.specs.proof.Finished.{finished_lines}
-use Rattle.loose_world.specs.Worlds.{InTurn, told_by}
-use Rattle.loose_world.specs.proof.Histories.{Undergoes}
-use Rattle.loose_world.proofs.Turns.{turns_next, told_more}
-use Rattle.loose_world.proofs.Texts.{world_is_told}
-use Rattle.timed_world.specs.proof.Values.{WorldValue, world_of, opening_value, Moves}
+use Rattle.run_laws.proofs.TimelyWorlds.{lists_go_right}
+use Rattle.loose_world.specs.proof.FinishedRows.{finished_lines}
+use Rattle.loose_world.specs.LooseRuns.{InTurn, told_by}
+use Rattle.loose_world.specs.proof.UndergoneEvents.{Undergoes}
+use Rattle.loose_world.proofs.EventSequences.{turns_next, told_more}
+use Rattle.loose_world.proofs.WorldTexts.{world_is_told}
+use Rattle.timed_world.specs.proof.WorldValues.{WorldValue, world_of, opening_value, Moves}
 use Rattle.timed_world.specs.proof.EventLists.{EndsAt}
-use Rattle.timed_world.proofs.Leads.{leads_none}
+use Rattle.timed_world.proofs.EventLists.{leads_none}
 use Rattle.world_texts.specs.WorldTexts.{IsToldWorld, IsFirstFault}
 use Rattle.world_texts.specs.proof.WorldTexts.{IsOpening, LeadsTelling}
-use Rattle.world_texts.proofs.Within.{leads_next}
+use Rattle.world_texts.proofs.EventsWithinBounds.{leads_next}
 
 -- ---- one event
 -- the bus undergoes it

@@ -5,7 +5,7 @@ use Rattle.pals_runs.specs.declared.events.EventFault.{EventFault}
 use Rattle.bus_machine.specs.States.{Run}
 use Rattle.bus_machine.specs.WorldTexts.{worldtext}
 use Rattle.run_laws.specs.Worlds.{opening_world}
-use Rattle.run_laws.specs.Faults.{fault_of, IsWithin}
+use Rattle.run_laws.specs.EventFaults.{fault_of, IsWithin}
 use Rattle.run_laws.specs.EventLists.{GoRight, world_left}
 
 -- ---- from the opening of a run on

@@ -2,9 +2,9 @@
 ghost use Rattle.std.specs.Prelude.{◌≡◌, ℕ, ◌≤◌, ◌<◌, IfOk, OnOk};
 ghost use Rattle.pals_base.specs.declared.limits.TheConstants.{COMPONENTS, ROUNDS};
 ghost use Rattle.pals_runs.specs.declared.events.EventFault.TheVariants as fault;
-ghost use Rattle.pals_bus.specs.proof.Values.{AreCodes};
-ghost use Rattle.run_laws.specs.Faults.{IsWithin};
-ghost use Rattle.timed_world.specs.proof.Values.{world_of};
+ghost use Rattle.pals_bus.specs.proof.BusPartValues.{AreCodes};
+ghost use Rattle.run_laws.specs.EventFaults.{IsWithin};
+ghost use Rattle.timed_world.specs.proof.WorldValues.{world_of};
 ghost use Rattle.timed_world.specs.proof.EventLists.{Leads};
 ghost use Rattle.world_gen.specs.Rings.{ring, ring_number, ring_sum};
 ghost use Rattle.world_texts.specs.RingTexts.{ring_text, number_in, IsDoneRing};

@@ -3,12 +3,12 @@ use Rattle.std.specs.Prelude.{◌≡◌, ◌⊎◌, ℕ, Bool, List, [], ◌∷�
 use Rattle.aadl_tree.specs.Declarations.{Connection, PackageTree}
 use Rattle.aadl_names.specs.declared.fault.PackageFault.{PackageFault}
 use Rattle.aadl_names.specs.declared.fault.PackageFault.TheVariants.{DeadEnd, TwoSources}
-use Rattle.aadl_names.specs.proof.Found.{found}
-use Rattle.aadl_names.specs.Resolving.{implementation_at, connections_of}
+use Rattle.aadl_names.specs.proof.FindingSoFar.{found}
+use Rattle.aadl_names.specs.ReferenceResolution.{implementation_at, connections_of}
 use Rattle.aadl_uses.specs.declared.connections.Wire.{Wire}
 use Rattle.aadl_uses.specs.FirstConnections.{IsSecond}
 use Rattle.aadl_uses.specs.Wiring.{wires_at}
-use Rattle.aadl_chains.specs.proof.OnChains.{IsOnWay}
+use Rattle.aadl_chains.specs.proof.ConnectionsOnChains.{IsOnWay}
 
 -- all that have P are found, in some order, and nothing else
 pub record FindsAll (P : PackageFault → Type 0) (old new : Option PackageFault) : Type 0 where

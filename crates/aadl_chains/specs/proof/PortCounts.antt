@@ -8,12 +8,12 @@ use Rattle.aadl_names.specs.declared.site.PortPlace.TheVariants.{Own, Inner}
 use Rattle.aadl_uses.specs.Uses.{below}
 use Rattle.aadl_uses.specs.declared.connections.Wire.{Wire}
 use Rattle.aadl_uses.specs.Wiring.{wires_at}
-use Rattle.aadl_uses.specs.proof.Wiring.{first_into_at}
+use Rattle.aadl_uses.specs.proof.DeclarationWires.{first_into_at}
 use Rattle.aadl_chains.specs.declared.ports.PortAt.{PortAt}
 use Rattle.aadl_chains.specs.proof.Ports.{same_port}
-use Rattle.aadl_chains.specs.proof.Inside.{is_thread_at, is_in_at, ReachesIn, port_at}
+use Rattle.aadl_chains.specs.proof.PortsJoinedInside.{is_thread_at, is_in_at, ReachesIn, port_at}
 use Rattle.aadl_chains.specs.Chains.{Port}
-use Rattle.aadl_chains.specs.proof.Numbers.{IsNumber}
+use Rattle.aadl_chains.specs.proof.LimitedCounts.{IsNumber}
 use Rattle.aadl_chains.specs.proof.Walks.{Crossing, at_root, crosses, climb, IsThreadPort}
 use Rattle.aadl_tree.specs.declared.declarations.Direction.TheVariants as directions
 

@@ -8,7 +8,7 @@ use Rattle.aadl_uses.specs.Uses.{standing, IsInUse}
 use Rattle.aadl_uses.specs.Threads.{IsThreadAt}
 use Rattle.aadl_uses.specs.FirstConnections.{target_in}
 use Rattle.aadl_uses.specs.Wiring.{wires_at}
-use Rattle.aadl_uses.specs.proof.Wiring.{into}
+use Rattle.aadl_uses.specs.proof.DeclarationWires.{into}
 use Rattle.aadl_chains.specs.Chains.{Port, is_in}
 
 -- a connection between two subcomponents of the component at a path, and the port from which it comes

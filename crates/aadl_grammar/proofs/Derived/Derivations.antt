@@ -4,15 +4,15 @@ use Rattle.std.proofs.Common.{Option, Some, refl, inl, inr}
 use Rattle.std.proofs.lemmas.Bool.{eqb-true, false_from_ne_true, or_left, or_right}
 use Rattle.aadl_tree.specs.Terminals.{Kind}
 use Rattle.aadl_grammar.specs.proof.Symbols.{Class, Symbol, Row}
-use Rattle.aadl_grammar.specs.proof.Table.{rows, can_omit}
+use Rattle.aadl_grammar.specs.proof.ParseTable.{rows, can_omit}
 use Rattle.aadl_grammar.specs.proof.Machine.{Stack, Move, takes, omitted, refuses, class_number, kind_number, fits}
 use Rattle.aadl_grammar.specs.proof.Machine.{move_by, move, chosen, step, ends}
-use Rattle.aadl_grammar.proofs.Derived.Tails.{among, firsts, first_of, tail, distinct, rows_settled, distinct_firsts}
-use Rattle.aadl_grammar.proofs.Derived.Tails.{settled, settled_rows}
-use Rattle.aadl_grammar.proofs.Derived.Settled.{among_left, among_right, Clear, firsts_in_tail, clear_behind}
+use Rattle.aadl_grammar.proofs.Derived.ForbiddenFollowers.{among, firsts, first_of, tail, distinct, rows_settled}
+use Rattle.aadl_grammar.proofs.Derived.ForbiddenFollowers.{distinct_firsts, settled, settled_rows}
+use Rattle.aadl_grammar.proofs.Derived.FollowerMembership.{among_left, among_right, Clear, firsts_in_tail, clear_behind}
 use Rattle.std.specs.Cmp.{first_so, second_so}
 use Rattle.std.proofs.lemmas.Option.{same_Some}
-use Rattle.aadl_grammar.proofs.Basics.{not_both}
+use Rattle.aadl_grammar.proofs.ListHeads.{not_both}
 
 -- the row is one of these
 abbrev pub Member : Row → List Row → Type 0

@@ -2,9 +2,9 @@
 use Rattle.std.proofs.Common.{◌≡◌, ℕ, ◌∙◌, sym, ap, ap₂, refl, List, [], ◌∷◌, ◌++◌, flat_map, append_assoc, Option}
 use Rattle.aadl_tree.specs.declared.mark.Mark.TheVariants as k
 use Rattle.aadl_tree.specs.Terminals.{Kind, word}
-use Rattle.aadl_tree.specs.Parts.{Part, Spells, parts_if, behind}
+use Rattle.aadl_tree.specs.SpellingParts.{Part, Spells, parts_if, behind}
 use Rattle.aadl_tree.specs.Names as n
-use Rattle.aadl_grammar.proofs.Derived.Trees.{U, id}
+use Rattle.aadl_grammar.proofs.Derived.SymbolTrees.{U, id}
 use Rattle.aadl_grammar.proofs.Derived.RowTrees.{respell}
 
 -- all but the last, and the last

@@ -1,11 +1,11 @@
 -- Trees by how they begin: what each row of a symbol builds.
 use Rattle.std.proofs.Common.{◌≡◌, ◌⊎◌, ◌∙◌, sym, ap, ap₂, subst, refl, List, [], ◌∷◌, ◌++◌, inl, inr}
 use Rattle.aadl_tree.specs.Terminals.{Kind}
-use Rattle.aadl_tree.specs.Parts.{Part, Spells}
-use Rattle.aadl_tree.proofs.Parts.{spells_append, spells_split}
+use Rattle.aadl_tree.specs.SpellingParts.{Part, Spells}
+use Rattle.aadl_tree.proofs.SpellingParts.{spells_append, spells_split}
 use Rattle.aadl_grammar.specs.proof.Symbols.{Symbol, Row}
-use Rattle.aadl_grammar.specs.proof.Table.{behind, rows}
-use Rattle.aadl_grammar.proofs.Derived.Trees.{U, Content, kind_with, TreeOf, parts, Trees, parts_all}
+use Rattle.aadl_grammar.specs.proof.ParseTable.{behind, rows}
+use Rattle.aadl_grammar.proofs.Derived.SymbolTrees.{U, Content, kind_with, TreeOf, parts, Trees, parts_all}
 
 pub record Split (ps qs : List (Part U)) (ks rest : List Kind) : Type 0 where
   pub mid : List Kind

@@ -3,11 +3,11 @@ use Rattle.std.proofs.Common.{◌≡◌, ◌↔◌, ℕ, ap, List}
 use Rattle.aadl_tree.specs.Terminals.{Kind, Spot, kinds_of}
 use Rattle.aadl_tree.specs.Grammar.{IsShallow, FailsAt, DeepAt}
 use Rattle.aadl_grammar.specs.proof.Machine.{Fate, finished, syntax_at, deep_at, fate}
-use Rattle.aadl_grammar.proofs.Fates.Stops.{Tells, tells}
-use Rattle.aadl_grammar.proofs.Fates.Verdict.{Language, low_start, stops_fail, deepens_deep, finishes_text}
-use Rattle.aadl_grammar.proofs.Fates.Verdict.{fails_no_text, deep_not_shallow, fails_at, deep_at_opener, is_text}
-use Rattle.aadl_grammar.proofs.Fates.Verdict.{text_finishes}
-use Rattle.aadl_grammar.proofs.Fates.Exclusive.{fails_once, fails_not_deep, deep_once}
+use Rattle.aadl_grammar.proofs.Fates.MachineStops.{Tells, tells}
+use Rattle.aadl_grammar.proofs.Fates.FateMeanings.{Language, low_start, stops_fail, deepens_deep, finishes_text}
+use Rattle.aadl_grammar.proofs.Fates.FateMeanings.{fails_no_text, deep_not_shallow, fails_at, deep_at_opener, is_text}
+use Rattle.aadl_grammar.proofs.Fates.FateMeanings.{text_finishes}
+use Rattle.aadl_grammar.proofs.Fates.ExclusiveFates.{fails_once, fails_not_deep, deep_once}
 
 fails_by : (IsText : List Kind → Type 0) (outer end : ℕ) (l : Language IsText outer) (ts : List Spot) (at : ℕ)
     → FailsAt IsText outer end ts at → (f : Fate) → Tells outer end l.start ts f → f ≡ syntax_at at

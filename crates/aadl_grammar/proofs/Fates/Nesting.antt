@@ -7,18 +7,18 @@ use Rattle.aadl_tree.specs.Terminals.{Kind, mark}
 use Rattle.aadl_tree.specs.Grammar.{opened, is_end}
 use Rattle.aadl_grammar.specs.proof.Symbols.{the, Symbol, Row}
 use Rattle.aadl_grammar.specs.proof.Symbols as s
-use Rattle.aadl_grammar.specs.proof.Table.{rows, can_omit}
+use Rattle.aadl_grammar.specs.proof.ParseTable.{rows, can_omit}
 use Rattle.aadl_grammar.specs.proof.Machine.{Stack, Move, takes, omitted, refuses, class_number, kind_number, fits}
 use Rattle.aadl_grammar.specs.proof.Machine.{move, chosen, step, closes, depth}
-use Rattle.aadl_grammar.proofs.Derived.Tails.{among, firsts}
+use Rattle.aadl_grammar.proofs.Derived.ForbiddenFollowers.{among, firsts}
 use Rattle.aadl_grammar.proofs.Derived.Derivations.{Member, Goes, goes, member_first}
-use Rattle.aadl_grammar.proofs.Derived.Contents.{Said, said}
-use Rattle.aadl_grammar.proofs.Fates.Shifts.{openers, closers, shift, shift_is, end_is, opened_same, closing, odd}
-use Rattle.aadl_grammar.proofs.Fates.Shifts.{plain, blunt, closing_first, good, changes, row_shifts, rows_shift}
-use Rattle.aadl_grammar.proofs.Fates.Shifts.{rows_shifted, omits_close_nothing}
+use Rattle.aadl_grammar.proofs.Derived.TerminalContents.{Said, said}
+use Rattle.aadl_grammar.proofs.Fates.RowNesting.{openers, closers, shift, shift_is, end_is, opened_same, closing, odd}
+use Rattle.aadl_grammar.proofs.Fates.RowNesting.{plain, blunt, closing_first, good, changes, row_shifts, rows_shift}
+use Rattle.aadl_grammar.proofs.Fates.RowNesting.{rows_shifted, omits_close_nothing}
 use Rattle.std.specs.Cmp.{first_so, second_so}
 use Rattle.std.proofs.lemmas.Option.{same_Some}
-use Rattle.aadl_grammar.proofs.Basics.{not_both}
+use Rattle.aadl_grammar.proofs.ListHeads.{not_both}
 
 abbrev pub Good : Bool → Stack → Type 0
 Good ended wanted = good ended wanted ≡ true

@@ -1,4 +1,4 @@
-use Rattle.aadl_lex.proofs.Unique.{one_list, one_fault, not_both}
+use Rattle.aadl_lex.proofs.UniqueTokens.{one_list, one_fault, not_both}
 use Rattle.aadl_lex.proofs.one_answer.Goals as goal
 
 pub returns-clause-tokens : goal.returns-clause-tokens

@@ -1,5 +1,5 @@
 use Rattle.std.proofs.Common.{length}
-use Rattle.aadl_lex.proofs.Order.{order_tokens, order_each}
+use Rattle.aadl_lex.proofs.TokenOrder.{order_tokens, order_each}
 use Rattle.aadl_lex.proofs.tokens_in_order.Goals as goal
 
 pub returns-clause-order : goal.returns-clause-order

@@ -1,4 +1,4 @@
-use Rattle.aadl_parse.proofs.Verdicts.{only_tree, one_text_fault, tree_or_fault}
+use Rattle.aadl_parse.proofs.PackageFates.{only_tree, one_text_fault, tree_or_fault}
 use Rattle.aadl_parse.proofs.one_answer.Goals as goal
 
 pub returns-clause-tree : goal.returns-clause-tree

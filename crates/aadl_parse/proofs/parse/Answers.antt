@@ -1,16 +1,16 @@
 use Rattle.std.proofs.Common.{◌∙◌, List, subst, sym, ap, refl, arith, [], length}
 use Rattle.std.specs.List.{All}
 use Rattle.aadl_lex.specs.declared.token.Token.{Token}
-use Rattle.aadl_lex.specs.proof.Spelled.{IsWordAt}
-use Rattle.aadl_lex.proofs.Spelled.{words_of}
+use Rattle.aadl_lex.specs.proof.TokenSpellings.{IsWordAt}
+use Rattle.aadl_lex.proofs.TokenSpellings.{words_of}
 use Rattle.aadl_tree.specs.Terminals.{spots}
 use Rattle.aadl_grammar.specs.proof.Machine.{depth}
-use Rattle.aadl_grammar.specs.proof.Reading.{here}
+use Rattle.aadl_grammar.specs.proof.ParserAnswers.{here}
 use Rattle.aadl_grammar.specs.proof.Terminals.{spots_of}
 use Rattle.aadl_grammar.proofs.FirstTerminals.{spots_past}
-use Rattle.aadl_parse.specs.ParsedText.{IsFaultOfText, of_parse}
-use Rattle.aadl_parse.specs.proof.Rests.{package_of}
-use Rattle.aadl_parse.proofs.Verdicts.{at_fault, left_fault, at_tree, only_one, residual, some_left}
+use Rattle.aadl_parse.specs.ParseResults.{IsFaultOfText, of_parse}
+use Rattle.aadl_parse.specs.proof.DeclarationRests.{package_of}
+use Rattle.aadl_parse.proofs.PackageFates.{at_fault, left_fault, at_tree, only_one, residual, some_left}
 use Rattle.aadl_parse.proofs.parse.Goals as goal
 
 pub resolve-requires : goal.resolve-requires

@@ -1,5 +1,5 @@
 use Rattle.aadl_tree.specs.proof.PackageViews.{meaning}
-use Rattle.aadl_print.proofs.Canons.{finished}
+use Rattle.aadl_print.proofs.CanonicalText.{finished}
 use Rattle.aadl_print.proofs.print.Goals as goal
 
 pub returns : goal.returns

@@ -2,8 +2,8 @@
 use Rattle.std.specs.Prelude.{ℕ, map}
 use Rattle.aadl_tree.specs.Declarations.{PackageTree}
 use Rattle.aadl_tree.specs.proof.NameViews.{name_view}
-use Rattle.aadl_tree.specs.proof.Views.{with_view, declaration_view}
-use Rattle.aadl_tree.specs.proof.Maps.{kept_place, no_place}
+use Rattle.aadl_tree.specs.proof.DeclarationViews.{with_view, declaration_view}
+use Rattle.aadl_tree.specs.proof.PlaceMaps.{kept_place, no_place}
 use Rattle.aadl_tree.specs.declared.package.PackageTree as source
 
 abbrev pub package_view : {P : Type 0} → (ℕ → P) → source.PackageTree → PackageTree P

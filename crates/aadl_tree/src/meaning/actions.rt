@@ -2,7 +2,7 @@
 ghost use Rattle.std.specs.Prelude.{◌≡◌, ◌↔◌, IsTrue, option_map};
 ghost use Rattle.aadl_tree.specs.proof.ActionViews.{action_view, actions_view, block_view, choice_view, loop_view};
 ghost use Rattle.aadl_tree.specs.proof.ActionViews.{mores_view, elsifs_view};
-ghost use Rattle.aadl_tree.specs.proof.Maps.{no_place};
+ghost use Rattle.aadl_tree.specs.proof.PlaceMaps.{no_place};
 
 use super::expressions::same_expression;
 use super::items::Same;

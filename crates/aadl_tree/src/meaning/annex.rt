@@ -13,7 +13,7 @@ use crate::annex::{
 impl Same for Block {
     ghost use Rattle.aadl_tree.specs.Actions.{Block};
     ghost use Rattle.aadl_tree.specs.proof.ActionViews.{block_view};
-    ghost use Rattle.aadl_tree.specs.proof.Maps.{no_place};
+    ghost use Rattle.aadl_tree.specs.proof.PlaceMaps.{no_place};
 
     ghost Meaning = { Block (Unit {0}) };
 
@@ -26,8 +26,8 @@ impl Same for Block {
 
 impl Same for VariableDeclaration {
     ghost use Rattle.aadl_tree.specs.Annexes.{VariableDeclaration};
-    ghost use Rattle.aadl_tree.specs.proof.Views.{variable_view};
-    ghost use Rattle.aadl_tree.specs.proof.Maps.{no_place};
+    ghost use Rattle.aadl_tree.specs.proof.DeclarationViews.{variable_view};
+    ghost use Rattle.aadl_tree.specs.proof.PlaceMaps.{no_place};
 
     ghost Meaning = { VariableDeclaration (Unit {0}) };
 
@@ -42,8 +42,8 @@ impl Same for VariableDeclaration {
 
 impl Same for StateDeclaration {
     ghost use Rattle.aadl_tree.specs.Annexes.{StateDeclaration};
-    ghost use Rattle.aadl_tree.specs.proof.Views.{state_view};
-    ghost use Rattle.aadl_tree.specs.proof.Maps.{no_place};
+    ghost use Rattle.aadl_tree.specs.proof.DeclarationViews.{state_view};
+    ghost use Rattle.aadl_tree.specs.proof.PlaceMaps.{no_place};
 
     ghost Meaning = { StateDeclaration (Unit {0}) };
 
@@ -58,8 +58,8 @@ impl Same for StateDeclaration {
 
 impl Same for Guard {
     ghost use Rattle.aadl_tree.specs.Annexes.{Guard};
-    ghost use Rattle.aadl_tree.specs.proof.Views.{guard_view};
-    ghost use Rattle.aadl_tree.specs.proof.Maps.{no_place};
+    ghost use Rattle.aadl_tree.specs.proof.DeclarationViews.{guard_view};
+    ghost use Rattle.aadl_tree.specs.proof.PlaceMaps.{no_place};
 
     ghost Meaning = { Guard (Unit {0}) };
 
@@ -77,8 +77,8 @@ impl Same for Guard {
 
 impl Same for Transition {
     ghost use Rattle.aadl_tree.specs.Annexes.{Transition};
-    ghost use Rattle.aadl_tree.specs.proof.Views.{transition_view};
-    ghost use Rattle.aadl_tree.specs.proof.Maps.{no_place};
+    ghost use Rattle.aadl_tree.specs.proof.DeclarationViews.{transition_view};
+    ghost use Rattle.aadl_tree.specs.proof.PlaceMaps.{no_place};
 
     ghost Meaning = { Transition (Unit {0}) };
 
@@ -108,8 +108,8 @@ fn same_declared<T: Same>(left: &Option<Vec<T>>, right: &Option<Vec<T>>) -> bool
 
 impl Same for AnnexTree {
     ghost use Rattle.aadl_tree.specs.Annexes.{AnnexTree};
-    ghost use Rattle.aadl_tree.specs.proof.Views.{annex_tree_view};
-    ghost use Rattle.aadl_tree.specs.proof.Maps.{no_place};
+    ghost use Rattle.aadl_tree.specs.proof.DeclarationViews.{annex_tree_view};
+    ghost use Rattle.aadl_tree.specs.proof.PlaceMaps.{no_place};
 
     ghost Meaning = { AnnexTree (Unit {0}) };
 
@@ -124,8 +124,8 @@ impl Same for AnnexTree {
 
 impl Same for AnnexContent {
     ghost use Rattle.aadl_tree.specs.Annexes.{AnnexContent};
-    ghost use Rattle.aadl_tree.specs.proof.Views.{content_view};
-    ghost use Rattle.aadl_tree.specs.proof.Maps.{no_place};
+    ghost use Rattle.aadl_tree.specs.proof.DeclarationViews.{content_view};
+    ghost use Rattle.aadl_tree.specs.proof.PlaceMaps.{no_place};
 
     ghost Meaning = { AnnexContent (Unit {0}) };
 
@@ -144,8 +144,8 @@ impl Same for AnnexContent {
 
 impl Same for Annex {
     ghost use Rattle.aadl_tree.specs.Annexes.{Annex};
-    ghost use Rattle.aadl_tree.specs.proof.Views.{annex_view};
-    ghost use Rattle.aadl_tree.specs.proof.Maps.{no_place};
+    ghost use Rattle.aadl_tree.specs.proof.DeclarationViews.{annex_view};
+    ghost use Rattle.aadl_tree.specs.proof.PlaceMaps.{no_place};
 
     ghost Meaning = { Annex (Unit {0}) };
 

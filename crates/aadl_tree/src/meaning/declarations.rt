@@ -9,8 +9,8 @@ use crate::declarations::{
 
 impl Same for With {
     ghost use Rattle.aadl_tree.specs.Declarations.{With};
-    ghost use Rattle.aadl_tree.specs.proof.Views.{with_view};
-    ghost use Rattle.aadl_tree.specs.proof.Maps.{no_place};
+    ghost use Rattle.aadl_tree.specs.proof.DeclarationViews.{with_view};
+    ghost use Rattle.aadl_tree.specs.proof.PlaceMaps.{no_place};
 
     ghost Meaning = { With (Unit {0}) };
 
@@ -23,8 +23,8 @@ impl Same for With {
 
 impl Same for Feature {
     ghost use Rattle.aadl_tree.specs.Declarations.{Feature};
-    ghost use Rattle.aadl_tree.specs.proof.Views.{feature_view};
-    ghost use Rattle.aadl_tree.specs.proof.Maps.{no_place};
+    ghost use Rattle.aadl_tree.specs.proof.DeclarationViews.{feature_view};
+    ghost use Rattle.aadl_tree.specs.proof.PlaceMaps.{no_place};
 
     ghost Meaning = { Feature (Unit {0}) };
 
@@ -40,8 +40,8 @@ impl Same for Feature {
 
 impl Same for Subcomponent {
     ghost use Rattle.aadl_tree.specs.Declarations.{Subcomponent};
-    ghost use Rattle.aadl_tree.specs.proof.Views.{subcomponent_view};
-    ghost use Rattle.aadl_tree.specs.proof.Maps.{no_place};
+    ghost use Rattle.aadl_tree.specs.proof.DeclarationViews.{subcomponent_view};
+    ghost use Rattle.aadl_tree.specs.proof.PlaceMaps.{no_place};
 
     ghost Meaning = { Subcomponent (Unit {0}) };
 
@@ -57,8 +57,8 @@ impl Same for Subcomponent {
 
 impl Same for ConnectionEnd {
     ghost use Rattle.aadl_tree.specs.Declarations.{ConnectionEnd};
-    ghost use Rattle.aadl_tree.specs.proof.Views.{end_view};
-    ghost use Rattle.aadl_tree.specs.proof.Maps.{no_place};
+    ghost use Rattle.aadl_tree.specs.proof.DeclarationViews.{end_view};
+    ghost use Rattle.aadl_tree.specs.proof.PlaceMaps.{no_place};
 
     ghost Meaning = { ConnectionEnd (Unit {0}) };
 
@@ -71,8 +71,8 @@ impl Same for ConnectionEnd {
 
 impl Same for Connection {
     ghost use Rattle.aadl_tree.specs.Declarations.{Connection};
-    ghost use Rattle.aadl_tree.specs.proof.Views.{connection_view};
-    ghost use Rattle.aadl_tree.specs.proof.Maps.{no_place};
+    ghost use Rattle.aadl_tree.specs.proof.DeclarationViews.{connection_view};
+    ghost use Rattle.aadl_tree.specs.proof.PlaceMaps.{no_place};
 
     ghost Meaning = { Connection (Unit {0}) };
 
@@ -88,8 +88,8 @@ impl Same for Connection {
 
 impl Same for TypeDeclaration {
     ghost use Rattle.aadl_tree.specs.Declarations.{TypeDeclaration};
-    ghost use Rattle.aadl_tree.specs.proof.Views.{type_view};
-    ghost use Rattle.aadl_tree.specs.proof.Maps.{no_place};
+    ghost use Rattle.aadl_tree.specs.proof.DeclarationViews.{type_view};
+    ghost use Rattle.aadl_tree.specs.proof.PlaceMaps.{no_place};
 
     ghost Meaning = { TypeDeclaration (Unit {0}) };
 
@@ -107,8 +107,8 @@ impl Same for TypeDeclaration {
 
 impl Same for ImplementationName {
     ghost use Rattle.aadl_tree.specs.Declarations.{ImplementationName};
-    ghost use Rattle.aadl_tree.specs.proof.Views.{implementation_name_view};
-    ghost use Rattle.aadl_tree.specs.proof.Maps.{no_place};
+    ghost use Rattle.aadl_tree.specs.proof.DeclarationViews.{implementation_name_view};
+    ghost use Rattle.aadl_tree.specs.proof.PlaceMaps.{no_place};
 
     ghost Meaning = { ImplementationName (Unit {0}) };
 
@@ -122,8 +122,8 @@ impl Same for ImplementationName {
 
 impl Same for Implementation {
     ghost use Rattle.aadl_tree.specs.Declarations.{Implementation};
-    ghost use Rattle.aadl_tree.specs.proof.Views.{implementation_view};
-    ghost use Rattle.aadl_tree.specs.proof.Maps.{no_place};
+    ghost use Rattle.aadl_tree.specs.proof.DeclarationViews.{implementation_view};
+    ghost use Rattle.aadl_tree.specs.proof.PlaceMaps.{no_place};
 
     ghost Meaning = { Implementation (Unit {0}) };
 
@@ -145,8 +145,8 @@ impl Same for Implementation {
 
 impl Same for Declaration {
     ghost use Rattle.aadl_tree.specs.Declarations.{Declaration};
-    ghost use Rattle.aadl_tree.specs.proof.Views.{declaration_view};
-    ghost use Rattle.aadl_tree.specs.proof.Maps.{no_place};
+    ghost use Rattle.aadl_tree.specs.proof.DeclarationViews.{declaration_view};
+    ghost use Rattle.aadl_tree.specs.proof.PlaceMaps.{no_place};
 
     ghost Meaning = { Declaration (Unit {0}) };
 

@@ -2,7 +2,7 @@
 ghost use Rattle.std.specs.Prelude.{◌≡◌, ◌↔◌, IsTrue};
 ghost use Rattle.aadl_tree.specs.proof.ExpressionViews.{primary_view, factor_view, factors_view, term_view, terms_view};
 ghost use Rattle.aadl_tree.specs.proof.ExpressionViews.{sum_view, relation_view, relations_view, expression_view};
-ghost use Rattle.aadl_tree.specs.proof.Maps.{no_place};
+ghost use Rattle.aadl_tree.specs.proof.PlaceMaps.{no_place};
 
 use super::items::{Same, same_option};
 use crate::expressions::{
@@ -13,7 +13,7 @@ use crate::expressions::{
 impl Same for LeadingSign {
     ghost use Rattle.aadl_tree.specs.Expressions.{LeadingSign};
     ghost use Rattle.aadl_tree.specs.proof.ExpressionViews.{leading_view};
-    ghost use Rattle.aadl_tree.specs.proof.Maps.{no_place};
+    ghost use Rattle.aadl_tree.specs.proof.PlaceMaps.{no_place};
 
     ghost Meaning = { LeadingSign (Unit {0}) };
 

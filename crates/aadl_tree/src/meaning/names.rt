@@ -6,7 +6,7 @@ use crate::names::{Identifier, Identifiers, Name, Path, Reference};
 impl Same for Identifier {
     ghost use Rattle.aadl_tree.specs.Names.{Identifier};
     ghost use Rattle.aadl_tree.specs.proof.NameViews.{identifier_view};
-    ghost use Rattle.aadl_tree.specs.proof.Maps.{no_place};
+    ghost use Rattle.aadl_tree.specs.proof.PlaceMaps.{no_place};
 
     ghost Meaning = { Identifier (Unit {0}) };
 
@@ -20,7 +20,7 @@ impl Same for Identifier {
 impl Same for Name {
     ghost use Rattle.aadl_tree.specs.Names.{Name};
     ghost use Rattle.aadl_tree.specs.proof.NameViews.{name_view};
-    ghost use Rattle.aadl_tree.specs.proof.Maps.{no_place};
+    ghost use Rattle.aadl_tree.specs.proof.PlaceMaps.{no_place};
 
     ghost Meaning = { Name (Unit {0}) };
 
@@ -34,7 +34,7 @@ impl Same for Name {
 impl Same for Path {
     ghost use Rattle.aadl_tree.specs.Names.{Path};
     ghost use Rattle.aadl_tree.specs.proof.NameViews.{path_view};
-    ghost use Rattle.aadl_tree.specs.proof.Maps.{no_place};
+    ghost use Rattle.aadl_tree.specs.proof.PlaceMaps.{no_place};
 
     ghost Meaning = { Path (Unit {0}) };
 
@@ -48,7 +48,7 @@ impl Same for Path {
 impl Same for Identifiers {
     ghost use Rattle.aadl_tree.specs.Names.{Identifiers};
     ghost use Rattle.aadl_tree.specs.proof.NameViews.{identifiers_view};
-    ghost use Rattle.aadl_tree.specs.proof.Maps.{no_place};
+    ghost use Rattle.aadl_tree.specs.proof.PlaceMaps.{no_place};
 
     ghost Meaning = { Identifiers (Unit {0}) };
 
@@ -62,7 +62,7 @@ impl Same for Identifiers {
 impl Same for Reference {
     ghost use Rattle.aadl_tree.specs.Names.{Reference};
     ghost use Rattle.aadl_tree.specs.proof.NameViews.{reference_view};
-    ghost use Rattle.aadl_tree.specs.proof.Maps.{no_place};
+    ghost use Rattle.aadl_tree.specs.proof.PlaceMaps.{no_place};
 
     ghost Meaning = { Reference (Unit {0}) };
 

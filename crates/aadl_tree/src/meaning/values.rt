@@ -1,7 +1,7 @@
 //! Whether two properties, or two values, mean the same.
 ghost use Rattle.std.specs.Prelude.{◌≡◌, ◌↔◌, IsTrue};
 ghost use Rattle.aadl_tree.specs.proof.ValueViews.{value_view, values_view, association_view, associations_view};
-ghost use Rattle.aadl_tree.specs.proof.Maps.{no_place};
+ghost use Rattle.aadl_tree.specs.proof.PlaceMaps.{no_place};
 
 use super::items::{Same, same_items, same_option};
 use crate::values::{Association, Number, Quantity, UnsignedNumber, Value};
@@ -40,7 +40,7 @@ impl Same for Number {
 impl Same for Quantity {
     ghost use Rattle.aadl_tree.specs.Values.{Quantity};
     ghost use Rattle.aadl_tree.specs.proof.ValueViews.{quantity_view};
-    ghost use Rattle.aadl_tree.specs.proof.Maps.{no_place};
+    ghost use Rattle.aadl_tree.specs.proof.PlaceMaps.{no_place};
 
     ghost Meaning = { Quantity (Unit {0}) };
 

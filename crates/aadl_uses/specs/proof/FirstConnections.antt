@@ -1,7 +1,7 @@
 -- Which connection is the first into a port.
 use Rattle.std.specs.Prelude.{ℕ, Bool, false, nat_lt, List, Option, Some, None}
 use Rattle.aadl_names.specs.declared.site.PortPlace.{PortPlace}
-use Rattle.aadl_names.specs.Resolving.{first_number}
+use Rattle.aadl_names.specs.ReferenceResolution.{first_number}
 use Rattle.aadl_uses.specs.declared.connections.Wire.{Wire}
 use Rattle.aadl_uses.specs.proof.PortNumbers.{is_site}
 

@@ -2,10 +2,10 @@
 use Rattle.std.specs.Prelude.{◌≡◌, ℕ, ◌≤◌, Bool, true, nat_lt, List, Option, Some, None, Contains}
 use Rattle.aadl_tree.specs.Declarations.{Subcomponent, PackageTree}
 use Rattle.aadl_names.specs.declared.fault.PackageFault.{PackageFault}
-use Rattle.aadl_names.specs.Findings.{place_of}
+use Rattle.aadl_names.specs.FirstFindings.{place_of}
 use Rattle.aadl_uses.specs.Uses.{sub_at, IsRecursive}
-use Rattle.aadl_uses.specs.proof.Uses.{containment}
-use Rattle.aadl_uses.specs.proof.Graphs.{LeadsBack}
+use Rattle.aadl_uses.specs.proof.PackageContainment.{containment}
+use Rattle.aadl_uses.specs.proof.ContainmentGraphs.{LeadsBack}
 
 -- a place stands before a fault's, if there is one
 abbrev pub is_sooner : ℕ → Option PackageFault → Bool

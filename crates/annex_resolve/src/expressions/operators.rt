@@ -1,7 +1,7 @@
 //! The operators of a text, as those of behaviours.
 ghost use Rattle.std.specs.Prelude.{◌≡◌};
-ghost use Rattle.annex_resolve.specs.Types.{is_equality};
-ghost use Rattle.annex_resolve.specs.Resolved.{multiply_op, sign_op, relation_op, logic_op};
+ghost use Rattle.annex_resolve.specs.ExpressionTypes.{is_equality};
+ghost use Rattle.annex_resolve.specs.ResolvedTrees.{multiply_op, sign_op, relation_op, logic_op};
 
 use aadl_tree::{LogicOperator, MultiplyOperator, RelationOperator, Sign};
 use pals_base::Op;

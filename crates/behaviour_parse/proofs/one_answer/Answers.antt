@@ -1,10 +1,10 @@
 use Rattle.std.proofs.Common.{true}
 use Rattle.aadl_tree.specs.Terminals.{spots_from}
 use Rattle.aadl_tree.specs.Grammar.{IsBehaviour}
-use Rattle.aadl_tree.specs.proof.Given.{end_of}
-use Rattle.aadl_grammar.proofs.Fates.Exclusive.{fails_once, fails_not_deep, deep_once}
-use Rattle.aadl_grammar.proofs.Fates.Verdict.{fails_no_text, deep_not_shallow}
-use Rattle.behaviour_parse.proofs.Verdicts.{only_one, is_behaviour}
+use Rattle.aadl_tree.specs.proof.GrammarTrees.{end_of}
+use Rattle.aadl_grammar.proofs.Fates.ExclusiveFates.{fails_once, fails_not_deep, deep_once}
+use Rattle.aadl_grammar.proofs.Fates.FateMeanings.{fails_no_text, deep_not_shallow}
+use Rattle.behaviour_parse.proofs.ParseOutcomes.{only_one, is_behaviour}
 use Rattle.behaviour_parse.proofs.one_answer.Goals as goal
 
 pub returns-clause-tree : goal.returns-clause-tree

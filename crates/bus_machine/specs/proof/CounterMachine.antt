@@ -3,8 +3,8 @@
 use Rattle.std.specs.Prelude.{◌≡◌, ℕ, codes, List, [], ◌∷◌, ◌++◌, map, None}
 use Rattle.pals_base.specs.declared.values.NodeNo.{NodeNo}
 use Rattle.pals_base.specs.declared.values.LinkNo.{LinkNo}
-use Rattle.pals_model.specs.proof.Counters.{two_counters}
-use Rattle.pals_model.specs.Inputs.{no_env}
+use Rattle.pals_model.specs.proof.TwoCounters.{two_counters}
+use Rattle.pals_model.specs.ComponentInputs.{no_env}
 use Rattle.pals_runs.specs.declared.journal.JournalEntry.{JournalEntry}
 use Rattle.pals_runs.specs.Journal.{entry_line}
 use Rattle.bus_machine.specs.States.{Run, BusState, opening}

@@ -5,7 +5,7 @@ use Rattle.pals_base.specs.declared.values.Adaptor.{Adaptor}
 use Rattle.aadl_tree.specs.Values.{Association, Associations}
 use Rattle.aadl_tree.specs.Declarations.{Declaration}
 use Rattle.aadl_names.specs.Properties.{association_named, association_value, name_of, text_of}
-use Rattle.aadl_names.specs.Resolving.{implementation_in, connections_of}
+use Rattle.aadl_names.specs.ReferenceResolution.{implementation_in, connections_of}
 use Rattle.component_checks.specs.declared.carried.ChainProperties.{ChainProperties}
 use Rattle.component_checks.specs.Rates.{adaptor_named}
 use Rattle.component_checks.specs.Threads.{says}

@@ -6,9 +6,9 @@ use Rattle.aadl_tree.specs.Values.{Association, Associations}
 use Rattle.aadl_tree.specs.Declarations.{Subcomponent, Declaration, PackageTree}
 use Rattle.aadl_names.specs.declared.holder.PropertyName.TheVariants.{Period, Dispatch}
 use Rattle.aadl_names.specs.Properties.{association_value, reference_of, time_of}
-use Rattle.aadl_names.specs.Resolving.{type_in, implementation_in, subcomponents_of}
+use Rattle.aadl_names.specs.ReferenceResolution.{type_in, implementation_in, subcomponents_of}
 use Rattle.component_checks.specs.declared.timed.ComponentProperties.{ComponentProperties}
-use Rattle.component_checks.specs.Numbers.{within_hour}
+use Rattle.component_checks.specs.DesignNumbers.{within_hour}
 use Rattle.component_checks.specs.Threads.{is_word}
 use Rattle.component_checks.specs.PropertyLookup.{type_lists, own_lists, sub_lists, first_in}
 

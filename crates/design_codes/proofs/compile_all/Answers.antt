@@ -3,11 +3,11 @@ use Rattle.std.specs.Prelude.{slice_index_or}
 use Rattle.std.proofs.lemmas.List.{get_or_default}
 use Rattle.pals_base.specs.declared.limits.TheConstants.{INSTRUCTIONS}
 use Rattle.pals_model.specs.declared.design.Component.{Component}
-use Rattle.step_code.specs.proof.Means.{Means}
-use Rattle.step_code.specs.Lengths.{code_length}
-use Rattle.step_compiler.specs.LaidOut.{IsLaidOut}
+use Rattle.step_code.specs.proof.CodeMeaning.{Means}
+use Rattle.step_code.specs.CodeLengths.{code_length}
+use Rattle.step_compiler.specs.LaidOutCode.{IsLaidOut}
 use Rattle.bus_machine.specs.Plans.{component_at, no_component}
-use Rattle.design_codes.specs.Causes.{length_of}
+use Rattle.design_codes.specs.OverlongCodes.{length_of}
 use Rattle.design_codes.proofs.Codes.{AreFirst, first_more}
 use Rattle.design_codes.proofs.compile_all.Goals as goal
 

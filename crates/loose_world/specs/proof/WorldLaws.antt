@@ -6,19 +6,19 @@ use Rattle.pals_model.specs.RoundTexts.{text_of, report}
 use Rattle.pals_runs.specs.declared.events.Event.{Event}
 use Rattle.pals_runs.specs.declared.journal.Stop.{Stop}
 use Rattle.bus_machine.specs.States.{Run, BusState, node_at, finished_by_all}
-use Rattle.bus_machine.specs.Stops.{sent_rounds}
+use Rattle.bus_machine.specs.MissedStarts.{sent_rounds}
 use Rattle.bus_machine.specs.Machine.{BusEvent, IsStep}
 use Rattle.bus_machine.specs.Agreement.{Agrees}
 use Rattle.bus_machine.specs.proof.MachineLaws.{IsRunOf}
 use Rattle.bus_machine.specs.WorldTexts.{finished_by, sends_of, sent_lines, world_rows, worldtext}
-use Rattle.pals_bus.specs.Values.{BusValue}
-use Rattle.pals_bus.specs.proof.Values.{opening_bus}
-use Rattle.loose_world.specs.proof.Finished.{finished_lines, common_lines}
+use Rattle.pals_bus.specs.BusValues.{BusValue}
+use Rattle.pals_bus.specs.proof.BusPartValues.{opening_bus}
+use Rattle.loose_world.specs.proof.FinishedRows.{finished_lines, common_lines}
 use Rattle.loose_world.specs.declared.events.LooseEnd.TheVariants.{All, Stopped}
-use Rattle.loose_world.specs.Worlds.{Tells}
-use Rattle.loose_world.specs.proof.Counts.{IsCounted}
-use Rattle.loose_world.specs.proof.Histories.{event_of, Undergoes, IsLeftBy, IsReplayed}
-use Rattle.loose_world.specs.proof.Senders.{senders, HasSent}
+use Rattle.loose_world.specs.LooseRuns.{Tells}
+use Rattle.loose_world.specs.proof.EventCounts.{IsCounted}
+use Rattle.loose_world.specs.proof.UndergoneEvents.{event_of, Undergoes, IsLeftBy, IsReplayed}
+use Rattle.loose_world.specs.proof.EventSenders.{senders, HasSent}
 use Rattle.pals_runs.specs.declared.events.Event.TheVariants as event
 
 -- ---- counts

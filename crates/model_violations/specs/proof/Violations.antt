@@ -3,7 +3,7 @@ use Rattle.std.specs.Prelude.{◌≡◌, ℕ, Bool, List, ◌++◌}
 use Rattle.aadl_tree.specs.Declarations.{PackageTree}
 use Rattle.aadl_instance.specs.declared.instance.Instance.{Instance}
 use Rattle.annex_resolve.specs.declared.violation.Violation.{Violation}
-use Rattle.model_violations.specs.Use.{IsUse}
+use Rattle.model_violations.specs.UsedDeclarations.{IsUse}
 use Rattle.model_violations.specs.Violations.{Shown, used_findings, findings}
 
 abbrev pub shown : Instance → Shown

@@ -5,8 +5,8 @@ use Rattle.std.specs.List.{list_any}
 use Rattle.aadl_names.specs.declared.role.Role.{Role}
 use Rattle.aadl_names.specs.declared.role.Role.TheVariants.{Turns}
 use Rattle.aadl_names.specs.AnnexNames.{Known, either}
-use Rattle.aadl_names.specs.proof.Tables.{value_of}
-use Rattle.name_faults.specs.proof.Marks.{is_marked}
+use Rattle.aadl_names.specs.proof.NameTables.{value_of}
+use Rattle.name_faults.specs.proof.OptionalValues.{is_marked}
 
 -- ports and variables, in the order in which they count, and the variables of loops, the outermost first
 pub record Scoped : Type 0 where

@@ -2,12 +2,12 @@
 use Rattle.std.specs.Prelude.{List, refl}
 use Rattle.std.specs.Coded.{Coded, code_by, coded×, coded_list}
 use Rattle.pals_bus.specs.proof.Codes.{bus_code}
-use Rattle.pals_bus.specs.Values.{BusValue}
+use Rattle.pals_bus.specs.BusValues.{BusValue}
 use Rattle.pals_clock.specs.contracts.clock.Clocks.{the_row as clocks}
 use Rattle.pals_clock.specs.declared.clock.Clocks.{Clocks}
 use Rattle.node_threads.specs.contracts.ends.NodeNote.{the_row as notes}
 use Rattle.node_threads.specs.declared.ends.NodeNote.{NodeNote}
-use Rattle.node_threads.specs.proof.Courses.{CourseValue}
+use Rattle.node_threads.specs.proof.SharedCourses.{CourseValue}
 
 abbrev pub course_code : Coded CourseValue
 course_code =

@@ -9,7 +9,7 @@ use Rattle.node_threads.specs.declared.wakes.WakeList.{WakeList}
 use Rattle.node_threads.specs.declared.bell.Sleeper.{Sleeper}
 use Rattle.node_threads.specs.declared.sleepers.ThreadSlot.{ThreadSlot}
 use Rattle.node_threads.specs.declared.sleepers.Sleepers.{Sleepers}
-use Rattle.node_threads.specs.proof.Courses.{CourseValue, IsOpen}
+use Rattle.node_threads.specs.proof.SharedCourses.{CourseValue, IsOpen}
 use Rattle.node_threads.specs.declared.bell.Sleeper.TheVariants as bell
 
 -- nobody is to be woken

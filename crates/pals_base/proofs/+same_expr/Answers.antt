@@ -1,9 +1,9 @@
 use Rattle.std.proofs.Common.{◌≡◌, ap, ◌∙◌, arith}
 use Rattle.std.proofs.lemmas.Grind.{common_steps}
-use Rattle.pals_base.specs.Tree.{Chain}
-use Rattle.pals_base.specs.proof.Seen.{tree_of, operands_along}
-use Rattle.pals_base.proofs.Trees.{tree_of-Chain}
-use Rattle.pals_base.proofs.Lengths.{same_operands-length}
+use Rattle.pals_base.specs.PlainTrees.{Chain}
+use Rattle.pals_base.specs.proof.SourceTrees.{tree_of, operands_along}
+use Rattle.pals_base.proofs.SourceTrees.{tree_of-Chain}
+use Rattle.pals_base.proofs.SameTreeLengths.{same_operands-length}
 use Rattle.pals_base.proofs.+same_expr.Goals as goal
 
 pub behaviour::Expr::same-returns-then-same : goal.behaviour::Expr::same-returns-then-same

@@ -4,7 +4,7 @@ ghost use Rattle.pals_base.specs.declared.values.Frame.{Frame};
 ghost use Rattle.pals_base.specs.declared.behaviour.Op.TheVariants.{Sub};
 ghost use Rattle.pals_base.specs.Arithmetic.{quotient_of, remainder_of, modulus_of, negation_of, magnitude_of};
 ghost use Rattle.pals_base.specs.proof.Division.{IsRemainder, IsModulus};
-ghost use Rattle.pals_base.specs.Tree.{Literal, Chain, NoMore, Then};
+ghost use Rattle.pals_base.specs.PlainTrees.{Literal, Chain, NoMore, Then};
 ghost use Rattle.pals_base.specs.Expressions.{eval};
 
 use crate::values::Trap;

@@ -3,7 +3,7 @@ ghost use Rattle.std.specs.Prelude.{◌≡◌, ◌<◌, ℕ, List, length};
 ghost use Rattle.pals_base.specs.declared.values.Frame.{Frame};
 ghost use Rattle.pals_base.specs.declared.values.PortValue.{PortValue};
 ghost use Rattle.pals_base.specs.declared.behaviour.BehaviourParts.{BehaviourParts};
-ghost use Rattle.pals_base.specs.Fire.{fire, initial, HasShape};
+ghost use Rattle.pals_base.specs.SingleStep.{fire, initial, HasShape};
 ghost use Rattle.pals_base.specs.Rules.{IsBehaviour, IsWay};
 
 /// A component starts in its behaviour's shape, so in a complete state. Each step ends: it leaves a

@@ -1,7 +1,7 @@
 //! The law of a clock that is a list of readings.
 ghost use Rattle.std.specs.Prelude.{◌≡◌, ◌<◌, ◌≤◌, ℕ, List, length, take, slice_index};
 ghost use Rattle.std.specs.List.Sorted.{IsNonDecreasing};
-ghost use Rattle.pals_base.specs.Picks.{picks};
+ghost use Rattle.pals_base.specs.ClockPicks.{picks};
 
 /// The picks never fall where the readings do not, each pick is at least its target, and the
 /// first targets have the first picks.

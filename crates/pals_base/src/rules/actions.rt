@@ -1,6 +1,6 @@
 //! Whether actions are well typed, and their loops short.
 ghost use Rattle.std.specs.Prelude.{◌≡◌, ◌≤◌, ◌+◌, ◌*◌, IfOk, IsTrue, slice_get};
-ghost use Rattle.pals_base.specs.proof.Seen.{action_of, actions_along, branches_along};
+ghost use Rattle.pals_base.specs.proof.SourceTrees.{action_of, actions_along, branches_along};
 ghost use Rattle.pals_base.specs.Kinds.{suits_variable, suits_port, turns, is_short, is_sound, are_sound};
 ghost use Rattle.pals_base.specs.Kinds.{branches_are_sound};
 

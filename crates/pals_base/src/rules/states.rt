@@ -1,9 +1,9 @@
 //! Whether the right transitions leave each state, and each step comes to its end.
 ghost use Rattle.std.specs.Prelude.{◌≡◌, ◌||◌, ◌+◌, IfOk, length, map, filter, nat_eq, option_copied};
 ghost use Rattle.std.specs.List.{list_all};
-ghost use Rattle.pals_base.specs.Fire.{completes, is_complete};
-ghost use Rattle.pals_base.specs.Steps.{upwards};
-ghost use Rattle.pals_base.specs.proof.Settling.{settles, marked, settles_next};
+ghost use Rattle.pals_base.specs.SingleStep.{completes, is_complete};
+ghost use Rattle.pals_base.specs.StepSequences.{upwards};
+ghost use Rattle.pals_base.specs.proof.SettledStates.{settles, marked, settles_next};
 ghost use Rattle.pals_base.specs.Rules.{dispatch_count, ends_unguarded, has_ways};
 
 use crate::behaviour::{BehaviourParts, Guard, StateDecl, Transition};
@@ -83,7 +83,7 @@ fn leads_to_marked(transitions: &[Transition], state: usize, marks: &[bool]) -> 
 }
 
 // For each state, whether it is complete.
-#[tactic(auto, using(crate::proofs::Upwards::map_upwards_more))]
+#[tactic(auto, using(crate::proofs::UpwardNumbers::map_upwards_more))]
 fn complete_states(alloc: Global, parts: &BehaviourParts) -> Result<Vec<bool>, NoMemory>
     ensures { IfOk result (λ marks. marks.items ≡ map (is_complete parts.now) (upwards 0 (length parts.now.states))) }
 {
@@ -103,7 +103,7 @@ fn settles_next(parts: &BehaviourParts, marks: &[bool], state: usize) -> bool
 }
 
 // For each state, whether it is complete, or each way on leads to a marked one.
-#[tactic(auto, using(crate::proofs::Upwards::map_upwards_more))]
+#[tactic(auto, using(crate::proofs::UpwardNumbers::map_upwards_more))]
 fn settled_next(
     alloc: Global,
     parts: &BehaviourParts,
@@ -120,7 +120,7 @@ fn settled_next(
 
 /// For each state, whether each way on from it comes to a complete one by at most as many
 /// transitions as there are states.
-#[tactic(auto, using(crate::proofs::Settling::settles_more))]
+#[tactic(auto, using(crate::proofs::SettledStates::settles_more))]
 pub fn settled_states(alloc: Global, parts: &BehaviourParts) -> Result<Vec<bool>, NoMemory>
     ensures { IfOk result (λ marks. marks.items ≡ map (settles (length parts.now.states) parts.now) (upwards 0 (length parts.now.states))) }
 {

@@ -2,24 +2,24 @@
 use Rattle.std.specs.Prelude.{◌≡◌, ◌≢◌, ◌⊎◌, ℕ, false, Option, Some, None}
 use Rattle.pals_base.specs.declared.values.NodeNo.{NodeNo}
 use Rattle.pals_base.specs.declared.values.LinkNo.{LinkNo}
-use Rattle.pals_model.specs.Inputs.{values_at}
+use Rattle.pals_model.specs.ComponentInputs.{values_at}
 use Rattle.pals_runs.specs.declared.journal.Stop.{Stop}
 use Rattle.bus_machine.specs.LinkEvents.{is_in_flight}
 use Rattle.bus_machine.specs.States.{node_at, flight_at}
 use Rattle.bus_machine.specs.Machine.{Start, Step, Finish, Send}
-use Rattle.bus_machine.specs.Alarms.{release_alarm}
+use Rattle.bus_machine.specs.EarliestReadings.{release_alarm}
 use Rattle.pals_node.specs.declared.answers.StartEnd.{StartEnd}
 use Rattle.pals_node.specs.declared.answers.StepEnd.{StepEnd}
 use Rattle.pals_node.specs.declared.answers.FinishEnd.{FinishEnd}
 use Rattle.pals_node.specs.declared.answers.SendEnd.{SendEnd}
 use Rattle.pals_node.specs.declared.answers.Finished.{Finished}
-use Rattle.pals_node.specs.proof.Values.{JobValue}
+use Rattle.pals_node.specs.proof.NodeValues.{JobValue}
 use Rattle.pals_node.specs.proof.Answers.{is_early, Starts, StartEnds, Steps, StepEnds, FinishesWith, NoneRuns}
 use Rattle.pals_node.specs.proof.Answers.{SendEnds}
 use Rattle.pals_bus.specs.declared.refusals.BusError.{BusError}
 use Rattle.pals_bus.specs.declared.refusals.MessageError.{MessageError}
-use Rattle.pals_bus.specs.Values.{BusValue, Happens}
-use Rattle.pals_bus.specs.proof.Values.{node_value}
+use Rattle.pals_bus.specs.BusValues.{BusValue, Happens}
+use Rattle.pals_bus.specs.proof.BusPartValues.{node_value}
 use Rattle.pals_node.specs.declared.answers.StartEnd.TheVariants as start
 use Rattle.pals_bus.specs.declared.refusals.BusError.TheVariants as fault
 use Rattle.pals_bus.specs.declared.refusals.MessageError.TheVariants as message

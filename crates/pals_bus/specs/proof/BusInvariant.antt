@@ -9,16 +9,16 @@ use Rattle.pals_model.specs.declared.flight.FlightCopy.{FlightCopy}
 use Rattle.pals_model.specs.Delays.{AreDelays}
 use Rattle.pals_model.specs.Rules.{IsDesign}
 use Rattle.link_buffers.specs.proof.Flights.{FlightState}
-use Rattle.step_code.specs.proof.Means.{Means}
+use Rattle.step_code.specs.proof.CodeMeaning.{Means}
 use Rattle.bus_machine.specs.Plans.{component_at, plan_of}
 use Rattle.bus_machine.specs.NodeEvents.{running_step}
 use Rattle.bus_machine.specs.States.{Run, BusState}
 use Rattle.bus_machine.specs.Replay.{Replays}
-use Rattle.pals_node.specs.proof.Values.{NodeValue}
+use Rattle.pals_node.specs.proof.NodeValues.{NodeValue}
 use Rattle.pals_bus.specs.declared.fields.BusFields.{BusFields}
-use Rattle.pals_bus.specs.Values.{BusValue}
-use Rattle.pals_bus.specs.proof.Values.{codes_in}
-use Rattle.pals_bus.specs.proof.Absent.{no_node_value, no_flight}
+use Rattle.pals_bus.specs.BusValues.{BusValue}
+use Rattle.pals_bus.specs.proof.BusPartValues.{codes_in}
+use Rattle.pals_bus.specs.proof.AbsentItems.{no_node_value, no_flight}
 use Rattle.pals_bus.specs.proof.LinksFrom.{AreOutgoing}
 use Rattle.pals_bus.specs.proof.Queues.{AreQueues}
 

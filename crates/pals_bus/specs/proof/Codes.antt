@@ -18,8 +18,8 @@ use Rattle.pals_runs.specs.declared.journal.JournalEntry.{JournalEntry}
 use Rattle.bus_machine.specs.Nodes.{NodeState}
 use Rattle.bus_machine.specs.States.{Run, BusState}
 use Rattle.pals_node.specs.proof.Codes.{state_code, node_code}
-use Rattle.pals_node.specs.proof.Values.{NodeValue}
-use Rattle.pals_bus.specs.Values.{BusValue}
+use Rattle.pals_node.specs.proof.NodeValues.{NodeValue}
+use Rattle.pals_bus.specs.BusValues.{BusValue}
 
 abbrev pub run_code : Coded Run
 run_code =

@@ -3,7 +3,7 @@ use Rattle.std.specs.Prelude.{◌≡◌, ℕ, ◌<◌, List, [], length, map, fi
 use Rattle.std.specs.List.{enumerate_from}
 use Rattle.pals_base.specs.declared.values.LinkNo.{LinkNo}
 use Rattle.pals_model.specs.declared.design.Link.{Link}
-use Rattle.pals_bus.specs.proof.Sending.{is_from}
+use Rattle.pals_bus.specs.proof.RoundMessages.{is_from}
 
 abbrev pub no_numbers : List LinkNo
 no_numbers = []

@@ -2,9 +2,9 @@
 use Rattle.std.specs.Prelude.{◌≡◌, ℕ, ◌<◌, List, length, slice_index_or}
 use Rattle.pals_model.specs.declared.design.DesignParts.{DesignParts}
 use Rattle.step_code.specs.declared.instr.CodeParts.{CodeParts}
-use Rattle.pals_node.specs.proof.Values.{NodeValue, program_of, opening_value}
-use Rattle.pals_bus.specs.proof.Values.{code_at}
-use Rattle.pals_bus.specs.proof.Absent.{no_node_value}
+use Rattle.pals_node.specs.proof.NodeValues.{NodeValue, program_of, opening_value}
+use Rattle.pals_bus.specs.proof.BusPartValues.{code_at}
+use Rattle.pals_bus.specs.proof.AbsentItems.{no_node_value}
 
 -- each has the plan of its component and its code
 pub record AreOpening (design : DesignParts) (codes : List CodeParts) (rounds : ℕ)

@@ -8,14 +8,14 @@ pub mod Sources
 pub mod Steps
 use Rattle.std.specs.Prelude.{◌≡◌, ◌≢◌, ℕ, suc, ◌<◌, [], length, flat_map, All, Some, map, slice_get, slice_index_or}
 use Rattle.pals_base.specs.declared.values.PortValue.TheVariants.{Absent}
-use Rattle.pals_base.specs.Fire.{initial}
-use Rattle.pals_base.specs.Steps.{steps, Stepped, cut, frame_after, upwards}
-use Rattle.pals_base.specs.Bound.{sent_steps}
+use Rattle.pals_base.specs.SingleStep.{initial}
+use Rattle.pals_base.specs.StepSequences.{steps, Stepped, cut, frame_after, upwards}
+use Rattle.pals_base.specs.PeriodBound.{sent_steps}
 use Rattle.pals_model.specs.declared.design.Component.{Component}
 use Rattle.pals_model.specs.declared.design.Link.{Link}
 use Rattle.pals_model.specs.declared.design.DesignParts.{DesignParts}
 use Rattle.pals_model.specs.declared.rounds.Env.{Env}
-use Rattle.pals_model.specs.Inputs.{values_at, feed}
+use Rattle.pals_model.specs.ComponentInputs.{values_at, feed}
 use Rattle.pals_model.specs.Composition.{comp, state, msg, part, taps_of}
 
 -- the steps that one component makes in a round, from its own frame and its own feed

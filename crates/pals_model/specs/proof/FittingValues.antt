@@ -11,8 +11,8 @@ use Rattle.pals_base.specs.declared.behaviour.BehaviourParts.{BehaviourParts}
 use Rattle.pals_model.specs.declared.design.Link.{Link}
 use Rattle.pals_model.specs.declared.design.DesignParts.{DesignParts}
 use Rattle.pals_model.specs.declared.rounds.Env.{Env}
-use Rattle.pals_model.specs.Inputs.{root_inputs, values_at}
-use Rattle.pals_model.specs.Ports.{out_kind, root_kind}
+use Rattle.pals_model.specs.ComponentInputs.{root_inputs, values_at}
+use Rattle.pals_model.specs.PortKinds.{out_kind, root_kind}
 
 -- ---- values
 abbrev pub Fits : Kind → ℤ → Type 0

@@ -1,11 +1,11 @@
 -- Tables of sources, by component and in port, while they are made.
 use Rattle.std.specs.Prelude.{ℕ, List, [], map, length, slice_set, slice_index_or, drop}
 use Rattle.std.specs.List.{enumerate_from, position_from}
-use Rattle.pals_base.specs.Steps.{upwards}
+use Rattle.pals_base.specs.StepSequences.{upwards}
 use Rattle.pals_model.specs.declared.design.Component.{Component}
 use Rattle.pals_model.specs.declared.design.DesignParts.{DesignParts}
 use Rattle.pals_model.specs.declared.sources.PortSource.{PortSource}
-use Rattle.pals_model.specs.Inputs.{from_feed, from_link, feed_goes_to, link_goes_to}
+use Rattle.pals_model.specs.ComponentInputs.{from_feed, from_link, feed_goes_to, link_goes_to}
 use Rattle.pals_model.specs.declared.sources.PortSource.TheVariants as source
 
 -- the table with this source for each in port

@@ -5,13 +5,13 @@ use Rattle.pals_base.specs.declared.values.PortValue.{PortValue}
 use Rattle.pals_runs.specs.declared.journal.Phase.{Phase}
 use Rattle.pals_runs.specs.declared.journal.Phase.TheVariants.{Waiting, Running, Between, Holding, Done}
 use Rattle.bus_machine.specs.NodeEvents.{missing, started, stepped, finished, may_send, sent_from, messages_from}
-use Rattle.bus_machine.specs.Alarms.{start_alarm, step_alarm, release_alarm}
+use Rattle.bus_machine.specs.EarliestReadings.{start_alarm, step_alarm, release_alarm}
 use Rattle.pals_node.specs.declared.answers.StartEnd.{StartEnd}
 use Rattle.pals_node.specs.declared.answers.StepEnd.{StepEnd}
 use Rattle.pals_node.specs.declared.answers.SendEnd.{SendEnd}
 use Rattle.pals_node.specs.declared.answers.Finished.{Finished}
 use Rattle.pals_node.specs.declared.answers.Finished.TheVariants.{Used, Redone}
-use Rattle.pals_node.specs.proof.Values.{NodeValue, JobValue, with_state, job_at}
+use Rattle.pals_node.specs.proof.NodeValues.{NodeValue, JobValue, with_state, job_at}
 use Rattle.pals_node.specs.declared.answers.StartEnd.TheVariants as start
 use Rattle.pals_node.specs.declared.answers.StepEnd.TheVariants as step
 use Rattle.pals_node.specs.declared.answers.SendEnd.TheVariants as send

@@ -14,7 +14,7 @@ use Rattle.pals_base.specs.declared.values.PortValue.{PortValue}
 use Rattle.pals_model.specs.declared.rounds.Part.{Part}
 use Rattle.pals_runs.specs.declared.journal.Phase.{Phase}
 use Rattle.bus_machine.specs.Nodes.{NodeState}
-use Rattle.pals_node.specs.proof.Values.{Program, NodeValue}
+use Rattle.pals_node.specs.proof.NodeValues.{Program, NodeValue}
 
 abbrev pub program_code : Coded Program
 program_code =

@@ -5,22 +5,22 @@ use Rattle.std.specs.Arc.{arc_value}
 use Rattle.pals_base.specs.declared.limits.TheConstants.{HOUR, RATE, ROUNDS, PORTS}
 use Rattle.pals_base.specs.declared.values.PortValue.{PortValue}
 use Rattle.pals_base.specs.declared.values.Frame.{Frame}
-use Rattle.pals_base.specs.Fire.{HasShape}
+use Rattle.pals_base.specs.SingleStep.{HasShape}
 use Rattle.pals_base.specs.Rules.{IsBehaviour}
 use Rattle.pals_model.specs.declared.rounds.Part.{Part}
 use Rattle.pals_runs.specs.declared.journal.Phase.{Phase}
 use Rattle.pals_runs.specs.declared.journal.Phase.TheVariants.{Waiting, Running, Between, Holding, Done}
 use Rattle.step_code.specs.declared.instr.CodeParts.{CodeParts}
-use Rattle.step_code.specs.proof.Means.{Means}
-use Rattle.step_code.specs.proof.Exec.{FitsCode}
-use Rattle.step_vm.specs.proof.Rooms.{Capacity, IsRoomOf}
+use Rattle.step_code.specs.proof.CodeMeaning.{Means}
+use Rattle.step_code.specs.proof.CodeRuns.{FitsCode}
+use Rattle.step_vm.specs.proof.RoomCapacity.{Capacity, IsRoomOf}
 use Rattle.bus_machine.specs.declared.plan.Plan.{Plan}
-use Rattle.pals_base.specs.Steps.{with_places}
+use Rattle.pals_base.specs.StepSequences.{with_places}
 use Rattle.bus_machine.specs.Nodes.{NodeState}
 use Rattle.bus_machine.specs.NodeEvents.{finished, finished_with}
 use Rattle.pals_node.specs.declared.fields.NodeFields.{NodeFields}
-use Rattle.pals_node.specs.proof.Values.{Program, NodeValue, with_state}
-use Rattle.pals_node.specs.proof.Memories.{HasMemory}
+use Rattle.pals_node.specs.proof.NodeValues.{Program, NodeValue, with_state}
+use Rattle.pals_node.specs.proof.JobMemories.{HasMemory}
 
 -- the numbers of a plan are in range, and its ports are the behaviour's
 pub record IsPlan (plan : Plan) : Type 0 where

@@ -3,7 +3,7 @@ use Rattle.std.specs.Prelude.{◌≡◌, ℕ, zero, suc, List, [], ◌∷◌, sl
 use Rattle.std.proofs.Common.{sym, ap, ◌∙◌}
 use Rattle.std.specs.Coded.{Coded}
 use base.Stored.{Gv, gnum, gcons}
-use Rattle.pals_base.specs.proof.TreeCode.{int_to, int_back, int_there}
+use Rattle.pals_base.specs.proof.TreeEncoding.{int_to, int_back, int_there}
 use Rattle.pals_runs.specs.declared.forms.Compare.{Compare}
 use Rattle.pals_runs.specs.declared.forms.Compare.TheVariants.{Eq, Ne, Lt, Le, Gt, Ge}
 use Rattle.pals_runs.specs.Formula.{Formula, Var, Halted, Not, And, Or, Previous, Once, Historically, Since}

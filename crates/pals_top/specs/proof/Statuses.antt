@@ -1,6 +1,6 @@
 -- The status and the text of an answer.
 use Rattle.std.specs.Prelude.{◌≡◌, ℕ, List, ◌⊎◌}
-use Rattle.pals_io.specs.Stream.{SinkView, after_taking, TakesPart}
+use Rattle.pals_io.specs.SourcesAndSinks.{SinkView, after_taking, TakesPart}
 use Rattle.pals_top.specs.declared.answer.Answer.{Answer}
 use Rattle.pals_top.specs.declared.answer.Answer.TheVariants.{Done, NotSo, Usage, TextRefused, DesignRefused}
 use Rattle.pals_top.specs.declared.answer.Answer.TheVariants.{ScenarioRefused, Stopped, ClockEnded, CodeTooLong}

@@ -4,11 +4,11 @@ use Rattle.pals_base.specs.declared.values.PortValue.{PortValue}
 use Rattle.pals_base.specs.declared.values.PortValue.TheVariants.{Absent, Present}
 use Rattle.pals_base.specs.declared.values.Frame.{Frame}
 use Rattle.pals_model.specs.Composition.{Configuration}
-use Rattle.pals_model.specs.proof.Counters.{two_counters}
-use Rattle.pals_model.specs.Inputs.{no_env}
+use Rattle.pals_model.specs.proof.TwoCounters.{two_counters}
+use Rattle.pals_model.specs.ComponentInputs.{no_env}
 use Rattle.pals_runs.specs.declared.pairs.Pair.{Pair}
-use Rattle.plant_fuse.specs.Fused.{ArePairs, Inputs, IsFused}
-use Rattle.plant_fuse.specs.proof.Fused.{fused}
+use Rattle.plant_fuse.specs.FusedComposition.{ArePairs, Inputs, IsFused}
+use Rattle.plant_fuse.specs.proof.FusedRounds.{fused}
 
 abbrev pub one_pair : List Pair
 one_pair = record { plant = record { 0 = 0 }; controller = record { 0 = 1 } } ∷ []

@@ -9,18 +9,18 @@ use Rattle.pals_model.specs.contracts.rounds.Part.{the_row as parts}
 use Rattle.pals_runs.specs.contracts.pairs.Pair.{the_row as all_pairs}
 use Rattle.pals_base.specs.declared.values.Frame.{Frame}
 use Rattle.pals_base.specs.declared.values.PortValue.{PortValue}
-use Rattle.pals_base.specs.Steps.{frame_after}
+use Rattle.pals_base.specs.StepSequences.{frame_after}
 use Rattle.pals_model.specs.declared.design.Component.{Component}
 use Rattle.pals_model.specs.declared.design.Tap.{Tap}
 use Rattle.pals_model.specs.declared.design.DesignParts.{DesignParts}
 use Rattle.pals_model.specs.declared.rounds.Env.{Env}
 use Rattle.pals_model.specs.declared.rounds.Part.{Part}
-use Rattle.pals_model.specs.Inputs.{values_at}
+use Rattle.pals_model.specs.ComponentInputs.{values_at}
 use Rattle.pals_model.specs.Composition.{Configuration, opening, taps_of}
 use Rattle.pals_runs.specs.declared.pairs.Pair.{Pair}
-use Rattle.sync_product.specs.proof.State.{opening_parts}
-use Rattle.plant_fuse.specs.Fused.{Inputs, inputs_to}
-use Rattle.plant_fuse.specs.proof.Rounds.{frame_at, tuple_from, IsFusedRound, after_round}
+use Rattle.sync_product.specs.proof.ProductStates.{opening_parts}
+use Rattle.plant_fuse.specs.FusedComposition.{Inputs, inputs_to}
+use Rattle.plant_fuse.specs.proof.RoundEquations.{frame_at, tuple_from, IsFusedRound, after_round}
 
 -- a design and its pairs, the configuration after some rounds, and what the components left in the last of them
 pub record FuseState : Type 0 where

@@ -1,10 +1,10 @@
 -- What a timetable promises.
 use Rattle.std.specs.Prelude.{◌≡◌, ℕ, true, false, List, map, flat_map}
-use Rattle.pals_base.specs.Steps.{upwards}
+use Rattle.pals_base.specs.StepSequences.{upwards}
 use Rattle.step_code.specs.declared.instr.CodeParts.{CodeParts}
 use Rattle.pals_model.specs.declared.design.DesignParts.{DesignParts}
 use Rattle.round_budget.specs.Budgets.{budget, by_most, total, fits, timetable}
-use Rattle.round_budget.specs.proof.Budgets.{line_in_round}
+use Rattle.round_budget.specs.proof.RoundLines.{line_in_round}
 use Rattle.round_budget.specs.declared.timetables.BudgetEnd.{BudgetEnd}
 use Rattle.round_budget.specs.declared.timetables.BudgetEnd.TheVariants.{Over, Memory}
 

@@ -2,8 +2,8 @@
 use Rattle.std.specs.Prelude.{◌≡◌, ℕ, List, [], ◌∷◌, map, Some}
 use Rattle.pals_clock.specs.Clock.{ClockState}
 use Rattle.pals_model.specs.declared.design.Link.{Link}
-use Rattle.pals_model.specs.proof.Counters.{two_counters}
-use Rattle.pals_model.specs.Inputs.{no_env}
+use Rattle.pals_model.specs.proof.TwoCounters.{two_counters}
+use Rattle.pals_model.specs.ComponentInputs.{no_env}
 use Rattle.pals_runs.specs.declared.journal.Cause.TheVariants.{NotSent}
 use Rattle.pals_runs.specs.declared.journal.JournalEntry.{JournalEntry}
 use Rattle.bus_machine.specs.States.{Run, BusState}

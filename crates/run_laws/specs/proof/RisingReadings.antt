@@ -4,10 +4,10 @@ use Rattle.std.specs.Option.{unwrap_or}
 use Rattle.pals_runs.specs.declared.journal.JournalEntry.{JournalEntry}
 use Rattle.bus_machine.specs.States.{Run}
 use Rattle.run_laws.specs.TraceLines.{Timed, timed}
-use Rattle.run_laws.specs.Shown.{latest}
+use Rattle.run_laws.specs.ShownReadings.{latest}
 use Rattle.run_laws.specs.Runs.{target_of}
-use Rattle.run_laws.specs.proof.EachRun.{InRuns, InMeetings}
-use Rattle.run_laws.specs.EachRun.{EachNode}
+use Rattle.run_laws.specs.proof.RunQuantifiers.{InRuns, InMeetings}
+use Rattle.run_laws.specs.NodeLinkQuantifiers.{EachNode}
 
 -- a line's reading is no less than the last one of its node
 abbrev pub LinesRise : Run → List JournalEntry → List JournalEntry → Type 0

@@ -1,6 +1,6 @@
 -- What a trace is that is judged sound.
 use Rattle.std.specs.Prelude.{◌≡◌, ◌↔◌, ℕ, ◌+◌, ◌*◌, ◌≤◌, List, [], Option, Some, All}
-use Rattle.pals_base.specs.Bound.{alarm}
+use Rattle.pals_base.specs.PeriodBound.{alarm}
 use Rattle.pals_base.specs.declared.limits.TheConstants.{ROUNDS}
 use Rattle.pals_model.specs.declared.design.DesignParts.{DesignParts}
 use Rattle.pals_runs.specs.declared.journal.Stop.{Stop}
@@ -12,10 +12,10 @@ use Rattle.bus_machine.specs.States.{Run, BusState, finished_by_all}
 use Rattle.bus_machine.specs.Replay.{Replays}
 use Rattle.bus_machine.specs.proof.MachineLaws.{IsRunOf}
 use Rattle.run_laws.specs.TraceLines.{told}
-use Rattle.run_laws.specs.Traces.{verdict}
-use Rattle.run_laws.specs.proof.EachRun.{InRuns}
+use Rattle.run_laws.specs.TraceVerdicts.{verdict}
+use Rattle.run_laws.specs.proof.RunQuantifiers.{InRuns}
 use Rattle.run_laws.specs.proof.RisingReadings.{LinesRise}
-use Rattle.run_laws.specs.proof.Sound.{AreReadings}
+use Rattle.run_laws.specs.proof.RunTraces.{AreReadings}
 use Rattle.run_laws.specs.Histories.{History, IsStoppedOrDone, IsTraceOf, trace_of}
 use Rattle.pals_runs.specs.declared.journal.Stop.TheVariants as stop
 use Rattle.pals_runs.specs.declared.journal.JournalEntry.TheVariants as entry

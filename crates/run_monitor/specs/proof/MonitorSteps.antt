@@ -2,7 +2,7 @@
 use Rattle.std.specs.Prelude.{Bool, true, false, not, ◌&&◌, ◌||◌, is_some, List, [], ◌∷◌, length, Option, Some, None}
 use Rattle.pals_base.specs.declared.values.Frame.{Frame}
 use Rattle.pals_runs.specs.Formula.{Formula, Var, Halted, Not, And, Or, Previous, Once, Historically, Since}
-use Rattle.run_monitor.specs.Monitors.{frame_in, variable_in, compares, holds}
+use Rattle.run_monitor.specs.FormulaSemantics.{frame_in, variable_in, compares, holds}
 
 -- a formula's bit, or this before the first round
 abbrev pub bit_of : Bool → Option (Formula → Bool) → Formula → Bool

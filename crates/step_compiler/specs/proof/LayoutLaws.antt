@@ -3,7 +3,7 @@ use Rattle.std.specs.Prelude.{◌≡◌, ℕ, List}
 use Rattle.pals_base.specs.declared.behaviour.BehaviourParts.{BehaviourParts}
 use Rattle.pals_base.specs.Rules.{IsBehaviour}
 use Rattle.step_code.specs.declared.instr.CodeParts.{CodeParts}
-use Rattle.step_compiler.specs.LaidOut.{IsBlockOrder, IsLaidOut, AreLaidOut}
+use Rattle.step_compiler.specs.LaidOutCode.{IsBlockOrder, IsLaidOut, AreLaidOut}
 
 -- each behaviour has a code that is laid out for it
 abbrev pub HasLayout : Type 0

@@ -1,10 +1,10 @@
 -- Laws of products.
 use Rattle.std.specs.Prelude.{◌≡◌, ℕ, suc, map, length}
-use Rattle.pals_base.specs.Steps.{upwards}
+use Rattle.pals_base.specs.StepSequences.{upwards}
 use Rattle.pals_model.specs.declared.design.DesignParts.{DesignParts}
 use Rattle.pals_model.specs.declared.rounds.Env.{Env}
 use Rattle.pals_model.specs.Composition.{comp, part}
-use Rattle.sync_product.specs.proof.State.{state_after}
+use Rattle.sync_product.specs.proof.ProductStates.{state_after}
 
 -- the design stays
 abbrev pub DesignStays : Type 0

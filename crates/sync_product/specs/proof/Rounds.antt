@@ -3,16 +3,16 @@ use Rattle.std.specs.Prelude.{◌≡◌, ℕ, Bool, if◌then◌else◌, List, [
 use Rattle.pals_base.specs.declared.values.PortValue.{PortValue}
 use Rattle.pals_base.specs.declared.values.PortValue.TheVariants.{Absent}
 use Rattle.pals_base.specs.declared.values.Frame.{Frame}
-use Rattle.pals_base.specs.Steps.{frame_after, outputs, column, columns, cut}
+use Rattle.pals_base.specs.StepSequences.{frame_after, outputs, column, columns, cut}
 use Rattle.pals_model.specs.declared.design.Component.{Component}
 use Rattle.pals_model.specs.declared.design.Link.{Link}
 use Rattle.pals_model.specs.declared.rounds.Part.{Part}
 use Rattle.pals_model.specs.declared.sources.PortSource.{PortSource}
-use Rattle.pals_model.specs.Inputs.{reading, sources_of}
+use Rattle.pals_model.specs.ComponentInputs.{reading, sources_of}
 use Rattle.pals_model.specs.Composition.{no_frame}
 use Rattle.sync_product.specs.declared.reads.RoundInputs.{RoundInputs}
 use Rattle.sync_product.specs.declared.stage.Stage.{Stage}
-use Rattle.sync_product.specs.proof.Sizes.{tap_ports}
+use Rattle.sync_product.specs.proof.ProductSizes.{tap_ports}
 
 -- a place of a row where it counts, else an absent one
 abbrev pub place_before : Bool → ℕ → List PortValue → PortValue

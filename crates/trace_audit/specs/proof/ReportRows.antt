@@ -4,10 +4,10 @@ use Rattle.pals_model.specs.declared.design.DesignParts.{DesignParts}
 use Rattle.pals_model.specs.declared.rounds.Env.{Env}
 use Rattle.pals_model.specs.RoundTexts.{composed_lines}
 use Rattle.pals_report.specs.proof.TapPlaces.{tap_places}
-use Rattle.sync_product.specs.proof.State.{state_after}
-use Rattle.run_laws.specs.Traces.{row_size}
+use Rattle.sync_product.specs.proof.ProductStates.{state_after}
+use Rattle.run_laws.specs.TraceVerdicts.{row_size}
 use Rattle.trace_audit.specs.declared.rows.AuditedRows.{AuditedRows}
-use Rattle.trace_audit.specs.proof.Lines.{HasLeft}
+use Rattle.trace_audit.specs.proof.RemainingLines.{HasLeft}
 
 -- the composition after this many rounds, and room for a round's values
 pub record AreRows (design : DesignParts) (env : Env) (r : AuditedRows) (rounds : ℕ) : Type 0 where

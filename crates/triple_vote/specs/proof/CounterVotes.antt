@@ -3,14 +3,14 @@ use Rattle.std.specs.Prelude.{◌≡◌, ℕ, zero, suc, ℤ, pos, true, false, 
 use Rattle.std.specs.Prelude.{slice_index_or}
 use Rattle.pals_base.specs.declared.values.PortValue.TheVariants.{Present}
 use Rattle.pals_base.specs.declared.values.Frame.{Frame}
-use Rattle.pals_base.specs.Steps.{upwards}
-use Rattle.pals_model.specs.proof.Counters.{two_counters}
-use Rattle.pals_model.specs.Inputs.{no_env}
+use Rattle.pals_base.specs.StepSequences.{upwards}
+use Rattle.pals_model.specs.proof.TwoCounters.{two_counters}
+use Rattle.pals_model.specs.ComponentInputs.{no_env}
 use Rattle.pals_runs.specs.declared.pairs.VoteFault.{VoteFault}
 use Rattle.pals_model.specs.RoundTexts.{line_end}
 use Rattle.triple_vote.specs.Replicas.{Voted, vcomp}
 use Rattle.triple_vote.specs.VotedText.{vreport}
-use Rattle.triple_vote.specs.Outvoted.{AreOutvoted}
+use Rattle.triple_vote.specs.OutvotedFaults.{AreOutvoted}
 use Rattle.triple_vote.specs.proof.VoteLaws.{AreFaults, NameOneEach}
 
 -- a replica of p.a sends 100 on p.b.i

@@ -8,7 +8,7 @@ use Rattle.pals_model.specs.declared.design.Link.{Link}
 use Rattle.pals_model.specs.declared.design.Tap.{Tap}
 use Rattle.pals_model.specs.declared.design.DesignParts.{DesignParts}
 use Rattle.pals_model.specs.declared.rounds.Env.{Env}
-use Rattle.pals_model.specs.Inputs.{rate_of}
+use Rattle.pals_model.specs.ComponentInputs.{rate_of}
 use Rattle.pals_model.specs.Composition.{Configuration, comp, state, msg, steps_of_round, tuple_of}
 use Rattle.pals_model.specs.Rules.{IsDesign}
 use Rattle.pals_runs.specs.declared.pairs.VoteFault.{VoteFault}
@@ -16,8 +16,8 @@ use Rattle.pals_model.specs.RoundTexts.{report}
 use Rattle.triple_vote.specs.Votes.{vote}
 use Rattle.triple_vote.specs.Replicas.{source_in, is_replicated, copies_of, Voted, frame_at, received_at, vcomp, vshown}
 use Rattle.triple_vote.specs.VotedText.{vreport, thrice}
-use Rattle.triple_vote.specs.Outvoted.{AreOutvoted}
-use Rattle.triple_vote.specs.proof.States.{vstate_after}
+use Rattle.triple_vote.specs.OutvotedFaults.{AreOutvoted}
+use Rattle.triple_vote.specs.proof.VotedStates.{vstate_after}
 
 -- ---- the vote of three: what two agree on wins, and where no two agree it is absent
 pub record VotesOfThree : Type 0 where

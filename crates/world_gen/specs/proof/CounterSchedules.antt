@@ -2,14 +2,14 @@
 use Rattle.std.specs.Prelude.{◌≡◌, ℕ, List, [], ◌∷◌, ◌++◌, map, Some, None}
 use Rattle.pals_model.specs.declared.design.Component.{Component}
 use Rattle.pals_model.specs.declared.design.DesignParts.{DesignParts}
-use Rattle.pals_model.specs.proof.Counters.{two_counters}
-use Rattle.pals_model.specs.Inputs.{no_env}
+use Rattle.pals_model.specs.proof.TwoCounters.{two_counters}
+use Rattle.pals_model.specs.ComponentInputs.{no_env}
 use Rattle.pals_runs.specs.declared.events.Event.{Event}
 use Rattle.pals_runs.specs.declared.events.Event.TheVariants.{Pass, Start, Step, Finish, Send, Arrive}
 use Rattle.bus_machine.specs.States.{Run}
 use Rattle.run_laws.specs.Worlds.{world_run}
 use Rattle.bus_machine.specs.proof.CounterMachine.{a, b, to_a, to_b}
-use Rattle.run_laws.specs.proof.WorldRows.{counters_world, refused}
+use Rattle.run_laws.specs.proof.CounterWorlds.{counters_world, refused}
 use Rattle.world_gen.specs.proof.Schedules.{schedule_at}
 use Rattle.pals_runs.specs.declared.events.EventFault.TheVariants as fault
 use Rattle.pals_runs.specs.declared.events.EventSubject.TheVariants as which

@@ -6,7 +6,7 @@ use Rattle.pals_runs.specs.declared.events.Event.{Event}
 use Rattle.bus_machine.specs.States.{Run, node_at}
 use Rattle.bus_machine.specs.proof.MachineLaws.{IsRunOf}
 use Rattle.run_laws.specs.Worlds.{opening_world}
-use Rattle.run_laws.specs.Faults.{IsWithin}
+use Rattle.run_laws.specs.EventFaults.{IsWithin}
 use Rattle.run_laws.specs.EventLists.{world_left}
 use Rattle.world_gen.specs.proof.Schedules.{AreMoments, schedule_at}
 

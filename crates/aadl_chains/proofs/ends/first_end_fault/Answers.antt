@@ -1,6 +1,6 @@
 use Rattle.std.proofs.Common.{◌+◌, None, arith, subst, sym}
 use Rattle.aadl_tree.specs.proof.PackageViews.{placed}
-use Rattle.aadl_uses.specs.proof.Uses.{FirstIn}
+use Rattle.aadl_uses.specs.proof.PackageContainment.{FirstIn}
 use Rattle.aadl_chains.specs.Chains.{IsEndFault}
 use Rattle.aadl_chains.specs.proof.Findings.{FindsAll}
 use Rattle.aadl_chains.proofs.EndFaults.{FoundAmong, among_none, among_more, among_past, first_end}

@@ -1,8 +1,8 @@
 use Rattle.std.proofs.Common.{◌∙◌, subst, sym}
 use Rattle.std.proofs.lemmas.Result.{on_ok_weaker}
 use Rattle.aadl_tree.specs.proof.PackageViews.{placed}
-use Rattle.aadl_chains.specs.proof.Inside.{IsJoined}
-use Rattle.aadl_chains.proofs.Joining.{one_joined, none_joined}
+use Rattle.aadl_chains.specs.proof.PortsJoinedInside.{IsJoined}
+use Rattle.aadl_chains.proofs.InsideByConnection.{one_joined, none_joined}
 use Rattle.aadl_chains.proofs.inside.join.Goals as goal
 
 pub returns-in-Some : goal.returns-in-Some

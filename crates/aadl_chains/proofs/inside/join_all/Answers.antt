@@ -1,6 +1,6 @@
 use Rattle.std.proofs.Common.{◌∙◌, sym}
 use Rattle.aadl_tree.specs.proof.PackageViews.{placed}
-use Rattle.aadl_chains.proofs.Joining.{thread_joined}
+use Rattle.aadl_chains.proofs.InsideByConnection.{thread_joined}
 use Rattle.aadl_chains.proofs.inside.join_all.Goals as goal
 
 pub returns-then-is_thread : goal.returns-then-is_thread

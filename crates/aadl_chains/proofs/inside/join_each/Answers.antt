@@ -4,7 +4,7 @@ use Rattle.list_lemmas.proofs.Places.{Contains-from_slice_get}
 use Rattle.aadl_tree.specs.proof.PackageViews.{placed}
 use Rattle.aadl_uses.specs.declared.connections.Wire.{Wire}
 use Rattle.aadl_uses.specs.Wiring.{wires_at}
-use Rattle.aadl_chains.proofs.Joining.{none_yet, one_more, all_joined}
+use Rattle.aadl_chains.proofs.InsideByConnection.{none_yet, one_more, all_joined}
 use Rattle.aadl_chains.proofs.inside.join_each.Goals as goal
 
 pub loop-wire-init : goal.loop-wire-init

@@ -1,5 +1,5 @@
 use Rattle.aadl_tree.specs.proof.PackageViews.{placed}
-use Rattle.aadl_chains.proofs.Joining.{FrontJoined}
+use Rattle.aadl_chains.proofs.InsideByConnection.{FrontJoined}
 use Rattle.aadl_chains.proofs.inside.join_each.Given as goal
 
 abbrev pub invariant-loop-wire : goal.invariant-loop-wire

@@ -1,6 +1,6 @@
 use Rattle.std.proofs.Common.{◌+◌, arith, subst, sym}
 use Rattle.aadl_tree.specs.proof.PackageViews.{placed}
-use Rattle.aadl_chains.proofs.Ordered.{FrontInside, no_front, front_more, front_past, front_all}
+use Rattle.aadl_chains.proofs.InsideByDeclaration.{FrontInside, no_front, front_more, front_past, front_all}
 use Rattle.aadl_chains.proofs.inside.ports_of.Goals.{in-Some+in_ok-join_all, in_default}
 use Rattle.aadl_chains.proofs.inside.ports_of.Goals as goal
 

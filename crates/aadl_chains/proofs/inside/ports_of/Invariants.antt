@@ -1,5 +1,5 @@
 use Rattle.aadl_tree.specs.proof.PackageViews.{placed}
-use Rattle.aadl_chains.proofs.Ordered.{FrontInside}
+use Rattle.aadl_chains.proofs.InsideByDeclaration.{FrontInside}
 use Rattle.aadl_chains.proofs.inside.ports_of.Given as goal
 
 abbrev pub invariant-loop-at : goal.invariant-loop-at

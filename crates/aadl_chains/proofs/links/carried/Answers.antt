@@ -1,10 +1,10 @@
 use Rattle.std.proofs.Common.{◌≡◌, subst, sym, Some, ◌∙◌, ap}
 use Rattle.aadl_tree.specs.proof.PackageViews.{placed}
 use Rattle.aadl_names.specs.declared.site.PortPlace.TheVariants.{Inner}
-use Rattle.aadl_chains.proofs.OnChains.{opposed}
-use Rattle.aadl_chains.specs.proof.Inside.{ReachesIn}
-use Rattle.aadl_chains.proofs.Steps.{own_no_inner, none_no_inner}
-use Rattle.aadl_chains.proofs.Counted.{carried-number, carried-none, carried-not}
+use Rattle.aadl_chains.proofs.ConnectionsOnChains.{opposed}
+use Rattle.aadl_chains.specs.proof.PortsJoinedInside.{ReachesIn}
+use Rattle.aadl_chains.proofs.EnteringConnections.{own_no_inner, none_no_inner}
+use Rattle.aadl_chains.proofs.LinkLimits.{carried-number, carried-none, carried-not}
 use Rattle.aadl_chains.proofs.links.carried.Goals as goal
 
 pub returns-then-reaches : goal.returns-then-reaches

@@ -2,11 +2,11 @@ use Rattle.std.proofs.Common.{ℕ, ◌+◌, ◌∙◌, ap, arith, slice_index, s
 use Rattle.std.proofs.lemmas.List.{length-map}
 use Rattle.pals_base.specs.declared.limits.TheConstants.{LINKS}
 use Rattle.aadl_tree.specs.proof.PackageViews.{placed}
-use Rattle.aadl_uses.specs.proof.Uses.{targets_in}
-use Rattle.aadl_uses.proofs.Counted.{tells}
-use Rattle.aadl_chains.specs.proof.Numbers.{IsNumber}
+use Rattle.aadl_uses.specs.proof.PackageContainment.{targets_in}
+use Rattle.aadl_uses.proofs.ThreadCounts.{tells}
+use Rattle.aadl_chains.specs.proof.LimitedCounts.{IsNumber}
 use Rattle.aadl_chains.specs.proof.PortCounts.{EndsLink}
-use Rattle.aadl_chains.proofs.Counted.{more_links, one_each}
+use Rattle.aadl_chains.proofs.LinkLimits.{more_links, one_each}
 use Rattle.aadl_chains.proofs.links.has_too_many_links.Goals as goal
 
 pub returns : goal.returns

@@ -1,13 +1,13 @@
 use Rattle.std.proofs.Common.{ℕ, ◌+◌, ◌∙◌, arith, get_or, subst, sym, List}
 use Rattle.aadl_tree.specs.proof.PackageViews.{placed}
-use Rattle.aadl_uses.specs.proof.Uses.{containment, targets_in}
-use Rattle.aadl_uses.proofs.Containing.{below-same}
-use Rattle.aadl_uses.proofs.Fronts.{FrontOf, no_front, front_known, front_more, front_past, front_all}
+use Rattle.aadl_uses.specs.proof.PackageContainment.{containment, targets_in}
+use Rattle.aadl_uses.proofs.PackageContainment.{below-same}
+use Rattle.aadl_uses.proofs.KnownPrefixes.{FrontOf, no_front, front_known, front_more, front_past, front_all}
 use Rattle.std.proofs.lemmas.List.{length-map}
 use Rattle.list_lemmas.proofs.Places.{Contains-from_slice_get}
-use Rattle.aadl_chains.specs.proof.Numbers.{IsNumber}
+use Rattle.aadl_chains.specs.proof.LimitedCounts.{IsNumber}
 use Rattle.aadl_chains.specs.proof.PortCounts.{EndsLink}
-use Rattle.aadl_chains.proofs.WalkTables.{known_below}
+use Rattle.aadl_chains.proofs.PortCountTables.{known_below}
 use Rattle.aadl_chains.proofs.links.link_counts.Goals.{in-Some, in_default}
 use Rattle.aadl_chains.proofs.links.link_counts.Goals as goal
 

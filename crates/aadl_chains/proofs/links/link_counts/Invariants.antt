@@ -1,7 +1,7 @@
 use Rattle.aadl_tree.specs.proof.PackageViews.{placed}
-use Rattle.aadl_uses.specs.proof.Uses.{containment}
-use Rattle.aadl_uses.proofs.Fronts.{FrontOf}
-use Rattle.aadl_chains.specs.proof.Numbers.{IsNumber}
+use Rattle.aadl_uses.specs.proof.PackageContainment.{containment}
+use Rattle.aadl_uses.proofs.KnownPrefixes.{FrontOf}
+use Rattle.aadl_chains.specs.proof.LimitedCounts.{IsNumber}
 use Rattle.aadl_chains.specs.proof.PortCounts.{EndsLink}
 use Rattle.aadl_chains.proofs.links.link_counts.Given as goal
 

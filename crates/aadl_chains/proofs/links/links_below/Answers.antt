@@ -1,5 +1,5 @@
 use Rattle.aadl_tree.specs.proof.PackageViews.{placed}
-use Rattle.aadl_chains.proofs.Counted.{links_both}
+use Rattle.aadl_chains.proofs.LinkLimits.{links_both}
 use Rattle.aadl_chains.proofs.links.links_below.Goals as goal
 
 pub returns : goal.returns

@@ -2,7 +2,7 @@ use Rattle.std.proofs.Common.{◌∙◌, ap, arith, length, slice_get, sym, None
 use Rattle.std.proofs.lemmas.Option.{slice_get-get_or}
 use Rattle.aadl_tree.specs.proof.PackageViews.{placed}
 use Rattle.aadl_uses.specs.declared.connections.Wire.{Wire}
-use Rattle.aadl_chains.proofs.Counted.{none_carried, carried_more, carried_all}
+use Rattle.aadl_chains.proofs.LinkLimits.{none_carried, carried_more, carried_all}
 use Rattle.aadl_chains.proofs.links.links_carried.Goals as goal
 
 pub carried-more-requires-clause-wire : goal.carried-more-requires-clause-wire

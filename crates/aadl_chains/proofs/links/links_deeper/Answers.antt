@@ -1,6 +1,6 @@
 use Rattle.std.proofs.Common.{◌+◌, ◌∙◌, ap, arith, length, min}
 use Rattle.aadl_tree.specs.proof.PackageViews.{placed}
-use Rattle.aadl_chains.proofs.Counted.{none_deeper, deeper_more, deeper_all}
+use Rattle.aadl_chains.proofs.LinkLimits.{none_deeper, deeper_more, deeper_all}
 use Rattle.aadl_chains.proofs.links.links_deeper.Goals as goal
 
 pub loop-target-init : goal.loop-target-init

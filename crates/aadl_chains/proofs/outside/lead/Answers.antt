@@ -1,8 +1,8 @@
 use Rattle.std.proofs.Common.{◌∙◌, subst, sym}
 use Rattle.std.proofs.lemmas.Result.{on_ok_weaker}
 use Rattle.aadl_tree.specs.proof.PackageViews.{placed}
-use Rattle.aadl_chains.specs.proof.Outside.{IsLed}
-use Rattle.aadl_chains.proofs.Leading.{one_led, none_led}
+use Rattle.aadl_chains.specs.proof.PortsJoinedOutside.{IsLed}
+use Rattle.aadl_chains.proofs.OutsideByConnection.{one_led, none_led}
 use Rattle.aadl_chains.proofs.outside.lead.Goals as goal
 
 pub returns-in-Some : goal.returns-in-Some

@@ -3,7 +3,7 @@ use Rattle.std.proofs.lemmas.Option.{slice_get-get_or}
 use Rattle.aadl_tree.specs.proof.PackageViews.{placed}
 use Rattle.aadl_uses.specs.declared.connections.Wire.{Wire}
 use Rattle.aadl_uses.specs.Wiring.{wires_at}
-use Rattle.aadl_chains.proofs.Leading.{none_yet, one_more, all_led}
+use Rattle.aadl_chains.proofs.OutsideByConnection.{none_yet, one_more, all_led}
 use Rattle.aadl_chains.proofs.outside.lead_each.Goals as goal
 
 pub loop-wire-init : goal.loop-wire-init

@@ -1,5 +1,5 @@
 use Rattle.aadl_tree.specs.proof.PackageViews.{placed}
-use Rattle.aadl_chains.proofs.Leading.{FrontLed}
+use Rattle.aadl_chains.proofs.OutsideByConnection.{FrontLed}
 use Rattle.aadl_chains.proofs.outside.lead_each.Given as goal
 
 abbrev pub invariant-loop-wire : goal.invariant-loop-wire

@@ -1,6 +1,6 @@
 use Rattle.std.proofs.Common.{◌+◌, arith, subst, sym}
 use Rattle.aadl_tree.specs.proof.PackageViews.{placed}
-use Rattle.aadl_chains.proofs.Falling.{BackLed, no_back, back_next, back_none, back_all}
+use Rattle.aadl_chains.proofs.OutsideByDeclaration.{BackLed, no_back, back_next, back_none, back_all}
 use Rattle.aadl_chains.proofs.outside.ports_of.Goals.{in-Some+in_ok-lead_if_used, in_default}
 use Rattle.aadl_chains.proofs.outside.ports_of.Goals as goal
 

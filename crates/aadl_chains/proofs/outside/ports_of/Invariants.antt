@@ -1,5 +1,5 @@
 use Rattle.aadl_tree.specs.proof.PackageViews.{placed}
-use Rattle.aadl_chains.proofs.Falling.{BackLed}
+use Rattle.aadl_chains.proofs.OutsideByDeclaration.{BackLed}
 use Rattle.aadl_chains.proofs.outside.ports_of.Given as goal
 
 abbrev pub invariant-loop-at : goal.invariant-loop-at

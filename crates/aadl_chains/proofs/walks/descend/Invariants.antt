@@ -1,9 +1,9 @@
 use Rattle.std.proofs.Common.{◌≡◌, ℕ, false, reverse, Some}
 use Rattle.aadl_tree.specs.proof.PackageViews.{placed}
 use Rattle.aadl_uses.specs.Uses as uses
-use Rattle.aadl_chains.specs.proof.Inside.{is_in_at}
+use Rattle.aadl_chains.specs.proof.PortsJoinedInside.{is_in_at}
 use Rattle.aadl_chains.specs.proof.Walks.{OneEach}
-use Rattle.aadl_chains.proofs.Climbing.{rank}
+use Rattle.aadl_chains.proofs.OutermostFirstWalks.{rank}
 use Rattle.aadl_chains.proofs.Routes.{Descending}
 use Rattle.aadl_chains.proofs.walks.descend.Given as goal
 

@@ -1,6 +1,6 @@
 use Rattle.std.proofs.Common.{◌∙◌, sym}
 use Rattle.aadl_tree.specs.proof.PackageViews.{placed}
-use Rattle.aadl_chains.proofs.Steps.{inner_of}
+use Rattle.aadl_chains.proofs.EnteringConnections.{inner_of}
 use Rattle.aadl_chains.proofs.walks.step_down.Goals as goal
 
 pub lower_of-requires : goal.lower_of-requires

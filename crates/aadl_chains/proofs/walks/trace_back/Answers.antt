@@ -2,11 +2,11 @@ use Rattle.std.proofs.Common.{◌∙◌, ◌∷◌, [], ap, refl, reverse, subst
 use Rattle.std.proofs.lemmas.List.{reverse-append}
 use Rattle.aadl_tree.specs.proof.PackageViews.{placed}
 use Rattle.aadl_chains.specs.Chains.{Port}
-use Rattle.aadl_chains.specs.proof.Climbing.{crossing}
+use Rattle.aadl_chains.specs.proof.OutermostFirstWalks.{crossing}
 use Rattle.aadl_chains.specs.proof.Routes.{Traces}
-use Rattle.aadl_chains.proofs.Climbing.{crossing_from}
+use Rattle.aadl_chains.proofs.OutermostFirstWalks.{crossing_from}
 use Rattle.aadl_chains.proofs.Routes.{traces_nothing}
-use Rattle.aadl_chains.proofs.Tracing.{root_route, over_route}
+use Rattle.aadl_chains.proofs.WholeWalks.{root_route, over_route}
 use Rattle.aadl_chains.proofs.walks.trace_back.Goals as goal
 
 pub lower_of-lower-requires : goal.lower_of-lower-requires

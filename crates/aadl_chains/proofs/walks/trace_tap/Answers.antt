@@ -2,9 +2,9 @@ use Rattle.std.proofs.Common.{◌∙◌, [], ap, reverse, subst, sym}
 use Rattle.aadl_tree.specs.proof.PackageViews.{placed}
 use Rattle.aadl_chains.specs.Chains.{Port}
 use Rattle.aadl_chains.specs.proof.Routes.{TracesTap}
-use Rattle.aadl_chains.proofs.Steps.{inner_of}
+use Rattle.aadl_chains.proofs.EnteringConnections.{inner_of}
 use Rattle.aadl_chains.proofs.Routes.{no_tap}
-use Rattle.aadl_chains.proofs.Tracing.{tap_route}
+use Rattle.aadl_chains.proofs.WholeWalks.{tap_route}
 use Rattle.aadl_chains.proofs.walks.trace_tap.Goals as goal
 
 pub lower_of-lower-requires : goal.lower_of-lower-requires

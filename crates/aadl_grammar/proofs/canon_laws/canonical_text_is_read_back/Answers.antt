@@ -2,11 +2,11 @@ use Rattle.std.proofs.Common.{sym, subst, ℕ, List}
 use Rattle.std.proofs.Math.Logic.{∥∥₁_map}
 use Rattle.aadl_tree.specs.Canon.{canon}
 use Rattle.aadl_tree.specs.Declarations.{PackageTree}
-use Rattle.aadl_tree.specs.proof.Maps.{package_to, kept_place, no_place}
+use Rattle.aadl_tree.specs.proof.PlaceMaps.{package_to, kept_place, no_place}
 use Rattle.aadl_tree.specs.proof.PackageViews.{placed}
-use Rattle.aadl_tree.proofs.Ties.Declarations.{package_tied}
-use Rattle.aadl_grammar.specs.proof.Reads.{HasTree}
-use Rattle.aadl_grammar.proofs.Reading.{canon_of, reads_back, only_so}
+use Rattle.aadl_tree.proofs.PlaceMaps.Declarations.{package_tied}
+use Rattle.aadl_grammar.specs.proof.CanonicalRoundTrip.{HasTree}
+use Rattle.aadl_grammar.proofs.CanonicalRoundTrip.{canon_of, reads_back, only_so}
 use Rattle.aadl_grammar.proofs.canon_laws.canonical_text_is_read_back.Goals as goal
 
 pub returns-clause-of_text : goal.returns-clause-of_text

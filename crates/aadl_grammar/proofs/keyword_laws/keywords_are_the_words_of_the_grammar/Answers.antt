@@ -1,9 +1,9 @@
 use Rattle.aadl_tree.specs.Marks.{keywords_outside, keywords_inside}
 use Rattle.aadl_grammar.specs.proof.Machine.{whole_package, annex_body}
-use Rattle.aadl_grammar.proofs.KeywordSides.{listed_if_it_comes, outside_first, outside_stays, outside_fine}
-use Rattle.aadl_grammar.proofs.KeywordSides.{inside_first, inside_stays, inside_fine}
-use Rattle.aadl_grammar.proofs.KeywordSides as sides
-use Rattle.aadl_grammar.proofs.KeywordWaysOf.{outside_reached, inside_reached}
+use Rattle.aadl_grammar.proofs.OnlyListedKeywords.{listed_if_it_comes, outside_first, outside_stays, outside_fine}
+use Rattle.aadl_grammar.proofs.OnlyListedKeywords.{inside_first, inside_stays, inside_fine}
+use Rattle.aadl_grammar.proofs.OnlyListedKeywords as sides
+use Rattle.aadl_grammar.proofs.ReachedKeywords.{outside_reached, inside_reached}
 use Rattle.aadl_grammar.proofs.keyword_laws.keywords_are_the_words_of_the_grammar.Goals as goal
 
 pub returns-clause-outside : goal.returns-clause-outside

@@ -1,4 +1,4 @@
-use Rattle.aadl_grammar.proofs.Fates.Starts.{one_package, one_behaviour, package_kept, behaviour_kept}
+use Rattle.aadl_grammar.proofs.Fates.GrammarLanguages.{one_package, one_behaviour, package_kept, behaviour_kept}
 use Rattle.aadl_grammar.proofs.laws.a_text_has_one_tree.Goals as goal
 
 pub returns-clause-package : goal.returns-clause-package

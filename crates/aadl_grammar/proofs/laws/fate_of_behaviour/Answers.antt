@@ -1,5 +1,5 @@
 use Rattle.aadl_tree.specs.Grammar.{IsBehaviour}
-use Rattle.aadl_grammar.proofs.Fates.Starts.{behaviours}
+use Rattle.aadl_grammar.proofs.Fates.GrammarLanguages.{behaviours}
 use Rattle.aadl_grammar.proofs.Fates.Answers.{answers_text, answers_fault, answers_depth}
 use Rattle.aadl_grammar.proofs.laws.fate_of_behaviour.Goals as goal
 

@@ -1,5 +1,5 @@
 use Rattle.aadl_tree.specs.Grammar.{IsPackage}
-use Rattle.aadl_grammar.proofs.Fates.Starts.{packages}
+use Rattle.aadl_grammar.proofs.Fates.GrammarLanguages.{packages}
 use Rattle.aadl_grammar.proofs.Fates.Answers.{answers_text, answers_fault, answers_depth}
 use Rattle.aadl_grammar.proofs.laws.fate_of_package.Goals as goal
 

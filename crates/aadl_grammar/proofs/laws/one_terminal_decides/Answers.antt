@@ -1,4 +1,4 @@
-use Rattle.aadl_grammar.proofs.Deciding.{rows_decide}
+use Rattle.aadl_grammar.proofs.OneTerminalLookahead.{rows_decide}
 use Rattle.aadl_grammar.proofs.laws.one_terminal_decides.Goals as goal
 
 pub returns : goal.returns

@@ -1,5 +1,5 @@
-use Rattle.aadl_grammar.proofs.Placed.All.{one_placed_package, one_placed_behaviour}
-use Rattle.aadl_grammar.proofs.Placed.Canons.{same_package}
+use Rattle.aadl_grammar.proofs.UniquePlacedTrees.All.{one_placed_package, one_placed_behaviour}
+use Rattle.aadl_grammar.proofs.UniquePlacedTrees.KeptTerminals.{same_package}
 use Rattle.aadl_grammar.proofs.laws.one_tree_with_places.Goals as goal
 
 pub returns-clause-package : goal.returns-clause-package

@@ -1,6 +1,6 @@
 use Rattle.std.proofs.Common.{◌∙◌, ◌∷◌, arith}
 use Rattle.aadl_grammar.proofs.SymbolRows.{along, exits, no_reads}
-use Rattle.aadl_grammar.proofs.Written.{then}
+use Rattle.aadl_grammar.proofs.PartSequences.{then}
 use Rattle.aadl_grammar.specs.proof.Symbols as s
 use Rattle.aadl_grammar.specs.proof.Machine.{move, depth}
 use Rattle.aadl_grammar.proofs.names.identifiers.Goals as goal

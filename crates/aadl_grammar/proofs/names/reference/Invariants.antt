@@ -2,11 +2,11 @@ use Rattle.std.proofs.Common.{◌≡◌, ℕ, ◌+◌, ◌≤◌, ◌∷◌, ◌
 use Rattle.std.specs.Prelude.{flat_map}
 use Rattle.aadl_tree.specs.Names.{identifier_parts, qualifier_parts}
 use Rattle.aadl_tree.specs.proof.NameViews.{identifier_view}
-use Rattle.aadl_tree.specs.proof.Maps.{kept_place}
+use Rattle.aadl_tree.specs.proof.PlaceMaps.{kept_place}
 use Rattle.aadl_tree.specs.declared.limits.TheConstants.{GREATEST_NESTING}
 use Rattle.aadl_grammar.specs.proof.Symbols as s
 use Rattle.aadl_grammar.specs.proof.Machine.{Stack, depth, fate}
-use Rattle.aadl_grammar.specs.proof.Reading.{here, Reads}
+use Rattle.aadl_grammar.specs.proof.ParserAnswers.{here, Reads}
 use Rattle.aadl_grammar.proofs.names.reference.Given as goal
 
 abbrev pub invariant-loop-behind : goal.invariant-loop-behind

@@ -1,11 +1,11 @@
 use Rattle.std.proofs.Common.{◌≡◌, ℕ, ◌+◌, ◌*◌, ◌∷◌, length}
 use Rattle.aadl_tree.specs.Values.{more_values_parts, associations_parts}
 use Rattle.aadl_tree.specs.proof.ValueViews.{values_view, associations_view}
-use Rattle.aadl_tree.specs.proof.Maps.{kept_place}
+use Rattle.aadl_tree.specs.proof.PlaceMaps.{kept_place}
 use Rattle.aadl_tree.specs.declared.limits.TheConstants.{GREATEST_NESTING}
 use Rattle.aadl_grammar.specs.proof.Symbols as s
 use Rattle.aadl_grammar.specs.proof.Machine.{Stack, depth, fate}
-use Rattle.aadl_grammar.specs.proof.Reading.{here, Reads}
+use Rattle.aadl_grammar.specs.proof.ParserAnswers.{here, Reads}
 use Rattle.aadl_grammar.proofs.values.+value.Given as goal
 
 abbrev pub decreases-value : goal.decreases-value

@@ -1,12 +1,12 @@
 use Rattle.std.proofs.Common.{◌∙◌, ◌∷◌, [], ap, sym, refl, arith}
-use Rattle.aadl_grammar.specs.proof.Reading.{here}
+use Rattle.aadl_grammar.specs.proof.ParserAnswers.{here}
 use Rattle.aadl_grammar.proofs.SymbolRows.{takes_row, deep_row, omits_unless, refuses_unless, begins_as, enters_as}
 use Rattle.aadl_grammar.proofs.SymbolRows.{along, exits, no_reads, too_deep}
-use Rattle.aadl_grammar.proofs.Written.{nothing, respelled}
+use Rattle.aadl_grammar.proofs.PartSequences.{nothing, respelled}
 use Rattle.aadl_tree.specs.Values.{properties_parts}
 use Rattle.aadl_tree.specs.proof.ValueViews.{associations_view}
-use Rattle.aadl_tree.specs.proof.Maps.{kept_place}
-use Rattle.aadl_grammar.proofs.Lists.{starts_at, braced}
+use Rattle.aadl_tree.specs.proof.PlaceMaps.{kept_place}
+use Rattle.aadl_grammar.proofs.PropertyLists.{starts_at, braced}
 use Rattle.aadl_tree.specs.declared.mark.Mark.TheVariants as k
 use Rattle.aadl_grammar.specs.proof.Symbols as s
 use Rattle.aadl_grammar.specs.proof.Machine.{move, depth, syntax_at}

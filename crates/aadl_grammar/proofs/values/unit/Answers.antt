@@ -1,7 +1,7 @@
 use Rattle.std.proofs.Common.{refl, arith}
-use Rattle.aadl_grammar.specs.proof.Reading.{here}
+use Rattle.aadl_grammar.specs.proof.ParserAnswers.{here}
 use Rattle.aadl_grammar.proofs.SymbolRows.{takes_row, omits_unless, a_word_at}
-use Rattle.aadl_grammar.proofs.Written.{nothing, named}
+use Rattle.aadl_grammar.proofs.PartSequences.{nothing, named}
 use Rattle.aadl_grammar.specs.proof.Symbols as s
 use Rattle.aadl_grammar.specs.proof.Machine.{move, depth}
 use Rattle.aadl_grammar.proofs.values.unit.Goals as goal

@@ -1,14 +1,14 @@
 use Rattle.std.proofs.Common.{◌∙◌, ap, reverse, subst}
 use Rattle.std.proofs.lemmas.Result.{on_ok_weaker}
 use Rattle.aadl_tree.specs.proof.PackageViews.{placed}
-use Rattle.aadl_names.specs.Resolving.{ports_at}
+use Rattle.aadl_names.specs.ReferenceResolution.{ports_at}
 use Rattle.aadl_uses.specs.Uses.{component_at}
-use Rattle.aadl_chains.proofs.OnChains.{port, is_in-at}
+use Rattle.aadl_chains.proofs.ConnectionsOnChains.{port, is_in-at}
 use Rattle.aadl_chains.specs.proof.Routes.{Traces}
-use Rattle.aadl_instance.specs.proof.Passed.{paths_of, chain_by}
-use Rattle.aadl_instance.proofs.Ports.{in_within}
-use Rattle.aadl_instance.proofs.PortByPort.{thread_listed}
-use Rattle.aadl_instance.proofs.Adding.{route_begins, route_added, none_added}
+use Rattle.aadl_instance.specs.proof.ChainsSoFar.{paths_of, chain_by}
+use Rattle.aadl_instance.proofs.DeclaredPorts.{in_within}
+use Rattle.aadl_instance.proofs.ChainsSoFar.{thread_listed}
+use Rattle.aadl_instance.proofs.AddedChains.{route_begins, route_added, none_added}
 use Rattle.aadl_instance.proofs.build.add_chain.Goals as goal
 
 pub trace_back-requires-clause-thread : goal.trace_back-requires-clause-thread

@@ -1,9 +1,9 @@
 use Rattle.std.proofs.Common.{◌∙◌, sym, reverse}
 use Rattle.aadl_tree.specs.proof.PackageViews.{placed}
-use Rattle.aadl_chains.proofs.OnChains.{port, is_in-at}
-use Rattle.aadl_instance.specs.proof.Passed.{paths_of}
-use Rattle.aadl_instance.proofs.PortByPort.{thread_listed}
-use Rattle.aadl_instance.proofs.Adding.{out_added}
+use Rattle.aadl_chains.proofs.ConnectionsOnChains.{port, is_in-at}
+use Rattle.aadl_instance.specs.proof.ChainsSoFar.{paths_of}
+use Rattle.aadl_instance.proofs.ChainsSoFar.{thread_listed}
+use Rattle.aadl_instance.proofs.AddedChains.{out_added}
 use Rattle.aadl_instance.proofs.build.add_port.Goals as goal
 
 pub returns-else-is_in : goal.returns-else-is_in

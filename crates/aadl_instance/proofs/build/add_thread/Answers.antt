@@ -1,12 +1,12 @@
 use Rattle.std.proofs.Common.{◌≤◌, ◌∙◌, sym, ap, arith, length, reverse}
 use Rattle.std.proofs.lemmas.List.{length-map}
-use Rattle.aadl_tree.specs.proof.Maps.{kept_place}
+use Rattle.aadl_tree.specs.proof.PlaceMaps.{kept_place}
 use Rattle.aadl_tree.specs.proof.PackageViews.{placed}
-use Rattle.aadl_tree.specs.proof.Views.{feature_view}
-use Rattle.aadl_names.specs.Resolving.{implementation_at, ports_at}
-use Rattle.aadl_instance.specs.proof.Passed.{paths_of}
-use Rattle.aadl_instance.proofs.PortByPort.{thread_listed, into_thread}
-use Rattle.aadl_instance.proofs.Shown.{stands}
+use Rattle.aadl_tree.specs.proof.DeclarationViews.{feature_view}
+use Rattle.aadl_names.specs.ReferenceResolution.{implementation_at, ports_at}
+use Rattle.aadl_instance.specs.proof.ChainsSoFar.{paths_of}
+use Rattle.aadl_instance.proofs.ChainsSoFar.{thread_listed, into_thread}
+use Rattle.aadl_instance.proofs.ChainEnds.{stands}
 use Rattle.aadl_instance.proofs.build.add_thread.Goals as goal
 
 pub unreachable-requires : goal.unreachable-requires

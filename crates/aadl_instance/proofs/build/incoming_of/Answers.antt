@@ -1,9 +1,9 @@
 use Rattle.std.proofs.Common.{◌≤◌, ◌∙◌, Some, ap, arith, length, reverse, sym}
 use Rattle.std.proofs.lemmas.List.{length-map}
 use Rattle.aadl_tree.specs.proof.PackageViews.{placed}
-use Rattle.aadl_instance.specs.proof.Passed.{paths_of}
-use Rattle.aadl_instance.proofs.PortByPort.{into_start, links_whole, feeds_whole}
-use Rattle.aadl_instance.proofs.Shown.{path_at}
+use Rattle.aadl_instance.specs.proof.ChainsSoFar.{paths_of}
+use Rattle.aadl_instance.proofs.ChainsSoFar.{into_start, links_whole, feeds_whole}
+use Rattle.aadl_instance.proofs.ChainEnds.{path_at}
 use Rattle.aadl_instance.proofs.build.incoming_of.Goals as goal
 
 pub loop-number-init : goal.loop-number-init

@@ -1,5 +1,5 @@
 use Rattle.aadl_tree.specs.proof.PackageViews.{placed}
-use Rattle.aadl_instance.specs.proof.Passed.{paths_of, AreInto}
+use Rattle.aadl_instance.specs.proof.ChainsSoFar.{paths_of, AreInto}
 use Rattle.aadl_instance.proofs.build.incoming_of.Given as goal
 
 -- the chains into the threads so far

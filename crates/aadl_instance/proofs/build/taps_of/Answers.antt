@@ -1,11 +1,11 @@
 use Rattle.std.proofs.Common.{◌≤◌, ◌∙◌, sym, ap, arith, length, subst}
 use Rattle.std.proofs.lemmas.List.{length-map}
-use Rattle.aadl_tree.specs.proof.Maps.{kept_place}
+use Rattle.aadl_tree.specs.proof.PlaceMaps.{kept_place}
 use Rattle.aadl_tree.specs.proof.PackageViews.{placed}
-use Rattle.aadl_tree.specs.proof.Views.{feature_view}
-use Rattle.aadl_names.specs.Resolving.{implementation_at, ports_at}
-use Rattle.aadl_instance.specs.proof.Passed.{paths_of, AreTapsTo}
-use Rattle.aadl_instance.proofs.PortByPort.{taps_none, taps_whole}
+use Rattle.aadl_tree.specs.proof.DeclarationViews.{feature_view}
+use Rattle.aadl_names.specs.ReferenceResolution.{implementation_at, ports_at}
+use Rattle.aadl_instance.specs.proof.ChainsSoFar.{paths_of, AreTapsTo}
+use Rattle.aadl_instance.proofs.ChainsSoFar.{taps_none, taps_whole}
 use Rattle.aadl_instance.proofs.build.taps_of.Goals as goal
 
 pub loop-port-init : goal.loop-port-init

@@ -1,5 +1,5 @@
 use Rattle.aadl_tree.specs.proof.PackageViews.{placed}
-use Rattle.aadl_instance.specs.proof.Passed.{paths_of, AreTapsTo}
+use Rattle.aadl_instance.specs.proof.ChainsSoFar.{paths_of, AreTapsTo}
 use Rattle.aadl_instance.proofs.build.taps_of.Given as goal
 
 -- the taps to the ports so far

@@ -1,8 +1,8 @@
 use Rattle.std.proofs.Common.{◌≡◌, min, take}
 use Rattle.aadl_tree.specs.Names.{identifiers}
-use Rattle.aadl_tree.specs.proof.Maps.{kept_place}
-use Rattle.aadl_tree.specs.proof.Views.{variable_view}
-use Rattle.aadl_instance.proofs.Counted.{words}
+use Rattle.aadl_tree.specs.proof.PlaceMaps.{kept_place}
+use Rattle.aadl_tree.specs.proof.DeclarationViews.{variable_view}
+use Rattle.aadl_instance.proofs.LimitedWordCounts.{words}
 use Rattle.aadl_instance.proofs.counts.variables_up_to.Given as goal
 
 abbrev pub invariant-loop-declared : goal.invariant-loop-declared

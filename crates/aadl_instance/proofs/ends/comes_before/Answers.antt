@@ -1,5 +1,5 @@
 use Rattle.std.proofs.Common.{◌∙◌, sym, arith}
-use Rattle.aadl_instance.proofs.Before.{ended_before, never_before_ended}
+use Rattle.aadl_instance.proofs.DepthFirstOrder.{ended_before, never_before_ended}
 use Rattle.aadl_instance.proofs.ends.comes_before.Goals as goal
 
 pub returns-then-at-path : goal.returns-then-at-path

@@ -1,14 +1,14 @@
 use Rattle.std.proofs.Common.{◌<◌, ◌∙◌, sym, ap, arith, length, reverse, subst}
 use Rattle.aadl_tree.specs.proof.PackageViews.{placed}
-use Rattle.aadl_names.specs.Resolving.{implementation_at, ports_at}
+use Rattle.aadl_names.specs.ReferenceResolution.{implementation_at, ports_at}
 use Rattle.aadl_instance.specs.declared.parts.ChainEnd.TheVariants.{Thread}
-use Rattle.aadl_uses.specs.proof.Types.{type_number_at}
+use Rattle.aadl_uses.specs.proof.ImplementationTypes.{type_number_at}
 use Rattle.aadl_instance.specs.Instances.{node_at, number_among}
-use Rattle.aadl_instance.specs.proof.Numbers.{number_in}
-use Rattle.aadl_instance.specs.proof.Passed.{paths_of}
-use Rattle.aadl_instance.proofs.Among.{few_before}
-use Rattle.aadl_instance.proofs.PortByPort.{thread_listed}
-use Rattle.aadl_instance.proofs.Shown.{node_is, thread_shown, few_at, open_at}
+use Rattle.aadl_instance.specs.proof.PortNumbers.{number_in}
+use Rattle.aadl_instance.specs.proof.ChainsSoFar.{paths_of}
+use Rattle.aadl_instance.proofs.PortNumbers.{few_before}
+use Rattle.aadl_instance.proofs.ChainsSoFar.{thread_listed}
+use Rattle.aadl_instance.proofs.ChainEnds.{node_is, thread_shown, few_at, open_at}
 use Rattle.aadl_instance.proofs.ends.node_end.Goals as goal
 
 pub overflow_cast-result : goal.overflow_cast-result

@@ -1,7 +1,7 @@
 use Rattle.std.proofs.Common.{rules}
 use Rattle.std.proofs.lemmas.List.Sorted.{IsPartitionPoint-from_clause}
 use Rattle.aadl_uses.specs.Threads.{path_before}
-use Rattle.aadl_instance.proofs.Before.{parted, number_found}
+use Rattle.aadl_instance.proofs.DepthFirstOrder.{parted, number_found}
 use Rattle.aadl_instance.proofs.ends.node_of.Goals as goal
 
 pub returns : goal.returns

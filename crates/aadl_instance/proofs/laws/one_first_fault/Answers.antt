@@ -1,5 +1,5 @@
 use Rattle.aadl_instance.specs.Faults.{Found}
-use Rattle.aadl_instance.proofs.First.{one_by_line}
+use Rattle.aadl_instance.proofs.FirstFaultUniqueness.{one_by_line}
 use Rattle.aadl_instance.proofs.laws.one_first_fault.Goals as goal
 
 pub returns : goal.returns

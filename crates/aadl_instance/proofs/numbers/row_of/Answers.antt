@@ -1,10 +1,10 @@
 use Rattle.std.proofs.Common.{◌≡◌, ◌<◌, ◌≤◌, ◌∙◌, ℕ, ◌+◌, ap, arith, get_or, length, map, subst, sym}
 use Rattle.std.proofs.lemmas.List.{length_push}
 use Rattle.aadl_tree.specs.declared.declarations.Direction.TheVariants as directions
-use Rattle.aadl_tree.specs.proof.Maps.{kept_place}
-use Rattle.aadl_tree.specs.proof.Views.{feature_view}
+use Rattle.aadl_tree.specs.proof.PlaceMaps.{kept_place}
+use Rattle.aadl_tree.specs.proof.DeclarationViews.{feature_view}
 use Rattle.aadl_instance.specs.Instances.{number_among}
-use Rattle.aadl_instance.proofs.Among.{more_at, few_seen, seen_more, number_seen, row_whole}
+use Rattle.aadl_instance.proofs.PortNumbers.{more_at, few_seen, seen_more, number_seen, row_whole}
 use Rattle.aadl_instance.proofs.numbers.row_of.Goals as goal
 
 pub next-requires-clause-inward : goal.next-requires-clause-inward

@@ -1,8 +1,8 @@
 use Rattle.std.proofs.Common.{◌≡◌, ◌<◌, ℕ, get_or, length, map}
-use Rattle.aadl_tree.specs.proof.Maps.{kept_place}
-use Rattle.aadl_tree.specs.proof.Views.{feature_view}
+use Rattle.aadl_tree.specs.proof.PlaceMaps.{kept_place}
+use Rattle.aadl_tree.specs.proof.DeclarationViews.{feature_view}
 use Rattle.aadl_instance.specs.Instances.{number_among}
-use Rattle.aadl_instance.proofs.Among.{AreSeen}
+use Rattle.aadl_instance.proofs.PortNumbers.{AreSeen}
 use Rattle.aadl_instance.proofs.numbers.row_of.Given as goal
 
 -- the numbers of the ports so far, and how many of them go in and out

@@ -1,8 +1,8 @@
 use Rattle.std.proofs.Common.{inr, subst}
 use Rattle.aadl_tree.specs.proof.PackageViews.{placed}
-use Rattle.aadl_names.specs.Findings.{FirstOf}
+use Rattle.aadl_names.specs.FirstFindings.{FirstOf}
 use Rattle.aadl_names.specs.PackageFaults.{package_faults}
-use Rattle.aadl_instance.proofs.Lines.{name_fault}
+use Rattle.aadl_instance.proofs.FaultLines.{name_fault}
 use Rattle.aadl_instance.proofs.package.check_names.Goals as goal
 
 pub returns-in-Some : goal.returns-in-Some

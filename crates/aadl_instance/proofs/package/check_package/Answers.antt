@@ -3,12 +3,12 @@ use Rattle.aadl_tree.specs.declared.package.PackageTree.{PackageTree}
 use Rattle.aadl_tree.specs.proof.PackageViews.{placed}
 use Rattle.aadl_names.specs.declared.fault.PackageFault.{PackageFault}
 use Rattle.aadl_names.specs.declared.fault.PackageFault.TheVariants.{Memory}
-use Rattle.aadl_names.specs.Findings.{IsFirstByLine}
-use Rattle.aadl_names.specs.Resolving.{root_number}
+use Rattle.aadl_names.specs.FirstFindings.{IsFirstByLine}
+use Rattle.aadl_names.specs.ReferenceResolution.{root_number}
 use Rattle.aadl_instance.specs.declared.package.Checked.{Checked}
 use Rattle.aadl_instance.specs.Faults.{FoundIn, IsFault, IsRoot}
-use Rattle.aadl_instance.specs.proof.Silence.{IsChecked}
-use Rattle.aadl_instance.proofs.Lines.{matched, no_root, root_fault}
+use Rattle.aadl_instance.specs.proof.FaultlessPackages.{IsChecked}
+use Rattle.aadl_instance.proofs.FaultLines.{matched, no_root, root_fault}
 use Rattle.aadl_instance.proofs.Roots.{is_root_at}
 use Rattle.aadl_instance.proofs.package.check_package.Goals as goal
 

@@ -1,8 +1,8 @@
 use Rattle.std.proofs.Common.{inr, subst}
 use Rattle.aadl_tree.specs.proof.PackageViews.{placed}
-use Rattle.aadl_uses.specs.proof.Uses.{FirstIn}
+use Rattle.aadl_uses.specs.proof.PackageContainment.{FirstIn}
 use Rattle.aadl_uses.specs.Uses.{IsRecursive}
-use Rattle.aadl_instance.proofs.Lines.{recursion_fault}
+use Rattle.aadl_instance.proofs.FaultLines.{recursion_fault}
 use Rattle.aadl_instance.proofs.package.check_recursion.Goals as goal
 
 pub returns-in-Some : goal.returns-in-Some

@@ -1,9 +1,9 @@
 use Rattle.std.proofs.Common.{subst}
 use Rattle.aadl_tree.specs.proof.PackageViews.{placed}
-use Rattle.aadl_uses.specs.proof.Uses.{FirstIn}
+use Rattle.aadl_uses.specs.proof.PackageContainment.{FirstIn}
 use Rattle.aadl_chains.specs.Chains.{IsEndFault}
-use Rattle.aadl_chains.proofs.Declared.{declared}
-use Rattle.aadl_instance.proofs.Lines.{end_fault}
+use Rattle.aadl_chains.proofs.DeclaredConnections.{declared}
+use Rattle.aadl_instance.proofs.FaultLines.{end_fault}
 use Rattle.aadl_instance.proofs.package.connection_fault.Goals as goal
 
 pub first_end_fault-requires-clause-order : goal.first_end_fault-requires-clause-order

@@ -1,8 +1,8 @@
 use Rattle.std.proofs.Common.{◌∙◌, subst}
 use Rattle.aadl_tree.specs.proof.PackageViews.{placed}
-use Rattle.aadl_chains.proofs.Declared.{declared}
+use Rattle.aadl_chains.proofs.DeclaredConnections.{declared}
 use Rattle.aadl_instance.specs.proof.Limits.{IsFirstPassed}
-use Rattle.aadl_instance.proofs.Lines.{silent_five, all_silent, limit_fault}
+use Rattle.aadl_instance.proofs.FaultLines.{silent_five, all_silent, limit_fault}
 use Rattle.aadl_instance.proofs.Roots.{root_no_thread, root_declared}
 use Rattle.aadl_instance.proofs.package.limit_fault.Goals as goal
 

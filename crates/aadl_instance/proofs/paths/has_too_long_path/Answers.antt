@@ -1,15 +1,15 @@
 use Rattle.std.proofs.Common.{◌≡◌, ◌+◌, ◌∙◌, ℕ, Bool, List, None, ap, arith, get_or, length, map, subst, sym}
 use Rattle.std.proofs.lemmas.List.{length-map}
 use Rattle.pals_base.specs.declared.limits.TheConstants.{PATH_BYTES}
-use Rattle.aadl_tree.specs.proof.Maps.{kept_place}
+use Rattle.aadl_tree.specs.proof.PlaceMaps.{kept_place}
 use Rattle.aadl_tree.specs.proof.PackageViews.{placed}
-use Rattle.aadl_tree.specs.proof.Views.{declaration_view}
-use Rattle.aadl_uses.specs.proof.Uses.{targets_in}
-use Rattle.aadl_uses.specs.proof.Threads.{thread_marks}
-use Rattle.aadl_uses.specs.proof.Graphs.{Graph}
-use Rattle.aadl_uses.specs.proof.Weights.{IsHeaviest}
-use Rattle.aadl_instance.specs.proof.Paths.{weights_in, name_weights, is_over}
-use Rattle.aadl_instance.proofs.Weighed.{tells_long}
+use Rattle.aadl_tree.specs.proof.DeclarationViews.{declaration_view}
+use Rattle.aadl_uses.specs.proof.PackageContainment.{targets_in}
+use Rattle.aadl_uses.specs.proof.ThreadCounts.{thread_marks}
+use Rattle.aadl_uses.specs.proof.ContainmentGraphs.{Graph}
+use Rattle.aadl_uses.specs.proof.PathWeights.{IsHeaviest}
+use Rattle.aadl_instance.specs.proof.PathLengths.{weights_in, name_weights, is_over}
+use Rattle.aadl_instance.proofs.PathLengths.{tells_long}
 use Rattle.aadl_instance.proofs.paths.has_too_long_path.Goals as goal
 
 pub returns : goal.returns

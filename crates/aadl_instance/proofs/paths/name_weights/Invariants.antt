@@ -1,7 +1,7 @@
 use Rattle.std.proofs.Common.{◌≡◌, map, take}
-use Rattle.aadl_tree.specs.proof.Maps.{kept_place}
-use Rattle.aadl_tree.specs.proof.Views.{declaration_view}
-use Rattle.aadl_instance.specs.proof.Paths.{weights_in}
+use Rattle.aadl_tree.specs.proof.PlaceMaps.{kept_place}
+use Rattle.aadl_tree.specs.proof.DeclarationViews.{declaration_view}
+use Rattle.aadl_instance.specs.proof.PathLengths.{weights_in}
 use Rattle.aadl_instance.proofs.paths.name_weights.Given as goal
 
 abbrev pub invariant-loop-declaration : goal.invariant-loop-declaration

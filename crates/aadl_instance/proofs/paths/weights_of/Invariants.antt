@@ -1,7 +1,7 @@
 use Rattle.std.proofs.Common.{◌≡◌, map, take}
-use Rattle.aadl_tree.specs.proof.Maps.{kept_place}
-use Rattle.aadl_tree.specs.proof.Views.{subcomponent_view}
-use Rattle.aadl_instance.specs.proof.Paths.{weight_of}
+use Rattle.aadl_tree.specs.proof.PlaceMaps.{kept_place}
+use Rattle.aadl_tree.specs.proof.DeclarationViews.{subcomponent_view}
+use Rattle.aadl_instance.specs.proof.PathLengths.{weight_of}
 use Rattle.aadl_instance.proofs.paths.weights_of.Given as goal
 
 abbrev pub invariant-loop-sub : goal.invariant-loop-sub

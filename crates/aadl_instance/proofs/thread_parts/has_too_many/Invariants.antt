@@ -1,7 +1,7 @@
 use Rattle.std.proofs.Common.{ℕ, ◌<◌}
 use Rattle.aadl_tree.specs.Declarations.{Implementation}
 use Rattle.aadl_tree.specs.proof.PackageViews.{placed}
-use Rattle.aadl_instance.specs.proof.Parts.{most, count_of, IsUsedThread}
+use Rattle.aadl_instance.specs.proof.ThreadPartCounts.{most, count_of, IsUsedThread}
 use Rattle.aadl_instance.proofs.thread_parts.has_too_many.Given as goal
 
 -- none of the first ones

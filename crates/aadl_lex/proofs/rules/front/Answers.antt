@@ -1,7 +1,7 @@
 use Rattle.std.proofs.Common.{length, subst, sym, arith}
 use Rattle.aadl_lex.specs.declared.rules.First.{First}
 use Rattle.aadl_lex.specs.Rules.{IsWithin}
-use Rattle.aadl_lex.proofs.Within.{annex_within, symbol_within}
+use Rattle.aadl_lex.proofs.FrontExtents.{annex_within, symbol_within}
 use Rattle.aadl_lex.proofs.rules.front.Goals as goal
 
 pub returns-then-ne-clause-within : goal.returns-then-ne-clause-within

@@ -1,5 +1,5 @@
 use Rattle.std.proofs.Common.{arith}
-use Rattle.aadl_lex.proofs.Scans.{decimal_over}
+use Rattle.aadl_lex.proofs.ScanLengths.{decimal_over}
 use Rattle.aadl_lex.proofs.scan.decimal.Goals as goal
 
 pub returns-then-value-digit : goal.returns-then-value-digit

@@ -1,10 +1,10 @@
 use Rattle.std.proofs.Common.{◌∙◌, sym, ap}
 use Rattle.aadl_tree.specs.proof.PackageViews.{placed}
-use Rattle.aadl_tree.specs.proof.Views.{type_view}
-use Rattle.aadl_tree.specs.proof.Maps.{kept_place}
-use Rattle.aadl_names.specs.Resolving.{port_named, features_of, type_numbered}
-use Rattle.aadl_names.proofs.FirstOfLists.{ok_as}
-use Rattle.aadl_names.proofs.Stored.{members_there}
+use Rattle.aadl_tree.specs.proof.DeclarationViews.{type_view}
+use Rattle.aadl_tree.specs.proof.PlaceMaps.{kept_place}
+use Rattle.aadl_names.specs.ReferenceResolution.{port_named, features_of, type_numbered}
+use Rattle.aadl_names.proofs.FirstMatches.{ok_as}
+use Rattle.aadl_names.proofs.StoredDeclarations.{members_there}
 use Rattle.aadl_names.proofs.connection_ends.port_number.Goals as goal
 
 pub returns-in-Some-type_numbered : goal.returns-in-Some-type_numbered

@@ -1,7 +1,7 @@
 use Rattle.std.proofs.Common.{sym, ◌∙◌, ap}
 use Rattle.std.proofs.lemmas.Result.{on_ok_weaker}
-use Rattle.aadl_names.specs.proof.Earliest.{is_sooner}
-use Rattle.aadl_names.proofs.Spots.{spot_set, spot_kept}
+use Rattle.aadl_names.specs.proof.EarliestDeclarations.{is_sooner}
+use Rattle.aadl_names.proofs.EarliestDeclarations.{spot_set, spot_kept}
 use Rattle.aadl_names.proofs.earliest.add_spot.Goals as goal
 
 pub returns-then-is_sooner : goal.returns-then-is_sooner

@@ -1,8 +1,8 @@
 use Rattle.std.proofs.Common.{ap, arith, ◌∙◌, cond, Some, None}
 use Rattle.aadl_tree.specs.Names.{same_name}
-use Rattle.aadl_names.specs.proof.Tables.{value_of}
-use Rattle.aadl_names.specs.proof.Earliest.{sooner, earliest}
-use Rattle.aadl_names.proofs.Spots.{next_earliest, last_earliest}
+use Rattle.aadl_names.specs.proof.NameTables.{value_of}
+use Rattle.aadl_names.specs.proof.EarliestDeclarations.{sooner, earliest}
+use Rattle.aadl_names.proofs.EarliestDeclarations.{next_earliest, last_earliest}
 use Rattle.aadl_names.proofs.earliest.earliest_of.Goals as goal
 
 pub loop-number-init : goal.loop-number-init

@@ -1,6 +1,6 @@
 use Rattle.std.proofs.Common.{◌≡◌, ℕ, List, drop}
-use Rattle.aadl_names.specs.proof.Tables.{value_of}
-use Rattle.aadl_names.specs.proof.Earliest.{sooner, earliest}
+use Rattle.aadl_names.specs.proof.NameTables.{value_of}
+use Rattle.aadl_names.specs.proof.EarliestDeclarations.{sooner, earliest}
 use Rattle.aadl_names.proofs.earliest.earliest_of.Given as goal
 
 -- what is left may have the earliest one

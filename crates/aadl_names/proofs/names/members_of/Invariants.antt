@@ -1,9 +1,9 @@
 use Rattle.std.proofs.Common.{◌≡◌, ℕ, List, [], length, map, take, get_or}
 use Rattle.std.specs.Prelude.{slice_get}
-use Rattle.aadl_tree.specs.proof.Views.{declaration_view}
-use Rattle.aadl_tree.specs.proof.Maps.{kept_place}
-use Rattle.aadl_names.specs.proof.Tables.{value_of}
-use Rattle.aadl_names.specs.proof.Members.{member_of}
+use Rattle.aadl_tree.specs.proof.DeclarationViews.{declaration_view}
+use Rattle.aadl_tree.specs.proof.PlaceMaps.{kept_place}
+use Rattle.aadl_names.specs.proof.NameTables.{value_of}
+use Rattle.aadl_names.specs.proof.MemberNumbers.{member_of}
 use Rattle.aadl_names.proofs.names.members_of.Given as goal
 
 -- the members of the declarations so far

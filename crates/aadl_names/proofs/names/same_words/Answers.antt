@@ -1,5 +1,5 @@
 use Rattle.std.proofs.Common.{sym, arith}
-use Rattle.aadl_names.proofs.Words.{words_differ}
+use Rattle.aadl_names.proofs.WordLists.{words_differ}
 use Rattle.aadl_names.proofs.names.same_words.Goals as goal
 
 pub returns-then-a-b : goal.returns-then-a-b

@@ -1,8 +1,8 @@
 use Rattle.std.proofs.Common.{◌∙◌, Some, None, refl, sym, ap}
 use Rattle.std.proofs.lemmas.Option.{slice_get_read, slice_get_past}
 use Rattle.aadl_tree.specs.declared.declarations.Declaration.TheVariants as declarations
-use Rattle.aadl_names.specs.Resolving.{implementation_in}
-use Rattle.aadl_names.proofs.Stored.{declaration_there}
+use Rattle.aadl_names.specs.ReferenceResolution.{implementation_in}
+use Rattle.aadl_names.proofs.StoredDeclarations.{declaration_there}
 use Rattle.aadl_names.proofs.numbered.implementation_at.Goals as goal
 
 pub returns-in-Some-Implementation : goal.returns-in-Some-Implementation

@@ -1,9 +1,9 @@
 use Rattle.std.proofs.Common.{◌∙◌, ap}
 use Rattle.std.specs.Prelude.{slice_get}
-use Rattle.aadl_tree.specs.proof.Views.{subcomponent_view}
-use Rattle.aadl_tree.specs.proof.Maps.{kept_place}
-use Rattle.aadl_names.specs.Resolving.{subcomponents_of}
-use Rattle.aadl_names.proofs.Stored.{view_lent}
+use Rattle.aadl_tree.specs.proof.DeclarationViews.{subcomponent_view}
+use Rattle.aadl_tree.specs.proof.PlaceMaps.{kept_place}
+use Rattle.aadl_names.specs.ReferenceResolution.{subcomponents_of}
+use Rattle.aadl_names.proofs.StoredDeclarations.{view_lent}
 use Rattle.aadl_names.proofs.numbered.subcomponent_at.Goals as goal
 
 pub returns-in-Some : goal.returns-in-Some

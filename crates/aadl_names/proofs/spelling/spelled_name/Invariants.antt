@@ -1,6 +1,6 @@
 use Rattle.std.proofs.Common.{◌≡◌, ◌++◌, codes, string_bytes, map, drop}
 use Rattle.std.specs.List.{flat_map}
-use Rattle.aadl_tree.specs.proof.Maps.{kept_place}
+use Rattle.aadl_tree.specs.proof.PlaceMaps.{kept_place}
 use Rattle.aadl_tree.specs.proof.NameViews.{identifier_view, name_view}
 use Rattle.aadl_names.specs.Spelling as spec
 use Rattle.aadl_names.proofs.spelling.spelled_name.Given as goal

@@ -1,10 +1,10 @@
 use Rattle.std.proofs.Common.{refl, sym, ap, ◌∙◌}
 use Rattle.std.specs.List.{flat_map}
-use Rattle.aadl_names.specs.proof.Found.{found}
-use Rattle.aadl_names.specs.proof.Earliest.{again_by}
-use Rattle.aadl_names.specs.Twice.{again}
-use Rattle.aadl_names.proofs.Finds.{next_found}
-use Rattle.aadl_names.proofs.Spots.{again-earliest}
+use Rattle.aadl_names.specs.proof.FindingSoFar.{found}
+use Rattle.aadl_names.specs.proof.EarliestDeclarations.{again_by}
+use Rattle.aadl_names.specs.DuplicateNames.{again}
+use Rattle.aadl_names.proofs.FindingSoFar.{next_found}
+use Rattle.aadl_names.proofs.EarliestDeclarations.{again-earliest}
 use Rattle.aadl_names.proofs.twice.check_twice.Goals as goal
 
 pub loop-entry-preserved : goal.loop-entry-preserved

@@ -1,7 +1,7 @@
 use Rattle.std.proofs.Common.{◌≡◌, drop}
 use Rattle.std.specs.List.{flat_map}
-use Rattle.aadl_names.specs.proof.Found.{found}
-use Rattle.aadl_names.specs.Twice.{again}
+use Rattle.aadl_names.specs.proof.FindingSoFar.{found}
+use Rattle.aadl_names.specs.DuplicateNames.{again}
 use Rattle.aadl_names.proofs.twice.check_twice.Given as goal
 
 -- what is left is still to be looked at

@@ -1,13 +1,13 @@
 use Rattle.std.proofs.Common.{◌∙◌, ◌∷◌, [], ap, sym, refl, arith, map}
-use Rattle.aadl_grammar.specs.proof.Reading.{here}
+use Rattle.aadl_grammar.specs.proof.ParserAnswers.{here}
 use Rattle.aadl_grammar.proofs.SymbolRows.{takes_row, omits_unless, begins_past, along, exits, no_reads}
-use Rattle.aadl_grammar.proofs.Written.{then, marked, respelled}
+use Rattle.aadl_grammar.proofs.PartSequences.{then, marked, respelled}
 use Rattle.std.specs.Prelude.{flat_map}
-use Rattle.aadl_tree.specs.Parts.{connection_section}
+use Rattle.aadl_tree.specs.SpellingParts.{connection_section}
 use Rattle.aadl_tree.specs.Declarations.{section_parts, connection_parts}
-use Rattle.aadl_tree.specs.proof.Views.{connection_view}
-use Rattle.aadl_tree.specs.proof.Maps.{kept_place}
-use Rattle.aadl_grammar.specs.proof.Table.{on}
+use Rattle.aadl_tree.specs.proof.DeclarationViews.{connection_view}
+use Rattle.aadl_tree.specs.proof.PlaceMaps.{kept_place}
+use Rattle.aadl_grammar.specs.proof.ParseTable.{on}
 use Rattle.aadl_parse.proofs.Sections.{no_section, empty}
 use Rattle.aadl_tree.specs.declared.mark.Mark.TheVariants as k
 use Rattle.aadl_grammar.specs.proof.Symbols as s

@@ -1,8 +1,8 @@
 use Rattle.std.proofs.Common.{◌∙◌, [], refl, arith}
-use Rattle.aadl_grammar.specs.proof.Reading.{here}
+use Rattle.aadl_grammar.specs.proof.ParserAnswers.{here}
 use Rattle.aadl_grammar.proofs.SymbolRows.{omits_unless, enters_as, along, exits, no_reads}
-use Rattle.aadl_grammar.proofs.Written.{nothing}
-use Rattle.aadl_grammar.proofs.Lists.{starts_at}
+use Rattle.aadl_grammar.proofs.PartSequences.{nothing}
+use Rattle.aadl_grammar.proofs.PropertyLists.{starts_at}
 use Rattle.aadl_grammar.specs.proof.Symbols as s
 use Rattle.aadl_grammar.specs.proof.Machine.{move, depth}
 use Rattle.aadl_parse.proofs.components.data_type.Goals as goal

@@ -1,12 +1,12 @@
 use Rattle.std.proofs.Common.{◌∙◌, ◌∷◌, [], refl, arith}
-use Rattle.aadl_grammar.specs.proof.Reading.{here}
+use Rattle.aadl_grammar.specs.proof.ParserAnswers.{here}
 use Rattle.aadl_grammar.proofs.SymbolRows.{omits_unless, enters_as, along, exits, no_reads}
-use Rattle.aadl_grammar.proofs.Written.{pushed}
+use Rattle.aadl_grammar.proofs.PartSequences.{pushed}
 use Rattle.aadl_tree.specs.Declarations.{feature_parts}
-use Rattle.aadl_tree.specs.proof.Views.{feature_view}
-use Rattle.aadl_tree.specs.proof.Maps.{kept_place}
-use Rattle.aadl_grammar.proofs.Lists.{starts_at}
-use Rattle.aadl_parse.proofs.Declaring.{feature_begun}
+use Rattle.aadl_tree.specs.proof.DeclarationViews.{feature_view}
+use Rattle.aadl_tree.specs.proof.PlaceMaps.{kept_place}
+use Rattle.aadl_grammar.proofs.PropertyLists.{starts_at}
+use Rattle.aadl_parse.proofs.DeclarationStarts.{feature_begun}
 use Rattle.aadl_grammar.specs.proof.Symbols as s
 use Rattle.aadl_grammar.specs.proof.Machine.{move, depth}
 use Rattle.aadl_parse.proofs.components.feature_list.Goals as goal

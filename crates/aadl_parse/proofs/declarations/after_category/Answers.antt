@@ -1,7 +1,7 @@
 use Rattle.std.proofs.Common.{◌∙◌, ◌∷◌, ap, sym, refl, arith}
-use Rattle.aadl_grammar.specs.proof.Reading.{here}
+use Rattle.aadl_grammar.specs.proof.ParserAnswers.{here}
 use Rattle.aadl_grammar.proofs.SymbolRows.{takes_row, refuses_unless, along, exits, no_reads, a_word_at}
-use Rattle.aadl_grammar.proofs.Written.{then, marked, named}
+use Rattle.aadl_grammar.proofs.PartSequences.{then, marked, named}
 use Rattle.aadl_grammar.specs.proof.Symbols as s
 use Rattle.aadl_grammar.specs.proof.Machine.{move, depth, syntax_at}
 use Rattle.aadl_parse.proofs.declarations.after_category.Goals as goal

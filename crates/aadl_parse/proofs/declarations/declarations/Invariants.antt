@@ -1,12 +1,12 @@
 use Rattle.std.proofs.Common.{◌≡◌, ℕ, ◌+◌, ◌∷◌, length, map}
 use Rattle.std.specs.Prelude.{flat_map}
 use Rattle.aadl_tree.specs.Declarations.{declaration_parts}
-use Rattle.aadl_tree.specs.proof.Views.{declaration_view}
-use Rattle.aadl_tree.specs.proof.Maps.{kept_place}
+use Rattle.aadl_tree.specs.proof.DeclarationViews.{declaration_view}
+use Rattle.aadl_tree.specs.proof.PlaceMaps.{kept_place}
 use Rattle.aadl_tree.specs.declared.limits.TheConstants.{GREATEST_NESTING}
 use Rattle.aadl_grammar.specs.proof.Symbols as s
 use Rattle.aadl_grammar.specs.proof.Machine.{Stack, depth, fate}
-use Rattle.aadl_grammar.specs.proof.Reading.{here, Reads}
+use Rattle.aadl_grammar.specs.proof.ParserAnswers.{here, Reads}
 use Rattle.aadl_parse.proofs.declarations.declarations.Given as goal
 
 abbrev pub invariant-loop-category : goal.invariant-loop-category

@@ -1,14 +1,14 @@
 use Rattle.std.proofs.Common.{◌≡◌, ℕ, ◌+◌, ◌≤◌, ◌∷◌, length, map}
 use Rattle.std.specs.Prelude.{flat_map}
-use Rattle.aadl_tree.specs.Parts.{behind}
+use Rattle.aadl_tree.specs.SpellingParts.{behind}
 use Rattle.aadl_tree.specs.declared.mark.Mark.TheVariants as k
 use Rattle.aadl_tree.specs.Names.{name_parts}
 use Rattle.aadl_tree.specs.proof.NameViews.{name_view}
-use Rattle.aadl_tree.specs.proof.Maps.{kept_place}
+use Rattle.aadl_tree.specs.proof.PlaceMaps.{kept_place}
 use Rattle.aadl_tree.specs.declared.limits.TheConstants.{GREATEST_NESTING}
 use Rattle.aadl_grammar.specs.proof.Symbols as s
 use Rattle.aadl_grammar.specs.proof.Machine.{Stack, depth, fate}
-use Rattle.aadl_grammar.specs.proof.Reading.{here, Reads}
+use Rattle.aadl_grammar.specs.proof.ParserAnswers.{here, Reads}
 use Rattle.aadl_parse.proofs.declarations.more_names.Given as goal
 
 abbrev pub invariant-loop-behind : goal.invariant-loop-behind

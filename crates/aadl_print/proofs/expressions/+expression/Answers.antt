@@ -5,16 +5,16 @@ use Rattle.aadl_tree.specs.declared.expressions.MultiplyOperator.{MultiplyOperat
 use Rattle.aadl_tree.specs.declared.expressions.Factor.{Factor}
 use Rattle.aadl_tree.specs.declared.expressions.Term.{Term}
 use Rattle.aadl_tree.specs.declared.expressions.Relation.{Relation}
-use Rattle.aadl_tree.specs.Parts.{plain}
+use Rattle.aadl_tree.specs.SpellingParts.{plain}
 use Rattle.aadl_tree.specs.Values.{sign_mark}
 use Rattle.aadl_tree.specs.Expressions.{multiply_mark, logic_parts, factor_parts, factors_parts, term_parts}
 use Rattle.aadl_tree.specs.Expressions.{terms_parts, relation_parts, relations_parts}
 use Rattle.aadl_tree.specs.proof.ExpressionViews.{primary_view, factor_view, factors_view, term_view, terms_view}
 use Rattle.aadl_tree.specs.proof.ExpressionViews.{relation_view, relations_view}
-use Rattle.aadl_tree.specs.proof.Maps.{no_place}
+use Rattle.aadl_tree.specs.proof.PlaceMaps.{no_place}
 use Rattle.aadl_tree.proofs.ExpressionViews.{view-Group, view-out-sum, view-out-relation, view-out-expression}
-use Rattle.aadl_print.proofs.Appends.{printed_append, next_written, last_written, closed}
-use Rattle.aadl_print.proofs.Views.{view-out-term}
+use Rattle.aadl_print.proofs.PrintedParts.{printed_append, next_written, last_written, closed}
+use Rattle.aadl_print.proofs.FieldViews.{view-out-term}
 use Rattle.aadl_print.proofs.expressions.+expression.Goals as goal
 
 pub print_expression-loop-operator-preserved : goal.print_expression-loop-operator-preserved

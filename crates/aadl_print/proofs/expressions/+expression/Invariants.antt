@@ -1,8 +1,8 @@
 use Rattle.std.proofs.Common.{◌≡◌, drop}
 use Rattle.aadl_tree.specs.Expressions.{factors_parts, terms_parts, relations_parts}
 use Rattle.aadl_tree.specs.proof.ExpressionViews.{factors_view, terms_view, relations_view}
-use Rattle.aadl_tree.specs.proof.Maps.{no_place}
-use Rattle.aadl_print.specs.proof.Printed.{printed}
+use Rattle.aadl_tree.specs.proof.PlaceMaps.{no_place}
+use Rattle.aadl_print.specs.proof.PrintedText.{printed}
 use Rattle.aadl_print.proofs.expressions.+expression.Given as goal
 
 -- what is left is still to be written

@@ -1,7 +1,7 @@
 use Rattle.std.proofs.Common.{◌≡◌, map, drop}
 use Rattle.std.specs.List.{flat_map}
-use Rattle.aadl_tree.specs.Parts.{behind}
-use Rattle.aadl_print.specs.proof.Printed.{printed}
+use Rattle.aadl_tree.specs.SpellingParts.{behind}
+use Rattle.aadl_print.specs.proof.PrintedText.{printed}
 use Rattle.aadl_print.proofs.items.print_chain.Given as goal
 
 -- what is left is still to be written

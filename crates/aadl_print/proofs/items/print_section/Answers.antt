@@ -1,4 +1,4 @@
-use Rattle.aadl_print.proofs.Appends.{closed}
+use Rattle.aadl_print.proofs.PrintedParts.{closed}
 use Rattle.aadl_print.proofs.Sections.{under_some, some_parts}
 use Rattle.aadl_print.proofs.items.print_section.Goals as goal
 

@@ -2,8 +2,8 @@ use Rattle.std.proofs.Common.{refl, map}
 use Rattle.std.specs.List.{flat_map}
 use Rattle.aadl_tree.specs.Names.{qualifier_parts}
 use Rattle.aadl_tree.specs.proof.NameViews.{identifier_view}
-use Rattle.aadl_tree.specs.proof.Maps.{no_place}
-use Rattle.aadl_print.proofs.Appends.{next_written}
+use Rattle.aadl_tree.specs.proof.PlaceMaps.{no_place}
+use Rattle.aadl_print.proofs.PrintedParts.{next_written}
 use Rattle.aadl_print.proofs.names.print_qualifiers.Goals as goal
 
 pub loop-name-preserved : goal.loop-name-preserved

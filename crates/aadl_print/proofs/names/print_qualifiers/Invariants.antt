@@ -2,8 +2,8 @@ use Rattle.std.proofs.Common.{◌≡◌, map, drop}
 use Rattle.std.specs.List.{flat_map}
 use Rattle.aadl_tree.specs.Names.{qualifier_parts}
 use Rattle.aadl_tree.specs.proof.NameViews.{identifier_view}
-use Rattle.aadl_tree.specs.proof.Maps.{no_place}
-use Rattle.aadl_print.specs.proof.Printed.{printed}
+use Rattle.aadl_tree.specs.proof.PlaceMaps.{no_place}
+use Rattle.aadl_print.specs.proof.PrintedText.{printed}
 use Rattle.aadl_print.proofs.names.print_qualifiers.Given as goal
 
 -- what is left is still to be written

@@ -1,12 +1,12 @@
 use Rattle.std.proofs.Common.{◌∙◌, ◌∷◌, refl, ap, arith}
 use Rattle.aadl_tree.specs.Values.{association_parts, associations_parts, value_parts, more_values_parts}
 use Rattle.aadl_tree.specs.proof.ValueViews.{value_view, association_view, associations_view, values_view}
-use Rattle.aadl_tree.specs.proof.Maps.{no_place}
-use Rattle.aadl_tree.specs.Parts.{plain}
+use Rattle.aadl_tree.specs.proof.PlaceMaps.{no_place}
+use Rattle.aadl_tree.specs.SpellingParts.{plain}
 use Rattle.aadl_tree.specs.declared.mark.Mark.TheVariants as k
 use Rattle.aadl_tree.proofs.ValueViews.{view-List, view-Record, view-Reference, view-Classifier}
-use Rattle.aadl_print.proofs.Appends.{printed_append, next_written, last_written, closed, parted}
-use Rattle.aadl_print.proofs.Views.{view-out-association}
+use Rattle.aadl_print.proofs.PrintedParts.{printed_append, next_written, last_written, closed, parted}
+use Rattle.aadl_print.proofs.FieldViews.{view-out-association}
 use Rattle.aadl_print.proofs.values.+value.Goals as goal
 
 pub print_value-returns-in_ok-print_values-in-List : goal.print_value-returns-in_ok-print_values-in-List

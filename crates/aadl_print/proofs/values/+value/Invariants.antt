@@ -1,8 +1,8 @@
 use Rattle.std.proofs.Common.{◌≡◌, drop}
 use Rattle.aadl_tree.specs.Values.{more_values_parts, associations_parts}
 use Rattle.aadl_tree.specs.proof.ValueViews.{values_view, associations_view}
-use Rattle.aadl_tree.specs.proof.Maps.{no_place}
-use Rattle.aadl_print.specs.proof.Printed.{printed}
+use Rattle.aadl_tree.specs.proof.PlaceMaps.{no_place}
+use Rattle.aadl_print.specs.proof.PrintedText.{printed}
 use Rattle.aadl_print.proofs.values.+value.Given as goal
 
 -- what is left is still to be written

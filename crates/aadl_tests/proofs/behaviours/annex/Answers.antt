@@ -1,4 +1,4 @@
-use Rattle.aadl_tests.proofs.Among.{all_among}
+use Rattle.aadl_tests.proofs.TokenSequences.{all_among}
 use Rattle.aadl_tests.proofs.behaviours.annex.Goals as goal
 
 pub parse_annex-requires : goal.parse_annex-requires

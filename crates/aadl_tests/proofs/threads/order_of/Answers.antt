@@ -1,6 +1,6 @@
 use Rattle.std.proofs.Common.{subst}
 use Rattle.aadl_tree.specs.proof.PackageViews.{placed}
-use Rattle.aadl_uses.specs.proof.Uses.{FirstIn}
+use Rattle.aadl_uses.specs.proof.PackageContainment.{FirstIn}
 use Rattle.aadl_uses.specs.Uses.{IsRecursive}
 use Rattle.aadl_tests.proofs.threads.order_of.Goals as goal
 

@@ -1,5 +1,5 @@
-use Rattle.aadl_tree.specs.proof.Maps.{kept_place, no_place}
-use Rattle.aadl_tree.proofs.Ties.Declarations.{package_tied}
+use Rattle.aadl_tree.specs.proof.PlaceMaps.{kept_place, no_place}
+use Rattle.aadl_tree.proofs.PlaceMaps.Declarations.{package_tied}
 use Rattle.aadl_tree.proofs.laws.places_can_be_dropped.Goals as goal
 
 pub returns-clause-moved : goal.returns-clause-moved

@@ -1,4 +1,4 @@
-use Rattle.aadl_tree.proofs.SmallPackage.{lexed, read}
+use Rattle.aadl_tree.proofs.EmptyPackage.{lexed, read}
 use Rattle.aadl_tree.proofs.laws.small_package_is_read.Goals as goal
 
 pub returns-clause-tokens : goal.returns-clause-tokens

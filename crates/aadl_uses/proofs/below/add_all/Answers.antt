@@ -1,7 +1,7 @@
 use Rattle.std.proofs.Common.{◌++◌, ◌∷◌, [], ◌∙◌, ap, subst, sym, take, List, Option, ℕ, None, Some}
 use Rattle.std.proofs.lemmas.List.{take_more}
-use Rattle.aadl_uses.specs.proof.Graphs.{AreAdded}
-use Rattle.aadl_uses.proofs.Searches.{added_skip, added_more}
+use Rattle.aadl_uses.specs.proof.ContainmentGraphs.{AreAdded}
+use Rattle.aadl_uses.proofs.GraphSearches.{added_skip, added_more}
 use Rattle.aadl_uses.proofs.below.add_all.Goals.{in-Some+in_ok-insert, in_default}
 use Rattle.aadl_uses.proofs.below.add_all.Goals as goal
 

@@ -1,5 +1,5 @@
 use Rattle.std.proofs.Common.{take}
-use Rattle.aadl_uses.specs.proof.Graphs.{AreAdded}
+use Rattle.aadl_uses.specs.proof.ContainmentGraphs.{AreAdded}
 use Rattle.aadl_uses.proofs.below.add_all.Given as goal
 
 abbrev pub invariant-loop-target : goal.invariant-loop-target

@@ -1,8 +1,8 @@
 use Rattle.std.proofs.Common.{◌∙◌, ◌+◌, ap, subst, sym, arith, List, Option, ℕ, nat_eq}
 use Rattle.std.proofs.lemmas.List.{nil_from_length}
 use Rattle.indexmap.specs.IndexSet.{insert_key}
-use Rattle.aadl_uses.specs.proof.Graphs.{AreAdded}
-use Rattle.aadl_uses.proofs.Searches.{Searched, searched_first, searched_more, searched_past, searched_end}
+use Rattle.aadl_uses.specs.proof.ContainmentGraphs.{AreAdded}
+use Rattle.aadl_uses.proofs.GraphSearches.{Searched, searched_first, searched_more, searched_past, searched_end}
 use Rattle.aadl_uses.proofs.below.reached.Goals.{in-Some+in_ok-add_all, in_default}
 use Rattle.aadl_uses.proofs.below.reached.Goals as goal
 

@@ -1,4 +1,4 @@
-use Rattle.aadl_uses.proofs.Searches.{Searched}
+use Rattle.aadl_uses.proofs.GraphSearches.{Searched}
 use Rattle.aadl_uses.proofs.below.reached.Given as goal
 
 abbrev pub invariant-loop-at : goal.invariant-loop-at

@@ -1,6 +1,6 @@
 use Rattle.std.proofs.Common.{None, arith}
 use Rattle.aadl_uses.specs.proof.PortNumbers.{is_site}
-use Rattle.aadl_uses.proofs.Tables.{next_first, last_first}
+use Rattle.aadl_uses.proofs.FirstConnectionTables.{next_first, last_first}
 use Rattle.aadl_uses.proofs.connections.firsts_of.Goals as goal
 
 pub loop-number-preserved : goal.loop-number-preserved

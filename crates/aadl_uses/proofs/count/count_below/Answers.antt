@@ -1,5 +1,5 @@
 use Rattle.std.proofs.Common.{◌+◌, ◌∙◌, ap, arith, get_or, length, min, None}
-use Rattle.aadl_uses.proofs.Counting.{counted_own, counted_more, counted_all, below_is}
+use Rattle.aadl_uses.proofs.SubcomponentCounts.{counted_own, counted_more, counted_all, below_is}
 use Rattle.aadl_uses.proofs.count.count_below.Goals as goal
 
 pub loop-target-init : goal.loop-target-init

@@ -1,4 +1,4 @@
-use Rattle.aadl_uses.proofs.Counting.{CountedSome}
+use Rattle.aadl_uses.proofs.SubcomponentCounts.{CountedSome}
 use Rattle.aadl_uses.proofs.count.count_below.Given as goal
 
 -- the places that begin with the subcomponents so far

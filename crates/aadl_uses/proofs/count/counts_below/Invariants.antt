@@ -1,5 +1,5 @@
-use Rattle.aadl_uses.specs.proof.Counts.{Counted}
-use Rattle.aadl_uses.proofs.Fronts.{FrontOf}
+use Rattle.aadl_uses.specs.proof.MarkedCounts.{Counted}
+use Rattle.aadl_uses.proofs.KnownPrefixes.{FrontOf}
 use Rattle.aadl_uses.proofs.count.counts_below.Given as goal
 
 abbrev pub invariant-loop-at : goal.invariant-loop-at

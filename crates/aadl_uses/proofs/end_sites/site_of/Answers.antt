@@ -1,10 +1,10 @@
 use Rattle.std.proofs.Common.{◌∙◌, sym, ap, option_map, slice_get}
-use Rattle.aadl_tree.specs.proof.Maps.{kept_place}
+use Rattle.aadl_tree.specs.proof.PlaceMaps.{kept_place}
 use Rattle.aadl_tree.specs.proof.NameViews.{identifier_view}
-use Rattle.aadl_tree.specs.proof.Views.{end_view}
-use Rattle.aadl_names.specs.proof.Members.{member_of}
+use Rattle.aadl_tree.specs.proof.DeclarationViews.{end_view}
+use Rattle.aadl_names.specs.proof.MemberNumbers.{member_of}
 use Rattle.aadl_tree.specs.proof.PackageViews.{placed}
-use Rattle.aadl_uses.proofs.EndSites.{if_ok, own_is, inner_is, none_is}
+use Rattle.aadl_uses.proofs.EndPorts.{if_ok, own_is, inner_is, none_is}
 use Rattle.aadl_uses.proofs.end_sites.site_of.Goals as goal
 
 pub returns-in_default : goal.returns-in_default

@@ -1,6 +1,6 @@
 use Rattle.std.proofs.Common.{None}
-use Rattle.aadl_uses.proofs.Fronts.{FrontOf}
-use Rattle.aadl_uses.specs.proof.Weights.{IsHeaviest}
+use Rattle.aadl_uses.proofs.KnownPrefixes.{FrontOf}
+use Rattle.aadl_uses.specs.proof.PathWeights.{IsHeaviest}
 use Rattle.aadl_uses.proofs.heaviest.heaviest_below.Given as goal
 
 abbrev pub invariant-loop-at : goal.invariant-loop-at

@@ -1,7 +1,7 @@
 use Rattle.std.proofs.Common.{◌+◌, ◌∙◌, None, ap, arith, get_or, length, min, option_map, subst, sym}
-use Rattle.aadl_uses.proofs.Counting.{Begun, below_is}
-use Rattle.aadl_uses.specs.proof.Weights.{IsGreatestOf, path_weight, weight_of, heavier}
-use Rattle.aadl_uses.proofs.Heavy.{heaviest_more, heaviest_all}
+use Rattle.aadl_uses.proofs.SubcomponentCounts.{Begun, below_is}
+use Rattle.aadl_uses.specs.proof.PathWeights.{IsGreatestOf, path_weight, weight_of, heavier}
+use Rattle.aadl_uses.proofs.HeaviestPaths.{heaviest_more, heaviest_all}
 use Rattle.aadl_uses.proofs.heaviest.heaviest_of.Goals as goal
 
 pub loop-sub-preserved : goal.loop-sub-preserved

@@ -1,5 +1,5 @@
-use Rattle.aadl_uses.proofs.Counting.{Begun}
-use Rattle.aadl_uses.specs.proof.Weights.{IsGreatestOf, path_weight}
+use Rattle.aadl_uses.proofs.SubcomponentCounts.{Begun}
+use Rattle.aadl_uses.specs.proof.PathWeights.{IsGreatestOf, path_weight}
 use Rattle.aadl_uses.proofs.heaviest.heaviest_of.Given as goal
 
 -- of the paths that begin with the subcomponents so far

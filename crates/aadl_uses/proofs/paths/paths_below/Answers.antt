@@ -1,9 +1,10 @@
 use Rattle.std.proofs.Common.{◌+◌, ◌∙◌, [], Contains, arith, map, subst, sym}
 use Rattle.std.proofs.lemmas.Option.{same_Some}
 use Rattle.list_lemmas.proofs.Places.{Contains-from_slice_get}
-use Rattle.aadl_uses.proofs.Fronts.{FrontOf, no_front, front_known, front_same, front_past, front_more, front_all}
-use Rattle.aadl_uses.proofs.Sequences.{of_any, not_of_any}
-use Rattle.aadl_uses.proofs.Listed.{IsListedIn}
+use Rattle.aadl_uses.proofs.KnownPrefixes.{FrontOf, no_front, front_known, front_same, front_past, front_more}
+use Rattle.aadl_uses.proofs.KnownPrefixes.{front_all}
+use Rattle.aadl_uses.proofs.ContainmentSequences.{of_any, not_of_any}
+use Rattle.aadl_uses.proofs.PathLists.{IsListedIn}
 use Rattle.aadl_uses.proofs.paths.paths_below.Goals.{in-Some+then-contains+in_ok-row, in-Some+else-contains, in_default}
 use Rattle.aadl_uses.proofs.paths.paths_below.Goals as goal
 

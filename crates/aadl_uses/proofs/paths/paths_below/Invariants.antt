@@ -1,6 +1,6 @@
 use Rattle.std.proofs.Common.{[]}
-use Rattle.aadl_uses.proofs.Fronts.{FrontOf}
-use Rattle.aadl_uses.proofs.Listed.{IsListedIn}
+use Rattle.aadl_uses.proofs.KnownPrefixes.{FrontOf}
+use Rattle.aadl_uses.proofs.PathLists.{IsListedIn}
 use Rattle.aadl_uses.proofs.paths.paths_below.Given as goal
 
 abbrev pub invariant-loop-at : goal.invariant-loop-at

@@ -1,9 +1,9 @@
 use Rattle.std.proofs.Common.{◌+◌, ◌++◌, ◌∙◌, ap, arith, length, map, subst, sym}
-use Rattle.aadl_uses.specs.proof.Counts.{AreListed}
+use Rattle.aadl_uses.specs.proof.MarkedCounts.{AreListed}
 use Rattle.aadl_uses.specs.Threads.{path_before}
-use Rattle.aadl_uses.proofs.Counting.{Begun, listed_more, listed_same, all_listed, below_is}
-use Rattle.aadl_uses.specs.proof.Paths.{paths_from}
-use Rattle.aadl_uses.proofs.Listed.{through_all}
+use Rattle.aadl_uses.proofs.SubcomponentCounts.{Begun, listed_more, listed_same, all_listed, below_is}
+use Rattle.aadl_uses.specs.proof.MarkedPaths.{paths_from}
+use Rattle.aadl_uses.proofs.PathLists.{through_all}
 use Rattle.aadl_uses.proofs.paths.paths_of.Goals.{in-Some+in_ok-add_below, in_default}
 use Rattle.aadl_uses.proofs.paths.paths_of.Goals as goal
 

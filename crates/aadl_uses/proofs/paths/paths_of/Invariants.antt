@@ -1,7 +1,7 @@
 use Rattle.std.proofs.Common.{map}
-use Rattle.aadl_uses.specs.proof.Counts.{AreListed}
+use Rattle.aadl_uses.specs.proof.MarkedCounts.{AreListed}
 use Rattle.aadl_uses.specs.Threads.{path_before}
-use Rattle.aadl_uses.proofs.Counting.{Begun}
+use Rattle.aadl_uses.proofs.SubcomponentCounts.{Begun}
 use Rattle.aadl_uses.proofs.paths.paths_of.Given as goal
 
 -- the paths that begin with the subcomponents so far

@@ -1,11 +1,11 @@
 use Rattle.std.proofs.Common.{◌∙◌, subst, sym, List, ℕ, Some}
 use Rattle.aadl_tree.specs.proof.PackageViews.{placed}
-use Rattle.aadl_tree.specs.proof.Maps.{kept_place}
-use Rattle.aadl_tree.specs.proof.Views.{subcomponent_view}
+use Rattle.aadl_tree.specs.proof.PlaceMaps.{kept_place}
+use Rattle.aadl_tree.specs.proof.DeclarationViews.{subcomponent_view}
 use Rattle.aadl_names.specs.declared.fault.PackageFault.TheVariants.{Recursive}
-use Rattle.aadl_uses.specs.proof.Graphs.{Graph, IsWithin, LeadsBack}
+use Rattle.aadl_uses.specs.proof.ContainmentGraphs.{Graph, IsWithin, LeadsBack}
 use Rattle.aadl_uses.specs.proof.Recursion.{IsSooner}
-use Rattle.aadl_uses.proofs.Containing.{within}
+use Rattle.aadl_uses.proofs.PackageContainment.{within}
 use Rattle.aadl_uses.proofs.Cycles.{sooner_new}
 use Rattle.aadl_uses.proofs.recursion.sooner.Goals as goal
 

@@ -1,5 +1,5 @@
 use Rattle.std.proofs.Common.{◌≤◌, length}
-use Rattle.aadl_uses.specs.proof.Orders.{IsSequence}
+use Rattle.aadl_uses.specs.proof.ContainmentOrders.{IsSequence}
 use Rattle.aadl_uses.proofs.sequence.order.Given as goal
 
 -- each round places one more, until all are there

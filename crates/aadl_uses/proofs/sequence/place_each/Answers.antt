@@ -1,4 +1,4 @@
-use Rattle.aadl_uses.proofs.Sequences.{placed_more}
+use Rattle.aadl_uses.proofs.ContainmentSequences.{placed_more}
 use Rattle.aadl_uses.proofs.sequence.place_each.Goals as goal
 
 pub loop-number-preserved : goal.loop-number-preserved

@@ -1,4 +1,4 @@
-use Rattle.aadl_uses.specs.proof.Orders.{ArePlaced}
+use Rattle.aadl_uses.specs.proof.ContainmentOrders.{ArePlaced}
 use Rattle.aadl_uses.proofs.sequence.place_each.Given as goal
 
 abbrev pub invariant-loop-number : goal.invariant-loop-number

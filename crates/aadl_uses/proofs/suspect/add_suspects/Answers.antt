@@ -1,6 +1,6 @@
 use Rattle.std.proofs.Common.{◌∙◌, ◌+◌, ap, subst, sym}
-use Rattle.aadl_uses.specs.proof.Suspects.{is_suspect, AreSuspected}
-use Rattle.aadl_uses.proofs.Suspected.{suspected_more, suspected_skip}
+use Rattle.aadl_uses.specs.proof.RecursionSuspects.{is_suspect, AreSuspected}
+use Rattle.aadl_uses.proofs.RecursionSuspects.{suspected_more, suspected_skip}
 use Rattle.aadl_uses.proofs.suspect.add_suspects.Goals.{then-is_suspect+in_ok-push, else-is_suspect}
 use Rattle.aadl_uses.proofs.suspect.add_suspects.Goals as goal
 

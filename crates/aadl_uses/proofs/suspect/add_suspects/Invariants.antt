@@ -1,4 +1,4 @@
-use Rattle.aadl_uses.specs.proof.Suspects.{AreSuspected}
+use Rattle.aadl_uses.specs.proof.RecursionSuspects.{AreSuspected}
 use Rattle.aadl_uses.proofs.suspect.add_suspects.Given as goal
 
 abbrev pub invariant-loop-sub : goal.invariant-loop-sub

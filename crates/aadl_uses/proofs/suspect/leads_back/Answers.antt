@@ -1,4 +1,4 @@
-use Rattle.aadl_uses.proofs.Suspected.{leads_by}
+use Rattle.aadl_uses.proofs.RecursionSuspects.{leads_by}
 use Rattle.aadl_uses.proofs.suspect.leads_back.Goals as goal
 
 pub returns : goal.returns

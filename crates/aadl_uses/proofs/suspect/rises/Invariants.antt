@@ -1,7 +1,7 @@
 use Rattle.std.proofs.Common.{◌≡◌, ◌<◌, ℕ, false}
 use Rattle.std.specs.List.{list_any}
-use Rattle.aadl_uses.specs.proof.Graphs.{targets_in}
-use Rattle.aadl_uses.specs.proof.Suspects.{is_above, level_in}
+use Rattle.aadl_uses.specs.proof.ContainmentGraphs.{targets_in}
+use Rattle.aadl_uses.specs.proof.RecursionSuspects.{is_above, level_in}
 use Rattle.aadl_uses.proofs.suspect.rises.Given as goal
 
 abbrev pub invariant-loop-number : goal.invariant-loop-number

@@ -1,8 +1,8 @@
 use Rattle.std.proofs.Common.{◌≡◌, ◌<◌, ℕ, false, subst, arith, List, length}
 use Rattle.std.specs.List.{list_any}
-use Rattle.aadl_uses.specs.proof.Graphs.{targets_in}
-use Rattle.aadl_uses.specs.proof.Suspects.{is_above, level_in, AreSuspected}
-use Rattle.aadl_uses.proofs.Suspected.{suspects_more, suspects_all}
+use Rattle.aadl_uses.specs.proof.ContainmentGraphs.{targets_in}
+use Rattle.aadl_uses.specs.proof.RecursionSuspects.{is_above, level_in, AreSuspected}
+use Rattle.aadl_uses.proofs.RecursionSuspects.{suspects_more, suspects_all}
 use Rattle.aadl_uses.proofs.suspect.suspects.Goals as goal
 
 pub loop-number-preserved : goal.loop-number-preserved

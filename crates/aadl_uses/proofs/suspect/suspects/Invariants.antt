@@ -1,6 +1,6 @@
 use Rattle.std.proofs.Common.{◌≡◌, ◌<◌, ℕ, true, Contains}
-use Rattle.aadl_uses.specs.proof.Graphs.{below_in}
-use Rattle.aadl_uses.specs.proof.Suspects.{is_suspect}
+use Rattle.aadl_uses.specs.proof.ContainmentGraphs.{below_in}
+use Rattle.aadl_uses.specs.proof.RecursionSuspects.{is_suspect}
 use Rattle.aadl_uses.proofs.suspect.suspects.Given as goal
 
 abbrev pub invariant-loop-number : goal.invariant-loop-number

@@ -1,10 +1,10 @@
 use Rattle.std.proofs.Common.{◌++◌, ◌∙◌, ap, arith, get_or, refl, sym, reverse}
 use Rattle.std.specs.String.{string_bytes}
 use Rattle.aadl_tree.specs.proof.PackageViews.{placed}
-use Rattle.aadl_tree.specs.proof.Views.{subcomponent_view}
-use Rattle.aadl_tree.specs.proof.Maps.{kept_place}
+use Rattle.aadl_tree.specs.proof.DeclarationViews.{subcomponent_view}
+use Rattle.aadl_tree.specs.proof.PlaceMaps.{kept_place}
 use Rattle.aadl_uses.specs.Uses.{standing}
-use Rattle.aadl_uses.proofs.Ways.{leads, next_none, none_below, along_more, first_name, later_name}
+use Rattle.aadl_uses.proofs.PathDescent.{leads, next_none, none_below, along_more, first_name, later_name}
 use Rattle.aadl_uses.proofs.thread_places.thread_at.Goals.{then-at-gt0+in_ok-push_str, else-at-gt0}
 use Rattle.aadl_uses.proofs.thread_places.thread_at.Goals as goal
 

@@ -1,8 +1,8 @@
 use Rattle.std.proofs.Common.{◌∙◌, [], arith, ap, length, refl}
 use Rattle.std.proofs.lemmas.List.{length-map}
 use Rattle.aadl_tree.specs.proof.PackageViews.{placed}
-use Rattle.aadl_uses.specs.proof.Uses.{targets_in}
-use Rattle.aadl_uses.proofs.Threads.{closed_by, ok_threads}
+use Rattle.aadl_uses.specs.proof.PackageContainment.{targets_in}
+use Rattle.aadl_uses.proofs.ThreadPaths.{closed_by, ok_threads}
 use Rattle.aadl_uses.proofs.threads_below.thread_paths.Goals as goal
 
 pub paths_below-requires-clause-closed : goal.paths_below-requires-clause-closed

@@ -1,8 +1,8 @@
 use Rattle.std.proofs.Common.{◌≡◌, map, take}
 use Rattle.aadl_tree.specs.proof.PackageViews.{placed}
-use Rattle.aadl_tree.specs.proof.Maps.{kept_place}
-use Rattle.aadl_tree.specs.proof.Views.{declaration_view}
-use Rattle.aadl_uses.specs.proof.Types.{type_in}
+use Rattle.aadl_tree.specs.proof.PlaceMaps.{kept_place}
+use Rattle.aadl_tree.specs.proof.DeclarationViews.{declaration_view}
+use Rattle.aadl_uses.specs.proof.ImplementationTypes.{type_in}
 use Rattle.aadl_uses.proofs.types.types_of.Given as goal
 
 abbrev pub invariant-loop-declaration : goal.invariant-loop-declaration

@@ -1,7 +1,7 @@
 use Rattle.std.proofs.Common.{◌≡◌, map, take}
-use Rattle.aadl_tree.specs.proof.Maps.{kept_place}
-use Rattle.aadl_tree.specs.proof.Views.{declaration_view}
-use Rattle.aadl_uses.specs.proof.Threads.{is_thread_declaration}
+use Rattle.aadl_tree.specs.proof.PlaceMaps.{kept_place}
+use Rattle.aadl_tree.specs.proof.DeclarationViews.{declaration_view}
+use Rattle.aadl_uses.specs.proof.ThreadCounts.{is_thread_declaration}
 use Rattle.aadl_uses.proofs.uses.marks_of.Given as goal
 
 abbrev pub invariant-loop-declaration : goal.invariant-loop-declaration

@@ -1,10 +1,10 @@
 use Rattle.std.proofs.Common.{◌∙◌, ap, sym, map, List}
 use Rattle.aadl_tree.specs.proof.PackageViews.{placed}
-use Rattle.aadl_tree.specs.proof.Maps.{kept_place}
-use Rattle.aadl_tree.specs.proof.Views.{declaration_view, subcomponent_view}
-use Rattle.aadl_names.specs.Resolving.{referred}
-use Rattle.aadl_uses.specs.proof.Uses.{targets_in}
-use Rattle.aadl_uses.proofs.Containing.{ok_items}
+use Rattle.aadl_tree.specs.proof.PlaceMaps.{kept_place}
+use Rattle.aadl_tree.specs.proof.DeclarationViews.{declaration_view, subcomponent_view}
+use Rattle.aadl_names.specs.ReferenceResolution.{referred}
+use Rattle.aadl_uses.specs.proof.PackageContainment.{targets_in}
+use Rattle.aadl_uses.proofs.PackageContainment.{ok_items}
 use Rattle.aadl_uses.proofs.uses.targets_of.Goals as goal
 
 pub returns-in-Implementation : goal.returns-in-Implementation

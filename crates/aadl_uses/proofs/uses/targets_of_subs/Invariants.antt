@@ -1,8 +1,8 @@
 use Rattle.std.proofs.Common.{◌≡◌, map, take}
 use Rattle.aadl_tree.specs.proof.PackageViews.{placed}
-use Rattle.aadl_tree.specs.proof.Maps.{kept_place}
-use Rattle.aadl_tree.specs.proof.Views.{subcomponent_view}
-use Rattle.aadl_names.specs.Resolving.{referred}
+use Rattle.aadl_tree.specs.proof.PlaceMaps.{kept_place}
+use Rattle.aadl_tree.specs.proof.DeclarationViews.{subcomponent_view}
+use Rattle.aadl_names.specs.ReferenceResolution.{referred}
 use Rattle.aadl_uses.proofs.uses.targets_of_subs.Given as goal
 
 abbrev pub invariant-loop-sub : goal.invariant-loop-sub

@@ -1,8 +1,8 @@
 use Rattle.std.proofs.Common.{◌≡◌, ℕ, map, take, Some}
 use Rattle.aadl_tree.specs.Declarations.{Implementation}
-use Rattle.aadl_tree.specs.proof.Maps.{kept_place}
-use Rattle.aadl_tree.specs.proof.Views.{connection_view}
-use Rattle.aadl_names.specs.Resolving.{implementation_at}
+use Rattle.aadl_tree.specs.proof.PlaceMaps.{kept_place}
+use Rattle.aadl_tree.specs.proof.DeclarationViews.{connection_view}
+use Rattle.aadl_names.specs.ReferenceResolution.{implementation_at}
 use Rattle.aadl_tree.specs.proof.PackageViews.{placed}
 use Rattle.aadl_uses.specs.Wiring.{wire_of}
 use Rattle.aadl_uses.proofs.wiring.wires_of_each.Given as goal

@@ -2,8 +2,8 @@ use Rattle.std.proofs.Common.{◌-◌, ◌∙◌, arith}
 use Rattle.std.proofs.lemmas.Grind.{common_steps}
 use Rattle.serde_json.specs.View.{view}
 use Rattle.analysis_fields.specs.Properties.{is_shallow}
-use Rattle.analysis_fields.proofs.FormulaSteps.{shallow_by, shallow_none}
-use Rattle.scenario_values.proofs.Lists.{all_fails, all_done}
+use Rattle.analysis_fields.proofs.FormulaLevels.{shallow_by, shallow_none}
+use Rattle.scenario_values.proofs.JsonLists.{all_fails, all_done}
 use Rattle.analysis_fields.proofs.formulas.+is_shallow.Goals as goal
 
 pub returns-then-levels-eq0 : goal.returns-then-levels-eq0

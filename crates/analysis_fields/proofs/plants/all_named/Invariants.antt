@@ -1,5 +1,5 @@
 use Rattle.std.proofs.Common.{◌≡◌, ◌++◌, map}
-use Rattle.scenario_values.specs.Values.{entry_of}
+use Rattle.scenario_values.specs.FieldValues.{entry_of}
 use Rattle.analysis_fields.specs.Plants.{named_in}
 use Rattle.analysis_fields.proofs.plants.all_named.Given as goal
 

@@ -1,7 +1,7 @@
 use Rattle.std.proofs.Common.{arith}
 use Rattle.std.proofs.lemmas.Grind.{common_steps}
 use Rattle.analysis_fields.specs.Processors.{is_text}
-use Rattle.scenario_values.proofs.Lists.{all_turn, all_fails, all_done}
+use Rattle.scenario_values.proofs.JsonLists.{all_turn, all_fails, all_done}
 use Rattle.analysis_fields.proofs.processors.are_texts.Goals as goal
 
 pub loop-value-preserved : goal.loop-value-preserved

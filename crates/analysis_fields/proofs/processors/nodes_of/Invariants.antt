@@ -1,6 +1,6 @@
 use Rattle.std.proofs.Common.{◌≡◌, ◌++◌, map, filter, drop, nat_eq}
 use Rattle.std.specs.List.{enumerate_from}
-use Rattle.scenario_values.specs.Names.{node_no}
+use Rattle.scenario_values.specs.NameLookup.{node_no}
 use Rattle.analysis_fields.proofs.processors.nodes_of.Given as goal
 
 -- the components so far, and those among the owners that are left

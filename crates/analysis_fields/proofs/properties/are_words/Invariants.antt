@@ -1,7 +1,7 @@
 use Rattle.std.proofs.Common.{◌≡◌, map}
 use Rattle.std.specs.List.{list_all}
 use Rattle.pals_base.specs.Names.{is_word}
-use Rattle.scenario_values.specs.Values.{entry_of}
+use Rattle.scenario_values.specs.FieldValues.{entry_of}
 use Rattle.analysis_fields.proofs.properties.are_words.Given as goal
 
 abbrev pub invariant-loop-name : goal.invariant-loop-name

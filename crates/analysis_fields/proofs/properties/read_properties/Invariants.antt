@@ -1,7 +1,7 @@
 use Rattle.std.proofs.Common.{◌≡◌, [], map}
 use Rattle.analysis_fields.specs.Properties.{with_property}
 use Rattle.scenario_values.specs.Outcomes.{through}
-use Rattle.scenario_values.specs.Values.{entry_of}
+use Rattle.scenario_values.specs.FieldValues.{entry_of}
 use Rattle.analysis_fields.proofs.properties.read_properties.Given as goal
 
 -- what is made so far, and what is meant

@@ -1,8 +1,8 @@
 use Rattle.std.proofs.Common.{◌∙◌, [], ◌∷◌, ◌++◌, List, map, sym, ap}
-use Rattle.pals_base.specs.Steps.{upwards}
-use Rattle.pals_base.proofs.Upwards.{map_upwards_more}
+use Rattle.pals_base.specs.StepSequences.{upwards}
+use Rattle.pals_base.proofs.UpwardNumbers.{map_upwards_more}
 use Rattle.pals_runs.specs.declared.pairs.VoteFault.{VoteFault}
-use Rattle.analysis_texts.specs.Voted.{faults_of}
+use Rattle.analysis_texts.specs.VotedReplicas.{faults_of}
 use Rattle.analysis_texts.proofs.faults.no_faults.Goals as goal
 
 pub loop-round-preserved : goal.loop-round-preserved

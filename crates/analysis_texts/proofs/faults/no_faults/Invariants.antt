@@ -1,6 +1,6 @@
 use Rattle.std.proofs.Common.{◌≡◌, [], map}
-use Rattle.pals_base.specs.Steps.{upwards}
-use Rattle.analysis_texts.specs.Voted.{faults_of}
+use Rattle.pals_base.specs.StepSequences.{upwards}
+use Rattle.analysis_texts.specs.VotedReplicas.{faults_of}
 use Rattle.analysis_texts.proofs.faults.no_faults.Given as goal
 
 -- a list for each round so far

@@ -1,5 +1,5 @@
 use Rattle.std.proofs.Common.{◌≡◌, map, take}
-use Rattle.pals_base.specs.Steps.{upwards}
+use Rattle.pals_base.specs.StepSequences.{upwards}
 use Rattle.analysis_fields.specs.Replicas.{is_among}
 use Rattle.analysis_texts.proofs.names.replicated.Given as goal
 

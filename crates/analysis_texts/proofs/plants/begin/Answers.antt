@@ -1,7 +1,7 @@
 use Rattle.std.proofs.Common.{sym, subst, subst₂}
 use Rattle.std.specs.Arc.{arc_value}
-use Rattle.plant_fuse.specs.proof.Ends.{IsEnd}
-use Rattle.plant_fuse.specs.Fused.{ArePairs}
+use Rattle.plant_fuse.specs.proof.Fusibility.{IsEnd}
+use Rattle.plant_fuse.specs.FusedComposition.{ArePairs}
 use Rattle.analysis_texts.proofs.FusedRows.{none_bad}
 use Rattle.analysis_texts.proofs.plants.begin.Goals as goal
 

@@ -4,7 +4,7 @@ use Rattle.pals_model.specs.RoundTexts.{report}
 use Rattle.pals_runs.specs.declared.pairs.Pair.{Pair}
 use Rattle.plant_fuse.specs.FusedText.{IsFusedReport}
 use Rattle.plant_fuse.specs.proof.State.{FuseState}
-use Rattle.plant_fuse.proofs.AloneReports.{report_without_pairs}
+use Rattle.plant_fuse.proofs.ReportsWithoutPairs.{report_without_pairs}
 use Rattle.analysis_texts.proofs.plants.fuse.Goals as goal
 
 pub returns : goal.returns

@@ -6,8 +6,8 @@ use Rattle.list_lemmas.proofs.Elements.{list_any-map}
 use Rattle.pals_model.specs.RoundTexts.{text_of}
 use Rattle.analysis_fields.specs.declared.processors.Processor.{Processor}
 use Rattle.round_budget.specs.BudgetText.{Processor as Served, fits_on, processor_lines}
-use Rattle.analysis_texts.specs.Budgeted.{processor_of}
-use Rattle.analysis_texts.proofs.Blocks.{blocks_all}
+use Rattle.analysis_texts.specs.BudgetedProcessors.{processor_of}
+use Rattle.analysis_texts.proofs.LineBlocks.{blocks_all}
 use Rattle.analysis_texts.proofs.processors.budget.Goals as goal
 
 pub returns-clause-text : goal.returns-clause-text

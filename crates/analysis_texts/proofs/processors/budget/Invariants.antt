@@ -3,7 +3,7 @@ use Rattle.std.specs.List.{flat_map, list_any}
 use Rattle.pals_model.specs.RoundTexts.{text_of}
 use Rattle.analysis_fields.specs.declared.processors.Processor.{Processor}
 use Rattle.round_budget.specs.BudgetText.{fits_on, processor_lines}
-use Rattle.analysis_texts.specs.Budgeted.{processor_of}
+use Rattle.analysis_texts.specs.BudgetedProcessors.{processor_of}
 use Rattle.analysis_texts.proofs.processors.budget.Given as goal
 
 -- the lines of the processors so far, and whether one of these has more to do than fits

@@ -5,8 +5,8 @@ use Rattle.pals_model.specs.RoundTexts.{line_end}
 use Rattle.pals_runs.specs.Journal.{spaced}
 use Rattle.analysis_fields.specs.PropertyValues.{PropertyValue}
 use Rattle.run_monitor.specs.WatchText.{names_of, violation_text, last_line}
-use Rattle.analysis_texts.specs.Watched.{named}
-use Rattle.analysis_texts.proofs.WatchedLines.{name_at, last_words}
+use Rattle.analysis_texts.specs.WatchedProperties.{named}
+use Rattle.analysis_texts.proofs.WatchedRounds.{name_at, last_words}
 use Rattle.analysis_texts.proofs.properties.add_end.Goals as goal
 
 words : ℕ → List ℕ → ℕ → List ℕ

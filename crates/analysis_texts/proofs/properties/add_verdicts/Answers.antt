@@ -1,10 +1,10 @@
 use Rattle.std.proofs.Common.{◌≡◌, ◌++◌, false, ap, ◌∙◌, arith}
 use Rattle.std.specs.Prelude.{slice_index_or}
 use Rattle.pals_model.specs.RoundTexts.{line_end}
-use Rattle.pals_report.proofs.WordLines.{lines_turn, lines_all}
-use Rattle.run_monitor.specs.Monitors.{holds}
+use Rattle.pals_report.proofs.ItemLines.{lines_turn, lines_all}
+use Rattle.run_monitor.specs.FormulaSemantics.{holds}
 use Rattle.run_monitor.specs.WatchText.{verdict_line}
-use Rattle.analysis_texts.proofs.WatchedLines.{verdict_at, verdict_of, round_and_verdicts}
+use Rattle.analysis_texts.proofs.WatchedRounds.{verdict_at, verdict_of, round_and_verdicts}
 use Rattle.analysis_texts.proofs.properties.add_verdicts.Goals as goal
 
 pub loop-at-preserved : goal.loop-at-preserved

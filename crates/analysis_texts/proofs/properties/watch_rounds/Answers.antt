@@ -2,14 +2,14 @@ use Rattle.std.proofs.Common.{rules, refl, ◌≡◌, ◌<◌, ◌+◌, ◌++◌
 use Rattle.std.proofs.Common.{subst, arith}
 use Rattle.list_lemmas.proofs.Lists.{take-written_whole}
 use Rattle.pals_model.specs.Composition.{comp}
-use Rattle.pals_model.specs.Inputs.{values_at}
+use Rattle.pals_model.specs.ComponentInputs.{values_at}
 use Rattle.pals_model.specs.RoundTexts.{text_of}
-use Rattle.run_monitor.specs.proof.MonitorStates.{HasWatched}
+use Rattle.run_monitor.specs.proof.SeveralMonitors.{HasWatched}
 use Rattle.run_monitor.specs.WatchText.{watched_lines, watched_rows}
 use Rattle.run_monitor.specs.Violations.{history, violation, is_violated}
-use Rattle.analysis_texts.specs.Watched.{named, formulas}
-use Rattle.analysis_texts.proofs.Rounds.{length_values_at}
-use Rattle.analysis_texts.proofs.WatchedLines.{found_is, found_tells, found_within, rows_more, watched_whole}
+use Rattle.analysis_texts.specs.WatchedProperties.{named, formulas}
+use Rattle.analysis_texts.proofs.RoundRows.{length_values_at}
+use Rattle.analysis_texts.proofs.WatchedRounds.{found_is, found_tells, found_within, rows_more, watched_whole}
 use Rattle.analysis_texts.proofs.properties.watch_rounds.Goals as goal
 
 pub loop-round-init : goal.loop-round-init

@@ -1,15 +1,15 @@
 use Rattle.std.proofs.Common.{◌≡◌, ◌∙◌, ℕ, ◌+◌, ◌-◌, ◌<◌, ◌≤◌, ◌++◌, Bool, List, length, map, ap, ap₂, arith}
 use Rattle.std.specs.Prelude.{slice_index_or}
-use Rattle.pals_base.specs.Steps.{upwards}
+use Rattle.pals_base.specs.StepSequences.{upwards}
 use Rattle.pals_base.specs.declared.behaviour.BehaviourParts.{BehaviourParts}
 use Rattle.pals_base.specs.declared.values.Frame.{Frame}
 use Rattle.pals_model.specs.RoundTexts.{line_end, text_of, component_line}
 use Rattle.triple_vote.specs.Replicas.{is_replicated, copies_of, frame_at}
 use Rattle.triple_vote.specs.VotedText.{replica_name}
-use Rattle.triple_vote.proofs.Tables.{table-at}
-use Rattle.analysis_texts.specs.proof.Voted.{names_of}
-use Rattle.analysis_texts.proofs.Blocks.{counted_turn}
-use Rattle.analysis_texts.proofs.Filing.{length-table}
+use Rattle.triple_vote.proofs.NumberedLists.{table-at}
+use Rattle.analysis_texts.specs.proof.ReplicaLines.{names_of}
+use Rattle.analysis_texts.proofs.LineBlocks.{counted_turn}
+use Rattle.analysis_texts.proofs.FilledTables.{length-table}
 use Rattle.analysis_texts.proofs.VotedRows.{replica_line, copies_few}
 use Rattle.analysis_texts.proofs.replicas.add_replicas.Goals as goal
 

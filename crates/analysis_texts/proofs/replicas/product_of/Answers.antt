@@ -1,13 +1,13 @@
 use Rattle.std.proofs.Common.{◌≡◌, ◌∙◌, List, length, map, sym, ap, ap₂}
 use Rattle.std.specs.Arc.{arc_value}
 use Rattle.std.proofs.lemmas.Result.{IfOk-weaker}
-use Rattle.pals_base.specs.Steps.{upwards}
+use Rattle.pals_base.specs.StepSequences.{upwards}
 use Rattle.pals_model.specs.declared.design.Component.{Component}
 use Rattle.pals_model.specs.declared.design.DesignParts.{DesignParts}
 use Rattle.analysis_fields.specs.Replicas.{is_among}
-use Rattle.triple_vote.specs.proof.States.{VotedState, vbegun}
-use Rattle.analysis_texts.specs.Voted.{replicated_in}
-use Rattle.analysis_texts.proofs.Filing.{length-table}
+use Rattle.triple_vote.specs.proof.VotedStates.{VotedState, vbegun}
+use Rattle.analysis_texts.specs.VotedReplicas.{replicated_in}
+use Rattle.analysis_texts.proofs.FilledTables.{length-table}
 use Rattle.analysis_texts.proofs.replicas.product_of.Goals as goal
 
 pub new-requires-2 : goal.new-requires-2

@@ -3,11 +3,11 @@ use Rattle.std.proofs.lemmas.Result.{IfOk-weaker}
 use Rattle.pals_model.specs.declared.design.DesignParts.{DesignParts}
 use Rattle.pals_model.specs.RoundTexts.{report}
 use Rattle.analysis_fields.specs.proof.AnalysisFacts.{IsFaultOf}
-use Rattle.triple_vote.specs.proof.States.{VotedState, vbegun}
+use Rattle.triple_vote.specs.proof.VotedStates.{VotedState, vbegun}
 use Rattle.triple_vote.specs.VotedText.{vreport, thrice}
-use Rattle.triple_vote.specs.Outvoted.{AreOutvoted}
-use Rattle.analysis_texts.specs.Voted.{replicated_in, faults_of}
-use Rattle.analysis_texts.proofs.Outvoted.{rows_outvoted, rows_alone}
+use Rattle.triple_vote.specs.OutvotedFaults.{AreOutvoted}
+use Rattle.analysis_texts.specs.VotedReplicas.{replicated_in, faults_of}
+use Rattle.analysis_texts.proofs.OutvotedFaults.{rows_outvoted, rows_alone}
 use Rattle.analysis_texts.proofs.replicas.vote.Goals as goal
 
 pub voted-requires : goal.voted-requires

@@ -1,13 +1,13 @@
 use Rattle.std.proofs.Common.{◌≡◌, ◌∙◌, Bool, List, length, map, sym, ap, arith}
 use Rattle.std.proofs.lemmas.Result.{IfOk-weaker}
-use Rattle.pals_base.specs.Steps.{upwards}
+use Rattle.pals_base.specs.StepSequences.{upwards}
 use Rattle.pals_model.specs.declared.design.DesignParts.{DesignParts}
 use Rattle.triple_vote.specs.Replicas.{vopening}
-use Rattle.triple_vote.specs.proof.States.{VotedState}
+use Rattle.triple_vote.specs.proof.VotedStates.{VotedState}
 use Rattle.triple_vote.specs.VotedText.{vreport}
-use Rattle.analysis_texts.specs.Voted.{replicated_in, faults_of}
-use Rattle.analysis_texts.specs.proof.Voted.{all_names}
-use Rattle.analysis_texts.proofs.Filing.{length-table}
+use Rattle.analysis_texts.specs.VotedReplicas.{replicated_in, faults_of}
+use Rattle.analysis_texts.specs.proof.ReplicaLines.{all_names}
+use Rattle.analysis_texts.proofs.FilledTables.{length-table}
 use Rattle.analysis_texts.proofs.VotedFaults.{rounds_keep}
 use Rattle.analysis_texts.proofs.replicas.voted.Goals as goal
 

@@ -1,5 +1,5 @@
 use Rattle.std.proofs.Common.{ap, ◌∙◌, sym}
-use Rattle.sync_product.specs.proof.State.{ProductState}
+use Rattle.sync_product.specs.proof.ProductStates.{ProductState}
 use Rattle.pals_model.specs.Composition.{comp, opening}
 use Rattle.analysis_texts.proofs.sync.report.Goals as goal
 

@@ -2,10 +2,10 @@ use Rattle.std.proofs.Common.{rules, refl, ◌≡◌, ◌+◌, ◌++◌, length,
 use Rattle.list_lemmas.proofs.Lists.{take-written_whole}
 use Rattle.pals_model.specs.declared.design.DesignParts.{DesignParts}
 use Rattle.pals_model.specs.Composition.{comp}
-use Rattle.pals_model.specs.Inputs.{values_at}
+use Rattle.pals_model.specs.ComponentInputs.{values_at}
 use Rattle.pals_model.specs.RoundTexts.{row, report}
 use Rattle.pals_report.specs.proof.TapPlaces.{tap_places}
-use Rattle.analysis_texts.proofs.Rounds.{length_values_at, report_more}
+use Rattle.analysis_texts.proofs.RoundRows.{length_values_at, report_more}
 use Rattle.analysis_texts.proofs.sync.rows.Goals as goal
 
 pub loop-round-init : goal.loop-round-init

@@ -4,11 +4,11 @@ use Rattle.std.proofs.lemmas.Int.{to_z-of_z}
 use mir.Syntax.{w64}
 use mir.Val.{SFits, to_z, of_z}
 use Rattle.pals_base.specs.Kinds as base
-use Rattle.pals_base.specs.Tree.{For}
-use Rattle.pals_base.specs.proof.Seen.{actions_along}
-use Rattle.pals_base.proofs.Trees.{action_of-If, action_of-For}
+use Rattle.pals_base.specs.PlainTrees.{For}
+use Rattle.pals_base.specs.proof.SourceTrees.{actions_along}
+use Rattle.pals_base.proofs.SourceTrees.{action_of-If, action_of-For}
 use Rattle.aadl_tree.specs.declared.actions.Action.TheViews.{out-Actions, out-Choice, out-Loop}
-use Rattle.aadl_tree.specs.proof.Maps.{kept_place}
+use Rattle.aadl_tree.specs.proof.PlaceMaps.{kept_place}
 use Rattle.aadl_tree.specs.proof.NameViews.{identifier_view, reference_view}
 use Rattle.aadl_tree.specs.proof.ExpressionViews.{expression_view}
 use Rattle.std.specs.Prelude.{option_map}
@@ -17,7 +17,7 @@ use Rattle.aadl_tree.specs.proof.ActionViews.{action_view, actions_view, block_v
 use Rattle.aadl_tree.specs.proof.ActionViews.{otherwise_of as listed_otherwise}
 use Rattle.aadl_tree.proofs.ActionViews.{view-Assign, view-Send, view-If, view-For, view-out-choice, view-out-loop}
 use Rattle.annex_resolve.specs.Scopes.{entry_named}
-use Rattle.annex_resolve.proofs.Views.{view-out-actions, view-out-block}
+use Rattle.annex_resolve.proofs.StructViews.{view-out-actions, view-out-block}
 use Rattle.annex_resolve.proofs.ActionLevels.{assigned, sent, same_action, one_action, next_action, all_actions}
 use Rattle.annex_resolve.proofs.ActionLevels.{no_actions, some_actions, same_block, branch_read, one_branch}
 use Rattle.annex_resolve.proofs.ActionLevels.{next_branch, chosen, looped}

@@ -1,12 +1,12 @@
 use Rattle.std.proofs.Common.{◌++◌, take}
-use Rattle.pals_base.specs.Tree.{Do, Where}
+use Rattle.pals_base.specs.PlainTrees.{Do, Where}
 use Rattle.aadl_tree.specs.declared.actions.Action.TheViews.{out-Actions, out-Choice}
-use Rattle.aadl_tree.specs.proof.Maps.{kept_place}
+use Rattle.aadl_tree.specs.proof.PlaceMaps.{kept_place}
 use Rattle.aadl_tree.specs.proof.ExpressionViews.{expression_view}
 use Rattle.aadl_tree.specs.proof.ActionViews.{action_view, actions_view, mores_view, elsifs_view}
-use Rattle.annex_resolve.specs.Resolved.{expression_of, action_of, actions_of, mores_of, elsifs_of}
-use Rattle.annex_resolve.specs.Actions.{action_findings, mores_findings, branch_findings, elsifs_findings}
-use Rattle.annex_resolve.specs.proof.Reads.{ReadsActions, ReadsBranches}
+use Rattle.annex_resolve.specs.ResolvedTrees.{expression_of, action_of, actions_of, mores_of, elsifs_of}
+use Rattle.annex_resolve.specs.ActionFindings.{action_findings, mores_findings, branch_findings, elsifs_findings}
+use Rattle.annex_resolve.specs.proof.ResolutionResults.{ReadsActions, ReadsBranches}
 use Rattle.annex_resolve.proofs.actions.+action.Given as goal
 
 -- the first action and those behind it so far have been read

@@ -2,21 +2,22 @@ use Rattle.std.proofs.Common.{◌≡◌, sym, ap, ◌∙◌, not, length, None, 
 use Rattle.std.proofs.lemmas.Int.{to_z-of_z}
 use mir.Syntax.{w64}
 use mir.Val.{SFits}
-use Rattle.pals_base.specs.Tree.{Literal}
+use Rattle.pals_base.specs.PlainTrees.{Literal}
 use Rattle.std.specs.Option.{is_some}
 use Rattle.std.proofs.lemmas.Bool.{true≢false}
 use Rattle.aadl_tree.specs.declared.expressions.Factor.TheViews.{out-Expression, out-Sum, out-Relation, out-Term}
-use Rattle.aadl_tree.specs.proof.Maps.{kept_place}
+use Rattle.aadl_tree.specs.proof.PlaceMaps.{kept_place}
 use Rattle.aadl_tree.specs.proof.ExpressionViews.{primary_view, factor_view, term_view, sum_view, relation_view}
 use Rattle.aadl_tree.proofs.ExpressionViews.{view-Whole, view-Truth, view-Group, view-Abs, view-Not, view-Plain}
 use Rattle.aadl_tree.proofs.ExpressionViews.{view-out-expression, view-out-sum, view-out-relation}
-use Rattle.annex_resolve.proofs.Views.{view-out-term}
-use Rattle.annex_resolve.proofs.Chains.{empty_by, some_by, none_by}
-use Rattle.annex_resolve.proofs.ReadingSums.{term_alone, term_several, sum_alone, sum_several, relation_alone}
-use Rattle.annex_resolve.proofs.Reading.{relation_compared, expression_alone, expression_several, factors_none}
-use Rattle.annex_resolve.proofs.Reading.{factors_next, of_factors, terms_none, terms_next, of_terms, relations_none}
-use Rattle.annex_resolve.proofs.Reading.{relations_next, of_relations, factor_absolute, factor_negated, factor_plain}
-use Rattle.annex_resolve.proofs.Reading.{primary_number, primary_truth, primary_group}
+use Rattle.annex_resolve.proofs.StructViews.{view-out-term}
+use Rattle.annex_resolve.proofs.OperandChains.{empty_by, some_by, none_by}
+use Rattle.annex_resolve.proofs.SumLevels.{term_alone, term_several, sum_alone, sum_several, relation_alone}
+use Rattle.annex_resolve.proofs.ExpressionLevels.{relation_compared, expression_alone, expression_several, factors_none}
+use Rattle.annex_resolve.proofs.ExpressionLevels.{factors_next, of_factors, terms_none, terms_next, of_terms}
+use Rattle.annex_resolve.proofs.ExpressionLevels.{relations_none, relations_next, of_relations, factor_absolute}
+use Rattle.annex_resolve.proofs.ExpressionLevels.{factor_negated, factor_plain, primary_number, primary_truth}
+use Rattle.annex_resolve.proofs.ExpressionLevels.{primary_group}
 use Rattle.annex_resolve.proofs.expressions.+expression.Goals as goal
 use Rattle.annex_resolve.proofs.expressions.+expression.Goals.{resolve_sum-else-is_none-via-then-is_none+else-is_empty}
 use Rattle.annex_resolve.proofs.expressions.+expression.Goals.{resolve_sum-else-is_none-via-else-is_none}

@@ -1,5 +1,5 @@
 use Rattle.std.proofs.Common.{length}
-use Rattle.annex_resolve.proofs.CycleWays.{way_reaches, reached_by_way}
+use Rattle.annex_resolve.proofs.StateReachability.{way_reaches, reached_by_way}
 use Rattle.annex_resolve.proofs.laws.cycles_are_found.Goals as goal
 
 pub returns : goal.returns

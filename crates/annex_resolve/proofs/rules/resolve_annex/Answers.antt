@@ -1,6 +1,6 @@
 use Rattle.std.proofs.Common.{◌∙◌}
-use Rattle.aadl_tree.specs.proof.Maps.{kept_place}
-use Rattle.aadl_tree.specs.proof.Views.{annex_tree_view}
+use Rattle.aadl_tree.specs.proof.PlaceMaps.{kept_place}
+use Rattle.aadl_tree.specs.proof.DeclarationViews.{annex_tree_view}
 use Rattle.annex_resolve.proofs.StateFindings.{annex_found}
 use Rattle.annex_resolve.proofs.rules.resolve_annex.Goals as goal
 

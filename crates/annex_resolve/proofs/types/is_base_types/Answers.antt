@@ -1,4 +1,4 @@
-use Rattle.annex_resolve.proofs.Names.{one_qualifier}
+use Rattle.annex_resolve.proofs.SingleNames.{one_qualifier}
 use Rattle.annex_resolve.proofs.types.is_base_types.Goals as goal
 
 pub returns-in-len1 : goal.returns-in-len1

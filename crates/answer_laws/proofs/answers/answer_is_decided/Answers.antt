@@ -1,4 +1,4 @@
-use Rattle.answer_laws.proofs.Commands.{answers_agree}
+use Rattle.answer_laws.proofs.UniqueAnswers.{answers_agree}
 use Rattle.answer_laws.proofs.answers.answer_is_decided.Goals as goal
 
 pub returns : goal.returns

@@ -1,4 +1,4 @@
-use Rattle.answer_laws.proofs.Calls.{one_answer}
+use Rattle.answer_laws.proofs.UniqueCallAnswers.{one_answer}
 use Rattle.answer_laws.proofs.answers.answer_of_a_call_is_decided.Goals as goal
 
 pub returns : goal.returns

@@ -1,4 +1,4 @@
-use Rattle.answer_laws.proofs.Splits.{one_split, divided, split_or_not}
+use Rattle.answer_laws.proofs.BundleSplits.{one_split, divided, split_or_not}
 use Rattle.answer_laws.proofs.bundles.one_split.Goals as goal
 
 pub returns-clause-one : goal.returns-clause-one

@@ -1,5 +1,5 @@
-use Rattle.answer_laws.proofs.Reading.{read, too_many, failed}
-use Rattle.answer_laws.proofs.Calls.{source_answer}
+use Rattle.answer_laws.proofs.SourceAnswers.{read, too_many, failed}
+use Rattle.answer_laws.proofs.UniqueCallAnswers.{source_answer}
 use Rattle.answer_laws.proofs.sources.calls_answer_their_bytes.Goals as goal
 
 pub returns-clause-read : goal.returns-clause-read

@@ -1,5 +1,5 @@
-use Rattle.answer_laws.proofs.BundleStatuses.{failed_exactly, too_many_exactly}
-use Rattle.answer_laws.proofs.Calls.{source_answer}
+use Rattle.answer_laws.proofs.ReadStatuses.{failed_exactly, too_many_exactly}
+use Rattle.answer_laws.proofs.UniqueCallAnswers.{source_answer}
 use Rattle.answer_laws.proofs.sources.statuses_of_calls.Goals as goal
 
 pub returns-clause-failed : goal.returns-clause-failed

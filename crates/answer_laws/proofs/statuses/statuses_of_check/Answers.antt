@@ -1,5 +1,5 @@
 use Rattle.std.proofs.Common.{◌≡◌}
-use Rattle.answer_laws.proofs.Ways.{zero_is_small, done, without_text, without_design}
+use Rattle.answer_laws.proofs.StatusCases.{zero_is_small, done, without_text, without_design}
 use Rattle.answer_laws.proofs.AnswerStatuses.{has_tree, check_ways}
 use Rattle.answer_laws.proofs.statuses.statuses_of_check.Goals as goal
 

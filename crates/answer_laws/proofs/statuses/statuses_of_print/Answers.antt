@@ -1,5 +1,5 @@
 use Rattle.std.proofs.Common.{◌≡◌}
-use Rattle.answer_laws.proofs.Ways.{zero_is_small, done, without_text}
+use Rattle.answer_laws.proofs.StatusCases.{zero_is_small, done, without_text}
 use Rattle.answer_laws.proofs.AnswerStatuses.{print_ways}
 use Rattle.answer_laws.proofs.statuses.statuses_of_print.Goals as goal
 

@@ -1,16 +1,16 @@
 use Rattle.std.proofs.Common.{◌∙◌, ◌∷◌, [], ◌++◌, ap, sym, refl, arith}
-use Rattle.aadl_grammar.specs.proof.Reading.{here}
+use Rattle.aadl_grammar.specs.proof.ParserAnswers.{here}
 use Rattle.aadl_grammar.proofs.SymbolRows.{takes_row, deep_row, omits_unless, refuses_unless, begins_as, before_closer}
 use Rattle.aadl_grammar.proofs.SymbolRows.{misses_at, along, exits, no_reads, too_deep, only_takes}
-use Rattle.aadl_grammar.proofs.Written.{nothing, then, marked, respelled, shorter, placed_at}
+use Rattle.aadl_grammar.proofs.PartSequences.{nothing, then, marked, respelled, shorter, placed_at}
 use Rattle.std.specs.Prelude.{Some, None}
 use Rattle.std.proofs.lemmas.List.{append-nil}
 use Rattle.aadl_tree.specs.Actions.{otherwise, block, action_parts, actions_parts, mores_parts, otherwise_parts}
 use Rattle.aadl_tree.specs.Actions.{block_parts}
 use Rattle.aadl_tree.specs.proof.ActionViews.{action_view, actions_view, mores_view, block_view, choice_view, loop_view}
-use Rattle.aadl_tree.specs.proof.Maps.{kept_place}
+use Rattle.aadl_tree.specs.proof.PlaceMaps.{kept_place}
 use Rattle.aadl_tree.proofs.ActionViews.{view-If, view-For, view-actions, view-block}
-use Rattle.aadl_grammar.specs.proof.Table.{rows}
+use Rattle.aadl_grammar.specs.proof.ParseTable.{rows}
 use Rattle.behaviour_parse.proofs.ParsedActions.{loop_reads, choice_reads, choice_made, elsifs_push, mores_push, ended}
 use Rattle.behaviour_parse.proofs.ParsedActions.{not_ended, begins_from}
 use Rattle.aadl_tree.specs.declared.mark.Mark.TheVariants as k

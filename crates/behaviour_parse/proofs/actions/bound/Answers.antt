@@ -1,9 +1,9 @@
 use mir.Syntax.{w64}
 use mir.Val.{to_z, of_z, SFits}
 use Rattle.std.proofs.Common.{◌≡◌, ◌∙◌, ◌∷◌, [], ap, sym, arith, rules, to_z-of_z}
-use Rattle.aadl_grammar.specs.proof.Reading.{here}
-use Rattle.aadl_grammar.proofs.Written.{nothing, then, told, respelled, flagged}
-use Rattle.aadl_tree.specs.Parts.{token}
+use Rattle.aadl_grammar.specs.proof.ParserAnswers.{here}
+use Rattle.aadl_grammar.proofs.PartSequences.{nothing, then, told, respelled, flagged}
+use Rattle.aadl_tree.specs.SpellingParts.{token}
 use Rattle.aadl_tree.specs.Terminals.{whole}
 use Rattle.behaviour_parse.proofs.ParsedActions.{bound_runs, bound_refuses}
 use Rattle.aadl_tree.specs.declared.mark.Mark.TheVariants as k

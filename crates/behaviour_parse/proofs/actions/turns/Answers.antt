@@ -1,4 +1,4 @@
-use Rattle.aadl_tree.specs.proof.Maps.{kept_place}
+use Rattle.aadl_tree.specs.proof.PlaceMaps.{kept_place}
 use Rattle.aadl_tree.proofs.ActionViews.{view-loop}
 use Rattle.behaviour_parse.proofs.actions.turns.Goals as goal
 

@@ -1,9 +1,9 @@
 use Rattle.std.proofs.Common.{◌∙◌, ◌∷◌, [], refl, arith}
-use Rattle.aadl_grammar.specs.proof.Reading.{here}
+use Rattle.aadl_grammar.specs.proof.ParserAnswers.{here}
 use Rattle.aadl_grammar.proofs.SymbolRows.{takes_row, omits_unless, before_closer, misses_at, along, exits, no_reads}
 use Rattle.aadl_grammar.proofs.SymbolRows.{only_takes}
-use Rattle.aadl_grammar.proofs.Written.{nothing, then, marked}
-use Rattle.aadl_grammar.specs.proof.Table.{on, rows}
+use Rattle.aadl_grammar.proofs.PartSequences.{nothing, then, marked}
+use Rattle.aadl_grammar.specs.proof.ParseTable.{on, rows}
 use Rattle.aadl_tree.specs.declared.mark.Mark.TheVariants as k
 use Rattle.aadl_grammar.specs.proof.Symbols as s
 use Rattle.aadl_grammar.specs.proof.Machine.{move, depth}

@@ -1,17 +1,17 @@
 use Rattle.std.proofs.Common.{◌∙◌, ◌∷◌, ◌++◌, [], refl, arith}
 use Rattle.std.specs.Prelude.{option_map}
-use Rattle.aadl_tree.specs.Parts.{plain, behind, parts_if}
+use Rattle.aadl_tree.specs.SpellingParts.{plain, behind, parts_if}
 use Rattle.aadl_tree.specs.Names.{identifier_parts}
 use Rattle.aadl_tree.specs.Actions.{block_parts}
 use Rattle.aadl_tree.specs.Annexes.{guard_parts, label_parts}
 use Rattle.aadl_tree.specs.proof.NameViews.{identifier_view}
 use Rattle.aadl_tree.specs.proof.ActionViews.{block_view}
-use Rattle.aadl_tree.specs.proof.Views.{guard_view}
-use Rattle.aadl_tree.specs.proof.Maps.{kept_place}
-use Rattle.aadl_grammar.specs.proof.Reading.{here}
+use Rattle.aadl_tree.specs.proof.DeclarationViews.{guard_view}
+use Rattle.aadl_tree.specs.proof.PlaceMaps.{kept_place}
+use Rattle.aadl_grammar.specs.proof.ParserAnswers.{here}
 use Rattle.aadl_grammar.proofs.SymbolRows.{begins_as, along, exits, no_reads}
-use Rattle.aadl_grammar.proofs.Written.{then, respelled}
-use Rattle.behaviour_parse.proofs.Declaring.{departed}
+use Rattle.aadl_grammar.proofs.PartSequences.{then, respelled}
+use Rattle.behaviour_parse.proofs.DeclarationTerminals.{departed}
 use Rattle.aadl_tree.specs.declared.mark.Mark.TheVariants as k
 use Rattle.aadl_grammar.specs.proof.Symbols as s
 use Rattle.aadl_grammar.specs.proof.Machine.{move, depth}

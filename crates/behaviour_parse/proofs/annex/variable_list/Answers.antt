@@ -1,12 +1,12 @@
 use Rattle.std.proofs.Common.{◌∙◌, ◌∷◌, [], refl, arith}
-use Rattle.aadl_grammar.specs.proof.Reading.{here}
+use Rattle.aadl_grammar.specs.proof.ParserAnswers.{here}
 use Rattle.aadl_grammar.proofs.SymbolRows.{omits_unless, enters_as, along, exits, no_reads}
-use Rattle.aadl_grammar.proofs.Written.{pushed}
+use Rattle.aadl_grammar.proofs.PartSequences.{pushed}
 use Rattle.aadl_tree.specs.Annexes.{variable_parts}
-use Rattle.aadl_tree.specs.proof.Views.{variable_view}
-use Rattle.aadl_tree.specs.proof.Maps.{kept_place}
-use Rattle.aadl_grammar.proofs.Lists.{starts_at}
-use Rattle.behaviour_parse.proofs.Declaring.{variable_begun}
+use Rattle.aadl_tree.specs.proof.DeclarationViews.{variable_view}
+use Rattle.aadl_tree.specs.proof.PlaceMaps.{kept_place}
+use Rattle.aadl_grammar.proofs.PropertyLists.{starts_at}
+use Rattle.behaviour_parse.proofs.DeclarationTerminals.{variable_begun}
 use Rattle.aadl_grammar.specs.proof.Symbols as s
 use Rattle.aadl_grammar.specs.proof.Machine.{move, depth}
 use Rattle.behaviour_parse.proofs.annex.variable_list.Goals as goal

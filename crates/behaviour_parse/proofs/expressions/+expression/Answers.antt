@@ -1,21 +1,21 @@
 use mir.Syntax.{w64}
 use mir.Val.{to_z, of_z, SFits}
 use Rattle.std.proofs.Common.{◌≡◌, ◌∙◌, ◌∷◌, [], ◌++◌, ap, sym, refl, arith, true, false, rules, to_z-of_z, Some, None}
-use Rattle.aadl_grammar.specs.proof.Reading.{here}
+use Rattle.aadl_grammar.specs.proof.ParserAnswers.{here}
 use Rattle.aadl_grammar.proofs.SymbolRows.{takes_row, deep_row, omits_unless, refuses_unless, begins_as, begins_past}
 use Rattle.aadl_grammar.proofs.SymbolRows.{along, exits, no_reads, too_deep, a_word_at}
-use Rattle.aadl_grammar.proofs.Written.{nothing, then, marked, named, respelled, shorter, placed_at}
-use Rattle.aadl_tree.specs.Parts.{token}
+use Rattle.aadl_grammar.proofs.PartSequences.{nothing, then, marked, named, respelled, shorter, placed_at}
+use Rattle.aadl_tree.specs.SpellingParts.{token}
 use Rattle.aadl_tree.specs.Terminals.{whole}
 use Rattle.aadl_tree.specs.Expressions.{group, absolute, negated, compared, primary_parts, factor_parts, factors_parts}
 use Rattle.aadl_tree.specs.Expressions.{term_parts, terms_parts, sum_parts, relation_parts, relations_parts}
 use Rattle.aadl_tree.specs.Expressions.{expression_parts}
 use Rattle.aadl_tree.specs.proof.ExpressionViews.{primary_view, factor_view, factors_view, term_view, terms_view}
 use Rattle.aadl_tree.specs.proof.ExpressionViews.{sum_view, relation_view, relations_view, expression_view}
-use Rattle.aadl_tree.specs.proof.Maps.{kept_place}
+use Rattle.aadl_tree.specs.proof.PlaceMaps.{kept_place}
 use Rattle.aadl_tree.proofs.ExpressionViews.{view-Whole, view-Truth, view-Named, view-Group, view-Abs, view-Not}
 use Rattle.aadl_tree.proofs.ExpressionViews.{view-Plain, view-term, view-sum, view-relation, view-expression}
-use Rattle.aadl_grammar.specs.proof.Table.{on}
+use Rattle.aadl_grammar.specs.proof.ParseTable.{on}
 use Rattle.behaviour_parse.proofs.Operators.{multiplies, sign_terms, sign_sum, compares, joined, joined_reads}
 use Rattle.behaviour_parse.proofs.Operators.{joined_shorter, factors_push, terms_push, relations_push}
 use Rattle.std.proofs.lemmas.List.{append-nil}

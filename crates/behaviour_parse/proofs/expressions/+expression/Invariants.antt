@@ -3,11 +3,11 @@ use Rattle.aadl_tree.specs.Expressions.{factor_parts, factors_parts, term_parts,
 use Rattle.aadl_tree.specs.Expressions.{relations_parts}
 use Rattle.aadl_tree.specs.proof.ExpressionViews.{factor_view, factors_view, term_view, terms_view, relation_view}
 use Rattle.aadl_tree.specs.proof.ExpressionViews.{relations_view}
-use Rattle.aadl_tree.specs.proof.Maps.{kept_place}
+use Rattle.aadl_tree.specs.proof.PlaceMaps.{kept_place}
 use Rattle.aadl_tree.specs.declared.limits.TheConstants.{GREATEST_NESTING}
 use Rattle.aadl_grammar.specs.proof.Symbols as s
 use Rattle.aadl_grammar.specs.proof.Machine.{Stack, depth, fate}
-use Rattle.aadl_grammar.specs.proof.Reading.{here, Reads}
+use Rattle.aadl_grammar.specs.proof.ParserAnswers.{here, Reads}
 use Rattle.behaviour_parse.proofs.expressions.+expression.Given as goal
 
 abbrev pub decreases-primary : goal.decreases-primary

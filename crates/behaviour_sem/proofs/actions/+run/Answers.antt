@@ -3,13 +3,13 @@ use Rattle.std.proofs.Common.{of_z, w64}
 use Rattle.std.proofs.lemmas.Int.{ints, to_z-of_z}
 use mir.Val.{SFits}
 use Rattle.pals_base.specs.Actions.{Effect, act, acts, act_first, for_each, numbers}
-use Rattle.pals_base.specs.Fire.{is_present}
-use Rattle.pals_base.specs.Tree.{For}
-use Rattle.pals_base.specs.proof.Seen.{action_of, actions_along, branches_along}
-use Rattle.behaviour_sem.specs.proof.Senses.{frame_of}
-use Rattle.behaviour_sem.specs.proof.Left.{Left, Chose}
-use Rattle.behaviour_sem.specs.proof.Runs.{effect}
-use Rattle.behaviour_sem.proofs.Branches.{act-If, act-For, turn_after, Left-chose-err, numbers-none, for_each-more}
+use Rattle.pals_base.specs.SingleStep.{is_present}
+use Rattle.pals_base.specs.PlainTrees.{For}
+use Rattle.pals_base.specs.proof.SourceTrees.{action_of, actions_along, branches_along}
+use Rattle.behaviour_sem.specs.proof.ReadableFrames.{frame_of}
+use Rattle.behaviour_sem.specs.proof.StepOutcomes.{Left, Chose}
+use Rattle.behaviour_sem.specs.proof.ActionRuns.{effect}
+use Rattle.behaviour_sem.proofs.ActionTrees.{act-If, act-For, turn_after, Left-chose-err, numbers-none, for_each-more}
 use Rattle.behaviour_sem.proofs.actions.+run.Goals as goal
 
 pub run-returns-in_err-run_first-in-If-clause-runs : goal.run-returns-in_err-run_first-in-If-clause-runs

@@ -2,11 +2,11 @@ use Rattle.std.proofs.Common.{◌≡◌, map, length, drop}
 use Rattle.std.specs.Prelude.{Result}
 use Rattle.pals_base.specs.declared.values.Trap.{Trap}
 use Rattle.pals_base.specs.Actions.{Effect, acts, act_first, for_each, numbers}
-use Rattle.pals_base.specs.Fire.{is_present}
-use Rattle.pals_base.specs.proof.Seen.{actions_along, branches_along}
-use Rattle.behaviour_sem.specs.proof.Senses.{frame_of}
-use Rattle.behaviour_sem.specs.proof.Runs.{effect}
-use Rattle.behaviour_sem.proofs.Branches.{turn_after}
+use Rattle.pals_base.specs.SingleStep.{is_present}
+use Rattle.pals_base.specs.proof.SourceTrees.{actions_along, branches_along}
+use Rattle.behaviour_sem.specs.proof.ReadableFrames.{frame_of}
+use Rattle.behaviour_sem.specs.proof.ActionRuns.{effect}
+use Rattle.behaviour_sem.proofs.ActionTrees.{turn_after}
 use Rattle.behaviour_sem.proofs.actions.+run.Given as goal
 
 -- the actions that are left, from the variables and outputs so far, have the effect of all

@@ -3,10 +3,10 @@ use Rattle.std.proofs.lemmas.Int.{to_z-of_z}
 use mir.Syntax.{w64}
 use mir.Val.{SFits}
 use Rattle.pals_base.specs.Expressions.{eval, eval_rest, on_value}
-use Rattle.pals_base.specs.Fire.{is_present}
-use Rattle.pals_base.specs.proof.Seen.{tree_of, operands_along}
-use Rattle.pals_base.proofs.Trees.{tree_of-Chain}
-use Rattle.behaviour_sem.specs.proof.Senses.{frame_of}
+use Rattle.pals_base.specs.SingleStep.{is_present}
+use Rattle.pals_base.specs.proof.SourceTrees.{tree_of, operands_along}
+use Rattle.pals_base.proofs.SourceTrees.{tree_of-Chain}
+use Rattle.behaviour_sem.specs.proof.ReadableFrames.{frame_of}
 use Rattle.behaviour_sem.proofs.expressions.+eval.Goals as goal
 
 pub eval-returns-in_ok-left-in-Chain : goal.eval-returns-in_ok-left-in-Chain

@@ -2,10 +2,10 @@ use Rattle.std.proofs.Common.{◌≡◌, ◌∙◌, sym, ap, subst, ℤ, List, S
 use Rattle.pals_base.specs.declared.values.Frame.{Frame}
 use Rattle.pals_base.specs.declared.values.PortValue.{PortValue}
 use Rattle.pals_base.specs.declared.values.PortValue.TheVariants.{Absent}
-use Rattle.pals_base.specs.Fire.{Fired, holding, is_present}
-use Rattle.behaviour_sem.specs.proof.Left.{Left}
-use Rattle.behaviour_sem.specs.proof.Leads.{reacted}
-use Rattle.behaviour_sem.proofs.Ends.{with_held, fire-halted, fire-reacted}
+use Rattle.pals_base.specs.SingleStep.{Fired, holding, is_present}
+use Rattle.behaviour_sem.specs.proof.StepOutcomes.{Left}
+use Rattle.behaviour_sem.specs.proof.StepParts.{reacted}
+use Rattle.behaviour_sem.proofs.StepEnds.{with_held, fire-halted, fire-reacted}
 use Rattle.behaviour_sem.proofs.step.fire_into.Goals as goal
 
 pub returns-then-is_some-clause-fired : goal.returns-then-is_some-clause-fired

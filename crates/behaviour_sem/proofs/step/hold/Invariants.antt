@@ -1,5 +1,5 @@
 use Rattle.std.proofs.Common.{◌≡◌, ◌++◌, length, take, drop}
-use Rattle.pals_base.specs.Fire.{holding}
+use Rattle.pals_base.specs.SingleStep.{holding}
 use Rattle.behaviour_sem.proofs.step.hold.Given as goal
 
 -- what is held so far, and of the places that are left

@@ -1,12 +1,12 @@
 use Rattle.std.proofs.Common.{◌≡◌, ◌∙◌, map, drop, sym, ap, subst, Ok, Err, true, false, add-one, rules}
 use Rattle.std.specs.Prelude.{Some, filter, nat_eq}
 use Rattle.pals_base.specs.Expressions.{on_value}
-use Rattle.pals_base.specs.Fire.{is_present, first_open, along}
-use Rattle.pals_base.specs.Tree.{Edge}
+use Rattle.pals_base.specs.SingleStep.{is_present, first_open, along}
+use Rattle.pals_base.specs.PlainTrees.{Edge}
 use Rattle.behaviour_sem.specs.declared.stop.EarlyEnd.TheVariants as stop
-use Rattle.behaviour_sem.specs.proof.Left.{Left}
-use Rattle.behaviour_sem.specs.proof.Goes.{move}
-use Rattle.behaviour_sem.specs.proof.Leads.{fired}
+use Rattle.behaviour_sem.specs.proof.StepOutcomes.{Left}
+use Rattle.behaviour_sem.specs.proof.TransitionMoves.{move}
+use Rattle.behaviour_sem.specs.proof.StepParts.{fired}
 use Rattle.behaviour_sem.proofs.TransitionSteps.{goes-same, first_open-from}
 use Rattle.behaviour_sem.proofs.transitions.advance.Goals as goal
 

@@ -1,5 +1,5 @@
 use Rattle.std.proofs.Common.{◌≡◌, drop}
-use Rattle.behaviour_sem.specs.proof.Goes.{dispatch_from}
+use Rattle.behaviour_sem.specs.proof.TransitionMoves.{dispatch_from}
 use Rattle.behaviour_sem.proofs.transitions.dispatch.Given as goal
 
 -- nothing has changed, and no transition so far was the one

@@ -1,13 +1,13 @@
 use Rattle.std.proofs.Common.{◌≡◌, ◌∙◌, sym, ap, subst, Ok, Err, rules}
 use Rattle.std.specs.Prelude.{Some}
 use Rattle.pals_base.specs.Actions.{acts}
-use Rattle.pals_base.specs.Fire.{along}
-use Rattle.pals_base.specs.Tree.{Edge}
-use Rattle.pals_base.specs.proof.Seen.{actions_along}
-use Rattle.behaviour_sem.specs.proof.Senses.{frame_of, fresh}
-use Rattle.behaviour_sem.specs.proof.Left.{Left}
-use Rattle.behaviour_sem.specs.proof.Runs.{effect}
-use Rattle.behaviour_sem.specs.proof.Leads.{fired}
+use Rattle.pals_base.specs.SingleStep.{along}
+use Rattle.pals_base.specs.PlainTrees.{Edge}
+use Rattle.pals_base.specs.proof.SourceTrees.{actions_along}
+use Rattle.behaviour_sem.specs.proof.ReadableFrames.{frame_of, fresh}
+use Rattle.behaviour_sem.specs.proof.StepOutcomes.{Left}
+use Rattle.behaviour_sem.specs.proof.ActionRuns.{effect}
+use Rattle.behaviour_sem.specs.proof.StepParts.{fired}
 use Rattle.behaviour_sem.proofs.TransitionSteps.{along-ran, along-stops}
 use Rattle.behaviour_sem.proofs.transitions.follow.Goals as goal
 

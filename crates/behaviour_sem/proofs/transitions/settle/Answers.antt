@@ -1,10 +1,10 @@
 use Rattle.std.proofs.Common.{◌≡◌, ◌∙◌, ◌+◌, ◌-◌, suc, length, map, sym, ap, subst, Ok, Err, false, rules, arith}
 use Rattle.std.specs.Prelude.{slice_get}
 use Rattle.pals_base.specs.Expressions.{on_value}
-use Rattle.pals_base.specs.Fire.{is_present, is_complete, completes, settled}
-use Rattle.behaviour_sem.specs.proof.Left.{Left}
-use Rattle.behaviour_sem.specs.proof.Goes.{move}
-use Rattle.behaviour_sem.specs.proof.Leads.{fired}
+use Rattle.pals_base.specs.SingleStep.{is_present, is_complete, completes, settled}
+use Rattle.behaviour_sem.specs.proof.StepOutcomes.{Left}
+use Rattle.behaviour_sem.specs.proof.TransitionMoves.{move}
+use Rattle.behaviour_sem.specs.proof.StepParts.{fired}
 use Rattle.behaviour_sem.proofs.TransitionSteps.{Left-stops, settled-more}
 use Rattle.behaviour_sem.proofs.transitions.settle.Goals as goal
 

@@ -1,6 +1,6 @@
 use Rattle.std.proofs.Common.{◌≡◌, sym, subst, rules}
-use Rattle.bound_checker.specs.proof.Limits.{IsRate}
-use Rattle.bound_checker.specs.Multiple.{greatest_rate}
+use Rattle.bound_checker.specs.proof.OverflowLimits.{IsRate}
+use Rattle.bound_checker.specs.ShortestPeriods.{greatest_rate}
 use Rattle.bound_checker.proofs.Multiples.{greatest-IsRate}
 use Rattle.bound_checker.proofs.multiple.greatest_rate.Goals as goal
 

@@ -1,9 +1,9 @@
 use Rattle.std.proofs.Common.{◌≡◌, sym, ap, ◌∙◌}
 use Rattle.aadl_tree.specs.Canon.{canon}
-use Rattle.aadl_tree.specs.proof.Maps.{no_place, kept_place}
+use Rattle.aadl_tree.specs.proof.PlaceMaps.{no_place, kept_place}
 use Rattle.aadl_tree.specs.proof.PackageViews.{placed}
-use Rattle.aadl_tree.proofs.Ties.Declarations.{package_tied}
-use Rattle.aadl_grammar.proofs.Reading.{canon_of}
+use Rattle.aadl_tree.proofs.PlaceMaps.Declarations.{package_tied}
+use Rattle.aadl_grammar.proofs.CanonicalRoundTrip.{canon_of}
 use Rattle.bundle_designs.proofs.printed.print_bundle.Goals as goal
 
 -- the printer writes the tree without its places, whose canonical text is the tree's

@@ -1,4 +1,4 @@
-use Rattle.bus_machine.proofs.TargetRows.{nodes_have_targets}
+use Rattle.bus_machine.proofs.TargetExamples.{nodes_have_targets}
 use Rattle.bus_machine.proofs.laws.node_targets.Goals as goal
 
 pub returns : goal.returns

@@ -2,12 +2,12 @@ use Rattle.std.proofs.Common.{codes, ◌∷◌, ◌++◌, List, length, ap, ap�
 use Rattle.pals_model.specs.RoundTexts.{line_end, text_of}
 use Rattle.step_code.specs.declared.instr.Instr.{Instr}
 use Rattle.step_code.specs.declared.instr.CodeParts.{CodeParts}
-use Rattle.step_code.specs.Paths.{weight_of}
-use Rattle.step_code.specs.Capped.{capped}
+use Rattle.step_code.specs.PathWeights.{weight_of}
+use Rattle.step_code.specs.CappedWeights.{capped}
 use Rattle.code_listing.specs.Listings.{number_line, state_lines, initial_line, instr_lines, code_lines}
-use Rattle.code_listing.specs.Numbers.{NumberFits, EntriesFit}
-use Rattle.code_listing.proofs.Lines.{line_alone, lines_behind, line_behind, lines_last, begun_last, three_behind}
-use Rattle.code_listing.proofs.Lines.{code_fits}
+use Rattle.code_listing.specs.NumberRanges.{NumberFits, EntriesFit}
+use Rattle.code_listing.proofs.AddedLines.{line_alone, lines_behind, line_behind, lines_last, begun_last, three_behind}
+use Rattle.code_listing.proofs.AddedLines.{code_fits}
 use Rattle.code_listing.proofs.component.add_code.Goals as goal
 
 pub returns-clause-ok : goal.returns-clause-ok

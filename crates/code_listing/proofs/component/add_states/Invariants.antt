@@ -2,7 +2,7 @@ use Rattle.std.proofs.Common.{◌≡◌, ◌++◌, length, map, take, All}
 use Rattle.std.specs.List.{zip}
 use Rattle.pals_model.specs.RoundTexts.{text_of}
 use Rattle.code_listing.specs.Listings.{state_line}
-use Rattle.code_listing.specs.Numbers.{EntryFits}
+use Rattle.code_listing.specs.NumberRanges.{EntryFits}
 use Rattle.code_listing.proofs.component.add_states.Given as goal
 
 -- the lines so far, of entries that fit

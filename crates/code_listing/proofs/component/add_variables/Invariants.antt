@@ -1,7 +1,7 @@
 use Rattle.std.proofs.Common.{◌≡◌, ◌++◌, map, take, All}
 use Rattle.pals_model.specs.RoundTexts.{text_of}
 use Rattle.code_listing.specs.Listings.{variable_line}
-use Rattle.code_listing.specs.Numbers.{FirstFits}
+use Rattle.code_listing.specs.NumberRanges.{FirstFits}
 use Rattle.code_listing.proofs.component.add_variables.Given as goal
 
 -- the lines so far, of variables whose first values fit

@@ -1,7 +1,7 @@
 use Rattle.std.proofs.Common.{codes, decimal, [], ◌∷◌, refl}
 use Rattle.pals_runs.specs.Journal.{spaced}
 use Rattle.code_listing.specs.Listings.{range_line, design_lines}
-use Rattle.code_listing.proofs.Lines.{line_alone, line_behind, line_last}
+use Rattle.code_listing.proofs.AddedLines.{line_alone, line_behind, line_last}
 use Rattle.code_listing.proofs.design.add_bounds.Goals as goal
 
 pub returns-clause-ok : goal.returns-clause-ok

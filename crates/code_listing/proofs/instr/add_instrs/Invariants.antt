@@ -2,7 +2,7 @@ use Rattle.std.proofs.Common.{◌≡◌, ◌++◌, map, take, All}
 use Rattle.std.specs.List.{enumerate_from}
 use Rattle.pals_model.specs.RoundTexts.{text_of}
 use Rattle.code_listing.specs.Listings.{instr_line}
-use Rattle.code_listing.specs.Numbers.{InstrFits}
+use Rattle.code_listing.specs.NumberRanges.{InstrFits}
 use Rattle.code_listing.proofs.instr.add_instrs.Given as goal
 
 -- the lines so far, of instructions whose numbers fit

@@ -5,8 +5,9 @@ use Rattle.std.specs.Iterator.Adapters.{zip_first, zip_second}
 use Rattle.std.proofs.lemmas.List.{length_push}
 use Rattle.std.proofs.lemmas.Slice.Zip.{zip_turn, zip_end}
 use Rattle.code_listing.specs.Listings.{component_lines}
-use Rattle.code_listing.specs.Numbers.{NumbersFit}
-use Rattle.code_listing.proofs.Lines.{blocks_turn, blocks_all, pair_within, pair_at, pairs_end, holds_turn, holds_all}
+use Rattle.code_listing.specs.NumberRanges.{NumbersFit}
+use Rattle.code_listing.proofs.AddedLines.{blocks_turn, blocks_all, pair_within, pair_at, pairs_end, holds_turn}
+use Rattle.code_listing.proofs.AddedLines.{holds_all}
 use Rattle.code_listing.proofs.listing.add_components.Goals as goal
 
 pub loop-component-preserved : goal.loop-component-preserved

@@ -2,7 +2,7 @@ use Rattle.std.proofs.Common.{◌≡◌, ◌++◌, length, take, All}
 use Rattle.std.specs.List.{flat_map, zip}
 use Rattle.pals_model.specs.RoundTexts.{text_of}
 use Rattle.code_listing.specs.Listings.{component_lines}
-use Rattle.code_listing.specs.Numbers.{NumbersFit}
+use Rattle.code_listing.specs.NumberRanges.{NumbersFit}
 use Rattle.code_listing.proofs.listing.add_components.Given as goal
 
 -- the lines so far, of components whose numbers fit

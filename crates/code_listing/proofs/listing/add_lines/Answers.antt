@@ -2,7 +2,7 @@ use Rattle.std.proofs.Common.{codes, [], ◌∷◌, ◌++◌, map, ap, ◌∙◌
 use Rattle.pals_model.specs.RoundTexts.{text_of}
 use Rattle.pals_report.specs.CheckReports.{link_line, feed_line, tap_line}
 use Rattle.code_listing.specs.Listings.{design_lines, lines_of_all, listing_lines}
-use Rattle.code_listing.proofs.Lines.{Adds, lines_behind, line_last, six_lists}
+use Rattle.code_listing.proofs.AddedLines.{Adds, lines_behind, line_last, six_lists}
 use Rattle.code_listing.proofs.listing.add_lines.Goals as goal
 
 pub returns-clause-ok : goal.returns-clause-ok

@@ -1,6 +1,6 @@
 use Rattle.std.proofs.Common.{◌≡◌, map, take}
-use Rattle.aadl_tree.specs.proof.Maps.{kept_place}
-use Rattle.aadl_tree.specs.proof.Views.{declaration_view}
+use Rattle.aadl_tree.specs.proof.PlaceMaps.{kept_place}
+use Rattle.aadl_tree.specs.proof.DeclarationViews.{declaration_view}
 use Rattle.component_checks.specs.proof.ChainProperties.{connections_carried}
 use Rattle.component_checks.proofs.carried_lists.all_of_connections.Given as goal
 

@@ -1,6 +1,6 @@
 use Rattle.std.proofs.Common.{◌≡◌, map, take}
-use Rattle.aadl_tree.specs.proof.Maps.{kept_place}
-use Rattle.aadl_tree.specs.proof.Views.{connection_view}
+use Rattle.aadl_tree.specs.proof.PlaceMaps.{kept_place}
+use Rattle.aadl_tree.specs.proof.DeclarationViews.{connection_view}
 use Rattle.component_checks.specs.proof.ChainProperties.{carried_by}
 use Rattle.component_checks.proofs.carried_lists.connections_of.Given as goal
 

@@ -1,11 +1,11 @@
 use Rattle.std.proofs.Common.{◌∙◌, Some, None, ap}
-use Rattle.aadl_tree.specs.proof.Maps.{kept_place}
+use Rattle.aadl_tree.specs.proof.PlaceMaps.{kept_place}
 use Rattle.aadl_tree.specs.proof.PackageViews.{placed}
 use Rattle.aadl_tree.specs.proof.ValueViews.{association_view, associations_view}
-use Rattle.aadl_tree.specs.proof.Views.{implementation_view}
+use Rattle.aadl_tree.specs.proof.DeclarationViews.{implementation_view}
 use Rattle.aadl_names.specs.Properties.{association_named, name_of}
 use Rattle.component_checks.specs.PropertyLookup.{own_lists, first_in}
-use Rattle.component_checks.proofs.Looking.{root_given}
+use Rattle.component_checks.proofs.NamedAssociations.{root_given}
 use Rattle.component_checks.proofs.property_lookup.root_property.Goals as goal
 
 pub returns-in_default : goal.returns-in_default

@@ -1,9 +1,9 @@
 use Rattle.std.proofs.Common.{◌∙◌, map, ap, refl, arith}
 use Rattle.std.proofs.lemmas.List.{take_all}
 use Rattle.aadl_tree.specs.proof.PackageViews.{placed}
-use Rattle.aadl_names.specs.Resolving.{implementation_in, subcomponents_of}
+use Rattle.aadl_names.specs.ReferenceResolution.{implementation_in, subcomponents_of}
 use Rattle.component_checks.specs.proof.ComponentProperties.{sub_timed, subs_timed}
-use Rattle.component_checks.proofs.Numbered.{made_next}
+use Rattle.component_checks.proofs.NumberedLists.{made_next}
 use Rattle.component_checks.proofs.timed_lists.all_of_subs.Goals as goal
 
 pub loop-declaration-preserved : goal.loop-declaration-preserved

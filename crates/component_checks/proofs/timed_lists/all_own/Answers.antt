@@ -1,10 +1,10 @@
 use Rattle.std.proofs.Common.{◌∙◌, map, ap, refl, arith}
 use Rattle.std.proofs.lemmas.List.{take_all}
 use Rattle.aadl_tree.specs.proof.PackageViews.{placed}
-use Rattle.aadl_names.specs.Resolving.{implementation_in}
+use Rattle.aadl_names.specs.ReferenceResolution.{implementation_in}
 use Rattle.component_checks.specs.PropertyLookup.{own_lists}
 use Rattle.component_checks.specs.proof.ComponentProperties.{timed_by, own_timed}
-use Rattle.component_checks.proofs.Numbered.{made_next}
+use Rattle.component_checks.proofs.NumberedLists.{made_next}
 use Rattle.component_checks.proofs.timed_lists.all_own.Goals as goal
 
 pub loop-number-preserved : goal.loop-number-preserved

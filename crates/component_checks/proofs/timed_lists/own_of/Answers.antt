@@ -1,11 +1,11 @@
 use Rattle.std.proofs.Common.{[], ◌∷◌, ◌∙◌, ap}
-use Rattle.aadl_tree.specs.proof.Maps.{kept_place}
+use Rattle.aadl_tree.specs.proof.PlaceMaps.{kept_place}
 use Rattle.aadl_tree.specs.proof.PackageViews.{placed}
 use Rattle.aadl_tree.specs.proof.ValueViews.{associations_view}
-use Rattle.aadl_tree.specs.proof.Views.{implementation_view}
+use Rattle.aadl_tree.specs.proof.DeclarationViews.{implementation_view}
 use Rattle.component_checks.specs.PropertyLookup.{own_lists}
 use Rattle.component_checks.specs.proof.ComponentProperties.{timed_by}
-use Rattle.component_checks.proofs.Saying.{own_is}
+use Rattle.component_checks.proofs.ComponentProperties.{own_is}
 use Rattle.component_checks.proofs.timed_lists.own_of.Goals as goal
 
 pub returns-in_default : goal.returns-in_default

@@ -1,11 +1,11 @@
 use Rattle.std.proofs.Common.{[], ◌∷◌, ◌∙◌, ap}
-use Rattle.aadl_tree.specs.proof.Maps.{kept_place}
+use Rattle.aadl_tree.specs.proof.PlaceMaps.{kept_place}
 use Rattle.aadl_tree.specs.proof.PackageViews.{placed}
 use Rattle.aadl_tree.specs.proof.ValueViews.{associations_view}
-use Rattle.aadl_tree.specs.proof.Views.{subcomponent_view}
+use Rattle.aadl_tree.specs.proof.DeclarationViews.{subcomponent_view}
 use Rattle.component_checks.specs.PropertyLookup.{sub_lists}
 use Rattle.component_checks.specs.proof.ComponentProperties.{timed_by}
-use Rattle.component_checks.proofs.Saying.{sub_is}
+use Rattle.component_checks.proofs.ComponentProperties.{sub_is}
 use Rattle.component_checks.proofs.timed_lists.sub_of.Goals as goal
 
 pub returns-in_default : goal.returns-in_default

@@ -2,10 +2,10 @@ use Rattle.std.proofs.Common.{◌∙◌, ℕ, length, map, ap, refl, arith}
 use Rattle.std.proofs.lemmas.List.{length-map, take_all}
 use Rattle.aadl_tree.specs.Declarations.{Subcomponent}
 use Rattle.aadl_tree.specs.proof.PackageViews.{placed}
-use Rattle.aadl_names.specs.Resolving.{implementation_at, subcomponents_of, referred}
+use Rattle.aadl_names.specs.ReferenceResolution.{implementation_at, subcomponents_of, referred}
 use Rattle.component_checks.specs.PropertyLookup.{sub_lists}
 use Rattle.component_checks.specs.proof.ComponentProperties.{timed_by, sub_timed}
-use Rattle.component_checks.proofs.Numbered.{made_next}
+use Rattle.component_checks.proofs.NumberedLists.{made_next}
 use Rattle.component_checks.proofs.timed_lists.subs_of.Goals as goal
 
 pub loop-sub-preserved : goal.loop-sub-preserved

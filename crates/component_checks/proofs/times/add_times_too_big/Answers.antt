@@ -1,7 +1,7 @@
 use Rattle.std.proofs.Common.{refl}
-use Rattle.aadl_names.proofs.Adds.{next_added}
+use Rattle.aadl_names.proofs.GrowingLists.{next_added}
 use Rattle.aadl_tree.specs.proof.ValueViews.{association_view, associations_view}
-use Rattle.aadl_tree.specs.proof.Maps.{kept_place}
+use Rattle.aadl_tree.specs.proof.PlaceMaps.{kept_place}
 use Rattle.component_checks.specs.Times.{counted_big, list_big}
 use Rattle.component_checks.proofs.times.add_times_too_big.Goals as goal
 

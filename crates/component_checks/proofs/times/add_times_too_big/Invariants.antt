@@ -1,6 +1,6 @@
 use Rattle.std.proofs.Common.{◌≡◌, ◌++◌, drop}
 use Rattle.aadl_tree.specs.proof.ValueViews.{associations_view}
-use Rattle.aadl_tree.specs.proof.Maps.{kept_place}
+use Rattle.aadl_tree.specs.proof.PlaceMaps.{kept_place}
 use Rattle.component_checks.specs.Times.{list_big}
 use Rattle.component_checks.proofs.times.add_times_too_big.Given as goal
 

@@ -1,4 +1,4 @@
-use Rattle.design_laws.proofs.ThreadBehaviour.{behaves}
+use Rattle.design_laws.proofs.SoundThreadBehaviour.{behaves}
 use Rattle.design_laws.proofs.behaviours.no_findings_make_a_thread_behave.Goals as goal
 
 pub returns : goal.returns

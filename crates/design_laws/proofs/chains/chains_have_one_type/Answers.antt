@@ -1,4 +1,4 @@
-use Rattle.design_laws.proofs.Chaining.{kinds_along}
+use Rattle.design_laws.proofs.ChainTypes.{kinds_along}
 use Rattle.design_laws.proofs.chains.chains_have_one_type.Goals as goal
 
 pub returns : goal.returns

@@ -1,4 +1,4 @@
-use Rattle.design_laws.proofs.Sourcing.{one_start}
+use Rattle.design_laws.proofs.UniqueChainStarts.{one_start}
 use Rattle.design_laws.proofs.chains.ports_have_one_start.Goals as goal
 
 pub returns : goal.returns

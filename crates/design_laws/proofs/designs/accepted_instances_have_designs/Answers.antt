@@ -1,4 +1,4 @@
-use Rattle.design_laws.proofs.Accepting.{has_design}
+use Rattle.design_laws.proofs.AcceptedInstances.{has_design}
 use Rattle.design_laws.proofs.designs.accepted_instances_have_designs.Goals as goal
 
 pub returns : goal.returns

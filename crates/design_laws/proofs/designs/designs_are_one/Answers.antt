@@ -1,4 +1,4 @@
-use Rattle.design_laws.proofs.Accepting.{one_design}
+use Rattle.design_laws.proofs.AcceptedInstances.{one_design}
 use Rattle.design_laws.proofs.designs.designs_are_one.Goals as goal
 
 pub returns : goal.returns

@@ -1,4 +1,4 @@
-use Rattle.design_laws.proofs.NamedFaults.{fault_named}
+use Rattle.design_laws.proofs.MemoryFreeFaults.{fault_named}
 use Rattle.design_laws.proofs.existence.first_faults_are_named.Goals as goal
 
 pub returns : goal.returns

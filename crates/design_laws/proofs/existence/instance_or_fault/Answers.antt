@@ -1,4 +1,4 @@
-use Rattle.design_laws.proofs.Flat.{each_package_ends}
+use Rattle.design_laws.proofs.ExistingInstances.{each_package_ends}
 use Rattle.design_laws.proofs.existence.instance_or_fault.Goals as goal
 
 pub returns : goal.returns

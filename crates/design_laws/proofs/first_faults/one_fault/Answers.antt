@@ -1,5 +1,5 @@
 use Rattle.design_laws.proofs.FindingsAtOnePlace.{rises}
-use Rattle.design_laws.proofs.Faults.{one_fault}
+use Rattle.design_laws.proofs.UniqueFirstFaults.{one_fault}
 use Rattle.design_laws.proofs.first_faults.one_fault.Goals as goal
 
 pub returns : goal.returns

@@ -1,4 +1,4 @@
-use Rattle.design_laws.proofs.Apart.{differ_given}
+use Rattle.design_laws.proofs.DistinctPackageNames.{differ_given}
 use Rattle.design_laws.proofs.names.names_differ.Goals as goal
 
 pub returns : goal.returns

@@ -1,4 +1,4 @@
-use Rattle.design_laws.proofs.Texts.{named}
+use Rattle.design_laws.proofs.PackageNames.{named}
 use Rattle.design_laws.proofs.names.texts_name.Goals as goal
 
 pub returns : goal.returns

@@ -1,4 +1,4 @@
-use Rattle.design_laws.proofs.Counting.{gamma_counts}
+use Rattle.design_laws.proofs.BoundsAndRates.{gamma_counts}
 use Rattle.design_laws.proofs.rates.bounds_that_count.Goals as goal
 
 pub returns : goal.returns

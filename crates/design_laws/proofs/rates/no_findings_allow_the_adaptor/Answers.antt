@@ -1,4 +1,4 @@
-use Rattle.design_laws.proofs.Allowing.{fits}
+use Rattle.design_laws.proofs.AllowedAdaptors.{fits}
 use Rattle.design_laws.proofs.rates.no_findings_allow_the_adaptor.Goals as goal
 
 pub returns : goal.returns

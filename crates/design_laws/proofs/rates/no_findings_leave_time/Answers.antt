@@ -1,5 +1,5 @@
 use Rattle.std.proofs.Common.{arith}
-use Rattle.design_laws.proofs.Counting.{leaves_time, least_is_some}
+use Rattle.design_laws.proofs.BoundsAndRates.{leaves_time, least_is_some}
 use Rattle.design_laws.proofs.rates.no_findings_leave_time.Goals as goal
 
 pub returns : goal.returns

@@ -1,5 +1,5 @@
 use Rattle.std.proofs.Common.{◌/◌}
-use Rattle.design_laws.proofs.Counting.{rate_from}
+use Rattle.design_laws.proofs.BoundsAndRates.{rate_from}
 use Rattle.design_laws.proofs.rates.no_findings_make_a_rate.Goals as goal
 
 pub returns : goal.returns

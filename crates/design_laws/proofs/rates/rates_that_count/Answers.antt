@@ -1,4 +1,4 @@
-use Rattle.design_laws.proofs.Counting.{rate_counts}
+use Rattle.design_laws.proofs.BoundsAndRates.{rate_counts}
 use Rattle.design_laws.proofs.rates.rates_that_count.Goals as goal
 
 pub returns : goal.returns

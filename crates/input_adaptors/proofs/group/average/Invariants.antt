@@ -1,4 +1,4 @@
-use Rattle.input_adaptors.proofs.Present.{IsSummed}
+use Rattle.input_adaptors.proofs.PresentNumbers.{IsSummed}
 use Rattle.input_adaptors.proofs.group.average.Given as goal
 
 abbrev pub invariant-loop-port : goal.invariant-loop-port

@@ -1,4 +1,4 @@
-use Rattle.kind_laws.proofs.Voting.{voted_fit, shown_fit}
+use Rattle.kind_laws.proofs.VotedKinds.{voted_fit, shown_fit}
 use Rattle.kind_laws.proofs.laws.votes_keep_kinds.Goals as goal
 
 pub returns : goal.returns

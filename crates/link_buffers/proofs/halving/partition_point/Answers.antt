@@ -1,6 +1,6 @@
 use Rattle.std.proofs.Common.{◌+◌, ◌-◌, ◌/◌, true, false, refl, sym, arith}
 use Rattle.std.proofs.lemmas.Fn.{says_at}
-use Rattle.link_buffers.proofs.Parts.{pass_to, fail_from}
+use Rattle.link_buffers.proofs.PartitionPoints.{pass_to, fail_from}
 use Rattle.link_buffers.proofs.halving.partition_point.Goals as goal
 
 pub loop-low-preserved-then-pred : goal.loop-low-preserved-then-pred

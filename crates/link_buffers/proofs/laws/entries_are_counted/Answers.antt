@@ -1,4 +1,4 @@
-use Rattle.link_buffers.proofs.Counts.{count_with, count_without}
+use Rattle.link_buffers.proofs.BufferLaws.{count_with, count_without}
 use Rattle.link_buffers.proofs.laws.entries_are_counted.Goals as goal
 
 pub returns-clause-with : goal.returns-clause-with

@@ -1,4 +1,4 @@
-use Rattle.link_buffers.proofs.Counts.{least_some, least_none}
+use Rattle.link_buffers.proofs.BufferLaws.{least_some, least_none}
 use Rattle.link_buffers.proofs.laws.least_is_in_the_list.Goals as goal
 
 pub returns-clause-some : goal.returns-clause-some

@@ -1,5 +1,5 @@
 use Rattle.pals_model.specs.Flights.{is_of}
-use Rattle.link_buffers.proofs.Counts.{first_from_find, none_from_find, without_none}
+use Rattle.link_buffers.proofs.BufferLaws.{first_from_find, none_from_find, without_none}
 use Rattle.link_buffers.proofs.laws.oldest_copy_is_first.Goals as goal
 
 pub returns-clause-some : goal.returns-clause-some

@@ -2,9 +2,9 @@ use Rattle.std.proofs.Common.{◌∙◌, ◌++◌, ap, subst}
 use Rattle.std.proofs.lemmas.List.{get_or_default}
 use Rattle.pals_model.specs.RoundTexts.{text_of}
 use Rattle.pals_runs.specs.declared.events.Event.{Event}
-use Rattle.pals_bus.specs.Loose.{GoesOn}
-use Rattle.loose_world.specs.Worlds.{told_by}
-use Rattle.loose_world.proofs.Worlds.{done_more, cut_behind, on_err}
+use Rattle.pals_bus.specs.LooseEvents.{GoesOn}
+use Rattle.loose_world.specs.LooseRuns.{told_by}
+use Rattle.loose_world.proofs.LooseRuns.{done_more, cut_behind, on_err}
 use Rattle.loose_world.proofs.events.run_loose.Goals as goal
 
 pub loop-index-preserved : goal.loop-index-preserved

@@ -1,4 +1,4 @@
-use Rattle.loose_world.proofs.Worlds.{AreDone}
+use Rattle.loose_world.proofs.LooseRuns.{AreDone}
 use Rattle.loose_world.proofs.events.run_loose.Given as goal
 
 -- the first events have happened, without a stop

@@ -1,8 +1,8 @@
 use Rattle.std.proofs.Common.{◌∙◌, ◌++◌, ℕ, List, sym, ap, append_assoc}
 use Rattle.pals_model.specs.declared.design.DesignParts.{DesignParts}
 use Rattle.pals_model.specs.RoundTexts.{row_lines, text_of}
-use Rattle.loose_world.specs.proof.Finished.{part_of_round, lines_before}
-use Rattle.loose_world.proofs.ReportRows.{rows_more}
+use Rattle.loose_world.specs.proof.FinishedRows.{part_of_round, lines_before}
+use Rattle.loose_world.proofs.RowPrefixes.{rows_more}
 use Rattle.loose_world.proofs.rounds.add_each_row.Goals as goal
 
 pub loop-round-preserved : goal.loop-round-preserved

@@ -1,6 +1,6 @@
 use Rattle.std.proofs.Common.{◌≡◌, ◌++◌}
 use Rattle.pals_model.specs.RoundTexts.{text_of}
-use Rattle.loose_world.specs.proof.Finished.{lines_before}
+use Rattle.loose_world.specs.proof.FinishedRows.{lines_before}
 use Rattle.loose_world.proofs.rounds.add_each_row.Given as goal
 
 -- the rows of the first rounds are there

@@ -1,6 +1,6 @@
 use Rattle.std.proofs.Common.{◌∙◌, ◌<◌, ◌≤◌, length, ap, arith}
 use Rattle.pals_model.specs.declared.design.DesignParts.{DesignParts}
-use Rattle.loose_world.proofs.ReportRows.{least_more, least_all}
+use Rattle.loose_world.proofs.RowPrefixes.{least_more, least_all}
 use Rattle.loose_world.proofs.rounds.finished_by_all.Goals as goal
 
 pub loop-node-preserved : goal.loop-node-preserved

@@ -1,5 +1,5 @@
 use Rattle.std.proofs.Common.{◌≡◌, fold, max}
-use Rattle.loose_world.proofs.ReportRows.{finished_first}
+use Rattle.loose_world.proofs.RowPrefixes.{finished_first}
 use Rattle.loose_world.proofs.rounds.finished_rounds.Given as goal
 
 -- the most of the first nodes

@@ -1,4 +1,4 @@
-use Rattle.loose_world.proofs.StepsOf.{events_are_steps}
+use Rattle.loose_world.proofs.EventsAsSteps.{events_are_steps}
 use Rattle.loose_world.proofs.world_laws.events_are_steps.Goals as goal
 
 pub returns : goal.returns

@@ -1,4 +1,4 @@
-use Rattle.loose_world.proofs.Journals.{journal_replays}
+use Rattle.loose_world.proofs.JournalReplays.{journal_replays}
 use Rattle.loose_world.proofs.world_laws.journals_are_replayed.Goals as goal
 
 pub returns : goal.returns

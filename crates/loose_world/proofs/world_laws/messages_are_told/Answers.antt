@@ -1,4 +1,4 @@
-use Rattle.loose_world.proofs.Sends.{sends_are_in_flight, lines_are_told}
+use Rattle.loose_world.proofs.SentCopies.{sends_are_in_flight, lines_are_told}
 use Rattle.loose_world.proofs.world_laws.messages_are_told.Goals as goal
 
 pub returns : goal.returns

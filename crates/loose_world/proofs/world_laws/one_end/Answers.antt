@@ -1,4 +1,4 @@
-use Rattle.loose_world.proofs.Ends.{one_end}
+use Rattle.loose_world.proofs.UniqueEnds.{one_end}
 use Rattle.loose_world.proofs.world_laws.one_end.Goals as goal
 
 pub returns : goal.returns

@@ -1,4 +1,4 @@
-use Rattle.loose_world.proofs.Texts.{world_is_told, text_is_told, stop_is_told}
+use Rattle.loose_world.proofs.WorldTexts.{world_is_told, text_is_told, stop_is_told}
 use Rattle.loose_world.proofs.world_laws.texts_are_told.Goals as goal
 
 pub returns : goal.returns

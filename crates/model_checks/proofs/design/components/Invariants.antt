@@ -1,6 +1,6 @@
 use Rattle.std.proofs.Common.{◌≡◌, map, take, Some}
 use Rattle.aadl_tree.specs.proof.PackageViews.{placed}
-use Rattle.design_laws.specs.Designs.{all_of, component_in}
+use Rattle.design_laws.specs.InstanceDesigns.{all_of, component_in}
 use Rattle.model_checks.specs.proof.KeptBehaviours.{AreKept}
 use Rattle.model_checks.proofs.design.components.Given as goal
 

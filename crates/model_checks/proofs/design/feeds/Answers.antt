@@ -1,7 +1,7 @@
 use Rattle.std.proofs.Common.{◌∙◌, sym}
 use Rattle.aadl_tree.specs.proof.PackageViews.{placed}
-use Rattle.design_laws.specs.Designs.{feed_in}
-use Rattle.model_checks.proofs.AllParts.{one_more, one_missing}
+use Rattle.design_laws.specs.InstanceDesigns.{feed_in}
+use Rattle.model_checks.proofs.ListsOfOptions.{one_more, one_missing}
 use Rattle.model_checks.proofs.design.feeds.Goals as goal
 
 pub loop-chain-preserved : goal.loop-chain-preserved

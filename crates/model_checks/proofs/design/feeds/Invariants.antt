@@ -1,6 +1,6 @@
 use Rattle.std.proofs.Common.{◌≡◌, map, take, Some}
 use Rattle.aadl_tree.specs.proof.PackageViews.{placed}
-use Rattle.design_laws.specs.Designs.{all_of, feed_in}
+use Rattle.design_laws.specs.InstanceDesigns.{all_of, feed_in}
 use Rattle.model_checks.proofs.design.feeds.Given as goal
 
 abbrev pub invariant-loop-chain : goal.invariant-loop-chain

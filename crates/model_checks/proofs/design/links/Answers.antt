@@ -1,7 +1,7 @@
 use Rattle.std.proofs.Common.{◌∙◌, sym}
 use Rattle.aadl_tree.specs.proof.PackageViews.{placed}
-use Rattle.design_laws.specs.Designs.{link_in}
-use Rattle.model_checks.proofs.AllParts.{one_more, one_missing}
+use Rattle.design_laws.specs.InstanceDesigns.{link_in}
+use Rattle.model_checks.proofs.ListsOfOptions.{one_more, one_missing}
 use Rattle.model_checks.proofs.design.links.Goals as goal
 
 pub loop-chain-preserved : goal.loop-chain-preserved

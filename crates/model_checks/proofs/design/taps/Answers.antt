@@ -1,6 +1,6 @@
 use Rattle.std.proofs.Common.{◌∙◌, sym}
-use Rattle.design_laws.specs.Designs.{tap_in}
-use Rattle.model_checks.proofs.AllParts.{one_more, one_missing}
+use Rattle.design_laws.specs.InstanceDesigns.{tap_in}
+use Rattle.model_checks.proofs.ListsOfOptions.{one_more, one_missing}
 use Rattle.model_checks.proofs.design.taps.Goals as goal
 
 pub loop-chain-preserved : goal.loop-chain-preserved

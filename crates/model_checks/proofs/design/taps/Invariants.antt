@@ -1,5 +1,5 @@
 use Rattle.std.proofs.Common.{◌≡◌, map, take, Some}
-use Rattle.design_laws.specs.Designs.{all_of, tap_in}
+use Rattle.design_laws.specs.InstanceDesigns.{all_of, tap_in}
 use Rattle.model_checks.proofs.design.taps.Given as goal
 
 abbrev pub invariant-loop-chain : goal.invariant-loop-chain

@@ -1,9 +1,9 @@
 use Rattle.std.proofs.lemmas.Option.{MatchOption-at_none, MatchOption-at_some}
 use Rattle.aadl_tree.specs.proof.PackageViews.{placed}
 use Rattle.model_violations.specs.proof.Violations.{shown}
-use Rattle.design_laws.specs.proof.Accepted.{NothingFound}
-use Rattle.design_laws.specs.Designs.{IsDesignOf}
-use Rattle.model_checks.specs.proof.Refused.{HasNoDesign}
+use Rattle.design_laws.specs.proof.AcceptedInstances.{NothingFound}
+use Rattle.design_laws.specs.InstanceDesigns.{IsDesignOf}
+use Rattle.model_checks.specs.proof.RefusedInstances.{HasNoDesign}
 use Rattle.model_checks.proofs.verdict.accepted.Goals as goal
 
 pub design_parts-requires-clause-rules : goal.design_parts-requires-clause-rules

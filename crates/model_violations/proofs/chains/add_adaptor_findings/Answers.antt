@@ -1,12 +1,12 @@
 use Rattle.std.proofs.Common.{◌∙◌, sym, ap}
 use Rattle.std.specs.Prelude.{option_map}
-use Rattle.aadl_tree.specs.proof.Maps.{kept_place}
-use Rattle.aadl_tree.specs.proof.Views.{connection_view}
+use Rattle.aadl_tree.specs.proof.PlaceMaps.{kept_place}
+use Rattle.aadl_tree.specs.proof.DeclarationViews.{connection_view}
 use Rattle.component_checks.specs.Rates.{adaptor_named}
 use Rattle.model_violations.specs.Carriers.{adaptor_text}
-use Rattle.model_violations.specs.Ports.{end_name, end_kind, end_rate}
-use Rattle.model_violations.specs.proof.Chains.{tree_of}
-use Rattle.model_violations.proofs.Plain.{nothing_added}
+use Rattle.model_violations.specs.ChainEnds.{end_name, end_kind, end_rate}
+use Rattle.model_violations.specs.proof.ThreadRates.{tree_of}
+use Rattle.model_violations.proofs.PlainRates.{nothing_added}
 use Rattle.model_violations.proofs.chains.add_adaptor_findings.Goals as goal
 
 pub returns-then-is_plain : goal.returns-then-is_plain

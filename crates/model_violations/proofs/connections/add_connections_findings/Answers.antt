@@ -1,13 +1,13 @@
 use Rattle.std.proofs.Common.{◌<◌, ◌∙◌, length, get_or, refl, ap, arith}
 use Rattle.std.specs.Prelude.{option_map}
 use Rattle.std.proofs.lemmas.Option.{slice_get-map, slice_get_read}
-use Rattle.aadl_tree.specs.proof.Views.{connection_view, implementation_view}
-use Rattle.aadl_tree.specs.proof.Maps.{kept_place}
+use Rattle.aadl_tree.specs.proof.DeclarationViews.{connection_view, implementation_view}
+use Rattle.aadl_tree.specs.proof.PlaceMaps.{kept_place}
 use Rattle.aadl_tree.specs.proof.PackageViews.{placed}
-use Rattle.aadl_names.specs.Resolving.{implementation_in}
+use Rattle.aadl_names.specs.ReferenceResolution.{implementation_in}
 use Rattle.model_violations.specs.Carriers.{carries}
 use Rattle.model_violations.specs.Connections.{connection_findings}
-use Rattle.component_checks.proofs.Numbered.{one_more}
+use Rattle.component_checks.proofs.NumberedLists.{one_more}
 use Rattle.model_violations.proofs.connections.add_connections_findings.Goals as goal
 
 pub loop-at-preserved : goal.loop-at-preserved

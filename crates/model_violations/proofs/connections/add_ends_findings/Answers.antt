@@ -1,10 +1,10 @@
 use Rattle.std.proofs.Common.{◌≡◌, ◌∙◌, ◌++◌, ap}
 use Rattle.std.specs.Option.{option_and_then}
-use Rattle.aadl_tree.specs.proof.Maps.{kept_place}
+use Rattle.aadl_tree.specs.proof.PlaceMaps.{kept_place}
 use Rattle.aadl_tree.specs.proof.PackageViews.{placed}
-use Rattle.aadl_tree.specs.proof.Views.{connection_view}
+use Rattle.aadl_tree.specs.proof.DeclarationViews.{connection_view}
 use Rattle.aadl_uses.specs.declared.connections.Wire.{Wire}
-use Rattle.annex_resolve.specs.Types.{misfit}
+use Rattle.annex_resolve.specs.ExpressionTypes.{misfit}
 use Rattle.model_violations.specs.Connections.{site_kind, kind_at}
 use Rattle.model_violations.proofs.connections.add_ends_findings.Goals as goal
 

@@ -1,11 +1,11 @@
 use Rattle.std.proofs.Common.{◌∙◌, Some, None, ap}
 use Rattle.std.specs.Option.{option_and_then}
 use Rattle.aadl_tree.specs.Declarations.{Feature}
-use Rattle.aadl_tree.specs.proof.Maps.{kept_place}
-use Rattle.aadl_tree.specs.proof.Views.{feature_view}
-use Rattle.aadl_names.specs.Resolving.{features_of}
-use Rattle.aadl_names.proofs.Stored.{view_lent}
-use Rattle.annex_resolve.specs.Types.{kind_in}
+use Rattle.aadl_tree.specs.proof.PlaceMaps.{kept_place}
+use Rattle.aadl_tree.specs.proof.DeclarationViews.{feature_view}
+use Rattle.aadl_names.specs.ReferenceResolution.{features_of}
+use Rattle.aadl_names.proofs.StoredDeclarations.{view_lent}
+use Rattle.annex_resolve.specs.ExpressionTypes.{kind_in}
 use Rattle.model_violations.specs.Connections.{kind_numbered}
 use Rattle.model_violations.proofs.connections.kind_numbered.Goals as goal
 

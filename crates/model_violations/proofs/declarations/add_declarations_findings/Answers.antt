@@ -1,12 +1,12 @@
 use Rattle.std.proofs.Common.{◌<◌, ◌∙◌, length, get_or, refl, ap, arith}
 use Rattle.std.specs.Prelude.{option_map}
 use Rattle.std.proofs.lemmas.Option.{slice_get-map, slice_get_read}
-use Rattle.aadl_tree.specs.proof.Maps.{kept_place}
+use Rattle.aadl_tree.specs.proof.PlaceMaps.{kept_place}
 use Rattle.aadl_tree.specs.proof.PackageViews.{placed}
-use Rattle.aadl_tree.specs.proof.Views.{declaration_view}
+use Rattle.aadl_tree.specs.proof.DeclarationViews.{declaration_view}
 use Rattle.model_violations.specs.Carriers.{carries}
-use Rattle.component_checks.proofs.Numbered.{one_more}
-use Rattle.model_violations.specs.Use.{has}
+use Rattle.component_checks.proofs.NumberedLists.{one_more}
+use Rattle.model_violations.specs.UsedDeclarations.{has}
 use Rattle.model_violations.specs.Declarations.{declaration_findings}
 use Rattle.model_violations.proofs.declarations.add_declarations_findings.Goals as goal
 

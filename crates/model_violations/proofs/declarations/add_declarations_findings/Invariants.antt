@@ -1,11 +1,11 @@
 use Rattle.std.proofs.Common.{◌≡◌, ◌++◌, map, take}
 use Rattle.std.specs.Prelude.{flat_map}
 use Rattle.std.specs.List.{enumerate_from}
-use Rattle.aadl_tree.specs.proof.Views.{declaration_view}
-use Rattle.aadl_tree.specs.proof.Maps.{kept_place}
+use Rattle.aadl_tree.specs.proof.DeclarationViews.{declaration_view}
+use Rattle.aadl_tree.specs.proof.PlaceMaps.{kept_place}
 use Rattle.aadl_tree.specs.proof.PackageViews.{placed}
 use Rattle.model_violations.specs.Carriers.{carries}
-use Rattle.model_violations.specs.Use.{has}
+use Rattle.model_violations.specs.UsedDeclarations.{has}
 use Rattle.model_violations.specs.Declarations.{declaration_findings}
 use Rattle.model_violations.proofs.declarations.add_declarations_findings.Given as goal
 

@@ -1,10 +1,10 @@
 use Rattle.std.proofs.Common.{◌∙◌, ◌++◌, [], subst, sym, ap}
 use Rattle.std.specs.Prelude.{if◌then◌else◌}
 use Rattle.std.proofs.lemmas.Option.{same_Some}
-use Rattle.aadl_tree.specs.proof.Maps.{kept_place}
+use Rattle.aadl_tree.specs.proof.PlaceMaps.{kept_place}
 use Rattle.aadl_tree.specs.proof.PackageViews.{placed}
-use Rattle.aadl_tree.specs.proof.Views.{implementation_view}
-use Rattle.aadl_names.specs.Resolving.{is_thread}
+use Rattle.aadl_tree.specs.proof.DeclarationViews.{implementation_view}
+use Rattle.aadl_names.specs.ReferenceResolution.{is_thread}
 use Rattle.model_violations.specs.Threads.{IsSmall, implementation_findings}
 use Rattle.model_violations.proofs.declarations.add_thread_findings.Goals as goal
 

@@ -1,9 +1,9 @@
 use Rattle.std.proofs.Common.{not, ap}
-use Rattle.aadl_tree.specs.proof.Maps.{kept_place}
-use Rattle.aadl_tree.specs.proof.Views.{feature_view}
+use Rattle.aadl_tree.specs.proof.PlaceMaps.{kept_place}
+use Rattle.aadl_tree.specs.proof.DeclarationViews.{feature_view}
 use Rattle.component_checks.specs.Types.{is_in}
-use Rattle.model_violations.specs.Values.{port_of}
-use Rattle.model_violations.proofs.OneMoreFinding.{kept_next}
+use Rattle.model_violations.specs.PortsAndVariables.{port_of}
+use Rattle.model_violations.proofs.CollectingLoops.{kept_next}
 use Rattle.model_violations.proofs.declared.outs_in.Goals as goal
 
 pub loop-port-preserved : goal.loop-port-preserved

@@ -1,8 +1,8 @@
 use Rattle.std.proofs.Common.{◌<◌, ◌∙◌, length, get_or, ap, arith}
-use Rattle.aadl_tree.specs.proof.Views.{declaration_view}
-use Rattle.aadl_tree.specs.proof.Maps.{kept_place}
-use Rattle.model_violations.specs.Ignored.{declaration_ignored}
-use Rattle.component_checks.proofs.Numbered.{one_more}
+use Rattle.aadl_tree.specs.proof.DeclarationViews.{declaration_view}
+use Rattle.aadl_tree.specs.proof.PlaceMaps.{kept_place}
+use Rattle.model_violations.specs.IgnoredProperties.{declaration_ignored}
+use Rattle.component_checks.proofs.NumberedLists.{one_more}
 use Rattle.model_violations.proofs.ignored.add_declarations.Goals as goal
 
 pub loop-number-preserved : goal.loop-number-preserved

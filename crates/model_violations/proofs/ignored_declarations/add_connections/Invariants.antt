@@ -1,8 +1,8 @@
 use Rattle.std.proofs.Common.{◌≡◌, ◌++◌, map, take}
 use Rattle.std.specs.Prelude.{flat_map}
-use Rattle.aadl_tree.specs.proof.Views.{connection_view}
-use Rattle.aadl_tree.specs.proof.Maps.{kept_place}
-use Rattle.model_violations.specs.Ignored.{connection_ignored}
+use Rattle.aadl_tree.specs.proof.DeclarationViews.{connection_view}
+use Rattle.aadl_tree.specs.proof.PlaceMaps.{kept_place}
+use Rattle.model_violations.specs.IgnoredProperties.{connection_ignored}
 use Rattle.model_violations.proofs.ignored_declarations.add_connections.Given as goal
 
 abbrev pub invariant-loop-connection : goal.invariant-loop-connection

@@ -1,8 +1,8 @@
 use Rattle.std.proofs.Common.{◌≡◌, ◌++◌, map, take}
 use Rattle.std.specs.Prelude.{flat_map}
-use Rattle.aadl_tree.specs.proof.Views.{subcomponent_view}
-use Rattle.aadl_tree.specs.proof.Maps.{kept_place}
-use Rattle.model_violations.specs.Ignored.{sub_ignored}
+use Rattle.aadl_tree.specs.proof.DeclarationViews.{subcomponent_view}
+use Rattle.aadl_tree.specs.proof.PlaceMaps.{kept_place}
+use Rattle.model_violations.specs.IgnoredProperties.{sub_ignored}
 use Rattle.model_violations.proofs.ignored_declarations.add_subs.Given as goal
 
 abbrev pub invariant-loop-sub : goal.invariant-loop-sub

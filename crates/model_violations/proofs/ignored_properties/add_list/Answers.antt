@@ -1,8 +1,8 @@
 use Rattle.std.proofs.Common.{refl}
-use Rattle.aadl_names.proofs.Adds.{next_added}
+use Rattle.aadl_names.proofs.GrowingLists.{next_added}
 use Rattle.aadl_tree.specs.proof.ValueViews.{association_view, associations_view}
-use Rattle.aadl_tree.specs.proof.Maps.{kept_place}
-use Rattle.model_violations.specs.Ignored.{association_ignored, ignored_in}
+use Rattle.aadl_tree.specs.proof.PlaceMaps.{kept_place}
+use Rattle.model_violations.specs.IgnoredProperties.{association_ignored, ignored_in}
 use Rattle.model_violations.proofs.ignored_properties.add_list.Goals as goal
 
 pub loop-association-preserved : goal.loop-association-preserved

@@ -1,7 +1,7 @@
 use Rattle.std.proofs.Common.{◌≡◌, ◌++◌, drop}
 use Rattle.aadl_tree.specs.proof.ValueViews.{associations_view}
-use Rattle.aadl_tree.specs.proof.Maps.{kept_place}
-use Rattle.model_violations.specs.Ignored.{ignored_in}
+use Rattle.aadl_tree.specs.proof.PlaceMaps.{kept_place}
+use Rattle.model_violations.specs.IgnoredProperties.{ignored_in}
 use Rattle.model_violations.proofs.ignored_properties.add_list.Given as goal
 
 -- what is left is still to be added

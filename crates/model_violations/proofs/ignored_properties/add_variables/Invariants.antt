@@ -1,8 +1,8 @@
 use Rattle.std.proofs.Common.{◌≡◌, ◌++◌, map, take}
 use Rattle.std.specs.Prelude.{flat_map}
-use Rattle.aadl_tree.specs.proof.Views.{variable_view}
-use Rattle.aadl_tree.specs.proof.Maps.{kept_place}
-use Rattle.model_violations.specs.Ignored.{variable_ignored}
+use Rattle.aadl_tree.specs.proof.DeclarationViews.{variable_view}
+use Rattle.aadl_tree.specs.proof.PlaceMaps.{kept_place}
+use Rattle.model_violations.specs.IgnoredProperties.{variable_ignored}
 use Rattle.model_violations.proofs.ignored_properties.add_variables.Given as goal
 
 abbrev pub invariant-loop-variable : goal.invariant-loop-variable

@@ -1,7 +1,7 @@
 use Rattle.std.proofs.Common.{◌≡◌, ◌++◌, take}
 use Rattle.std.specs.Prelude.{flat_map}
 use Rattle.model_violations.specs.Chains.{link_findings}
-use Rattle.model_violations.specs.proof.Chains.{tree_of}
+use Rattle.model_violations.specs.proof.ThreadRates.{tree_of}
 use Rattle.model_violations.proofs.list.add_all_link_findings.Given as goal
 
 abbrev pub invariant-loop-link : goal.invariant-loop-link

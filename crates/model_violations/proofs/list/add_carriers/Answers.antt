@@ -1,4 +1,4 @@
-use Rattle.model_violations.proofs.Carrying.{carries_next}
+use Rattle.model_violations.proofs.ChainCarriers.{carries_next}
 use Rattle.model_violations.proofs.list.add_carriers.Goals as goal
 
 pub loop-chain-preserved : goal.loop-chain-preserved

@@ -1,8 +1,8 @@
 use Rattle.aadl_tree.specs.proof.PackageViews.{placed}
-use Rattle.model_violations.specs.Use.{has}
+use Rattle.model_violations.specs.UsedDeclarations.{has}
 use Rattle.model_violations.specs.proof.Violations.{shown}
-use Rattle.model_violations.proofs.Flats.{root_within, are_small}
-use Rattle.model_violations.proofs.Found.{used_found}
+use Rattle.model_violations.proofs.InstanceLimits.{root_within, are_small}
+use Rattle.model_violations.proofs.AllFindings.{used_found}
 use Rattle.model_violations.proofs.list.add_used_findings.Goals as goal
 
 pub used_below-requires : goal.used_below-requires

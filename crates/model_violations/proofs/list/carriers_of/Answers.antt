@@ -2,7 +2,7 @@ use Rattle.std.proofs.Common.{◌∙◌, map, ap}
 use Rattle.std.specs.Prelude.{◌||◌}
 use Rattle.model_violations.specs.Carriers.{carries}
 use Rattle.model_violations.specs.Violations.{place_of}
-use Rattle.model_violations.proofs.Carrying.{carries_all}
+use Rattle.model_violations.proofs.ChainCarriers.{carries_all}
 use Rattle.model_violations.proofs.list.carriers_of.Goals as goal
 
 pub returns : goal.returns

@@ -3,8 +3,8 @@ use Rattle.std.specs.Prelude.{flat_map}
 use Rattle.aadl_tree.specs.proof.PackageViews.{placed}
 use Rattle.component_checks.specs.Threads.{thread_rate, greatest_rate, thread_findings}
 use Rattle.model_violations.specs.proof.Violations.{shown, AddUsed, AreFindings}
-use Rattle.model_violations.proofs.Rates.{rates_positive, greatest_fits}
-use Rattle.model_violations.proofs.Found.{all_found}
+use Rattle.model_violations.proofs.RateBounds.{rates_positive, greatest_fits}
+use Rattle.model_violations.proofs.AllFindings.{all_found}
 use Rattle.model_violations.proofs.list.findings_of.Goals as goal
 
 pub add_root_findings-requires : goal.add_root_findings-requires

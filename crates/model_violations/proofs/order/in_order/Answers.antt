@@ -2,7 +2,7 @@ use Rattle.std.proofs.Common.{◌∙◌, filter, subst, sym, ap, rules}
 use Rattle.std.specs.List.Sorted.{IsSortedBy, ties}
 use Rattle.std.proofs.lemmas.List.Sorted.{answers_always}
 use Rattle.model_violations.specs.Violations.{goes_before}
-use Rattle.model_violations.proofs.Sorting.{goes_before_orders}
+use Rattle.model_violations.proofs.FindingOrder.{goes_before_orders}
 use Rattle.model_violations.proofs.order.in_order.Goals as goal
 
 pub returns-clause-sorted : goal.returns-clause-sorted

@@ -1,9 +1,9 @@
 use Rattle.std.proofs.Common.{◌∙◌, ◌-◌, length, slice_get, ap}
 use Rattle.std.specs.Option.{option_and_then}
 use Rattle.aadl_tree.specs.proof.PackageViews.{placed}
-use Rattle.aadl_names.specs.Resolving.{implementation_at, target_of}
+use Rattle.aadl_names.specs.ReferenceResolution.{implementation_at, target_of}
 use Rattle.component_checks.specs.PropertyLookup.{sub_of}
-use Rattle.model_violations.proofs.Ends.{target_below}
+use Rattle.model_violations.proofs.ConnectionEnds.{target_below}
 use Rattle.model_violations.proofs.ports.component_number.Goals as goal
 
 pub returns-in-Some : goal.returns-in-Some

@@ -1,8 +1,8 @@
 use Rattle.std.proofs.Common.{◌≡◌, ◌∙◌, ◌+◌, sym, arith}
-use Rattle.aadl_tree.specs.proof.Maps.{kept_place}
-use Rattle.aadl_tree.specs.proof.Views.{feature_view}
+use Rattle.aadl_tree.specs.proof.PlaceMaps.{kept_place}
+use Rattle.aadl_tree.specs.proof.DeclarationViews.{feature_view}
 use Rattle.component_checks.specs.Types.{is_in}
-use Rattle.model_violations.proofs.Filtered.{found_here, found_later, not_here, nowhere}
+use Rattle.model_violations.proofs.FilteredIndexes.{found_here, found_later, not_here, nowhere}
 use Rattle.model_violations.proofs.ports.in_port.Goals as goal
 use Rattle.model_violations.proofs.ports.in_port.Goals.{then-is_in+else-left-eq0, else-is_in}
 

@@ -1,6 +1,6 @@
 use Rattle.std.proofs.Common.{◌≡◌, ◌∙◌, ◌∷◌, [], ◌++◌, Some, None, sym, ap}
-use Rattle.aadl_names.specs.proof.Tables.{value_of}
-use Rattle.model_violations.proofs.Spelled.{behind_known, behind_new, known_more}
+use Rattle.aadl_names.specs.proof.NameTables.{value_of}
+use Rattle.model_violations.proofs.SpellingTables.{behind_known, behind_new, known_more}
 use Rattle.model_violations.proofs.spellings.add_first.Goals as goal
 
 pub returns-in-Some-clause-first : goal.returns-in-Some-clause-first

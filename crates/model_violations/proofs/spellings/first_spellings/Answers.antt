@@ -1,4 +1,4 @@
-use Rattle.model_violations.proofs.Spelled.{turned, left_behind}
+use Rattle.model_violations.proofs.SpellingTables.{turned, left_behind}
 use Rattle.model_violations.proofs.spellings.first_spellings.Goals as goal
 
 pub loop-name-preserved : goal.loop-name-preserved

@@ -1,8 +1,8 @@
 use Rattle.std.proofs.Common.{◌∙◌, sym}
-use Rattle.aadl_tree.specs.proof.Maps.{kept_place}
-use Rattle.aadl_tree.specs.proof.Views.{annex_view}
+use Rattle.aadl_tree.specs.proof.PlaceMaps.{kept_place}
+use Rattle.aadl_tree.specs.proof.DeclarationViews.{annex_view}
 use Rattle.aadl_names.specs.Behaviours.{behaviour_in}
-use Rattle.model_violations.proofs.OneMoreFinding.{first_here, first_later}
+use Rattle.model_violations.proofs.CollectingLoops.{first_here, first_later}
 use Rattle.model_violations.proofs.threads.first_behaviour.Goals as goal
 
 pub returns-in-Some : goal.returns-in-Some

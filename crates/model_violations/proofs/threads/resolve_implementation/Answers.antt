@@ -1,9 +1,9 @@
 use Rattle.std.proofs.Common.{◌∙◌, ◌++◌, sym, ap}
 use Rattle.std.specs.Option.{option_and_then}
 use Rattle.std.proofs.lemmas.Option.{none-some, same_Some}
-use Rattle.aadl_tree.specs.proof.Maps.{kept_place}
+use Rattle.aadl_tree.specs.proof.PlaceMaps.{kept_place}
 use Rattle.aadl_tree.specs.proof.PackageViews.{placed}
-use Rattle.aadl_tree.specs.proof.Views.{implementation_view}
+use Rattle.aadl_tree.specs.proof.DeclarationViews.{implementation_view}
 use Rattle.model_violations.specs.Threads.{behaviour_in, implementation_findings}
 use Rattle.model_violations.proofs.threads.resolve_implementation.Goals as goal
 

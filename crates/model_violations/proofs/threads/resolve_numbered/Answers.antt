@@ -1,13 +1,13 @@
 use Rattle.std.proofs.Common.{◌≡◌, ◌∙◌, ◌++◌, Some, map, sym, ap, append_assoc}
 use Rattle.std.specs.Prelude.{slice_get}
-use Rattle.aadl_tree.specs.proof.Maps.{kept_place}
+use Rattle.aadl_tree.specs.proof.PlaceMaps.{kept_place}
 use Rattle.aadl_tree.specs.proof.PackageViews.{placed}
-use Rattle.aadl_tree.specs.proof.Views.{annex_tree_view, annex_view, implementation_view}
+use Rattle.aadl_tree.specs.proof.DeclarationViews.{annex_tree_view, annex_view, implementation_view}
 use Rattle.aadl_names.specs.Behaviours.{behaviours}
 use Rattle.annex_resolve.specs.Behaviours.{behaviour_of, annex_findings}
 use Rattle.component_checks.specs.Types.{variables_findings}
 use Rattle.model_violations.specs.Threads.{annex_rules, behaviour_by, first_annex}
-use Rattle.model_violations.specs.Values.{values_of}
+use Rattle.model_violations.specs.PortsAndVariables.{values_of}
 use Rattle.model_violations.proofs.threads.resolve_numbered.Goals as goal
 
 pub setting_of-requires-clause-variables : goal.setting_of-requires-clause-variables

@@ -1,11 +1,11 @@
 use Rattle.std.proofs.Common.{◌≡◌, ◌∙◌, map, length, ap, arith}
-use Rattle.aadl_tree.specs.proof.Maps.{kept_place}
+use Rattle.aadl_tree.specs.proof.PlaceMaps.{kept_place}
 use Rattle.aadl_tree.specs.proof.PackageViews.{placed}
-use Rattle.aadl_tree.specs.proof.Views.{annex_tree_view, feature_view, implementation_view}
-use Rattle.aadl_names.specs.Resolving.{ports_at}
-use Rattle.model_violations.specs.Values.{ins_in, outs_in, variables_of, values_by, scope_by}
-use Rattle.model_violations.proofs.OneMoreFinding.{ports_both}
-use Rattle.model_violations.proofs.Settings.{of_lists}
+use Rattle.aadl_tree.specs.proof.DeclarationViews.{annex_tree_view, feature_view, implementation_view}
+use Rattle.aadl_names.specs.ReferenceResolution.{ports_at}
+use Rattle.model_violations.specs.PortsAndVariables.{ins_in, outs_in, variables_of, values_by, scope_by}
+use Rattle.model_violations.proofs.CollectingLoops.{ports_both}
+use Rattle.model_violations.proofs.BehaviourSettings.{of_lists}
 use Rattle.model_violations.proofs.threads.setting_of.Goals as goal
 
 pub setting_by-requires-clause-ins : goal.setting_by-requires-clause-ins

@@ -1,9 +1,9 @@
 use Rattle.std.proofs.Common.{◌∙◌, sym, ap}
 use Rattle.std.specs.Prelude.{◌||◌}
 use Rattle.std.proofs.Math.Bool.{or-false}
-use Rattle.model_violations.specs.Ignored.{is_number}
-use Rattle.model_violations.specs.Use.{has}
-use Rattle.model_violations.proofs.Numbers.{has_inserted}
+use Rattle.model_violations.specs.IgnoredProperties.{is_number}
+use Rattle.model_violations.specs.UsedDeclarations.{has}
+use Rattle.model_violations.proofs.NumberSets.{has_inserted}
 use Rattle.model_violations.proofs.usage.add_number.Goals as goal
 
 pub returns-in_ok-insert-in-Some : goal.returns-in_ok-insert-in-Some

@@ -1,10 +1,10 @@
 use Rattle.std.proofs.Common.{◌∙◌, sym, ap}
 use Rattle.std.specs.Prelude.{◌||◌}
 use Rattle.aadl_tree.specs.proof.PackageViews.{placed}
-use Rattle.aadl_uses.specs.proof.Types.{type_number_at}
-use Rattle.model_violations.specs.Ignored.{is_number}
-use Rattle.model_violations.specs.Use.{has}
-use Rattle.model_violations.proofs.Numbers.{or_untested, or_tested}
+use Rattle.aadl_uses.specs.proof.ImplementationTypes.{type_number_at}
+use Rattle.model_violations.specs.IgnoredProperties.{is_number}
+use Rattle.model_violations.specs.UsedDeclarations.{has}
+use Rattle.model_violations.proofs.NumberSets.{or_untested, or_tested}
 use Rattle.model_violations.proofs.usage.add_type_of.Goals as goal
 
 pub returns-in_ok-add_number : goal.returns-in_ok-add_number

@@ -1,7 +1,7 @@
 use Rattle.std.proofs.Common.{◌≡◌, ℕ, take}
 use Rattle.std.specs.List.{list_any, enumerate_from}
 use Rattle.aadl_tree.specs.proof.PackageViews.{placed}
-use Rattle.model_violations.specs.Use.{has, uses_type}
+use Rattle.model_violations.specs.UsedDeclarations.{has, uses_type}
 use Rattle.model_violations.proofs.usage.types_used.Given as goal
 
 abbrev pub invariant-loop-number : goal.invariant-loop-number

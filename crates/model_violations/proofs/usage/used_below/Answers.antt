@@ -1,5 +1,5 @@
 use Rattle.aadl_tree.specs.proof.PackageViews.{placed}
-use Rattle.model_violations.proofs.Numbers.{is_use}
+use Rattle.model_violations.proofs.NumberSets.{is_use}
 use Rattle.model_violations.proofs.usage.used_below.Goals as goal
 
 pub returns : goal.returns

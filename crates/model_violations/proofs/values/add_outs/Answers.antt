@@ -1,6 +1,6 @@
 use Rattle.std.proofs.Common.{◌∙◌, ◌∷◌, [], ◌++◌, ap}
-use Rattle.model_violations.specs.Values.{out_entry}
-use Rattle.component_checks.proofs.Numbered.{entries_next}
+use Rattle.model_violations.specs.PortsAndVariables.{out_entry}
+use Rattle.component_checks.proofs.NumberedLists.{entries_next}
 use Rattle.model_violations.proofs.values.add_outs.Goals as goal
 
 pub loop-at-preserved : goal.loop-at-preserved

@@ -1,6 +1,6 @@
 use Rattle.std.proofs.Common.{◌≡◌, ◌++◌, map, take}
 use Rattle.std.specs.List.{enumerate_from}
-use Rattle.model_violations.specs.Values.{out_entry}
+use Rattle.model_violations.specs.PortsAndVariables.{out_entry}
 use Rattle.model_violations.proofs.values.add_outs.Given as goal
 
 abbrev pub invariant-loop-at : goal.invariant-loop-at

@@ -1,6 +1,6 @@
 use Rattle.std.proofs.Common.{◌≡◌, ◌++◌, map, take}
 use Rattle.std.specs.List.{enumerate_from}
-use Rattle.model_violations.specs.Values.{variable_entry}
+use Rattle.model_violations.specs.PortsAndVariables.{variable_entry}
 use Rattle.model_violations.proofs.values.add_vars.Given as goal
 
 abbrev pub invariant-loop-at : goal.invariant-loop-at

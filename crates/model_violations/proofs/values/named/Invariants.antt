@@ -1,5 +1,5 @@
 use Rattle.std.proofs.Common.{◌≡◌, map, take}
-use Rattle.model_violations.specs.Values.{named_of}
+use Rattle.model_violations.specs.PortsAndVariables.{named_of}
 use Rattle.model_violations.proofs.values.named.Given as goal
 
 abbrev pub invariant-loop-port : goal.invariant-loop-port

@@ -1,5 +1,5 @@
 use Rattle.std.proofs.Common.{◌≡◌, map, take}
-use Rattle.model_violations.specs.Values.{var_of}
+use Rattle.model_violations.specs.PortsAndVariables.{var_of}
 use Rattle.model_violations.proofs.values.vars.Given as goal
 
 abbrev pub invariant-loop-variable : goal.invariant-loop-variable

@@ -1,7 +1,7 @@
 use Rattle.std.proofs.Common.{◌≡◌, ◌++◌, ◌∷◌, map, take}
 use Rattle.aadl_tree.specs.proof.NameViews.{identifier_view}
-use Rattle.aadl_tree.specs.proof.Maps.{kept_place}
-use Rattle.model_violations.specs.Values.{variable_of}
+use Rattle.aadl_tree.specs.proof.PlaceMaps.{kept_place}
+use Rattle.model_violations.specs.PortsAndVariables.{variable_of}
 use Rattle.model_violations.proofs.variables.add_variables.Given as goal
 
 abbrev pub invariant-loop-name : goal.invariant-loop-name

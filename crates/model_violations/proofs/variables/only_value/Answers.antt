@@ -1,9 +1,9 @@
 use Rattle.std.proofs.Common.{map, ap, arith}
 use Rattle.std.proofs.lemmas.List.{length-map}
 use Rattle.aadl_tree.specs.proof.ValueViews.{value_view}
-use Rattle.aadl_tree.specs.proof.Maps.{kept_place}
-use Rattle.component_checks.proofs.Singles.{no_only_text}
-use Rattle.model_violations.specs.Values.{value_in}
+use Rattle.aadl_tree.specs.proof.PlaceMaps.{kept_place}
+use Rattle.component_checks.proofs.SingleTexts.{no_only_text}
+use Rattle.model_violations.specs.PortsAndVariables.{value_in}
 use Rattle.model_violations.proofs.variables.only_value.Goals as goal
 
 pub returns-in_default-2 : goal.returns-in_default-2

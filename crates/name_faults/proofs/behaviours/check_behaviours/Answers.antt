@@ -1,11 +1,11 @@
 use Rattle.std.proofs.Common.{map, ap, ◌∙◌}
 use Rattle.aadl_tree.specs.proof.PackageViews.{placed}
-use Rattle.aadl_tree.specs.proof.Views.{implementation_view, annex_view}
-use Rattle.aadl_tree.specs.proof.Maps.{kept_place}
-use Rattle.aadl_names.specs.proof.Found.{found}
+use Rattle.aadl_tree.specs.proof.DeclarationViews.{implementation_view, annex_view}
+use Rattle.aadl_tree.specs.proof.PlaceMaps.{kept_place}
+use Rattle.aadl_names.specs.proof.FindingSoFar.{found}
 use Rattle.aadl_names.specs.Behaviours.{behaviours}
 use Rattle.aadl_names.specs.PackageFaults.{annex_faults}
-use Rattle.name_faults.proofs.Annexes.{next_annex, last_annex, as_annexes}
+use Rattle.name_faults.proofs.AnnexBehaviours.{next_annex, last_annex, as_annexes}
 use Rattle.name_faults.proofs.behaviours.check_behaviours.Goals as goal
 
 pub loop-annex-preserved : goal.loop-annex-preserved

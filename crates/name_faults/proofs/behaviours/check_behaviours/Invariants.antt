@@ -1,11 +1,11 @@
 use Rattle.std.proofs.Common.{◌≡◌, map, drop}
 use Rattle.aadl_tree.specs.proof.PackageViews.{placed}
-use Rattle.aadl_tree.specs.proof.Views.{implementation_view, annex_view}
-use Rattle.aadl_tree.specs.proof.Maps.{kept_place}
-use Rattle.aadl_names.specs.proof.Found.{found}
+use Rattle.aadl_tree.specs.proof.DeclarationViews.{implementation_view, annex_view}
+use Rattle.aadl_tree.specs.proof.PlaceMaps.{kept_place}
+use Rattle.aadl_names.specs.proof.FindingSoFar.{found}
 use Rattle.aadl_names.specs.Behaviours.{behaviours}
-use Rattle.aadl_names.specs.Resolving.{is_thread}
-use Rattle.name_faults.specs.proof.Expected.{behaviours_left}
+use Rattle.aadl_names.specs.ReferenceResolution.{is_thread}
+use Rattle.name_faults.specs.proof.ExpectedBehaviours.{behaviours_left}
 use Rattle.name_faults.proofs.behaviours.check_behaviours.Given as goal
 
 -- what is left is still to be looked at

@@ -2,13 +2,13 @@ use Rattle.std.proofs.Common.{◌∙◌, refl, sym, ap, map}
 use Rattle.std.specs.Prelude.{slice_get}
 use Rattle.std.specs.List.{flat_map}
 use Rattle.aadl_tree.specs.proof.PackageViews.{placed}
-use Rattle.aadl_tree.specs.proof.Views.{implementation_view, subcomponent_view}
-use Rattle.aadl_tree.specs.proof.Maps.{kept_place}
-use Rattle.aadl_names.specs.proof.Found.{found}
+use Rattle.aadl_tree.specs.proof.DeclarationViews.{implementation_view, subcomponent_view}
+use Rattle.aadl_tree.specs.proof.PlaceMaps.{kept_place}
+use Rattle.aadl_names.specs.proof.FindingSoFar.{found}
 use Rattle.aadl_names.specs.PackageFaults.{subcomponent_faults}
-use Rattle.aadl_names.proofs.Finds.{next_found, last_found}
-use Rattle.name_faults.proofs.Numbered.{numbered}
-use Rattle.name_faults.proofs.Stands.{below_is}
+use Rattle.aadl_names.proofs.FindingSoFar.{next_found, last_found}
+use Rattle.name_faults.proofs.NumberedFindings.{numbered}
+use Rattle.name_faults.proofs.NumberedImplementations.{below_is}
 use Rattle.name_faults.proofs.components.check_subcomponents.Goals as goal
 
 pub check_subcomponent-requires : goal.check_subcomponent-requires

@@ -2,12 +2,12 @@ use Rattle.std.proofs.Common.{◌∙◌, sym, ap, option_map}
 use Rattle.std.specs.Option.{option_and_then}
 use Rattle.aadl_tree.specs.proof.PackageViews.{placed}
 use Rattle.aadl_tree.specs.proof.NameViews.{identifier_view}
-use Rattle.aadl_tree.specs.proof.Views.{subcomponent_view}
-use Rattle.aadl_tree.specs.proof.Maps.{kept_place}
-use Rattle.aadl_names.specs.proof.Found.{found}
-use Rattle.aadl_names.specs.Resolving.{implementation_at}
+use Rattle.aadl_tree.specs.proof.DeclarationViews.{subcomponent_view}
+use Rattle.aadl_tree.specs.proof.PlaceMaps.{kept_place}
+use Rattle.aadl_names.specs.proof.FindingSoFar.{found}
+use Rattle.aadl_names.specs.ReferenceResolution.{implementation_at}
 use Rattle.aadl_names.specs.PackageFaults.{target_faults, names_faults}
-use Rattle.aadl_names.proofs.Finds.{closed}
+use Rattle.aadl_names.proofs.FindingSoFar.{closed}
 use Rattle.name_faults.proofs.components.check_target.Goals as goal
 
 pub returns-in-Some : goal.returns-in-Some

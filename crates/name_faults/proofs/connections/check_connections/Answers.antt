@@ -5,13 +5,13 @@ use Rattle.std.specs.Iterator.Adapters.{zip_first, zip_second}
 use Rattle.std.proofs.lemmas.List.{length_push, length-map}
 use Rattle.std.proofs.lemmas.Slice.Zip.{zip_turn, zip_end}
 use Rattle.aadl_tree.specs.proof.PackageViews.{placed}
-use Rattle.aadl_tree.specs.proof.Views.{implementation_view, connection_view}
-use Rattle.aadl_tree.specs.proof.Maps.{kept_place}
+use Rattle.aadl_tree.specs.proof.DeclarationViews.{implementation_view, connection_view}
+use Rattle.aadl_tree.specs.proof.PlaceMaps.{kept_place}
 use Rattle.aadl_names.specs.PackageFaults.{connection_faults}
-use Rattle.aadl_names.proofs.Finds.{next_found, last_found}
+use Rattle.aadl_names.proofs.FindingSoFar.{next_found, last_found}
 use Rattle.aadl_uses.specs.Wiring.{wire_of}
-use Rattle.name_faults.proofs.Numbered.{made_of}
-use Rattle.name_faults.proofs.Stands.{wires_are, joined}
+use Rattle.name_faults.proofs.NumberedFindings.{made_of}
+use Rattle.name_faults.proofs.NumberedImplementations.{wires_are, joined}
 use Rattle.name_faults.proofs.connections.check_connections.Goals as goal
 
 pub loop-connection-preserved : goal.loop-connection-preserved

@@ -3,14 +3,14 @@ use Rattle.aadl_tree.specs.Names.{same_name}
 use Rattle.std.specs.Prelude.{not, slice_get}
 use Rattle.std.specs.List.{flat_map, enumerate_from}
 use Rattle.aadl_tree.specs.proof.PackageViews.{placed}
-use Rattle.aadl_tree.specs.proof.Views.{declaration_view}
-use Rattle.aadl_tree.specs.proof.Maps.{kept_place}
-use Rattle.aadl_names.specs.Findings.{wrong_if}
-use Rattle.aadl_names.specs.proof.Found.{found}
+use Rattle.aadl_tree.specs.proof.DeclarationViews.{declaration_view}
+use Rattle.aadl_tree.specs.proof.PlaceMaps.{kept_place}
+use Rattle.aadl_names.specs.FirstFindings.{wrong_if}
+use Rattle.aadl_names.specs.proof.FindingSoFar.{found}
 use Rattle.aadl_names.specs.Spelling.{spelled_name}
 use Rattle.aadl_names.specs.PackageFaults.{declaration_faults, wrong_names}
-use Rattle.aadl_names.proofs.Finds.{found_append}
-use Rattle.name_faults.proofs.Numbered.{next_numbered, last_numbered, numbered}
+use Rattle.aadl_names.proofs.FindingSoFar.{found_append}
+use Rattle.name_faults.proofs.NumberedFindings.{next_numbered, last_numbered, numbered}
 use Rattle.name_faults.proofs.declarations.check_declarations.Goals as goal
 
 pub check_declaration-requires : goal.check_declaration-requires

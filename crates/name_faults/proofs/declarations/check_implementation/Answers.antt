@@ -1,9 +1,9 @@
 use Rattle.std.proofs.Common.{◌∙◌}
 use Rattle.aadl_tree.specs.proof.PackageViews.{placed}
-use Rattle.aadl_tree.specs.proof.Views.{implementation_view}
-use Rattle.aadl_tree.specs.proof.Maps.{kept_place}
-use Rattle.name_faults.proofs.PortLists.{roles_there}
-use Rattle.name_faults.proofs.Stands.{type_is}
+use Rattle.aadl_tree.specs.proof.DeclarationViews.{implementation_view}
+use Rattle.aadl_tree.specs.proof.PlaceMaps.{kept_place}
+use Rattle.name_faults.proofs.TypePortNames.{roles_there}
+use Rattle.name_faults.proofs.NumberedImplementations.{type_is}
 use Rattle.name_faults.proofs.declarations.check_implementation.Goals as goal
 
 pub check_behaviours-requires : goal.check_behaviours-requires

@@ -1,8 +1,8 @@
 use Rattle.std.proofs.Common.{◌∙◌, ap}
 use Rattle.aadl_tree.specs.proof.PackageViews.{placed}
-use Rattle.aadl_names.specs.Resolving.{implementation_at}
+use Rattle.aadl_names.specs.ReferenceResolution.{implementation_at}
 use Rattle.aadl_names.specs.PackageFaults.{is_same_number}
-use Rattle.name_faults.proofs.Stands.{of_root}
+use Rattle.name_faults.proofs.NumberedImplementations.{of_root}
 use Rattle.name_faults.proofs.declarations.is_root_type.Goals as goal
 
 pub returns-in-Some : goal.returns-in-Some

@@ -1,13 +1,13 @@
 use Rattle.std.proofs.Common.{None, map, refl, sym, ap, ◌∙◌}
 use Rattle.std.specs.List.{flat_map}
-use Rattle.aadl_tree.specs.proof.Views.{feature_view}
-use Rattle.aadl_tree.specs.proof.Maps.{kept_place}
-use Rattle.aadl_names.specs.proof.Found.{found, as_list}
-use Rattle.aadl_names.specs.Twice.{twice}
-use Rattle.aadl_names.specs.proof.Earliest.{earliest}
-use Rattle.aadl_names.specs.Spaces.{port_entries}
-use Rattle.aadl_names.specs.proof.DeclaredTwice.{beside_one, beside_each, beside}
-use Rattle.aadl_names.proofs.Finds.{next_found, last_found, found_append}
+use Rattle.aadl_tree.specs.proof.DeclarationViews.{feature_view}
+use Rattle.aadl_tree.specs.proof.PlaceMaps.{kept_place}
+use Rattle.aadl_names.specs.proof.FindingSoFar.{found, as_list}
+use Rattle.aadl_names.specs.DuplicateNames.{twice}
+use Rattle.aadl_names.specs.proof.EarliestDeclarations.{earliest}
+use Rattle.aadl_names.specs.DuplicatesBySpace.{port_entries}
+use Rattle.aadl_names.specs.proof.PortDuplicates.{beside_one, beside_each, beside}
+use Rattle.aadl_names.proofs.FindingSoFar.{next_found, last_found, found_append}
 use Rattle.name_faults.proofs.declared_twice.check_beside.Goals as goal
 
 pub loop-entry-preserved : goal.loop-entry-preserved

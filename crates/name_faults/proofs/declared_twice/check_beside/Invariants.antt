@@ -1,10 +1,10 @@
 use Rattle.std.proofs.Common.{◌≡◌, map, drop}
 use Rattle.std.specs.List.{flat_map}
-use Rattle.aadl_tree.specs.proof.Views.{feature_view}
-use Rattle.aadl_tree.specs.proof.Maps.{kept_place}
-use Rattle.aadl_names.specs.proof.Found.{found}
-use Rattle.aadl_names.specs.Spaces.{port_entries}
-use Rattle.aadl_names.specs.proof.DeclaredTwice.{beside_each}
+use Rattle.aadl_tree.specs.proof.DeclarationViews.{feature_view}
+use Rattle.aadl_tree.specs.proof.PlaceMaps.{kept_place}
+use Rattle.aadl_names.specs.proof.FindingSoFar.{found}
+use Rattle.aadl_names.specs.DuplicatesBySpace.{port_entries}
+use Rattle.aadl_names.specs.proof.PortDuplicates.{beside_each}
 use Rattle.name_faults.proofs.declared_twice.check_beside.Given as goal
 
 -- what is left is still to be looked at

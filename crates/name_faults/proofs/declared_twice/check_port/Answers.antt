@@ -1,11 +1,11 @@
 use Rattle.std.proofs.Common.{◌∷◌, [], Some, None, refl, sym, ap, ◌∙◌}
 use Rattle.std.proofs.lemmas.Option.{slice_get_read, slice_get_past}
-use Rattle.aadl_tree.specs.proof.Views.{feature_view}
-use Rattle.aadl_tree.specs.proof.Maps.{kept_place}
+use Rattle.aadl_tree.specs.proof.DeclarationViews.{feature_view}
+use Rattle.aadl_tree.specs.proof.PlaceMaps.{kept_place}
 use Rattle.aadl_names.specs.declared.fault.PackageFault.TheVariants.{Twice}
-use Rattle.aadl_names.specs.proof.Found.{found}
-use Rattle.aadl_names.proofs.Finds.{closed}
-use Rattle.aadl_names.specs.proof.DeclaredTwice.{entry_again}
+use Rattle.aadl_names.specs.proof.FindingSoFar.{found}
+use Rattle.aadl_names.proofs.FindingSoFar.{closed}
+use Rattle.aadl_names.specs.proof.PortDuplicates.{entry_again}
 use Rattle.name_faults.proofs.PortEntries.{entry_there}
 use Rattle.name_faults.proofs.declared_twice.check_port.Goals as goal
 

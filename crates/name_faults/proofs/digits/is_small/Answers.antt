@@ -1,6 +1,6 @@
 use Rattle.std.proofs.Common.{arith}
-use Rattle.aadl_lex.proofs.Scans.{decimal_over}
-use Rattle.name_faults.proofs.Times.{small_by}
+use Rattle.aadl_lex.proofs.ScanLengths.{decimal_over}
+use Rattle.name_faults.proofs.ValueShapes.{small_by}
 use Rattle.name_faults.proofs.digits.is_small.Goals as goal
 
 pub returns-then-value-digit : goal.returns-then-value-digit

@@ -1,8 +1,8 @@
 use Rattle.std.proofs.Common.{refl, ◌∷◌, [], map}
-use Rattle.aadl_tree.specs.proof.Views.{connection_view}
-use Rattle.aadl_tree.specs.proof.Maps.{kept_place}
+use Rattle.aadl_tree.specs.proof.DeclarationViews.{connection_view}
+use Rattle.aadl_tree.specs.proof.PlaceMaps.{kept_place}
 use Rattle.aadl_names.specs.Spelling.{entry_of}
-use Rattle.aadl_names.proofs.Adds.{next_added}
+use Rattle.aadl_names.proofs.GrowingLists.{next_added}
 use Rattle.name_faults.proofs.entries.add_connections.Goals as goal
 
 pub loop-connection-preserved : goal.loop-connection-preserved

@@ -1,6 +1,6 @@
 use Rattle.std.proofs.Common.{◌≡◌, ◌++◌, map, drop}
-use Rattle.aadl_tree.specs.proof.Views.{connection_view}
-use Rattle.aadl_tree.specs.proof.Maps.{kept_place}
+use Rattle.aadl_tree.specs.proof.DeclarationViews.{connection_view}
+use Rattle.aadl_tree.specs.proof.PlaceMaps.{kept_place}
 use Rattle.aadl_names.specs.Spelling.{entry_of}
 use Rattle.name_faults.proofs.entries.add_connections.Given as goal
 

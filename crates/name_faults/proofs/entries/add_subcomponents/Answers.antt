@@ -1,8 +1,8 @@
 use Rattle.std.proofs.Common.{refl, ◌∷◌, [], map}
-use Rattle.aadl_tree.specs.proof.Views.{subcomponent_view}
-use Rattle.aadl_tree.specs.proof.Maps.{kept_place}
+use Rattle.aadl_tree.specs.proof.DeclarationViews.{subcomponent_view}
+use Rattle.aadl_tree.specs.proof.PlaceMaps.{kept_place}
 use Rattle.aadl_names.specs.Spelling.{entry_of}
-use Rattle.aadl_names.proofs.Adds.{next_added}
+use Rattle.aadl_names.proofs.GrowingLists.{next_added}
 use Rattle.name_faults.proofs.entries.add_subcomponents.Goals as goal
 
 pub loop-sub-preserved : goal.loop-sub-preserved

@@ -1,9 +1,9 @@
 use Rattle.std.proofs.Common.{refl, ◌∷◌, [], map}
-use Rattle.aadl_tree.specs.proof.Views.{feature_view}
-use Rattle.aadl_tree.specs.proof.Maps.{kept_place}
+use Rattle.aadl_tree.specs.proof.DeclarationViews.{feature_view}
+use Rattle.aadl_tree.specs.proof.PlaceMaps.{kept_place}
 use Rattle.aadl_names.specs.Spelling.{entry_of}
-use Rattle.aadl_names.specs.Spaces.{port_entries}
-use Rattle.aadl_names.proofs.Adds.{next_added, last_added}
+use Rattle.aadl_names.specs.DuplicatesBySpace.{port_entries}
+use Rattle.aadl_names.proofs.GrowingLists.{next_added, last_added}
 use Rattle.name_faults.proofs.entries.port_entries.Goals as goal
 
 pub loop-port-preserved : goal.loop-port-preserved

@@ -1,10 +1,10 @@
 use Rattle.std.proofs.Common.{refl, map, ap, ◌∙◌}
 use Rattle.aadl_tree.specs.Names.{identifiers}
-use Rattle.aadl_tree.specs.proof.Views.{state_view}
-use Rattle.aadl_tree.specs.proof.Maps.{kept_place}
+use Rattle.aadl_tree.specs.proof.DeclarationViews.{state_view}
+use Rattle.aadl_tree.specs.proof.PlaceMaps.{kept_place}
 use Rattle.std.specs.List.{flat_map}
 use Rattle.aadl_names.specs.Spelling.{entry_of}
-use Rattle.aadl_names.proofs.Adds.{next_added, last_added}
+use Rattle.aadl_names.proofs.GrowingLists.{next_added, last_added}
 use Rattle.std.proofs.lemmas.List.{map-append}
 use Rattle.name_faults.proofs.entries.state_entries.Goals as goal
 

@@ -1,7 +1,7 @@
 use Rattle.std.proofs.Common.{◌≡◌, ◌++◌, map, drop}
 use Rattle.aadl_tree.specs.Names.{identifiers}
-use Rattle.aadl_tree.specs.proof.Views.{state_view}
-use Rattle.aadl_tree.specs.proof.Maps.{kept_place}
+use Rattle.aadl_tree.specs.proof.DeclarationViews.{state_view}
+use Rattle.aadl_tree.specs.proof.PlaceMaps.{kept_place}
 use Rattle.std.specs.List.{flat_map}
 use Rattle.aadl_names.specs.Spelling.{entry_of}
 use Rattle.name_faults.proofs.entries.state_entries.Given as goal

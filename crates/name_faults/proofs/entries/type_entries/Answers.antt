@@ -1,9 +1,9 @@
 use Rattle.std.proofs.Common.{refl, ◌∷◌, [], map, ap, ◌∙◌}
-use Rattle.aadl_tree.specs.proof.Views.{declaration_view}
-use Rattle.aadl_tree.specs.proof.Maps.{kept_place}
+use Rattle.aadl_tree.specs.proof.DeclarationViews.{declaration_view}
+use Rattle.aadl_tree.specs.proof.PlaceMaps.{kept_place}
 use Rattle.std.specs.List.{filter_map}
-use Rattle.aadl_names.specs.Spaces.{type_entry}
-use Rattle.aadl_names.proofs.Adds.{next_added, last_added}
+use Rattle.aadl_names.specs.DuplicatesBySpace.{type_entry}
+use Rattle.aadl_names.proofs.GrowingLists.{next_added, last_added}
 use Rattle.std.proofs.lemmas.List.Elements.{filter_map-append}
 use Rattle.name_faults.proofs.entries.type_entries.Goals as goal
 

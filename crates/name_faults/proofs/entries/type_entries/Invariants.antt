@@ -1,8 +1,8 @@
 use Rattle.std.proofs.Common.{◌≡◌, ◌++◌, map, drop}
-use Rattle.aadl_tree.specs.proof.Views.{declaration_view}
-use Rattle.aadl_tree.specs.proof.Maps.{kept_place}
+use Rattle.aadl_tree.specs.proof.DeclarationViews.{declaration_view}
+use Rattle.aadl_tree.specs.proof.PlaceMaps.{kept_place}
 use Rattle.std.specs.List.{filter_map}
-use Rattle.aadl_names.specs.Spaces.{type_entry}
+use Rattle.aadl_names.specs.DuplicatesBySpace.{type_entry}
 use Rattle.name_faults.proofs.entries.type_entries.Given as goal
 
 -- what is left is still to be added

@@ -1,8 +1,8 @@
 use Rattle.std.proofs.Common.{◌∙◌}
 use Rattle.aadl_tree.specs.proof.PackageViews.{placed}
-use Rattle.aadl_tree.specs.proof.Views.{implementation_view}
-use Rattle.aadl_tree.specs.proof.Maps.{kept_place}
-use Rattle.name_faults.proofs.Stands.{type_is}
+use Rattle.aadl_tree.specs.proof.DeclarationViews.{implementation_view}
+use Rattle.aadl_tree.specs.proof.PlaceMaps.{kept_place}
+use Rattle.name_faults.proofs.NumberedImplementations.{type_is}
 use Rattle.name_faults.proofs.implementations.check_outside_behaviours.Goals as goal
 
 pub check_heading-requires : goal.check_heading-requires

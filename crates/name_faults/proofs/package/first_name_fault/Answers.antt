@@ -1,9 +1,9 @@
 use Rattle.std.proofs.Common.{None, sym, ap, ◌∙◌}
 use Rattle.aadl_tree.specs.proof.PackageViews.{placed}
-use Rattle.aadl_names.specs.proof.Found.{found}
+use Rattle.aadl_names.specs.proof.FindingSoFar.{found}
 use Rattle.aadl_names.specs.PackageFaults.{wrong_names}
-use Rattle.aadl_names.proofs.Finds.{found_append}
-use Rattle.aadl_names.specs.proof.DeclaredTwice.{beside_names}
+use Rattle.aadl_names.proofs.FindingSoFar.{found_append}
+use Rattle.aadl_names.specs.proof.PortDuplicates.{beside_names}
 use Rattle.aadl_names.proofs.FirstFaults.{first_fault}
 use Rattle.name_faults.proofs.package.first_name_fault.Goals as goal
 

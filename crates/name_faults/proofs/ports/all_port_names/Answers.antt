@@ -1,11 +1,11 @@
 use Rattle.std.proofs.Common.{List, [], map, sym, subst, ◌∙◌}
 use Rattle.std.proofs.lemmas.List.{take_all}
 use Rattle.aadl_tree.specs.proof.PackageViews.{placed}
-use Rattle.aadl_tree.specs.proof.Views.{declaration_view}
-use Rattle.aadl_tree.specs.proof.Maps.{kept_place}
+use Rattle.aadl_tree.specs.proof.DeclarationViews.{declaration_view}
+use Rattle.aadl_tree.specs.proof.PlaceMaps.{kept_place}
 use Rattle.name_faults.specs.declared.port_names.PortNames.{PortNames}
-use Rattle.name_faults.specs.proof.PortNames.{AreNamesOf, AreAllNamesOf}
-use Rattle.name_faults.proofs.PortLists.{AreNamed, next_named, each_named}
+use Rattle.name_faults.specs.proof.TypePortNames.{AreNamesOf, AreAllNamesOf}
+use Rattle.name_faults.proofs.TypePortNames.{AreNamed, next_named, each_named}
 use Rattle.name_faults.proofs.ports.all_port_names.Goals as goal
 
 pub loop-declaration-init : goal.loop-declaration-init

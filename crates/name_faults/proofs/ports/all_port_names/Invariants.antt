@@ -1,7 +1,7 @@
 use Rattle.std.proofs.Common.{map, take}
-use Rattle.aadl_tree.specs.proof.Views.{declaration_view}
-use Rattle.aadl_tree.specs.proof.Maps.{kept_place}
-use Rattle.name_faults.proofs.PortLists.{AreNamed}
+use Rattle.aadl_tree.specs.proof.DeclarationViews.{declaration_view}
+use Rattle.aadl_tree.specs.proof.PlaceMaps.{kept_place}
+use Rattle.name_faults.proofs.TypePortNames.{AreNamed}
 use Rattle.name_faults.proofs.ports.all_port_names.Given as goal
 
 -- the ports of the declarations so far have these names

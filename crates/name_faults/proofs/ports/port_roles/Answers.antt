@@ -1,11 +1,11 @@
 use Rattle.std.proofs.Common.{map, refl, sym, ap, cond, Some, None}
 use Rattle.aadl_tree.specs.Names.{same_name}
 use Rattle.std.specs.Option.{option_or}
-use Rattle.aadl_tree.specs.proof.Views.{feature_view}
-use Rattle.aadl_tree.specs.proof.Maps.{kept_place}
+use Rattle.aadl_tree.specs.proof.DeclarationViews.{feature_view}
+use Rattle.aadl_tree.specs.proof.PlaceMaps.{kept_place}
 use Rattle.aadl_names.specs.PackageFaults.{role_in, port_roles}
 use Rattle.name_faults.proofs.NameTables.{next_role, last_role}
-use Rattle.name_faults.proofs.PortLists.{roles-cons}
+use Rattle.name_faults.proofs.TypePortNames.{roles-cons}
 use Rattle.name_faults.proofs.ports.port_roles.Goals as goal
 
 pub loop-port-init : goal.loop-port-init

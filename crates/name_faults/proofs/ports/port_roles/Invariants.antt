@@ -1,8 +1,8 @@
 use Rattle.std.proofs.Common.{◌≡◌, ℕ, List, map, drop}
 use Rattle.std.specs.Option.{option_or}
-use Rattle.aadl_tree.specs.proof.Views.{feature_view}
-use Rattle.aadl_tree.specs.proof.Maps.{kept_place}
-use Rattle.aadl_names.specs.proof.Tables.{value_of}
+use Rattle.aadl_tree.specs.proof.DeclarationViews.{feature_view}
+use Rattle.aadl_tree.specs.proof.PlaceMaps.{kept_place}
+use Rattle.aadl_names.specs.proof.NameTables.{value_of}
 use Rattle.aadl_names.specs.PackageFaults.{port_roles}
 use Rattle.name_faults.proofs.ports.port_roles.Given as goal
 

@@ -2,10 +2,10 @@ use Rattle.std.proofs.Common.{map, refl, ap, ◌∙◌}
 use Rattle.aadl_tree.specs.Names.{same_name}
 use Rattle.std.specs.Option.{option_or}
 use Rattle.aadl_tree.specs.proof.NameViews.{identifier_view}
-use Rattle.aadl_tree.specs.proof.Maps.{kept_place}
-use Rattle.aadl_names.specs.proof.Tables.{value_of}
+use Rattle.aadl_tree.specs.proof.PlaceMaps.{kept_place}
+use Rattle.aadl_names.specs.proof.NameTables.{value_of}
 use Rattle.aadl_names.specs.PackageFaults.{is_among}
-use Rattle.name_faults.specs.proof.Marks.{value_if}
+use Rattle.name_faults.specs.proof.OptionalValues.{value_if}
 use Rattle.name_faults.proofs.NameTables.{next_role, last_role, value_or, added_twice}
 use Rattle.name_faults.proofs.roles.add_words.Goals as goal
 

@@ -1,10 +1,10 @@
 use Rattle.std.proofs.Common.{◌≡◌, ℕ, List, map, drop}
 use Rattle.std.specs.Option.{option_or}
 use Rattle.aadl_tree.specs.proof.NameViews.{identifier_view}
-use Rattle.aadl_tree.specs.proof.Maps.{kept_place}
-use Rattle.aadl_names.specs.proof.Tables.{value_of}
+use Rattle.aadl_tree.specs.proof.PlaceMaps.{kept_place}
+use Rattle.aadl_names.specs.proof.NameTables.{value_of}
 use Rattle.aadl_names.specs.PackageFaults.{is_among}
-use Rattle.name_faults.specs.proof.Marks.{value_if}
+use Rattle.name_faults.specs.proof.OptionalValues.{value_if}
 use Rattle.name_faults.proofs.roles.add_words.Given as goal
 
 -- what is left is still to be added

@@ -4,10 +4,10 @@ use Rattle.std.specs.List.{flat_map}
 use Rattle.std.specs.Option.{option_or}
 use Rattle.std.proofs.lemmas.List.Folds.{list_any-append}
 use Rattle.aadl_tree.specs.declared.annex.StateDeclaration.{StateDeclaration}
-use Rattle.aadl_tree.specs.proof.Views.{state_view}
-use Rattle.aadl_tree.specs.proof.Maps.{kept_place}
+use Rattle.aadl_tree.specs.proof.DeclarationViews.{state_view}
+use Rattle.aadl_tree.specs.proof.PlaceMaps.{kept_place}
 use Rattle.aadl_names.specs.PackageFaults.{is_among}
-use Rattle.name_faults.specs.proof.Marks.{value_if, is_marked}
+use Rattle.name_faults.specs.proof.OptionalValues.{value_if, is_marked}
 use Rattle.name_faults.proofs.NameTables.{next_role, last_role, value_or, marked_if}
 use Rattle.name_faults.proofs.roles.state_names.Goals as goal
 

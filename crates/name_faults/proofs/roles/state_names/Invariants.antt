@@ -2,11 +2,11 @@ use Rattle.std.proofs.Common.{◌≡◌, ℕ, List, map, drop}
 use Rattle.aadl_tree.specs.Names.{identifiers}
 use Rattle.std.specs.List.{flat_map}
 use Rattle.std.specs.Option.{option_or}
-use Rattle.aadl_tree.specs.proof.Views.{state_view}
-use Rattle.aadl_tree.specs.proof.Maps.{kept_place}
-use Rattle.aadl_names.specs.proof.Tables.{value_of}
+use Rattle.aadl_tree.specs.proof.DeclarationViews.{state_view}
+use Rattle.aadl_tree.specs.proof.PlaceMaps.{kept_place}
+use Rattle.aadl_names.specs.proof.NameTables.{value_of}
 use Rattle.aadl_names.specs.PackageFaults.{is_among}
-use Rattle.name_faults.specs.proof.Marks.{value_if}
+use Rattle.name_faults.specs.proof.OptionalValues.{value_if}
 use Rattle.name_faults.proofs.roles.state_names.Given as goal
 
 -- what is left is still to be added

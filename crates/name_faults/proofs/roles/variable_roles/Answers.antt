@@ -4,11 +4,11 @@ use Rattle.std.specs.List.{flat_map}
 use Rattle.std.specs.Option.{option_or}
 use Rattle.std.proofs.lemmas.List.Folds.{list_any-append}
 use Rattle.aadl_tree.specs.declared.annex.VariableDeclaration.{VariableDeclaration}
-use Rattle.aadl_tree.specs.proof.Views.{variable_view}
-use Rattle.aadl_tree.specs.proof.Maps.{kept_place}
+use Rattle.aadl_tree.specs.proof.DeclarationViews.{variable_view}
+use Rattle.aadl_tree.specs.proof.PlaceMaps.{kept_place}
 use Rattle.aadl_names.specs.declared.role.Role.TheVariants.{Varies}
 use Rattle.aadl_names.specs.PackageFaults.{is_among}
-use Rattle.name_faults.specs.proof.Marks.{value_if}
+use Rattle.name_faults.specs.proof.OptionalValues.{value_if}
 use Rattle.name_faults.proofs.NameTables.{next_role, last_role, value_or}
 use Rattle.name_faults.proofs.roles.variable_roles.Goals as goal
 

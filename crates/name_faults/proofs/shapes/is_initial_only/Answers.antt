@@ -1,8 +1,8 @@
 use Rattle.std.proofs.Common.{map, arith}
 use Rattle.std.proofs.lemmas.List.{length-map}
 use Rattle.aadl_tree.specs.proof.ValueViews.{value_view}
-use Rattle.aadl_tree.specs.proof.Maps.{kept_place}
-use Rattle.name_faults.proofs.Times.{no_only_text}
+use Rattle.aadl_tree.specs.proof.PlaceMaps.{kept_place}
+use Rattle.name_faults.proofs.ValueShapes.{no_only_text}
 use Rattle.name_faults.proofs.shapes.is_initial_only.Goals as goal
 
 pub returns-in_default-2 : goal.returns-in_default-2

@@ -1,8 +1,8 @@
 use Rattle.std.proofs.Common.{◌∙◌, Some, ap}
 use Rattle.aadl_tree.specs.proof.PackageViews.{placed}
-use Rattle.aadl_tree.specs.proof.Views.{declaration_view, implementation_view}
-use Rattle.aadl_tree.specs.proof.Maps.{kept_place}
-use Rattle.name_faults.proofs.Stands.{type_is}
+use Rattle.aadl_tree.specs.proof.DeclarationViews.{declaration_view, implementation_view}
+use Rattle.aadl_tree.specs.proof.PlaceMaps.{kept_place}
+use Rattle.name_faults.proofs.NumberedImplementations.{type_is}
 use Rattle.name_faults.proofs.spaces.check_in.Goals as goal
 
 pub check_in_implementation-requires : goal.check_in_implementation-requires

@@ -1,5 +1,5 @@
 use Rattle.aadl_tree.specs.proof.PackageViews.{placed}
-use Rattle.name_faults.proofs.PortLists.{names_there}
+use Rattle.name_faults.proofs.TypePortNames.{names_there}
 use Rattle.name_faults.proofs.spaces.check_in_behaviour.Goals as goal
 
 pub check_beside-requires : goal.check_beside-requires

@@ -2,15 +2,15 @@ use Rattle.std.proofs.Common.{◌≡◌, ◌++◌, List, Option, map, refl, sym,
 use Rattle.std.specs.Prelude.{slice_get}
 use Rattle.std.specs.List.{flat_map, filter_map}
 use Rattle.aadl_tree.specs.proof.PackageViews.{placed}
-use Rattle.aadl_tree.specs.proof.Views.{declaration_view}
-use Rattle.aadl_tree.specs.proof.Maps.{kept_place}
+use Rattle.aadl_tree.specs.proof.DeclarationViews.{declaration_view}
+use Rattle.aadl_tree.specs.proof.PlaceMaps.{kept_place}
 use Rattle.aadl_names.specs.declared.fault.PackageFault.{PackageFault}
-use Rattle.aadl_names.specs.proof.Found.{found}
-use Rattle.aadl_names.specs.Twice.{twice}
-use Rattle.aadl_names.specs.Spaces.{type_entry, implementation_entry}
-use Rattle.aadl_names.specs.proof.DeclaredTwice.{beside_in, beside_names}
-use Rattle.aadl_names.proofs.Finds.{next_found, last_found, found_append}
-use Rattle.name_faults.proofs.Numbered.{numbered}
+use Rattle.aadl_names.specs.proof.FindingSoFar.{found}
+use Rattle.aadl_names.specs.DuplicateNames.{twice}
+use Rattle.aadl_names.specs.DuplicatesBySpace.{type_entry, implementation_entry}
+use Rattle.aadl_names.specs.proof.PortDuplicates.{beside_in, beside_names}
+use Rattle.aadl_names.proofs.FindingSoFar.{next_found, last_found, found_append}
+use Rattle.name_faults.proofs.NumberedFindings.{numbered}
 use Rattle.name_faults.proofs.spaces.check_spaces.Goals as goal
 
 -- three lists of findings one behind the other

@@ -1,10 +1,10 @@
 use Rattle.std.proofs.Common.{◌≡◌, map, drop}
 use Rattle.std.specs.List.{flat_map}
 use Rattle.aadl_tree.specs.proof.PackageViews.{placed}
-use Rattle.aadl_tree.specs.proof.Views.{declaration_view}
-use Rattle.aadl_tree.specs.proof.Maps.{kept_place}
-use Rattle.aadl_names.specs.proof.Found.{found}
-use Rattle.aadl_names.specs.proof.DeclaredTwice.{beside_in}
+use Rattle.aadl_tree.specs.proof.DeclarationViews.{declaration_view}
+use Rattle.aadl_tree.specs.proof.PlaceMaps.{kept_place}
+use Rattle.aadl_names.specs.proof.FindingSoFar.{found}
+use Rattle.aadl_names.specs.proof.PortDuplicates.{beside_in}
 use Rattle.name_faults.proofs.spaces.check_spaces.Given as goal
 
 -- what is left is still to be looked at

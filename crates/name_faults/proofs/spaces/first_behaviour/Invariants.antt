@@ -1,6 +1,6 @@
 use Rattle.std.proofs.Common.{◌≡◌, map, drop}
-use Rattle.aadl_tree.specs.proof.Views.{annex_view}
-use Rattle.aadl_tree.specs.proof.Maps.{kept_place}
+use Rattle.aadl_tree.specs.proof.DeclarationViews.{annex_view}
+use Rattle.aadl_tree.specs.proof.PlaceMaps.{kept_place}
 use Rattle.aadl_names.specs.Behaviours.{behaviours, first_behaviour}
 use Rattle.name_faults.proofs.spaces.first_behaviour.Given as goal
 

@@ -1,9 +1,9 @@
 use Rattle.std.proofs.Common.{refl, map}
 use Rattle.std.specs.List.{flat_map}
-use Rattle.aadl_tree.specs.proof.Views.{transition_view}
-use Rattle.aadl_tree.specs.proof.Maps.{kept_place}
+use Rattle.aadl_tree.specs.proof.DeclarationViews.{transition_view}
+use Rattle.aadl_tree.specs.proof.PlaceMaps.{kept_place}
 use Rattle.aadl_names.specs.PackageFaults.{transition_uses}
-use Rattle.aadl_names.proofs.Finds.{next_found}
+use Rattle.aadl_names.proofs.FindingSoFar.{next_found}
 use Rattle.name_faults.specs.proof.Scopes.{known_by, is_state_by}
 use Rattle.name_faults.proofs.transitions.check_transitions.Goals as goal
 

@@ -1,9 +1,9 @@
 use Rattle.std.proofs.Common.{refl, map}
 use Rattle.std.specs.List.{flat_map}
-use Rattle.aadl_tree.specs.proof.Views.{annex_view}
-use Rattle.aadl_tree.specs.proof.Maps.{kept_place}
+use Rattle.aadl_tree.specs.proof.DeclarationViews.{annex_view}
+use Rattle.aadl_tree.specs.proof.PlaceMaps.{kept_place}
 use Rattle.aadl_names.specs.PackageFaults as spec
-use Rattle.aadl_names.proofs.Finds.{next_found}
+use Rattle.aadl_names.proofs.FindingSoFar.{next_found}
 use Rattle.name_faults.proofs.types.check_no_behaviour.Goals as goal
 
 pub loop-annex-preserved : goal.loop-annex-preserved

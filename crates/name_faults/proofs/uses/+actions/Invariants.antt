@@ -1,8 +1,8 @@
 use Rattle.std.proofs.Common.{◌≡◌, drop}
 use Rattle.aadl_tree.specs.proof.ActionViews.{mores_view, elsifs_view}
-use Rattle.aadl_tree.specs.proof.Maps.{kept_place}
+use Rattle.aadl_tree.specs.proof.PlaceMaps.{kept_place}
 use Rattle.aadl_names.specs.AnnexNames.{mores_uses, elsifs_uses}
-use Rattle.aadl_names.specs.proof.Found.{found}
+use Rattle.aadl_names.specs.proof.FindingSoFar.{found}
 use Rattle.name_faults.specs.proof.Scopes.{known_by}
 use Rattle.name_faults.proofs.uses.+actions.Given as goal
 

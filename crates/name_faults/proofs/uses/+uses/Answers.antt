@@ -7,12 +7,12 @@ use Rattle.aadl_tree.specs.declared.expressions.Term.{Term}
 use Rattle.aadl_tree.specs.declared.expressions.Relation.{Relation}
 use Rattle.aadl_tree.specs.proof.ExpressionViews.{primary_view, factor_view, factors_view, term_view, terms_view}
 use Rattle.aadl_tree.specs.proof.ExpressionViews.{relation_view, relations_view}
-use Rattle.aadl_tree.specs.proof.Maps.{kept_place}
+use Rattle.aadl_tree.specs.proof.PlaceMaps.{kept_place}
 use Rattle.aadl_tree.proofs.ExpressionViews.{view-Group, view-out-sum, view-out-relation, view-out-expression}
 use Rattle.aadl_names.specs.AnnexNames.{factor_uses, factors_uses, term_uses, terms_uses, relation_uses, relations_uses}
 use Rattle.name_faults.specs.proof.Scopes.{known_by}
-use Rattle.aadl_names.proofs.Finds.{found_append, next_found, last_found, closed}
-use Rattle.name_faults.proofs.Views.{view-out-term}
+use Rattle.aadl_names.proofs.FindingSoFar.{found_append, next_found, last_found, closed}
+use Rattle.name_faults.proofs.StructViews.{view-out-term}
 use Rattle.name_faults.proofs.uses.+uses.Goals as goal
 
 pub check_expression-loop-operand-preserved : goal.check_expression-loop-operand-preserved

@@ -1,6 +1,6 @@
 use Rattle.std.proofs.Common.{◌≡◌, ◌≤◌, length, arith}
 use Rattle.std.proofs.lemmas.Grind.{common_steps}
-use Rattle.node_threads.proofs.Openings.{all_same}
+use Rattle.node_threads.proofs.CourseOpenings.{all_same}
 use Rattle.node_threads.proofs.clocks.same_lists.Goals as goal
 
 pub returns : goal.returns

@@ -1,4 +1,4 @@
-use Rattle.node_threads.proofs.Openings.{AreUnpicked}
+use Rattle.node_threads.proofs.CourseOpenings.{AreUnpicked}
 use Rattle.node_threads.proofs.clocks.unpicked_lists.Given as goal
 
 -- the lists so far are fresh

@@ -1,4 +1,4 @@
-use Rattle.node_threads.specs.proof.Courses.{Stays}
+use Rattle.node_threads.specs.proof.SharedCourses.{Stays}
 use Rattle.node_threads.proofs.driving.drive.Given as goal
 
 -- the run and its lists stay

@@ -1,5 +1,5 @@
 use Rattle.std.proofs.Common.{refl}
-use Rattle.node_threads.proofs.Outcomes.{run_outcome}
+use Rattle.node_threads.proofs.RunOutcomes.{run_outcome}
 use Rattle.node_threads.proofs.driving.drive_with_spare.Goals as goal
 
 pub returns : goal.returns

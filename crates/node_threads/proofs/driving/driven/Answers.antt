@@ -1,4 +1,4 @@
-use Rattle.node_threads.proofs.Outcomes.{outcome_by}
+use Rattle.node_threads.proofs.RunOutcomes.{outcome_by}
 use Rattle.node_threads.proofs.driving.driven.Goals as goal
 
 pub returns : goal.returns

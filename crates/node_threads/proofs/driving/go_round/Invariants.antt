@@ -1,4 +1,4 @@
-use Rattle.node_threads.specs.proof.Courses.{Stays}
+use Rattle.node_threads.specs.proof.SharedCourses.{Stays}
 use Rattle.node_threads.proofs.driving.go_round.Given as goal
 
 -- the run and its lists stay

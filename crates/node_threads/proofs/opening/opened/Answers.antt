@@ -1,5 +1,5 @@
-use Rattle.node_threads.proofs.Openings.{begins}
-use Rattle.node_threads.proofs.Outcomes.{opens_of}
+use Rattle.node_threads.proofs.CourseOpenings.{begins}
+use Rattle.node_threads.proofs.RunOutcomes.{opens_of}
 use Rattle.node_threads.proofs.opening.opened.Goals as goal
 
 pub new-requires-clause-clocks : goal.new-requires-clause-clocks

@@ -1,4 +1,4 @@
-use Rattle.node_threads.proofs.Outcomes.{fresh_opens, fresh_clocks, anew_of}
+use Rattle.node_threads.proofs.RunOutcomes.{fresh_opens, fresh_clocks, anew_of}
 use Rattle.node_threads.proofs.opening.opened_anew.Goals as goal
 
 pub opened-requires-clause-opening : goal.opened-requires-clause-opening

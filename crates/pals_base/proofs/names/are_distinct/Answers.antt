@@ -1,6 +1,6 @@
 use Rattle.std.proofs.Common.{◌≢◌, sym, ◌∙◌, subst, All}
 use Rattle.std.proofs.lemmas.Bool.{false≢true}
-use Rattle.pals_base.proofs.Pairs.{behind, All-behind, pairs_more}
+use Rattle.pals_base.proofs.PairwiseRelations.{behind, All-behind, pairs_more}
 use Rattle.pals_base.proofs.names.are_distinct.Goals as goal
 
 pub returns-then-not-is_new : goal.returns-then-not-is_new

@@ -1,4 +1,4 @@
-use Rattle.pals_bus.proofs.Sendings.{IsReserved}
+use Rattle.pals_bus.proofs.RoundMessages.{IsReserved}
 use Rattle.pals_bus.proofs.flights.reserve_links.Given as goal
 
 -- the first links have room

@@ -1,4 +1,4 @@
-use Rattle.pals_bus.proofs.QueueRooms.{IsQueuesReserved}
+use Rattle.pals_bus.proofs.QueueChanges.{IsQueuesReserved}
 use Rattle.pals_bus.proofs.flights.reserve_queues.Given as goal
 
 -- the queues that the first links go to have room

@@ -1,8 +1,8 @@
 use Rattle.std.proofs.Common.{None, refl, sym, subst}
 use Rattle.pals_runs.specs.declared.events.Event.TheVariants as event
 use Rattle.bus_machine.specs.Machine.{Arrive}
-use Rattle.pals_bus.specs.proof.Loose.{LooseEnds}
-use Rattle.pals_bus.proofs.LooseSteps.{link_ends}
+use Rattle.pals_bus.specs.proof.LooseEnds.{LooseEnds}
+use Rattle.pals_bus.proofs.LooseEvents.{link_ends}
 use Rattle.pals_bus.proofs.loose.arrive_loose.Goals as goal
 
 pub returns-in-Err-clause-end : goal.returns-in-Err-clause-end

@@ -1,7 +1,7 @@
 use Rattle.std.proofs.Common.{sym, subst}
 use Rattle.pals_runs.specs.declared.events.Event.TheVariants as event
-use Rattle.pals_bus.specs.proof.Loose.{LooseEnds}
-use Rattle.pals_bus.proofs.LooseSteps.{send_ends}
+use Rattle.pals_bus.specs.proof.LooseEnds.{LooseEnds}
+use Rattle.pals_bus.proofs.LooseEvents.{send_ends}
 use Rattle.pals_bus.proofs.loose.send_loose.Goals as goal
 
 pub returns-in-Err-clause-end : goal.returns-in-Err-clause-end

@@ -1,4 +1,4 @@
-use Rattle.pals_bus.proofs.TargetLists.{IsFirstOf}
+use Rattle.pals_bus.proofs.LeastTargets.{IsFirstOf}
 use Rattle.pals_bus.proofs.target_list.first_of.Given as goal
 
 -- no target so far is less

@@ -1,6 +1,6 @@
 use Rattle.std.proofs.Common.{inl}
 use Rattle.std.proofs.lemmas.Result.{IfOk-weaker}
-use Rattle.pals_code.proofs.Bundles.{refused}
+use Rattle.pals_code.proofs.BundleAnswers.{refused}
 use Rattle.pals_code.proofs.bundle.answer_bundle.Goals as goal
 
 pub returns-in-Err : goal.returns-in-Err

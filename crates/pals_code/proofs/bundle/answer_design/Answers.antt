@@ -1,6 +1,6 @@
 use Rattle.std.proofs.Common.{subst}
-use Rattle.design_codes.specs.Causes.{IsCause}
-use Rattle.pals_code.proofs.Bundles.{listed, code_said, code_refused}
+use Rattle.design_codes.specs.OverlongCodes.{IsCause}
+use Rattle.pals_code.proofs.BundleAnswers.{listed, code_said, code_refused}
 use Rattle.pals_code.proofs.bundle.answer_design.Goals as goal
 
 pub returns-in-Ok : goal.returns-in-Ok

@@ -1,6 +1,6 @@
 use Rattle.std.proofs.Common.{ℕ, sym, subst, arith, length-take}
-use Rattle.pals_io.proofs.Transfer.{GivesFirst, first_nothing, first_all, first_kept, first_too_many, first_within}
-use Rattle.pals_io.proofs.Transfer.{first_failed}
+use Rattle.pals_io.proofs.RepeatedTransfers.{GivesFirst, first_nothing, first_all, first_kept, first_too_many}
+use Rattle.pals_io.proofs.RepeatedTransfers.{first_within, first_failed}
 use Rattle.pals_io.proofs.transfers.read_all.Goals as goal
 
 pub loop-all-init : goal.loop-all-init

@@ -1,5 +1,5 @@
 use Rattle.std.proofs.Common.{◌≤◌, ◌-◌, vec_len}
-use Rattle.pals_io.proofs.Transfer.{GivesFirst}
+use Rattle.pals_io.proofs.RepeatedTransfers.{GivesFirst}
 use Rattle.pals_io.proofs.transfers.read_all.Given as goal
 
 -- what was read so far, within the limit

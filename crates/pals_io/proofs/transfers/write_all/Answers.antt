@@ -1,6 +1,6 @@
 use Rattle.std.proofs.Common.{◌-◌, length, drop, take, arith}
 use Rattle.std.proofs.lemmas.Grind.{common_steps}
-use Rattle.pals_io.proofs.Transfer.{after_taking-more}
+use Rattle.pals_io.proofs.RepeatedTransfers.{after_taking-more}
 use Rattle.pals_io.proofs.transfers.write_all.Goals as goal
 
 pub loop-done-preserved : goal.loop-done-preserved

@@ -1,5 +1,5 @@
 use Rattle.std.proofs.Common.{◌≡◌, ◌≤◌, ◌-◌, length, take}
-use Rattle.pals_io.specs.Stream.{after_taking}
+use Rattle.pals_io.specs.SourcesAndSinks.{after_taking}
 use Rattle.pals_io.proofs.transfers.write_all.Given as goal
 
 -- the first `done` bytes were taken, and with no bytes nothing was called

@@ -1,6 +1,6 @@
 use Rattle.std.proofs.Common.{◌≡◌, length, ap, ◌∙◌, arith}
 use Rattle.pals_model.specs.proof.SourceTables.{table_of, fed_from}
-use Rattle.pals_model.proofs.Tables.{feeds_begin, feeds_turn}
+use Rattle.pals_model.proofs.SourceTables.{feeds_begin, feeds_turn}
 use Rattle.pals_model.proofs.sources.add_feeds.Goals as goal
 
 pub loop-at-init : goal.loop-at-init

@@ -1,6 +1,6 @@
 use Rattle.std.proofs.Common.{◌≡◌, length, ap, ◌∙◌, arith}
 use Rattle.pals_model.specs.proof.SourceTables.{table_of, linked_from}
-use Rattle.pals_model.proofs.Tables.{links_begin, links_turn, links_end}
+use Rattle.pals_model.proofs.SourceTables.{links_begin, links_turn, links_end}
 use Rattle.pals_model.proofs.sources.add_links.Goals as goal
 
 pub loop-at-init : goal.loop-at-init

@@ -1,7 +1,7 @@
 use Rattle.std.proofs.Common.{◌≡◌, ◌+◌, ◌∷◌, drop, replicate, length, arith}
 use Rattle.std.proofs.lemmas.Grind.{common_steps}
 use Rattle.pals_model.specs.declared.sources.PortSource.TheVariants.{Nothing}
-use Rattle.pals_model.proofs.Tables.{empty_step}
+use Rattle.pals_model.proofs.SourceTables.{empty_step}
 use Rattle.pals_model.proofs.sources.empty_table.Goals as goal
 
 pub loop-component-preserved : goal.loop-component-preserved

@@ -1,7 +1,7 @@
 use Rattle.std.proofs.Common.{◌≡◌, ◌++◌, map, drop}
 use Rattle.std.specs.List.{enumerate_from}
 use Rattle.pals_model.specs.proof.SourceTables.{table_of, nothing}
-use Rattle.pals_model.proofs.Tables.{row}
+use Rattle.pals_model.proofs.SourceTables.{row}
 use Rattle.pals_model.proofs.sources.empty_table.Given as goal
 
 -- the rows so far, and those of the components that are left

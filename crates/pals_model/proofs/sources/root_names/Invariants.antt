@@ -1,6 +1,6 @@
 use Rattle.std.proofs.Common.{◌≡◌, ◌++◌, [], map, drop}
 use Rattle.pals_model.specs.declared.design.Feed.{Feed}
-use Rattle.pals_model.specs.Inputs.{new_names}
+use Rattle.pals_model.specs.ComponentInputs.{new_names}
 use Rattle.pals_model.proofs.sources.root_names.Given as goal
 
 -- the names so far, and the new ones among those of the feeds that are left

@@ -4,8 +4,8 @@ use Rattle.std.specs.List.{Contains}
 use Rattle.pals_base.specs.Names.{AreDistinct}
 use Rattle.pals_model.specs.declared.design.Feed.{Feed}
 use Rattle.pals_model.specs.declared.design.DesignParts.{DesignParts}
-use Rattle.pals_model.specs.Inputs.{feed_names, root_inputs, root_of, place_of}
-use Rattle.pals_model.specs.Ports.{feed_kind, root_kind}
+use Rattle.pals_model.specs.ComponentInputs.{feed_names, root_inputs, root_of, place_of}
+use Rattle.pals_model.specs.PortKinds.{feed_kind, root_kind}
 use Rattle.pals_model.specs.Rules.{IsDesign}
 
 -- each name stands once

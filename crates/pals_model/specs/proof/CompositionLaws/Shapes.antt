@@ -1,13 +1,13 @@
 -- Laws of the shapes of what the composition has.
 use Rattle.std.specs.Prelude.{◌≡◌, ℕ, suc, List, [], length, All, Some, slice_get, slice_index_or}
 use Rattle.pals_base.specs.declared.values.PortValue.{PortValue}
-use Rattle.pals_base.specs.Fire.{HasShape}
+use Rattle.pals_base.specs.SingleStep.{HasShape}
 use Rattle.pals_model.specs.declared.design.Component.{Component}
 use Rattle.pals_model.specs.declared.design.Link.{Link}
 use Rattle.pals_model.specs.declared.design.DesignParts.{DesignParts}
 use Rattle.pals_model.specs.declared.rounds.Env.{Env}
 use Rattle.pals_model.specs.declared.rounds.Part.{Part}
-use Rattle.pals_model.specs.Inputs.{rate_of, feed}
+use Rattle.pals_model.specs.ComponentInputs.{rate_of, feed}
 use Rattle.pals_model.specs.Composition.{comp, state, msg, part, taps_of}
 use Rattle.pals_model.specs.Rules.{IsDesign}
 use Rattle.pals_model.specs.proof.CompositionLaws.{own_steps}

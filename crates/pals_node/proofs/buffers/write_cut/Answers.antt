@@ -1,8 +1,8 @@
 use Rattle.std.proofs.Common.{◌≡◌, ◌∙◌, ◌+◌, ap, length, take, arith}
 use Rattle.std.proofs.lemmas.Grind.{common_steps}
 use Rattle.list_lemmas.proofs.Lists.{filled_more, filled_all}
-use Rattle.pals_base.specs.Steps.{cut}
-use Rattle.pals_node.proofs.Places.{cut_place, length-cut}
+use Rattle.pals_base.specs.StepSequences.{cut}
+use Rattle.pals_node.proofs.TuplePlaces.{cut_place, length-cut}
 use Rattle.pals_node.proofs.buffers.write_cut.Goals as goal
 
 pub loop-at-preserved : goal.loop-at-preserved

@@ -1,5 +1,5 @@
 use Rattle.std.proofs.Common.{◌≡◌, length, take}
-use Rattle.pals_base.specs.Steps.{cut}
+use Rattle.pals_base.specs.StepSequences.{cut}
 use Rattle.pals_node.proofs.buffers.write_cut.Given as goal
 
 -- the first places are written

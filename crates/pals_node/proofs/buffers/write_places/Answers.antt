@@ -4,8 +4,8 @@ use Rattle.std.proofs.lemmas.List.{length-set}
 use Rattle.std.proofs.lemmas.List.Elements.{All-set}
 use Rattle.pals_base.specs.declared.values.PortValue.{PortValue}
 use Rattle.pals_base.specs.declared.values.PortValue.TheVariants.{Absent}
-use Rattle.pals_base.specs.Steps.{with_places}
-use Rattle.pals_node.proofs.Places.{places_more}
+use Rattle.pals_base.specs.StepSequences.{with_places}
+use Rattle.pals_node.proofs.TuplePlaces.{places_more}
 use Rattle.pals_node.proofs.buffers.write_places.Goals as goal
 
 pub loop-port-preserved : goal.loop-port-preserved

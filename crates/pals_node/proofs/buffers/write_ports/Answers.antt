@@ -3,8 +3,8 @@ use Rattle.std.proofs.lemmas.List.{length-set, length-map, get_or-map}
 use Rattle.std.proofs.lemmas.List.Elements.{All-set}
 use Rattle.list_lemmas.proofs.Lists.{filled_more, filled_all}
 use Rattle.pals_base.specs.declared.values.PortValue.{PortValue}
-use Rattle.pals_base.specs.Steps.{cut}
-use Rattle.pals_node.proofs.Places.{length-cut}
+use Rattle.pals_base.specs.StepSequences.{cut}
+use Rattle.pals_node.proofs.TuplePlaces.{length-cut}
 use Rattle.pals_node.proofs.buffers.write_ports.Goals as goal
 
 pub loop-at-preserved : goal.loop-at-preserved

@@ -1,7 +1,7 @@
 use Rattle.std.proofs.Common.{◌≡◌, List, map}
 use Rattle.std.specs.Prelude.{Option, zip}
 use Rattle.pals_base.specs.declared.values.PortValue.{PortValue}
-use Rattle.pals_base.specs.Steps.{column, upwards}
+use Rattle.pals_base.specs.StepSequences.{column, upwards}
 use Rattle.bus_machine.specs.declared.plan.Input.{Input}
 use Rattle.bus_machine.specs.Nodes.{brought}
 use Rattle.pals_node.proofs.inputs.round_vectors.Given as goal

@@ -1,6 +1,6 @@
 use Rattle.std.proofs.Common.{◌∙◌, sym, ap}
-use Rattle.pals_node.specs.proof.Keys.{key_of}
-use Rattle.pals_node.proofs.KeyLaws.{same_key}
+use Rattle.pals_node.specs.proof.InstructionKeys.{key_of}
+use Rattle.pals_node.proofs.InstructionKeys.{same_key}
 use Rattle.pals_node.proofs.keys.same_instr.Goals as goal
 
 pub returns : goal.returns

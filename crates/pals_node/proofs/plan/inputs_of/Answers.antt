@@ -4,7 +4,7 @@ use Rattle.std.proofs.lemmas.Option.{slice_get-get_or}
 use Rattle.list_lemmas.proofs.Lists.{length-map_enumerate_from}
 use Rattle.pals_model.specs.declared.design.Component.{Component}
 use Rattle.pals_model.specs.declared.sources.PortSource.{PortSource}
-use Rattle.pals_model.specs.Inputs.{sources_of}
+use Rattle.pals_model.specs.ComponentInputs.{sources_of}
 use Rattle.bus_machine.specs.Plans.{component_at, no_component, input_of}
 use Rattle.bus_machine.proofs.Lists.{numbered_at}
 use Rattle.pals_node.proofs.plan.inputs_of.Goals as goal

@@ -3,9 +3,9 @@ use Rattle.std.specs.Prelude.{All, MatchOption}
 use Rattle.std.proofs.lemmas.List.Elements.{All-map}
 use Rattle.std.proofs.lemmas.Result.{on_ok_weaker}
 use Rattle.pals_model.specs.RoundTexts.{text_of}
-use Rattle.bound_checker.specs.proof.Limits.{IsRate}
-use Rattle.bound_checker.specs.Multiple.{IsLeastMultiple, HasNoMultiple}
-use Rattle.pals_report.proofs.Begins.{joined_on_ok}
+use Rattle.bound_checker.specs.proof.OverflowLimits.{IsRate}
+use Rattle.bound_checker.specs.ShortestPeriods.{IsLeastMultiple, HasNoMultiple}
+use Rattle.pals_report.proofs.TextPrefixes.{joined_on_ok}
 use Rattle.pals_report.specs.CheckReports.{rate_of, check_lines, IsShortest}
 use Rattle.pals_report.proofs.design_report.add_check.Goals as goal
 

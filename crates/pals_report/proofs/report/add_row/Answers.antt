@@ -1,4 +1,4 @@
-use Rattle.pals_report.proofs.Begins.{joined_on_ok}
+use Rattle.pals_report.proofs.TextPrefixes.{joined_on_ok}
 use Rattle.pals_report.proofs.RowLines.{row_same}
 use Rattle.pals_report.proofs.report.add_row.Goals as goal
 

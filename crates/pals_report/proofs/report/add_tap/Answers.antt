@@ -5,7 +5,7 @@ use Rattle.std.proofs.lemmas.Option.{slice_get_read}
 use Rattle.pals_model.specs.RoundTexts.{text_of, tap_lines, taps_before}
 use Rattle.pals_report.specs.proof.RowLines.{lines_at_place}
 use Rattle.pals_report.proofs.RowLines.{at_place}
-use Rattle.pals_report.proofs.Begins.{joined_on_ok}
+use Rattle.pals_report.proofs.TextPrefixes.{joined_on_ok}
 use Rattle.pals_report.proofs.report.add_tap.Goals as goal
 
 -- the tap in the place of the number is the one that is shown

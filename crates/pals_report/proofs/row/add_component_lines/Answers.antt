@@ -3,7 +3,7 @@ use Rattle.std.proofs.lemmas.Grind.{common_steps}
 use Rattle.pals_model.specs.RoundTexts.{part_lines}
 use Rattle.pals_report.specs.proof.RowLines.{components_from}
 use Rattle.pals_report.proofs.RowLines.{lines_turn}
-use Rattle.pals_report.proofs.Begins.{begins_more}
+use Rattle.pals_report.proofs.TextPrefixes.{begins_more}
 use Rattle.pals_report.proofs.row.add_component_lines.Goals as goal
 
 pub loop-node-preserved : goal.loop-node-preserved

@@ -1,5 +1,5 @@
-use Rattle.pals_report.specs.proof.Words.{word_text}
-use Rattle.pals_report.proofs.Spaces.{spaced-all}
+use Rattle.pals_report.specs.proof.LineWords.{word_text}
+use Rattle.pals_report.proofs.SpacedWords.{spaced-all}
 use Rattle.pals_report.proofs.words.add_words.Goals as goal
 
 pub returns-clause-ok : goal.returns-clause-ok

@@ -1,6 +1,6 @@
 use Rattle.std.proofs.Common.{◌≡◌, ◌++◌, take, codes}
 use Rattle.std.specs.List.{flat_map}
-use Rattle.pals_report.specs.proof.Words.{word_text}
+use Rattle.pals_report.specs.proof.LineWords.{word_text}
 use Rattle.pals_report.proofs.words.add_words.Given as goal
 
 -- the words so far, each behind a space

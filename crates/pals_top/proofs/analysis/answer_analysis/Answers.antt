@@ -3,10 +3,10 @@ use Rattle.std.proofs.lemmas.Result.{IfOk-weaker}
 use Rattle.pals_runs.specs.declared.commands.Command.{Command}
 use Rattle.scenario_values.specs.declared.fault.ScenarioFault.TheVariants.{Memory}
 use Rattle.scenario_json.specs.Scenarios.{Means}
-use Rattle.pals_top.specs.Analyses.{command_of}
-use Rattle.pals_top.proofs.Analyses.{refused, analysed}
+use Rattle.pals_top.specs.AnalysisAnswers.{command_of}
+use Rattle.pals_top.proofs.AnalysisAnswers.{refused, analysed}
 use Rattle.pals_top.proofs.Refusals.{bundle_refused}
-use Rattle.pals_top.proofs.Scenarios.{faults_said}
+use Rattle.pals_top.proofs.ScenarioFaults.{faults_said}
 use Rattle.pals_top.proofs.analysis.answer_analysis.Goals as goal
 
 pub returns-in-Err : goal.returns-in-Err

@@ -1,5 +1,5 @@
 use Rattle.std.proofs.Common.{rules}
-use Rattle.pals_top.proofs.Budgets.{all_in_time}
+use Rattle.pals_top.proofs.TimelyProcessors.{all_in_time}
 use Rattle.pals_top.proofs.budget.answer_budget.Goals as goal
 
 pub returns : goal.returns

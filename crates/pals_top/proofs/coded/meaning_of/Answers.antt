@@ -2,11 +2,11 @@ use Rattle.std.proofs.Common.{◌≢◌, inl, inr, Ok, Err, subst}
 use Rattle.pals_runs.specs.declared.commands.Command.{Command}
 use Rattle.scenario_values.specs.declared.fault.ScenarioFault.TheVariants.{Memory}
 use Rattle.scenario_json.specs.Scenarios.{Means}
-use Rattle.design_codes.specs.Causes.{IsCause}
-use Rattle.pals_top.specs.Executions.{command_of}
-use Rattle.pals_top.proofs.Executions.{code_refused, code_said, has_events, scenario_refused}
+use Rattle.design_codes.specs.OverlongCodes.{IsCause}
+use Rattle.pals_top.specs.ExecutionAnswers.{command_of}
+use Rattle.pals_top.proofs.ExecutionAnswers.{code_refused, code_said, has_events, scenario_refused}
 use Rattle.pals_top.proofs.Refusals.{bundle_refused}
-use Rattle.pals_top.proofs.Scenarios.{says_fault}
+use Rattle.pals_top.proofs.ScenarioFaults.{says_fault}
 use Rattle.pals_top.proofs.coded.meaning_of.Goals as goal
 
 pub returns-in-Err : goal.returns-in-Err

@@ -1,7 +1,7 @@
 use Rattle.std.proofs.Common.{subst}
-use Rattle.pals_top.specs.proof.Executions.{IsCoded, IsMeaning}
+use Rattle.pals_top.specs.proof.CodedBundles.{IsCoded, IsMeaning}
 use Rattle.pals_top.specs.proof.Statuses.{status_of, text_of}
-use Rattle.pals_top.proofs.Executions.{refused, executed}
+use Rattle.pals_top.proofs.ExecutionAnswers.{refused, executed}
 use Rattle.pals_top.proofs.execution.answer_execution.Goals as goal
 
 pub returns-in-Coded : goal.returns-in-Coded

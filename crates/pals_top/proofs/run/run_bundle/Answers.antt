@@ -1,8 +1,8 @@
 use Rattle.std.proofs.Common.{subst}
 use Rattle.pals_top.specs.ExecutionKinds.{Run}
-use Rattle.pals_top.specs.proof.Executions.{IsMeaning}
+use Rattle.pals_top.specs.proof.CodedBundles.{IsMeaning}
 use Rattle.pals_top.specs.proof.Statuses.{status_of, text_of}
-use Rattle.pals_top.proofs.Executions.{refused}
+use Rattle.pals_top.proofs.ExecutionAnswers.{refused}
 use Rattle.pals_top.proofs.run.run_bundle.Goals as goal
 
 pub returns-in-Refused : goal.returns-in-Refused

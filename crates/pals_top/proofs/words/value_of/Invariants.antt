@@ -1,5 +1,5 @@
 use Rattle.std.proofs.Common.{◌≡◌, ◌<◌, ◌≤◌, ◌^◌, take}
-use Rattle.pals_top.specs.Words.{value_of}
+use Rattle.pals_top.specs.CommandWords.{value_of}
 use Rattle.pals_top.proofs.words.value_of.Given as goal
 
 -- the number of the digits so far

@@ -1,5 +1,5 @@
 use Rattle.plant_fuse.proofs.Reports.{report_exists, report_is_one}
-use Rattle.plant_fuse.proofs.AloneReports.{report_without_pairs}
+use Rattle.plant_fuse.proofs.ReportsWithoutPairs.{report_without_pairs}
 use Rattle.plant_fuse.proofs.laws.one_report.Goals as goal
 
 pub returns : goal.returns

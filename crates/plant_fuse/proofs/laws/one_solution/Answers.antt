@@ -1,5 +1,5 @@
 use Rattle.plant_fuse.proofs.Solutions.{solution_exists, solution_is_one}
-use Rattle.plant_fuse.proofs.Prefixes.{solution_goes_on}
+use Rattle.plant_fuse.proofs.SolutionPrefixes.{solution_goes_on}
 use Rattle.plant_fuse.proofs.laws.one_solution.Goals as goal
 
 pub returns : goal.returns

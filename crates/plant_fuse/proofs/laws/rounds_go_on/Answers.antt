@@ -1,6 +1,6 @@
-use Rattle.plant_fuse.proofs.OneMoreRound.{rounds_go_on}
-use Rattle.plant_fuse.proofs.Once.{round_is_one}
-use Rattle.plant_fuse.proofs.Chains.{rounds_follow}
+use Rattle.plant_fuse.proofs.NextRoundSolutions.{rounds_go_on}
+use Rattle.plant_fuse.proofs.RoundUniqueness.{round_is_one}
+use Rattle.plant_fuse.proofs.IteratedRounds.{rounds_follow}
 use Rattle.plant_fuse.proofs.laws.rounds_go_on.Goals as goal
 
 pub returns : goal.returns

@@ -1,5 +1,5 @@
 use Rattle.std.proofs.Common.{below_more, arith}
-use Rattle.plant_fuse.proofs.Fitting.{pairs_by}
+use Rattle.plant_fuse.proofs.FusiblePairs.{pairs_by}
 use Rattle.plant_fuse.proofs.pairs.first_bad.Goals as goal
 
 pub loop-index-preserved : goal.loop-index-preserved

@@ -1,5 +1,5 @@
 use Rattle.std.proofs.Common.{ℕ, ◌<◌}
-use Rattle.plant_fuse.specs.proof.Ends.{CanBeFused}
+use Rattle.plant_fuse.specs.proof.Fusibility.{CanBeFused}
 use Rattle.plant_fuse.proofs.pairs.first_bad.Given as goal
 
 -- the first ones can be fused

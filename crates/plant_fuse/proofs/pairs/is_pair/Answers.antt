@@ -1,9 +1,9 @@
 use Rattle.std.proofs.Common.{◌≡◌, ◌∙◌, List, length, sym, ap, subst}
 use Rattle.std.specs.List.{list_all}
 use Rattle.pals_model.specs.declared.design.Link.{Link}
-use Rattle.pals_model.specs.Inputs.{rate_of}
-use Rattle.plant_fuse.specs.proof.Ends.{AreTwo, stays_inside}
-use Rattle.plant_fuse.proofs.Fitting.{pair_by, all_inside}
+use Rattle.pals_model.specs.ComponentInputs.{rate_of}
+use Rattle.plant_fuse.specs.proof.Fusibility.{AreTwo, stays_inside}
+use Rattle.plant_fuse.proofs.FusiblePairs.{pair_by, all_inside}
 use Rattle.plant_fuse.proofs.pairs.is_pair.Goals as goal
 
 pub returns : goal.returns

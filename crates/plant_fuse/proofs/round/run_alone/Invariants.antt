@@ -1,7 +1,7 @@
 use Rattle.std.proofs.Common.{◌≡◌, ◌<◌, ℕ, map, slice_get, Some, None}
 use Rattle.pals_model.specs.declared.design.Component.{Component}
 use Rattle.sync_product.specs.proof.Rounds.{IsStepped, frames_of}
-use Rattle.sync_product.specs.proof.Sizes.{part_size, stage_size}
+use Rattle.sync_product.specs.proof.ProductSizes.{part_size, stage_size}
 use Rattle.plant_fuse.specs.proof.Partners.{partner_of}
 use Rattle.plant_fuse.proofs.round.run_alone.Given as goal
 

@@ -6,14 +6,14 @@ use Rattle.list_lemmas.proofs.Results.{OnOk-always, OnOk-weaker}
 use Rattle.pals_runs.specs.declared.pairs.Pair.{Pair}
 use Rattle.sync_product.specs.declared.stage.Stage.{Stage}
 use Rattle.sync_product.specs.proof.Rounds.{frames_of}
-use Rattle.sync_product.specs.proof.Sizes.{part_size, stage_size}
-use Rattle.plant_fuse.specs.proof.Runs.{IsRun, StayBeside}
-use Rattle.plant_fuse.specs.proof.Sides.{AreSidesRun}
-use Rattle.plant_fuse.specs.proof.TakenFrom.{TakenFrom}
-use Rattle.sync_product.proofs.Fitting.{count_of_parts, count_of_stages}
+use Rattle.sync_product.specs.proof.ProductSizes.{part_size, stage_size}
+use Rattle.plant_fuse.specs.proof.RoundRuns.{IsRun, StayBeside}
+use Rattle.plant_fuse.specs.proof.PairSides.{AreSidesRun}
+use Rattle.plant_fuse.specs.proof.TakenElements.{TakenFrom}
+use Rattle.sync_product.proofs.StepRoom.{count_of_parts, count_of_stages}
 use Rattle.plant_fuse.proofs.PairRuns.{pair_is_run}
-use Rattle.plant_fuse.proofs.Sized.{paired_fits}
-use Rattle.plant_fuse.proofs.TakenOut.{kept_get, kept_length, back_first, back_second, back_other, seen_back}
+use Rattle.plant_fuse.proofs.PairRoom.{paired_fits}
+use Rattle.plant_fuse.proofs.TakenElements.{kept_get, kept_length, back_first, back_second, back_other, seen_back}
 use Rattle.plant_fuse.proofs.round.run_pair.Goals as goal
 
 pub take_part-part-requires : goal.take_part-part-requires

@@ -1,6 +1,6 @@
 use Rattle.std.proofs.Common.{◌≡◌, take}
-use Rattle.sync_product.specs.proof.Sizes.{frame_size, frame_size_of, stage_size}
-use Rattle.plant_fuse.specs.proof.Sides.{seat_of, work, AreMade}
+use Rattle.sync_product.specs.proof.ProductSizes.{frame_size, frame_size_of, stage_size}
+use Rattle.plant_fuse.specs.proof.PairSides.{seat_of, work, AreMade}
 use Rattle.plant_fuse.proofs.sides.make_steps.Given as goal
 
 -- the first steps of both are made

@@ -3,7 +3,7 @@ use Rattle.std.specs.Option.{option_copied}
 use Rattle.std.proofs.lemmas.Grind.{common_steps}
 use Rattle.std.proofs.lemmas.List.{length-map, get_or-map}
 use Rattle.list_lemmas.proofs.Lists.{filled_more, filled_all}
-use Rattle.plant_fuse.specs.proof.Sides.{seat_of, side_value}
+use Rattle.plant_fuse.specs.proof.PairSides.{seat_of, side_value}
 use Rattle.plant_fuse.proofs.sides.write_read.Goals as goal
 
 pub loop-at-preserved : goal.loop-at-preserved

@@ -1,6 +1,6 @@
 use Rattle.std.proofs.Common.{◌≡◌, length, take}
 use Rattle.std.specs.Option.{option_copied}
-use Rattle.plant_fuse.specs.proof.Sides.{seat_of, side_vector}
+use Rattle.plant_fuse.specs.proof.PairSides.{seat_of, side_vector}
 use Rattle.plant_fuse.proofs.sides.write_read.Given as goal
 
 -- the first places are written

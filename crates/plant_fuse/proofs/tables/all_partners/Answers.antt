@@ -1,5 +1,5 @@
 use Rattle.std.proofs.Common.{◌∙◌, [], ◌∷◌, ◌++◌, ap₂, sym}
-use Rattle.pals_base.proofs.Upwards.{map_upwards_more}
+use Rattle.pals_base.proofs.UpwardNumbers.{map_upwards_more}
 use Rattle.plant_fuse.specs.proof.Partners.{partner_of}
 use Rattle.plant_fuse.proofs.tables.all_partners.Goals as goal
 

@@ -1,14 +1,14 @@
 use Rattle.std.proofs.Common.{◌≡◌, ◌∙◌, ℕ, ◌+◌, ◌*◌, [], ◌∷◌, ◌++◌, map, ap, sym, append_assoc, arith}
 use Rattle.std.proofs.lemmas.List.{map_push}
-use Rattle.pals_base.specs.Bound.{alarm, step_period}
-use Rattle.pals_base.specs.Steps.{upwards}
-use Rattle.pals_base.proofs.Upwards.{map_upwards_more}
+use Rattle.pals_base.specs.PeriodBound.{alarm, step_period}
+use Rattle.pals_base.specs.StepSequences.{upwards}
+use Rattle.pals_base.proofs.UpwardNumbers.{map_upwards_more}
 use Rattle.pals_model.specs.declared.design.DesignParts.{DesignParts}
-use Rattle.pals_model.specs.Inputs.{rate_of}
+use Rattle.pals_model.specs.ComponentInputs.{rate_of}
 use Rattle.round_budget.specs.Budgets as budgets
 use Rattle.round_budget.specs.Budgets.{release_of}
 use Rattle.round_budget.specs.declared.releases.Release.{Release}
-use Rattle.round_budget.specs.proof.Values.{release_value}
+use Rattle.round_budget.specs.proof.ReleaseValues.{release_value}
 use Rattle.round_budget.proofs.releases.add_releases.Goals as goal
 
 first_alarm : (t k : ℕ) → t + k ≡ (0 + 1) * t + k

@@ -2,14 +2,14 @@ use Rattle.std.proofs.Common.{◌≡◌, ◌∙◌, ℕ, ◌+◌, ◌-◌, ◌*�
 use Rattle.std.specs.Prelude.{max, slice_index_or}
 use Rattle.std.proofs.lemmas.Option.{slice_get-get_or}
 use Rattle.step_code.specs.declared.instr.CodeParts.{CodeParts}
-use Rattle.step_code.specs.Capped.{capped}
-use Rattle.step_code.specs.Paths.{weight_of}
+use Rattle.step_code.specs.CappedWeights.{capped}
+use Rattle.step_code.specs.PathWeights.{weight_of}
 use Rattle.round_budget.specs.Budgets as budgets
 use Rattle.round_budget.specs.Budgets.{most_in, by_most, serve, line_from}
 use Rattle.round_budget.specs.declared.releases.Release.{Release}
 use Rattle.round_budget.specs.declared.serving.TimetableLine.{TimetableLine}
-use Rattle.round_budget.specs.proof.Values.{release_value, line_value}
-use Rattle.round_budget.proofs.Lines.{serve_next}
+use Rattle.round_budget.specs.proof.ReleaseValues.{release_value, line_value}
+use Rattle.round_budget.proofs.NextReleases.{serve_next}
 use Rattle.round_budget.proofs.serving.serve.Goals as goal
 
 pub loop-release-preserved : goal.loop-release-preserved

@@ -6,8 +6,8 @@ use Rattle.std.proofs.lemmas.Option.{slice_get-get_or}
 use Rattle.std.proofs.lemmas.List.Sums.{sum_by_push}
 use Rattle.pals_base.specs.declared.values.NodeNo.{NodeNo}
 use Rattle.step_code.specs.declared.instr.CodeParts.{CodeParts}
-use Rattle.step_code.specs.Capped.{capped}
-use Rattle.step_code.specs.Paths.{weight_of}
+use Rattle.step_code.specs.CappedWeights.{capped}
+use Rattle.step_code.specs.PathWeights.{weight_of}
 use Rattle.round_budget.specs.Budgets.{most_in, most_of, numbers}
 use Rattle.round_budget.proofs.Members.{member_at}
 use Rattle.round_budget.proofs.sums.total.Goals as goal

@@ -1,5 +1,5 @@
 use Rattle.run_laws.proofs.RunHistories.{runs_are_histories}
-use Rattle.run_laws.proofs.Sound.{runs_are_traces}
+use Rattle.run_laws.proofs.RunTraces.{runs_are_traces}
 use Rattle.run_laws.proofs.history_laws.runs_are_traces.Goals as goal
 
 pub returns : goal.returns

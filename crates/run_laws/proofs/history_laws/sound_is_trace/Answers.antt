@@ -1,4 +1,4 @@
-use Rattle.run_laws.proofs.SoundHistories.{sound_are_traces}
+use Rattle.run_laws.proofs.SoundTraces.{sound_are_traces}
 use Rattle.run_laws.proofs.HistoryVerdicts.{traces_are_sound}
 use Rattle.run_laws.proofs.history_laws.sound_is_trace.Goals as goal
 

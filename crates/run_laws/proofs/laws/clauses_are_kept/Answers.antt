@@ -1,4 +1,4 @@
-use Rattle.run_laws.proofs.RunsKeep.{clauses_are_kept}
+use Rattle.run_laws.proofs.RunGuarantees.{clauses_are_kept}
 use Rattle.run_laws.proofs.laws.clauses_are_kept.Goals as goal
 
 pub returns : goal.returns

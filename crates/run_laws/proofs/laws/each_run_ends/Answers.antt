@@ -1,4 +1,4 @@
-use Rattle.run_laws.proofs.Ending.{each_run_ends, each_goes_on, journals_end, ends_are_named}
+use Rattle.run_laws.proofs.RunTermination.{each_run_ends, each_goes_on, journals_end, ends_are_named}
 use Rattle.run_laws.proofs.laws.each_run_ends.Goals as goal
 
 pub returns : goal.returns

@@ -1,5 +1,5 @@
-use Rattle.run_laws.proofs.Counting.{rounds_are_shown}
-use Rattle.run_laws.proofs.Linking.{all_links_timed}
+use Rattle.run_laws.proofs.ShownActions.{rounds_are_shown}
+use Rattle.run_laws.proofs.LinkTiming.{all_links_timed}
 use Rattle.run_laws.proofs.laws.links_are_timed.Goals as goal
 
 pub returns : goal.returns

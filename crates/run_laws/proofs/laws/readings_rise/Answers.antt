@@ -1,6 +1,6 @@
 use Rattle.pals_clock.specs.declared.clock.Clocks.TheVariants.{Meet}
 use Rattle.run_laws.proofs.MeetingReadings.{hour_in}
-use Rattle.run_laws.proofs.Rising.{readings_rise}
+use Rattle.run_laws.proofs.RisingReadings.{readings_rise}
 use Rattle.run_laws.proofs.laws.readings_rise.Goals as goal
 
 pub returns : goal.returns

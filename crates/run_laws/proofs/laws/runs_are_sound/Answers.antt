@@ -1,4 +1,4 @@
-use Rattle.run_laws.proofs.Sound.{runs_are_sound, traces_are_texts}
+use Rattle.run_laws.proofs.RunTraces.{runs_are_sound, traces_are_texts}
 use Rattle.run_laws.proofs.laws.runs_are_sound.Goals as goal
 
 pub returns : goal.returns

@@ -1,5 +1,5 @@
-use Rattle.run_laws.proofs.Times.{all_times_fit}
-use Rattle.run_laws.proofs.Stopping.{stops_fit}
+use Rattle.run_laws.proofs.ActionReadings.{all_times_fit}
+use Rattle.run_laws.proofs.StopCauses.{stops_fit}
 use Rattle.run_laws.proofs.laws.stops_fit.Goals as goal
 
 pub returns : goal.returns

@@ -1,4 +1,4 @@
-use Rattle.run_laws.proofs.Stops.{nothing_behind, told}
+use Rattle.run_laws.proofs.FinalStops.{nothing_behind, told}
 use Rattle.run_laws.proofs.replay.a_stop_is_last.Goals as goal
 
 pub returns : goal.returns

@@ -1,4 +1,4 @@
-use Rattle.run_laws.proofs.Forms.{lines_have_forms, entries_have_lines}
+use Rattle.run_laws.proofs.EntryForms.{lines_have_forms, entries_have_lines}
 use Rattle.run_laws.proofs.trace_laws.lines_have_forms.Goals as goal
 
 pub returns : goal.returns

@@ -2,8 +2,8 @@ use Rattle.std.proofs.Common.{◌≡◌, ◌∙◌, ◌<◌, Bool, List, length,
 use Rattle.std.proofs.lemmas.Grind.{common_steps}
 use Rattle.std.proofs.lemmas.Option.{slice_get_within}
 use Rattle.run_monitor.specs.declared.forms.FlatForm.{FlatForm}
-use Rattle.run_monitor.specs.proof.Bits.{bit_at, row_of, row_bit}
-use Rattle.run_monitor.proofs.Writing.{stay_more, seen_more}
+use Rattle.run_monitor.specs.proof.FormBits.{bit_at, row_of, row_bit}
+use Rattle.run_monitor.proofs.BitWrites.{stay_more, seen_more}
 use Rattle.run_monitor.proofs.bits.see_row.Goals as goal
 
 pub loop-at-preserved : goal.loop-at-preserved

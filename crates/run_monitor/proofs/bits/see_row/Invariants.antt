@@ -1,6 +1,6 @@
 use Rattle.std.proofs.Common.{◌≡◌, length}
-use Rattle.run_monitor.specs.proof.Bits.{row_of, row_bit}
-use Rattle.run_monitor.proofs.Writing.{Stay, Seen}
+use Rattle.run_monitor.specs.proof.FormBits.{row_of, row_bit}
+use Rattle.run_monitor.proofs.BitWrites.{Stay, Seen}
 use Rattle.run_monitor.proofs.bits.see_row.Given as goal
 
 -- the bits before a place are seen, and the others are as they were

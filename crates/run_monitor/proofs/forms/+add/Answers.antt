@@ -3,8 +3,8 @@ use Rattle.std.proofs.lemmas.Bool.{or_left, or_right}
 use Rattle.pals_runs.specs.declared.forms.Form.{Form}
 use Rattle.pals_runs.specs.Formula.{Not, And, Or, Previous, Once, Historically, Since}
 use Rattle.pals_runs.specs.proof.FormulaOf.{formula_of}
-use Rattle.pals_runs.specs.proof.FormulaNames.{names}
-use Rattle.run_monitor.proofs.Adding.{over_one, KeepsBoth, over_two}
+use Rattle.pals_runs.specs.proof.FormulaComponents.{names}
+use Rattle.run_monitor.proofs.FlatForms.{over_one, KeepsBoth, over_two}
 use Rattle.run_monitor.proofs.forms.+add.Goals as goal
 
 pub returns-in_ok-part-in-Not : goal.returns-in_ok-part-in-Not

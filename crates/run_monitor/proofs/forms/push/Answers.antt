@@ -1,4 +1,4 @@
-use Rattle.run_monitor.proofs.Adding.{adds_one}
+use Rattle.run_monitor.proofs.FlatForms.{adds_one}
 use Rattle.run_monitor.proofs.forms.push.Goals as goal
 
 pub returns : goal.returns

@@ -1,5 +1,5 @@
-use Rattle.run_monitor.specs.proof.Bits.{row_of}
-use Rattle.run_monitor.proofs.Several.{GoneTo}
+use Rattle.run_monitor.specs.proof.FormBits.{row_of}
+use Rattle.run_monitor.proofs.SeveralMonitors.{GoneTo}
 use Rattle.run_monitor.proofs.monitors.advance_each.Given as goal
 
 -- the first monitors have gone on, and the others are as they were

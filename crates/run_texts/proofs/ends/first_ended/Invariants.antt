@@ -1,4 +1,4 @@
-use Rattle.run_texts.specs.proof.Ends.{AreFirst}
+use Rattle.run_texts.specs.proof.NodeEnds.{AreFirst}
 use Rattle.run_texts.proofs.ends.first_ended.Given as goal
 
 -- the ends so far, with the first of them that is the end of a list

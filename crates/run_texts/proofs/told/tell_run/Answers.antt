@@ -1,4 +1,4 @@
-use Rattle.run_texts.proofs.Outcomes.{no_stop_left, told_of}
+use Rattle.run_texts.proofs.BusOutcomes.{no_stop_left, told_of}
 use Rattle.run_texts.proofs.told.tell_run.Goals as goal
 
 pub tell_ended-requires-clause-stopped : goal.tell_ended-requires-clause-stopped

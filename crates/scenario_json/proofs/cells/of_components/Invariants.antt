@@ -1,5 +1,5 @@
 use Rattle.std.proofs.Common.{◌≡◌, ◌≤◌, ◌*◌, ◌^◌, take, sum_by}
-use Rattle.scenario_json.specs.Cells.{component_cells}
+use Rattle.scenario_json.specs.RunSizes.{component_cells}
 use Rattle.scenario_json.proofs.cells.of_components.Given as goal
 
 -- the sum so far, no part of which is large

@@ -1,7 +1,7 @@
 use Rattle.std.proofs.Common.{arith}
 use Rattle.std.proofs.lemmas.Grind.{common_steps}
-use Rattle.scenario_values.specs.Values.{is_whole}
-use Rattle.scenario_values.proofs.Lists.{all_turn, all_fails, all_done}
+use Rattle.scenario_values.specs.FieldValues.{is_whole}
+use Rattle.scenario_values.proofs.JsonLists.{all_turn, all_fails, all_done}
 use Rattle.scenario_json.proofs.events.are_whole.Goals as goal
 
 pub loop-value-preserved : goal.loop-value-preserved

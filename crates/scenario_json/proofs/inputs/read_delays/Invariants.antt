@@ -1,6 +1,6 @@
 use Rattle.std.proofs.Common.{◌≡◌, [], ◌∷◌, length, map, replicate}
 use Rattle.scenario_values.specs.Outcomes.{through}
-use Rattle.scenario_values.specs.Values.{entry_of}
+use Rattle.scenario_values.specs.FieldValues.{entry_of}
 use Rattle.scenario_json.specs.Inputs.{with_link_delays}
 use Rattle.scenario_json.proofs.inputs.read_delays.Given as goal
 

@@ -1,7 +1,7 @@
 use Rattle.std.proofs.Common.{◌≡◌, [], length, map, replicate}
-use Rattle.pals_model.specs.Inputs.{root_inputs}
+use Rattle.pals_model.specs.ComponentInputs.{root_inputs}
 use Rattle.scenario_values.specs.Outcomes.{through}
-use Rattle.scenario_values.specs.Values.{entry_of}
+use Rattle.scenario_values.specs.FieldValues.{entry_of}
 use Rattle.scenario_json.specs.Inputs.{with_input}
 use Rattle.scenario_json.proofs.inputs.read_inputs.Given as goal
 

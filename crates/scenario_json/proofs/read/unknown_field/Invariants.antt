@@ -1,6 +1,6 @@
 use Rattle.std.proofs.Common.{◌≡◌, map, not}
 use Rattle.std.specs.Prelude.{find}
-use Rattle.scenario_values.specs.Values.{entry_of}
+use Rattle.scenario_values.specs.FieldValues.{entry_of}
 use Rattle.scenario_json.specs.Scenarios.{is_field}
 use Rattle.scenario_json.proofs.read.unknown_field.Given as goal
 

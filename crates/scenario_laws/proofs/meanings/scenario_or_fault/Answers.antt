@@ -1,4 +1,4 @@
-use Rattle.scenario_laws.proofs.Scenarios.{scenario_or_fault}
+use Rattle.scenario_laws.proofs.ScenarioOrFault.{scenario_or_fault}
 use Rattle.scenario_laws.proofs.meanings.scenario_or_fault.Goals as goal
 
 pub returns : goal.returns

@@ -1,7 +1,7 @@
 use Rattle.std.proofs.Common.{arith}
 use Rattle.std.proofs.lemmas.Grind.{common_steps}
 use Rattle.std.proofs.lemmas.Result.{err_from_is_err_and}
-use Rattle.scenario_values.specs.Values.{short_list}
+use Rattle.scenario_values.specs.FieldValues.{short_list}
 use Rattle.scenario_values.proofs.json.short_list.Goals as goal
 
 pub returns-in_err-list : goal.returns-in_err-list

@@ -2,7 +2,7 @@ use Rattle.std.proofs.Common.{◌≡◌, ◌<◌, ◌+◌, length, take, drop, m
 use Rattle.std.proofs.Common.{sym, ◌∙◌}
 use Rattle.std.proofs.lemmas.Grind.{common_steps}
 use Rattle.scenario_values.specs.proof.NameTables.{Numbers}
-use Rattle.scenario_values.proofs.Search.{table_turn}
+use Rattle.scenario_values.proofs.NameSearch.{table_turn}
 use Rattle.scenario_values.proofs.names.numbers.Goals as goal
 
 pub loop-name-preserved : goal.loop-name-preserved

@@ -1,5 +1,5 @@
 use Rattle.std.proofs.Common.{◌<◌, ◌≤◌, ◌++◌, ◌∷◌, [], Some, None, length, sym, subst, take, arith}
-use Rattle.step_code.proofs.Entering.{AreEntered, entered_in, entered_out, entered_none, entered_more}
+use Rattle.step_code.proofs.EntryHeights.{AreEntered, entered_in, entered_out, entered_none, entered_more}
 use Rattle.step_code.proofs.heights.entry_heights.Goals as goal
 use Rattle.step_code.proofs.heights.entry_heights.Goals.{in-Some+then-place-length, in-Some+else-place-length}
 use Rattle.step_code.proofs.heights.entry_heights.Goals.{in_default}

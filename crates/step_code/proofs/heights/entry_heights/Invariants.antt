@@ -1,5 +1,5 @@
 use Rattle.std.proofs.Common.{length, take}
-use Rattle.step_code.proofs.Entering.{AreEntered}
+use Rattle.step_code.proofs.EntryHeights.{AreEntered}
 use Rattle.step_code.proofs.heights.entry_heights.Given as goal
 
 abbrev pub invariant-loop-entry : goal.invariant-loop-entry

@@ -1,4 +1,4 @@
-use Rattle.step_code.proofs.Ending.{exec_leaves}
+use Rattle.step_code.proofs.StepResults.{exec_leaves}
 use Rattle.step_code.proofs.laws.verified_code_ends.Goals as goal
 
 pub returns : goal.returns

@@ -1,4 +1,4 @@
-use Rattle.step_code.proofs.Heaviest.{no_heavier, one_heaviest}
+use Rattle.step_code.proofs.HeaviestPaths.{no_heavier, one_heaviest}
 use Rattle.step_code.proofs.laws.weight_is_the_greatest.Goals as goal
 
 pub returns-clause-none_more : goal.returns-clause-none_more

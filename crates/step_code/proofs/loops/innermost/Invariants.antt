@@ -2,7 +2,7 @@ use Rattle.std.proofs.Common.{◌≡◌, length}
 use Rattle.std.specs.Prelude.{List, Option}
 use Rattle.step_code.specs.declared.instr.Instr.{Instr}
 use Rattle.step_code.specs.declared.loops.LoopSpan.{LoopSpan}
-use Rattle.step_code.specs.proof.Innermost.{AreInnermost}
+use Rattle.step_code.specs.proof.InnermostLoops.{AreInnermost}
 use Rattle.step_code.proofs.loops.innermost.Given as goal
 use Prim.Native.Nat.{ℕ}
 

@@ -1,7 +1,7 @@
 use Rattle.std.proofs.Common.{◌<◌, ◌∙◌, None, sym, ap, subst, length, ◌-◌, slice_index_or}
 use Rattle.std.specs.Option.{option_or}
-use Rattle.step_code.specs.proof.Innermost.{ComesFrom}
-use Rattle.step_code.proofs.Innermost.{comes_first, comes_next, start_of, start_falls}
+use Rattle.step_code.specs.proof.InnermostLoops.{ComesFrom}
+use Rattle.step_code.proofs.InnermostLoops.{comes_first, comes_next, start_of, start_falls}
 use Rattle.step_code.proofs.loops.innermost_at.Goals as goal
 
 pub loop-candidate-init : goal.loop-candidate-init

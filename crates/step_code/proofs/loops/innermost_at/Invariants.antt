@@ -1,5 +1,5 @@
-use Rattle.step_code.specs.proof.Innermost.{ComesFrom}
-use Rattle.step_code.proofs.Innermost.{start_of}
+use Rattle.step_code.specs.proof.InnermostLoops.{ComesFrom}
+use Rattle.step_code.proofs.InnermostLoops.{start_of}
 use Rattle.step_code.proofs.loops.innermost_at.Given as goal
 
 abbrev pub invariant-loop-candidate : goal.invariant-loop-candidate

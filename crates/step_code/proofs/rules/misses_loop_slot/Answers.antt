@@ -1,7 +1,7 @@
 use Rattle.std.proofs.Common.{◌<◌, None, length, sym, subst, arith, rules, slice_index_or}
-use Rattle.step_code.proofs.Innermost.{start_of, start_falls}
-use Rattle.step_code.proofs.Crossing.{LooksOn, looks_further}
-use Rattle.step_code.proofs.Refusals.{clean_closed}
+use Rattle.step_code.proofs.InnermostLoops.{start_of, start_falls}
+use Rattle.step_code.proofs.LoopCrossings.{LooksOn, looks_further}
+use Rattle.step_code.proofs.FaultlessInstructions.{clean_closed}
 use Rattle.step_code.proofs.rules.misses_loop_slot.Goals as goal
 
 pub bounds-innermost-found : goal.bounds-innermost-found

@@ -1,5 +1,5 @@
-use Rattle.step_code.proofs.Innermost.{start_of}
-use Rattle.step_code.proofs.Crossing.{LooksOn}
+use Rattle.step_code.proofs.InnermostLoops.{start_of}
+use Rattle.step_code.proofs.LoopCrossings.{LooksOn}
 use Rattle.step_code.proofs.rules.misses_loop_slot.Given as goal
 
 abbrev pub invariant-loop-round : goal.invariant-loop-round

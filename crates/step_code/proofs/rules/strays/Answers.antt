@@ -1,7 +1,7 @@
 use Rattle.std.proofs.Common.{◌∙◌, ◌||◌, None, refl, sym, ap, arith, slice_index_or}
-use Rattle.step_code.specs.proof.Innermost.{starts_from}
-use Rattle.step_code.proofs.Crossing.{strays_up, strays_down}
-use Rattle.step_code.proofs.Refusals.{clean_closed}
+use Rattle.step_code.specs.proof.InnermostLoops.{starts_from}
+use Rattle.step_code.proofs.LoopCrossings.{strays_up, strays_down}
+use Rattle.step_code.proofs.FaultlessInstructions.{clean_closed}
 use Rattle.step_code.proofs.rules.strays.Goals as goal
 
 pub returns-then-ends_by : goal.returns-then-ends_by

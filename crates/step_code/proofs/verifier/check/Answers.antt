@@ -1,4 +1,4 @@
-use Rattle.step_code.proofs.Looking.{found_here, eq_is}
+use Rattle.step_code.proofs.VerifierInvariant.{found_here, eq_is}
 use Rattle.step_code.proofs.verifier.check.Goals as goal
 
 pub returns-then-eq-clause-fault : goal.returns-then-eq-clause-fault

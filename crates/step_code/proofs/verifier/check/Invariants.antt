@@ -1,4 +1,4 @@
-use Rattle.step_code.proofs.Looking.{Looked}
+use Rattle.step_code.proofs.VerifierInvariant.{Looked}
 use Rattle.step_code.proofs.verifier.check.Given as goal
 
 abbrev pub invariant-loop-at : goal.invariant-loop-at

@@ -2,12 +2,12 @@ use Rattle.std.proofs.Common.{◌≡◌, ◌∙◌, ◌+◌, Some, map, pos, sym
 use Rattle.std.specs.Prelude.{slice_get}
 use Rattle.std.proofs.lemmas.Option.{slice_get-get_or, get_or_from_slice_get}
 use Rattle.step_code.specs.declared.instr.Instr.TheVariants.{Push}
-use Rattle.step_code.specs.Paths.{onward, greatest, weight_at}
-use Rattle.step_code.specs.proof.Checks.{AreThere}
-use Rattle.step_code.specs.Capped.{capped}
-use Rattle.step_code.proofs.Placing.{known_there}
-use Rattle.step_code.proofs.Verified.{verified_known}
-use Rattle.step_code.proofs.Weighing.{best_here}
+use Rattle.step_code.specs.PathWeights.{onward, greatest, weight_at}
+use Rattle.step_code.specs.proof.VerifierChecks.{AreThere}
+use Rattle.step_code.specs.CappedWeights.{capped}
+use Rattle.step_code.proofs.ReachedHeights.{known_there}
+use Rattle.step_code.proofs.VerifiedPlaces.{verified_known}
+use Rattle.step_code.proofs.CappedWeights.{best_here}
 use Rattle.step_code.proofs.weights.best_at.Goals as goal
 
 pub best_onward-requires-clause-there : goal.best_onward-requires-clause-there

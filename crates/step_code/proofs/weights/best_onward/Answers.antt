@@ -1,8 +1,8 @@
 use Rattle.std.proofs.Common.{◌∙◌, ℕ, length, map, max, option_to_list, sym, ap, subst, slice_index_or}
-use Rattle.step_code.specs.Paths.{greatest, jump_of, next_of}
-use Rattle.step_code.specs.proof.Checks.{AreThere}
+use Rattle.step_code.specs.PathWeights.{greatest, jump_of, next_of}
+use Rattle.step_code.specs.proof.VerifierChecks.{AreThere}
 use Rattle.step_code.proofs.PassedHeights.{there_jump, there_next}
-use Rattle.step_code.proofs.Weighing.{greatest_both}
+use Rattle.step_code.proofs.CappedWeights.{greatest_both}
 use Rattle.step_code.proofs.weights.best_onward.Goals as goal
 
 pub number_at-requires : goal.number_at-requires

@@ -1,6 +1,6 @@
 use Rattle.std.proofs.Common.{◌≡◌, ◌-◌, ◌+◌, subst, arith}
-use Rattle.step_code.specs.Capped.{AreBest}
-use Rattle.step_code.proofs.Weighing.{set_best}
+use Rattle.step_code.specs.CappedWeights.{AreBest}
+use Rattle.step_code.proofs.CappedWeights.{set_best}
 use Rattle.step_code.proofs.weights.best_weights.Goals as goal
 
 pub loop-place-preserved : goal.loop-place-preserved

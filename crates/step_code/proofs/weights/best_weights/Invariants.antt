@@ -1,6 +1,6 @@
 use Rattle.std.proofs.Common.{ℕ, ◌≤◌, List, length}
 use Rattle.step_code.specs.declared.instr.Instr.{Instr}
-use Rattle.step_code.specs.Capped.{AreBest}
+use Rattle.step_code.specs.CappedWeights.{AreBest}
 use Rattle.step_code.proofs.weights.best_weights.Given as goal
 
 pub record Progress (code : List Instr) (best : List ℕ) (place : ℕ) : Type 0 where

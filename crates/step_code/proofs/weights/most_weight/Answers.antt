@@ -1,5 +1,5 @@
 use Rattle.std.proofs.Common.{◌∙◌, None, refl, slice_index_or}
-use Rattle.step_code.proofs.Weighing.{weight_more, member_at}
+use Rattle.step_code.proofs.CappedWeights.{weight_more, member_at}
 use Rattle.step_code.proofs.weights.most_weight.Goals as goal
 
 pub entry_weight-requires-clause-entry : goal.entry_weight-requires-clause-entry

@@ -1,6 +1,6 @@
 use Rattle.std.proofs.Common.{◌≡◌, take}
-use Rattle.step_code.specs.Paths.{weight}
-use Rattle.step_code.specs.Capped.{capped}
+use Rattle.step_code.specs.PathWeights.{weight}
+use Rattle.step_code.specs.CappedWeights.{capped}
 use Rattle.step_code.proofs.weights.most_weight.Given as goal
 
 abbrev pub invariant-loop-entry : goal.invariant-loop-entry

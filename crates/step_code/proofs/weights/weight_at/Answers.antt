@@ -1,11 +1,11 @@
 use Rattle.std.proofs.Common.{◌≡◌, ◌∙◌, ◌*◌, ◌<◌, None, Some, length, sym, ap, arith, rules, slice_index_or}
 use Rattle.std.proofs.lemmas.Option.{get_or_from_slice_get}
 use Rattle.step_code.specs.Loops.{turns_of}
-use Rattle.step_code.specs.proof.Innermost.{innermost}
-use Rattle.step_code.specs.Paths.{weight_at}
-use Rattle.step_code.specs.Capped.{capped}
-use Rattle.step_code.proofs.Innermost.{read_innermost}
-use Rattle.step_code.proofs.Weighing.{capped_product, weight_outside, weight_inside, starts_before}
+use Rattle.step_code.specs.proof.InnermostLoops.{innermost}
+use Rattle.step_code.specs.PathWeights.{weight_at}
+use Rattle.step_code.specs.CappedWeights.{capped}
+use Rattle.step_code.proofs.InnermostLoops.{read_innermost}
+use Rattle.step_code.proofs.CappedWeights.{capped_product, weight_outside, weight_inside, starts_before}
 use Rattle.step_code.proofs.weights.weight_at.Goals as goal
 
 pub bounds-weights-found : goal.bounds-weights-found

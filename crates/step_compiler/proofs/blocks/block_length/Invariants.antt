@@ -1,7 +1,7 @@
 use Rattle.std.proofs.Common.{◌≡◌, ◌≤◌, ◌+◌, ◌-◌, ◌^◌, drop, nat_eq}
 use Rattle.std.specs.Prelude.{filter}
-use Rattle.step_code.specs.Capped.{capped}
-use Rattle.step_code.specs.Lengths.{length_edges}
+use Rattle.step_code.specs.CappedWeights.{capped}
+use Rattle.step_code.specs.CodeLengths.{length_edges}
 use Rattle.step_compiler.proofs.blocks.block_length.Given as goal
 
 abbrev pub invariant-loop-transition : goal.invariant-loop-transition

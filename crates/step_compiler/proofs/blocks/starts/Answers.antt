@@ -1,10 +1,10 @@
 use Rattle.std.proofs.Common.{◌∙◌, [], ◌∷◌, ◌++◌, map, sym, ap, zero-add}
-use Rattle.pals_base.specs.Steps.{upwards}
-use Rattle.pals_base.proofs.Upwards.{map_upwards_more}
-use Rattle.step_code.specs.Capped.{capped}
-use Rattle.step_compiler.specs.proof.Blocks.{start_in}
-use Rattle.step_compiler.specs.Blocks.{start_of}
-use Rattle.step_compiler.proofs.Starting.{starts_capped}
+use Rattle.pals_base.specs.StepSequences.{upwards}
+use Rattle.pals_base.proofs.UpwardNumbers.{map_upwards_more}
+use Rattle.step_code.specs.CappedWeights.{capped}
+use Rattle.step_compiler.specs.proof.BlockLengths.{start_in}
+use Rattle.step_compiler.specs.BlockLayout.{start_of}
+use Rattle.step_compiler.proofs.CappedBlockStarts.{starts_capped}
 use Rattle.step_compiler.proofs.blocks.starts.Goals as goal
 
 pub loop-state-preserved : goal.loop-state-preserved

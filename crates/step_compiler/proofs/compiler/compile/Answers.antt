@@ -2,13 +2,13 @@ use Rattle.std.proofs.Common.{◌∙◌, ◌≤◌, length, sym, ap, subst, arit
 use Rattle.pals_base.specs.declared.limits.TheConstants.{INSTRUCTIONS}
 use Rattle.pals_base.specs.declared.behaviour.BehaviourParts.{BehaviourParts}
 use Rattle.step_code.specs.declared.instr.CodeParts.{CodeParts}
-use Rattle.step_code.specs.proof.Rules.{IsVerified}
-use Rattle.step_code.specs.proof.Means.{Means}
-use Rattle.step_code.specs.Lengths.{length_edges, code_length}
-use Rattle.step_compiler.specs.LaidOut.{IsLaidOut}
-use Rattle.step_compiler.proofs.LaidOutCodes.{compiled_is_laid_out}
-use Rattle.step_compiler.proofs.Meaning.{compiled_means, compiled_length}
-use Rattle.step_compiler.proofs.Verifying.{compiled_verified, only_memory}
+use Rattle.step_code.specs.proof.VerifierRules.{IsVerified}
+use Rattle.step_code.specs.proof.CodeMeaning.{Means}
+use Rattle.step_code.specs.CodeLengths.{length_edges, code_length}
+use Rattle.step_compiler.specs.LaidOutCode.{IsLaidOut}
+use Rattle.step_compiler.proofs.LayoutUniqueness.{compiled_is_laid_out}
+use Rattle.step_compiler.proofs.CompilerCorrectness.{compiled_means, compiled_length}
+use Rattle.step_compiler.proofs.VerifierAcceptance.{compiled_verified, only_memory}
 use Rattle.step_compiler.proofs.compiler.compile.Goals as goal
 
 pub returns-in-Ok-clause-layout : goal.returns-in-Ok-clause-layout

@@ -3,12 +3,12 @@ use Rattle.std.specs.List.{All}
 use Rattle.pals_base.specs.declared.behaviour.BehaviourParts.{BehaviourParts}
 use Rattle.step_code.specs.declared.instr.Instr.{Instr}
 use Rattle.step_code.specs.declared.instr.CodeParts.{CodeParts}
-use Rattle.step_compiler.specs.LaidOut.{states_of}
-use Rattle.step_compiler.specs.proof.Order.{block_order}
-use Rattle.step_compiler.specs.Depths.{depth_edges}
-use Rattle.step_compiler.specs.proof.Blocks.{in_list, block_starts, compiled}
-use Rattle.step_compiler.specs.Blocks.{start_of, blocks_code, entry_of}
-use Rattle.step_compiler.proofs.Covered.{order_within}
+use Rattle.step_compiler.specs.LaidOutCode.{states_of}
+use Rattle.step_compiler.specs.proof.BlockOrder.{block_order}
+use Rattle.step_compiler.specs.LoopDepths.{depth_edges}
+use Rattle.step_compiler.specs.proof.BlockLengths.{in_list, block_starts, compiled}
+use Rattle.step_compiler.specs.BlockLayout.{start_of, blocks_code, entry_of}
+use Rattle.step_compiler.proofs.OrderCompleteness.{order_within}
 use Rattle.step_compiler.proofs.compiler.compiled.Goals as goal
 
 pub starts-requires : goal.starts-requires

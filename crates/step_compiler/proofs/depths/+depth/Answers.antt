@@ -1,7 +1,7 @@
 use Rattle.std.proofs.Common.{◌∙◌, ap, arith}
-use Rattle.pals_base.specs.proof.Seen.{action_of, actions_along, branches_along}
-use Rattle.pals_base.proofs.Trees.{action_of-If, action_of-For}
-use Rattle.step_compiler.specs.Depths.{depth_act, depth_acts, depth_branches}
+use Rattle.pals_base.specs.proof.SourceTrees.{action_of, actions_along, branches_along}
+use Rattle.pals_base.proofs.SourceTrees.{action_of-If, action_of-For}
+use Rattle.step_compiler.specs.LoopDepths.{depth_act, depth_acts, depth_branches}
 use Rattle.step_compiler.proofs.depths.+depth.Goals as goal
 
 pub act_depth-returns-in_ok-acts_depth-in-If : goal.act_depth-returns-in_ok-acts_depth-in-If

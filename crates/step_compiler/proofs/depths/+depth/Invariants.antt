@@ -1,7 +1,7 @@
 use Rattle.std.proofs.Common.{◌≡◌, drop}
 use Rattle.std.specs.Prelude.{max}
-use Rattle.pals_base.specs.proof.Seen.{actions_along, branches_along}
-use Rattle.step_compiler.specs.Depths.{depth_acts, depth_branches}
+use Rattle.pals_base.specs.proof.SourceTrees.{actions_along, branches_along}
+use Rattle.step_compiler.specs.LoopDepths.{depth_acts, depth_branches}
 use Rattle.step_compiler.proofs.depths.+depth.Given as goal
 
 abbrev pub invariant-acts_depth-loop-act : goal.invariant-acts_depth-loop-act

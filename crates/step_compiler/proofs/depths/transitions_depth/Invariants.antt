@@ -1,6 +1,6 @@
 use Rattle.std.proofs.Common.{◌≡◌, drop}
 use Rattle.std.specs.Prelude.{max}
-use Rattle.step_compiler.specs.Depths.{depth_edges}
+use Rattle.step_compiler.specs.LoopDepths.{depth_edges}
 use Rattle.step_compiler.proofs.depths.transitions_depth.Given as goal
 
 abbrev pub invariant-loop-transition : goal.invariant-loop-transition

@@ -1,7 +1,7 @@
 use Rattle.std.proofs.Common.{◌≡◌, ◌≤◌, ◌+◌, ◌-◌, ◌^◌, drop}
-use Rattle.pals_base.specs.proof.Seen.{actions_along, branches_along}
-use Rattle.step_code.specs.Capped.{capped}
-use Rattle.step_code.specs.Lengths.{length_acts, length_branches}
+use Rattle.pals_base.specs.proof.SourceTrees.{actions_along, branches_along}
+use Rattle.step_code.specs.CappedWeights.{capped}
+use Rattle.step_code.specs.CodeLengths.{length_acts, length_branches}
 use Rattle.step_compiler.proofs.lengths.+length_act.Given as goal
 
 -- the length so far, and that of the actions that are left

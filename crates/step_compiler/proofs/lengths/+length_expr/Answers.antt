@@ -1,8 +1,8 @@
 use Rattle.std.proofs.Common.{◌∙◌, ap, arith}
-use Rattle.pals_base.specs.proof.Seen.{tree_of, operands_along}
-use Rattle.pals_base.proofs.Trees.{tree_of-Chain}
-use Rattle.step_code.specs.Capped.{capped}
-use Rattle.step_code.specs.Lengths.{length_of, length_rest}
+use Rattle.pals_base.specs.proof.SourceTrees.{tree_of, operands_along}
+use Rattle.pals_base.proofs.SourceTrees.{tree_of-Chain}
+use Rattle.step_code.specs.CappedWeights.{capped}
+use Rattle.step_code.specs.CodeLengths.{length_of, length_rest}
 use Rattle.step_compiler.proofs.lengths.+length_expr.Goals as goal
 
 pub expr_length-returns-in-Chain : goal.expr_length-returns-in-Chain

@@ -1,7 +1,7 @@
 use Rattle.std.proofs.Common.{◌≡◌, ◌≤◌, ◌+◌, ◌-◌, ◌^◌, drop}
-use Rattle.pals_base.specs.proof.Seen.{operands_along}
-use Rattle.step_code.specs.Capped.{capped}
-use Rattle.step_code.specs.Lengths.{length_rest}
+use Rattle.pals_base.specs.proof.SourceTrees.{operands_along}
+use Rattle.step_code.specs.CappedWeights.{capped}
+use Rattle.step_code.specs.CodeLengths.{length_rest}
 use Rattle.step_compiler.proofs.lengths.+length_expr.Given as goal
 
 -- the length so far, and that of the operands that are left

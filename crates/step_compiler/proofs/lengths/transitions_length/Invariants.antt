@@ -1,6 +1,6 @@
 use Rattle.std.proofs.Common.{◌≡◌, ◌≤◌, ◌+◌, ◌-◌, ◌^◌, drop}
-use Rattle.step_code.specs.Capped.{capped}
-use Rattle.step_code.specs.Lengths.{length_edges}
+use Rattle.step_code.specs.CappedWeights.{capped}
+use Rattle.step_code.specs.CodeLengths.{length_edges}
 use Rattle.step_compiler.proofs.lengths.transitions_length.Given as goal
 
 abbrev pub invariant-loop-transition : goal.invariant-loop-transition

@@ -1,6 +1,6 @@
 use Rattle.std.proofs.Common.{◌≡◌, length, drop}
 use Rattle.std.specs.Prelude.{fold, replicate, false}
-use Rattle.step_compiler.specs.proof.Order.{with_target}
+use Rattle.step_compiler.specs.proof.BlockOrder.{with_target}
 use Rattle.step_compiler.proofs.order.awaited.Given as goal
 
 abbrev pub invariant-loop-transition : goal.invariant-loop-transition

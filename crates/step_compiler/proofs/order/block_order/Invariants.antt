@@ -1,5 +1,5 @@
 use Rattle.std.proofs.Common.{◌≡◌, ◌-◌, length}
-use Rattle.step_compiler.specs.proof.Order.{ordered, block_order}
+use Rattle.step_compiler.specs.proof.BlockOrder.{ordered, block_order}
 use Rattle.step_compiler.proofs.order.block_order.Given as goal
 
 abbrev pub invariant-loop-round : goal.invariant-loop-round

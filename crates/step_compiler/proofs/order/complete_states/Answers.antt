@@ -1,8 +1,8 @@
 use Rattle.std.proofs.Common.{◌≡◌, ◌∙◌, true, false, [], ◌∷◌, ◌++◌, sym, ap, append-nil}
 use Rattle.std.specs.Prelude.{slice_get, filter}
-use Rattle.pals_base.specs.Fire.{completes, is_complete}
-use Rattle.pals_base.specs.Steps.{upwards}
-use Rattle.step_compiler.proofs.Listing.{filter_more}
+use Rattle.pals_base.specs.SingleStep.{completes, is_complete}
+use Rattle.pals_base.specs.StepSequences.{upwards}
+use Rattle.step_compiler.proofs.NumberedLists.{filter_more}
 use Rattle.step_compiler.proofs.order.complete_states.Goals as goal
 use Rattle.step_compiler.proofs.order.complete_states.Goals.{then-is_complete+in_ok-push, else-is_complete}
 

@@ -1,5 +1,5 @@
 use Rattle.std.proofs.Common.{◌≡◌, drop}
-use Rattle.step_compiler.specs.proof.Order.{is_placed}
+use Rattle.step_compiler.specs.proof.BlockOrder.{is_placed}
 use Rattle.step_compiler.proofs.order.is_placed.Given as goal
 
 abbrev pub invariant-loop-placed : goal.invariant-loop-placed

@@ -1,7 +1,7 @@
 use Rattle.std.proofs.Common.{◌≡◌, ◌-◌, length}
 use Rattle.std.specs.Prelude.{find}
-use Rattle.pals_base.specs.Steps.{upwards}
-use Rattle.step_compiler.specs.proof.Order.{may_follow, next_state}
+use Rattle.pals_base.specs.StepSequences.{upwards}
+use Rattle.step_compiler.specs.proof.BlockOrder.{may_follow, next_state}
 use Rattle.step_compiler.proofs.order.next_state.Given as goal
 
 abbrev pub invariant-loop-state : goal.invariant-loop-state

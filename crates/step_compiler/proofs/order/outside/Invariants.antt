@@ -1,5 +1,5 @@
 use Rattle.std.proofs.Common.{◌≡◌}
-use Rattle.step_compiler.specs.proof.Order.{states_outside}
+use Rattle.step_compiler.specs.proof.BlockOrder.{states_outside}
 use Rattle.step_compiler.proofs.order.outside.Given as goal
 
 abbrev pub invariant-loop-state : goal.invariant-loop-state

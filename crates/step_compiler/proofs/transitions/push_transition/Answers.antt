@@ -1,15 +1,15 @@
 use Rattle.std.proofs.Common.{◌≡◌, ◌∙◌, [], ◌∷◌, ◌++◌, length, ap}
 use Rattle.std.specs.Prelude.{slice_get}
 use Rattle.list_lemmas.proofs.Results.{OnOk-weaker}
-use Rattle.pals_base.specs.Fire.{completes, is_complete}
-use Rattle.pals_base.specs.Tree.{Edge}
-use Rattle.pals_base.specs.proof.Seen.{trigger_of, actions_along}
-use Rattle.step_code.specs.Lengths.{length_trigger}
-use Rattle.step_compiler.specs.Layout.{code_acts}
-use Rattle.step_compiler.specs.Blocks.{trigger_code, last_instr, past}
-use Rattle.step_compiler.specs.proof.Blocks.{in_list}
+use Rattle.pals_base.specs.SingleStep.{completes, is_complete}
+use Rattle.pals_base.specs.PlainTrees.{Edge}
+use Rattle.pals_base.specs.proof.SourceTrees.{trigger_of, actions_along}
+use Rattle.step_code.specs.CodeLengths.{length_trigger}
+use Rattle.step_compiler.specs.ActionLayout.{code_acts}
+use Rattle.step_compiler.specs.BlockLayout.{trigger_code, last_instr, past}
+use Rattle.step_compiler.specs.proof.BlockLengths.{in_list}
 use Rattle.step_compiler.proofs.PlacedCode.{trigger-length}
-use Rattle.step_compiler.proofs.Appending.{between}
+use Rattle.step_compiler.proofs.AppendedParts.{between}
 use Rattle.step_compiler.proofs.transitions.push_transition.Goals as goal
 
 pub returns : goal.returns

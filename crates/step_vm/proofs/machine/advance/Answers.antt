@@ -7,13 +7,13 @@ use mir.Syntax.{w64}
 use mir.Val.{SFits}
 use Rattle.pals_base.specs.declared.values.PortValue.TheVariants as port
 use Rattle.pals_base.specs.declared.values.PortValue.{PortValue as Value}
-use Rattle.pals_base.specs.Fire.{is_present}
+use Rattle.pals_base.specs.SingleStep.{is_present}
 use Rattle.pals_base.specs.Expressions.{is_true, truth}
 use Rattle.step_code.specs.declared.instr.Instr.{Instr}
 use Rattle.step_code.specs.declared.instr.Instr.TheVariants.{Store}
-use Rattle.step_code.specs.Step.{Senses, step, on_top, on_found, on_result, Goes}
+use Rattle.step_code.specs.InstructionEffects.{Senses, step, on_top, on_found, on_result, Goes}
 use Rattle.pals_base.specs.Arithmetic.{negation_of, magnitude_of}
-use Rattle.step_vm.specs.proof.Outcomes.{Met}
+use Rattle.step_vm.specs.proof.StepOutcomes.{Met}
 use Rattle.step_vm.proofs.machine.advance.Goals as goal
 
 -- a store, at the slot and the stack that are there

@@ -3,8 +3,8 @@ use Rattle.std.proofs.lemmas.Int.{to_z-of_z}
 use mir.Syntax.{w64}
 use mir.Val.{SFits}
 use Rattle.pals_base.specs.Expressions.{applied}
-use Rattle.step_code.specs.Step.{on_two, on_result, Goes}
-use Rattle.step_vm.specs.proof.Outcomes.{Met}
+use Rattle.step_code.specs.InstructionEffects.{on_two, on_result, Goes}
+use Rattle.step_vm.specs.proof.StepOutcomes.{Met}
 use Rattle.step_vm.proofs.machine.two.Goals as goal
 
 pub returns-clause-met : goal.returns-clause-met

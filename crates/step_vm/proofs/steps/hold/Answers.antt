@@ -2,8 +2,8 @@ use Rattle.std.proofs.Common.{◌∙◌, length, take, sym, ap, arith, rules, w6
 use Rattle.std.proofs.lemmas.Int.{to_z-of_z}
 use mir.Val.{SFits}
 use Rattle.pals_base.specs.declared.values.PortValue.TheVariants.{Absent}
-use Rattle.step_code.proofs.Ending.{length-holding}
-use Rattle.step_vm.proofs.Holding.{holding-none, hold_present, hold_absent}
+use Rattle.step_code.proofs.StepResults.{length-holding}
+use Rattle.step_vm.proofs.HeldInputs.{holding-none, hold_present, hold_absent}
 use Rattle.step_vm.proofs.steps.hold.Goals as goal
 use Rattle.step_vm.proofs.steps.hold.Goals.{in-Present, in_default}
 

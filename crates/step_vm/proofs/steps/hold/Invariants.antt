@@ -1,5 +1,5 @@
 use Rattle.std.proofs.Common.{◌≡◌, take}
-use Rattle.pals_base.specs.Fire.{holding}
+use Rattle.pals_base.specs.SingleStep.{holding}
 use Rattle.step_vm.proofs.steps.hold.Given as goal
 
 abbrev pub invariant-loop-at : goal.invariant-loop-at

@@ -1,8 +1,8 @@
 use Rattle.std.proofs.Common.{◌≡◌, subst}
-use Rattle.pals_base.specs.Fire.{Fired}
+use Rattle.pals_base.specs.SingleStep.{Fired}
 use Rattle.step_code.specs.declared.instr.CodeParts.{CodeParts}
-use Rattle.step_code.specs.proof.Exec.{exec, Leaves}
-use Rattle.step_vm.proofs.Fitting.{frame_fits}
+use Rattle.step_code.specs.proof.CodeRuns.{exec, Leaves}
+use Rattle.step_vm.proofs.FittingFrames.{frame_fits}
 use Rattle.step_vm.proofs.steps.run.Goals as goal
 
 pub returns-clause-fits : goal.returns-clause-fits

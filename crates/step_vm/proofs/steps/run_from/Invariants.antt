@@ -1,5 +1,5 @@
 use Rattle.std.proofs.Common.{length}
-use Rattle.step_vm.proofs.Running.{Task, IsUnderWay, left}
+use Rattle.step_vm.proofs.MachineInvariant.{Task, IsUnderWay, left}
 use Rattle.step_vm.proofs.steps.run_from.Given as goal
 
 abbrev pub invariant-loop-next : goal.invariant-loop-next

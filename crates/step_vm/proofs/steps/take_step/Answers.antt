@@ -2,9 +2,9 @@ use Rattle.std.proofs.Common.{◌≡◌, ◌∙◌, Some, None, true, false, Opt
 use Rattle.std.specs.Prelude.{Bool}
 use Rattle.std.specs.Option.{is_some}
 use Rattle.pals_base.specs.declared.values.Frame.{Frame}
-use Rattle.pals_base.specs.Fire.{Fired}
-use Rattle.step_code.proofs.Ending.{length-holding, member_at}
-use Rattle.step_vm.proofs.Leaving.{stepped}
+use Rattle.pals_base.specs.SingleStep.{Fired}
+use Rattle.step_code.proofs.StepResults.{length-holding, member_at}
+use Rattle.step_vm.proofs.StepOutcomes.{stepped}
 use Rattle.step_vm.proofs.steps.take_step.Goals as goal
 
 none_of : {A : Type 0} (o : Option A) (b : Bool) → b ≡ is_some o → b ≡ false → o ≡ None

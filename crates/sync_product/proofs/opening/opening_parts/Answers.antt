@@ -6,9 +6,9 @@ use Rattle.pals_base.specs.declared.values.PortValue.TheVariants.{Absent}
 use Rattle.pals_base.specs.declared.values.Frame.{Frame}
 use Rattle.pals_model.specs.declared.design.Component.{Component}
 use Rattle.pals_model.specs.declared.rounds.Part.{Part}
-use Rattle.sync_product.specs.proof.State.{opening_part}
-use Rattle.sync_product.specs.proof.Sizes.{tap_ports}
-use Rattle.sync_product.proofs.Tables.{numbered-at, entry_at, within_table, item_at}
+use Rattle.sync_product.specs.proof.ProductStates.{opening_part}
+use Rattle.sync_product.specs.proof.ProductSizes.{tap_ports}
+use Rattle.sync_product.proofs.ComponentLists.{numbered-at, entry_at, within_table, item_at}
 use Rattle.sync_product.proofs.opening.opening_parts.Goals as goal
 
 pub bounds-taps-node : goal.bounds-taps-node

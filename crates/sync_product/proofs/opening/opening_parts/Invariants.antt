@@ -1,6 +1,6 @@
 use Rattle.std.proofs.Common.{◌≡◌, ◌++◌, map, drop}
 use Rattle.std.specs.List.{enumerate_from}
-use Rattle.sync_product.specs.proof.State.{opening_part}
+use Rattle.sync_product.specs.proof.ProductStates.{opening_part}
 use Rattle.sync_product.proofs.opening.opening_parts.Given as goal
 
 abbrev pub invariant-loop-node : goal.invariant-loop-node

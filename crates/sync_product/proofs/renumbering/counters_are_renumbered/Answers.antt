@@ -1,5 +1,5 @@
-use Rattle.sync_product.proofs.Counters.{counters_are_designs}
-use Rattle.sync_product.proofs.Exchanging.{counters_are_renumbered, no_inputs}
+use Rattle.sync_product.proofs.CounterDesigns.{counters_are_designs}
+use Rattle.sync_product.proofs.ExchangedCounters.{counters_are_renumbered, no_inputs}
 use Rattle.sync_product.proofs.renumbering.counters_are_renumbered.Goals as goal
 
 pub returns : goal.returns

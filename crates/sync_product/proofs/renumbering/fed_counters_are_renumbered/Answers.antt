@@ -1,5 +1,5 @@
-use Rattle.sync_product.proofs.Counters.{fed_counters_are_designs}
-use Rattle.sync_product.proofs.Exchanging.{fed_counters_are_renumbered, exchanged_inputs}
+use Rattle.sync_product.proofs.CounterDesigns.{fed_counters_are_designs}
+use Rattle.sync_product.proofs.ExchangedCounters.{fed_counters_are_renumbered, exchanged_inputs}
 use Rattle.sync_product.proofs.renumbering.fed_counters_are_renumbered.Goals as goal
 
 pub returns : goal.returns

@@ -1,4 +1,4 @@
-use Rattle.sync_product.proofs.Rounds.{message_after}
+use Rattle.sync_product.proofs.RenumberedRounds.{message_after}
 use Rattle.sync_product.proofs.renumbering.messages_are_renumbered.Goals as goal
 
 pub returns : goal.returns

@@ -1,4 +1,4 @@
-use Rattle.sync_product.proofs.Back.{undone, same_inputs_back}
+use Rattle.sync_product.proofs.InverseRenumbering.{undone, same_inputs_back}
 use Rattle.sync_product.proofs.renumbering.numbers_go_back.Goals as goal
 
 pub returns : goal.returns

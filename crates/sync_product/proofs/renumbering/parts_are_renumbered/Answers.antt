@@ -1,4 +1,4 @@
-use Rattle.sync_product.proofs.Rounds.{part_after}
+use Rattle.sync_product.proofs.RenumberedRounds.{part_after}
 use Rattle.sync_product.proofs.renumbering.parts_are_renumbered.Goals as goal
 
 pub returns : goal.returns

@@ -1,4 +1,4 @@
-use Rattle.sync_product.proofs.Rounds.{states_after}
+use Rattle.sync_product.proofs.RenumberedRounds.{states_after}
 use Rattle.sync_product.proofs.renumbering.states_are_renumbered.Goals as goal
 
 pub returns : goal.returns

@@ -2,11 +2,11 @@ use Rattle.std.proofs.Common.{◌∙◌, ◌<◌, ap, sym, length, slice_index_o
 use Rattle.std.proofs.lemmas.List.{get_or_default}
 use Rattle.std.proofs.lemmas.Option.{slice_get_within}
 use Rattle.pals_model.specs.declared.rounds.Part.{Part}
-use Rattle.sync_product.specs.proof.Sizes.{frame_size, part_size, stage_size}
-use Rattle.sync_product.proofs.Filling.{same_sizes}
-use Rattle.sync_product.proofs.Fitting.{count_of_parts, count_of_stages, fits_sources, fits_part, fits_frame}
-use Rattle.sync_product.proofs.Fitting.{fits_stage}
-use Rattle.sync_product.proofs.Stepping.{stepped_more, rows_by, part_by}
+use Rattle.sync_product.specs.proof.ProductSizes.{frame_size, part_size, stage_size}
+use Rattle.sync_product.proofs.SizePreservation.{same_sizes}
+use Rattle.sync_product.proofs.StepRoom.{count_of_parts, count_of_stages, fits_sources, fits_part, fits_frame}
+use Rattle.sync_product.proofs.StepRoom.{fits_stage}
+use Rattle.sync_product.proofs.ComponentSteps.{stepped_more, rows_by, part_by}
 use Rattle.sync_product.proofs.round.run_all.Goals as goal
 
 pub bounds-parts-node : goal.bounds-parts-node

@@ -1,7 +1,7 @@
 use Rattle.std.proofs.Common.{◌≡◌, ◌<◌, ℕ, map, slice_get, Some}
 use Rattle.pals_model.specs.declared.design.Component.{Component}
 use Rattle.sync_product.specs.proof.Rounds.{IsStepped, frames_of}
-use Rattle.sync_product.specs.proof.Sizes.{part_size, stage_size}
+use Rattle.sync_product.specs.proof.ProductSizes.{part_size, stage_size}
 use Rattle.sync_product.proofs.round.run_all.Given as goal
 
 -- the first components have made their steps, and the sizes stay

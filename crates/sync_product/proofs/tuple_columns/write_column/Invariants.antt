@@ -1,5 +1,5 @@
 use Rattle.std.proofs.Common.{◌≡◌, length, take}
-use Rattle.pals_base.specs.Steps.{column, cut}
+use Rattle.pals_base.specs.StepSequences.{column, cut}
 use Rattle.sync_product.proofs.tuple_columns.write_column.Given as goal
 
 -- the first places are written

@@ -1,6 +1,6 @@
 use Rattle.std.proofs.Common.{List, ℕ, ◌+◌, ◌*◌, ◌≤◌, All, sym, subst}
 use Rattle.std.specs.List.Sorted.{IsNonDecreasing}
-use Rattle.thread_tests.proofs.Readings.{in_order, all_below}
+use Rattle.thread_tests.proofs.OrderedReadings.{in_order, all_below}
 use Rattle.thread_tests.proofs.clocks.steady.Goals as goal
 
 pub loop-number-preserved : goal.loop-number-preserved

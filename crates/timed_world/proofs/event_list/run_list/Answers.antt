@@ -1,10 +1,10 @@
 use Rattle.std.proofs.Common.{◌≡◌, List, [], ◌∷◌, ◌++◌, take, None, ap, ◌∙◌, sym, subst}
 use Rattle.std.proofs.lemmas.List.{take_more}
 use Rattle.pals_runs.specs.declared.events.Event.{Event}
-use Rattle.run_laws.specs.Faults.{fault_of}
-use Rattle.timed_world.specs.proof.Values.{world_of}
+use Rattle.run_laws.specs.EventFaults.{fault_of}
+use Rattle.timed_world.specs.proof.WorldValues.{world_of}
 use Rattle.timed_world.specs.proof.EventLists.{Leads}
-use Rattle.timed_world.proofs.Leads.{leads_more}
+use Rattle.timed_world.proofs.EventLists.{leads_more}
 use Rattle.timed_world.proofs.event_list.run_list.Goals as goal
 
 pub loop-index-preserved : goal.loop-index-preserved

@@ -5,7 +5,7 @@ use Rattle.bus_machine.specs.States.{no_link}
 use Rattle.pals_bus.proofs.Openings.{map_more}
 use Rattle.pals_model.specs.Delays.{AreDelays}
 use Rattle.pals_model.specs.Rules.{IsGamma}
-use Rattle.timed_world.proofs.Openings.{least_fit}
+use Rattle.timed_world.proofs.OpeningWorlds.{least_fit}
 use Rattle.timed_world.proofs.opening.least_delays.Goals as goal
 
 pub loop-link-preserved : goal.loop-link-preserved

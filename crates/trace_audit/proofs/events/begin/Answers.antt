@@ -4,10 +4,10 @@ use Rattle.bus_machine.specs.NodeEvents.{is_waiting}
 use Rattle.bus_machine.specs.Machine.{Start}
 use Rattle.run_laws.specs.TraceRules.{alarm_at, falls}
 use Rattle.pals_node.specs.proof.Answers.{is_early, StartEnds}
-use Rattle.pals_bus.specs.proof.Values.{node_value}
+use Rattle.pals_bus.specs.proof.BusPartValues.{node_value}
 use Rattle.pals_bus.specs.proof.Answers.{BusStartEnds}
-use Rattle.trace_audit.proofs.Breaking.{early_breaks}
-use Rattle.trace_audit.proofs.Starting.{started, misses}
+use Rattle.trace_audit.proofs.BrokenRules.{early_breaks}
+use Rattle.trace_audit.proofs.StartRules.{started, misses}
 use Rattle.trace_audit.proofs.events.begin.Goals as goal
 
 pub returns-in-Ok-clause-rule : goal.returns-in-Ok-clause-rule

@@ -2,15 +2,15 @@ use Rattle.std.proofs.Common.{◌≡◌, Some, None, cond, true, refl, sym, ap, 
 use Rattle.std.proofs.lemmas.Bool.{eq-eqb}
 use Rattle.pals_runs.specs.declared.journal.JournalEntry.TheVariants as entry
 use Rattle.pals_runs.specs.declared.verdicts.TraceRule.TheVariants as rule
-use Rattle.bus_machine.specs.Alarms.{release_alarm}
+use Rattle.bus_machine.specs.EarliestReadings.{release_alarm}
 use Rattle.bus_machine.specs.Nodes.{round_of}
 use Rattle.bus_machine.specs.Plans.{plan_of}
 use Rattle.bus_machine.specs.States.{node_at}
 use Rattle.bus_machine.specs.Machine.{Send}
 use Rattle.pals_node.specs.proof.Answers.{is_early, SendEnds}
-use Rattle.pals_bus.specs.proof.Values.{node_value}
+use Rattle.pals_bus.specs.proof.BusPartValues.{node_value}
 use Rattle.pals_bus.specs.proof.Answers.{BusSendEnds}
-use Rattle.trace_audit.proofs.Breaking.{early_breaks}
+use Rattle.trace_audit.proofs.BrokenRules.{early_breaks}
 use Rattle.trace_audit.proofs.events.send.Goals as goal
 
 pub returns-in-Err-Refused-NotYet-clause-rule : goal.returns-in-Err-Refused-NotYet-clause-rule

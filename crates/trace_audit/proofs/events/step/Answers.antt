@@ -3,16 +3,16 @@ use Rattle.std.specs.Prelude.{is_some}
 use Rattle.std.specs.Option.{option_map_or}
 use Rattle.pals_runs.specs.declared.journal.JournalEntry.TheVariants as entry
 use Rattle.pals_runs.specs.declared.verdicts.TraceRule.TheVariants as rule
-use Rattle.bus_machine.specs.Alarms.{step_alarm}
+use Rattle.bus_machine.specs.EarliestReadings.{step_alarm}
 use Rattle.bus_machine.specs.NodeEvents.{next_step}
 use Rattle.bus_machine.specs.Plans.{plan_of}
 use Rattle.bus_machine.specs.States.{node_at}
 use Rattle.bus_machine.specs.Machine.{Step}
 use Rattle.pals_node.specs.proof.Answers.{is_early, StepEnds}
-use Rattle.pals_bus.specs.proof.Values.{node_value}
+use Rattle.pals_bus.specs.proof.BusPartValues.{node_value}
 use Rattle.pals_bus.specs.proof.Answers.{BusStepEnds}
-use Rattle.trace_audit.proofs.Breaking.{early_breaks}
-use Rattle.trace_audit.proofs.Numbers.{next_is, step_fits}
+use Rattle.trace_audit.proofs.BrokenRules.{early_breaks}
+use Rattle.trace_audit.proofs.EntryNumbers.{next_is, step_fits}
 use Rattle.trace_audit.proofs.events.step.Goals as goal
 
 pub returns-in-Err-Refused-NotYet-clause-rule : goal.returns-in-Err-Refused-NotYet-clause-rule

@@ -1,5 +1,5 @@
 use Rattle.std.proofs.Common.{◌≡◌, Some, None, length, sym, ◌∙◌}
-use Rattle.trace_audit.proofs.Cutting.{feed_at}
+use Rattle.trace_audit.proofs.TextLines.{feed_at}
 use Rattle.trace_audit.proofs.lines.line_length.Goals as goal
 
 pub returns-in-Some-clause-value : goal.returns-in-Some-clause-value

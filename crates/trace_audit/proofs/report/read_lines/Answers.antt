@@ -3,12 +3,12 @@ use Rattle.std.specs.Prelude.{bytes_eq, is_some}
 use Rattle.pals_model.specs.declared.design.DesignParts.{DesignParts}
 use Rattle.pals_model.specs.declared.rounds.Env.{Env}
 use Rattle.run_laws.specs.LineForms.{form_of}
-use Rattle.run_laws.specs.Traces.{line_at, row_size}
+use Rattle.run_laws.specs.TraceVerdicts.{line_at, row_size}
 use Rattle.trace_audit.specs.declared.report.ReportEnd.TheVariants.{Wrong}
-use Rattle.trace_audit.specs.proof.Reports.{end_at, index_of}
+use Rattle.trace_audit.specs.proof.ReportEnds.{end_at, index_of}
 use Rattle.trace_audit.specs.proof.ReportRows.{IsAtLine}
-use Rattle.trace_audit.proofs.Making.{own_design}
-use Rattle.trace_audit.proofs.Reporting.{at_end, at_form, at_other, at_same, index_of_end, report_ends}
+use Rattle.trace_audit.proofs.ReportRows.{own_design}
+use Rattle.trace_audit.proofs.ReportEnds.{at_end, at_form, at_other, at_same, index_of_end, report_ends}
 use Rattle.trace_audit.proofs.report.read_lines.Goals as goal
 
 pub returns-then-has_form-clause-value : goal.returns-then-has_form-clause-value

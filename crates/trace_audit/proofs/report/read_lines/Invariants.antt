@@ -1,6 +1,6 @@
 use Rattle.std.proofs.Common.{◌≡◌, drop}
 use Rattle.trace_audit.specs.proof.ReportRows.{IsAtLine}
-use Rattle.trace_audit.proofs.Reporting.{reported}
+use Rattle.trace_audit.proofs.ReportEnds.{reported}
 use Rattle.trace_audit.proofs.report.read_lines.Given as goal
 
 -- the report ends as its lines from the index on say

@@ -1,6 +1,6 @@
 use Rattle.std.proofs.Common.{sym}
-use Rattle.run_laws.proofs.Entries.{lines_differ}
-use Rattle.trace_audit.proofs.Telling.{line_is}
+use Rattle.run_laws.proofs.EntryLines.{lines_differ}
+use Rattle.trace_audit.proofs.StartLines.{line_is}
 use Rattle.trace_audit.proofs.rules.is_line_of.Goals as goal
 
 pub returns : goal.returns

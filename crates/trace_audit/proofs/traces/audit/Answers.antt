@@ -4,9 +4,9 @@ use Rattle.std.specs.Arc.{arc_value}
 use Rattle.pals_model.specs.declared.design.DesignParts.{DesignParts}
 use Rattle.pals_runs.specs.declared.verdicts.Verdict.{Verdict}
 use Rattle.bus_machine.specs.States.{Run}
-use Rattle.run_laws.specs.Traces.{opening_audit, row_size}
-use Rattle.trace_audit.specs.proof.Reports.{ReportEnds}
-use Rattle.trace_audit.proofs.Judging.{judged_whole}
+use Rattle.run_laws.specs.TraceVerdicts.{opening_audit, row_size}
+use Rattle.trace_audit.specs.proof.ReportEnds.{ReportEnds}
+use Rattle.trace_audit.proofs.JournalVerdicts.{judged_whole}
 use Rattle.trace_audit.proofs.traces.audit.Goals as goal
 
 pub audit_behind-requires-clause-design : goal.audit_behind-requires-clause-design

@@ -2,7 +2,7 @@ use Rattle.std.proofs.Common.{rules}
 use Rattle.std.proofs.lemmas.Iterator.Search.{all_from_yields_List}
 use Rattle.std.proofs.lemmas.Iterator.Splits.{YieldsList-from_slice_split}
 use Rattle.run_laws.specs.LineForms.{is_there}
-use Rattle.trace_audit.specs.proof.Words.{is_space}
+use Rattle.trace_audit.specs.proof.RemainingWords.{is_space}
 use Rattle.trace_audit.proofs.words.are_there.Goals as goal
 
 pub returns : goal.returns

@@ -1,7 +1,7 @@
 use Rattle.std.proofs.Common.{◌∙◌, ℕ, List, ap}
 use Rattle.std.specs.List.{list_all}
 use Rattle.run_laws.specs.LineForms.{is_there}
-use Rattle.trace_audit.proofs.Splitting.{same_words}
+use Rattle.trace_audit.proofs.FirstWords.{same_words}
 use Rattle.trace_audit.proofs.words.has_words.Goals as goal
 
 pub returns : goal.returns

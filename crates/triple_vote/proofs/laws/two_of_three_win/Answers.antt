@@ -1,4 +1,4 @@
-use Rattle.triple_vote.proofs.Agreeing.{two_of_three_win}
+use Rattle.triple_vote.proofs.MajorityVotes.{two_of_three_win}
 use Rattle.triple_vote.proofs.laws.two_of_three_win.Goals as goal
 
 pub returns : goal.returns

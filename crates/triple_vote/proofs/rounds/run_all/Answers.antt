@@ -1,14 +1,14 @@
 use Rattle.std.proofs.Common.{◌∙◌, ap, sym, length, slice_index_or, arith}
 use Rattle.std.proofs.lemmas.List.{get_or_default}
 use Rattle.std.proofs.lemmas.Option.{slice_get_within}
-use Rattle.pals_base.specs.Steps.{frame_after, outputs}
+use Rattle.pals_base.specs.StepSequences.{frame_after, outputs}
 use Rattle.pals_model.specs.declared.rounds.Part.{Part}
-use Rattle.sync_product.specs.proof.Sizes.{PartSize, frame_size, part_size, stage_size}
+use Rattle.sync_product.specs.proof.ProductSizes.{PartSize, frame_size, part_size, stage_size}
 use Rattle.sync_product.specs.proof.Rounds.{frames_of, vectors}
-use Rattle.sync_product.proofs.Filling.{same_sizes}
-use Rattle.triple_vote.proofs.Sizing.{stage_within}
-use Rattle.triple_vote.proofs.Running.{run_skip, run_more, frame_by, rows_by, component_is, node_within, part_within}
-use Rattle.triple_vote.proofs.Running.{part_room, stage_room, sources_within, sources_are, sources_count}
+use Rattle.sync_product.proofs.SizePreservation.{same_sizes}
+use Rattle.triple_vote.proofs.TupleLengths.{stage_within}
+use Rattle.triple_vote.proofs.LayerSteps.{run_skip, run_more, frame_by, rows_by, component_is, node_within, part_within}
+use Rattle.triple_vote.proofs.LayerSteps.{part_room, stage_room, sources_within, sources_are, sources_count}
 use Rattle.triple_vote.proofs.rounds.run_all.Goals as goal
 
 pub loop-node-preserved-then-not-there-node : goal.loop-node-preserved-then-not-there-node

@@ -1,7 +1,7 @@
 use Rattle.std.proofs.Common.{◌≡◌, map}
-use Rattle.sync_product.specs.proof.Sizes.{part_size, stage_size}
+use Rattle.sync_product.specs.proof.ProductSizes.{part_size, stage_size}
 use Rattle.sync_product.specs.proof.Rounds.{frames_of}
-use Rattle.triple_vote.proofs.Running.{RunTo}
+use Rattle.triple_vote.proofs.LayerSteps.{RunTo}
 use Rattle.triple_vote.proofs.rounds.run_all.Given as goal
 
 -- the first components that are there have made their steps, and the sizes stay

@@ -1,9 +1,9 @@
 use Rattle.std.proofs.Common.{◌≡◌}
 use Rattle.pals_model.specs.declared.design.Link.{Link}
-use Rattle.sync_product.specs.proof.Sizes.{message_sizes}
+use Rattle.sync_product.specs.proof.ProductSizes.{message_sizes}
 use Rattle.sync_product.specs.proof.Rounds.{sent_by}
-use Rattle.triple_vote.specs.proof.Layers.{lengths, is_there}
-use Rattle.triple_vote.proofs.Filling.{Filled}
+use Rattle.triple_vote.specs.proof.ReplicaLayers.{lengths, is_there}
+use Rattle.triple_vote.proofs.TupleWrites.{Filled}
 use Rattle.triple_vote.proofs.rounds.send_all.Given as goal
 
 -- the first messages are written

@@ -1,7 +1,7 @@
 use Rattle.std.proofs.Common.{◌∙◌, List, length, sym, ap, ap₂, arith}
 use Rattle.pals_base.specs.declared.values.PortValue.{PortValue}
 use Rattle.triple_vote.specs.Votes.{votes}
-use Rattle.triple_vote.specs.proof.Triples.{shown_in, tuple_of, shown_of}
+use Rattle.triple_vote.specs.proof.ReplicaTriples.{shown_in, tuple_of, shown_of}
 use Rattle.triple_vote.proofs.showing.show.Goals as goal
 
 pub vote_into-requires-clause-to : goal.vote_into-requires-clause-to

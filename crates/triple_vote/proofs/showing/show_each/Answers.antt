@@ -1,9 +1,9 @@
 use Rattle.std.proofs.Common.{◌∙◌, true, refl, ap, length, arith}
 use Rattle.pals_model.specs.declared.design.Tap.{Tap}
 use Rattle.triple_vote.specs.Replicas.{is_replicated}
-use Rattle.triple_vote.specs.proof.Triples.{shown_in, shown_of}
-use Rattle.triple_vote.proofs.Filling.{filled_all}
-use Rattle.triple_vote.proofs.Gathering.{shown_fit, shown_sizes_stay, shown_more}
+use Rattle.triple_vote.specs.proof.ReplicaTriples.{shown_in, shown_of}
+use Rattle.triple_vote.proofs.TupleWrites.{filled_all}
+use Rattle.triple_vote.proofs.VotedMessages.{shown_fit, shown_sizes_stay, shown_more}
 use Rattle.triple_vote.proofs.showing.show_each.Goals as goal
 
 pub show-requires : goal.show-requires

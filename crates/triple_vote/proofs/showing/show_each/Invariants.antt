@@ -1,9 +1,9 @@
 use Rattle.std.proofs.Common.{◌≡◌, true}
 use Rattle.pals_model.specs.declared.design.Tap.{Tap}
 use Rattle.triple_vote.specs.Replicas.{is_replicated}
-use Rattle.triple_vote.specs.proof.Layers.{lengths, tap_sizes}
-use Rattle.triple_vote.specs.proof.Triples.{shown_in, shown_of}
-use Rattle.triple_vote.proofs.Filling.{Filled}
+use Rattle.triple_vote.specs.proof.ReplicaLayers.{lengths, tap_sizes}
+use Rattle.triple_vote.specs.proof.ReplicaTriples.{shown_in, shown_of}
+use Rattle.triple_vote.proofs.TupleWrites.{Filled}
 use Rattle.triple_vote.proofs.showing.show_each.Given as goal
 
 -- what the first root out ports show is written

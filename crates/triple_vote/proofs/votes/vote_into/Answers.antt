@@ -3,7 +3,7 @@ use Rattle.std.proofs.lemmas.Grind.{common_steps}
 use Rattle.pals_base.specs.declared.values.PortValue.{PortValue}
 use Rattle.pals_base.specs.declared.values.PortValue.TheVariants.{Absent}
 use Rattle.triple_vote.specs.Votes.{vote}
-use Rattle.triple_vote.proofs.Places.{voted_more, voted_all}
+use Rattle.triple_vote.proofs.TupleVotes.{voted_more, voted_all}
 use Rattle.triple_vote.proofs.votes.vote_into.Goals as goal
 
 pub loop-at-preserved : goal.loop-at-preserved

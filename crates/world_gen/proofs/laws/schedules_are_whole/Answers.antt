@@ -1,5 +1,5 @@
-use Rattle.world_gen.proofs.ScheduleLists.{moments_exist, moments_are_one}
-use Rattle.world_gen.proofs.ScheduleMoments.{schedules_are_whole}
+use Rattle.world_gen.proofs.UniqueMoments.{moments_exist, moments_are_one}
+use Rattle.world_gen.proofs.WholeSchedules.{schedules_are_whole}
 use Rattle.world_gen.proofs.laws.schedules_are_whole.Goals as goal
 
 pub returns : goal.returns

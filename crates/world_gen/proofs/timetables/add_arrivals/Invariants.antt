@@ -1,5 +1,5 @@
 use Rattle.std.proofs.Common.{◌≡◌, ◌++◌}
-use Rattle.world_gen.specs.proof.Courses.{arrive_course, each_of}
+use Rattle.world_gen.specs.proof.EventSeries.{arrive_course, each_of}
 use Rattle.world_gen.proofs.timetables.add_arrivals.Given as goal
 
 abbrev pub invariant-loop-link : goal.invariant-loop-link

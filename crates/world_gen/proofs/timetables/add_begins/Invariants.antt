@@ -1,5 +1,5 @@
 use Rattle.std.proofs.Common.{◌≡◌, ◌++◌}
-use Rattle.world_gen.specs.proof.Courses.{begin_course, each_of}
+use Rattle.world_gen.specs.proof.EventSeries.{begin_course, each_of}
 use Rattle.world_gen.proofs.timetables.add_begins.Given as goal
 
 abbrev pub invariant-loop-node : goal.invariant-loop-node

@@ -1,5 +1,5 @@
 use Rattle.std.proofs.Common.{◌≡◌, ◌++◌, take}
-use Rattle.world_gen.specs.proof.Courses.{events_of}
+use Rattle.world_gen.specs.proof.EventSeries.{events_of}
 use Rattle.world_gen.proofs.timetables.add_events.Given as goal
 
 abbrev pub invariant-loop-course : goal.invariant-loop-course

@@ -1,5 +1,5 @@
 use Rattle.std.proofs.Common.{◌≡◌, ◌++◌}
-use Rattle.world_gen.specs.proof.Courses.{send_course, each_of}
+use Rattle.world_gen.specs.proof.EventSeries.{send_course, each_of}
 use Rattle.world_gen.proofs.timetables.add_sends.Given as goal
 
 abbrev pub invariant-loop-node : goal.invariant-loop-node

@@ -1,5 +1,5 @@
 use Rattle.std.proofs.Common.{◌≡◌, take}
-use Rattle.world_gen.specs.proof.Courses.{next_moment}
+use Rattle.world_gen.specs.proof.EventSeries.{next_moment}
 use Rattle.world_gen.proofs.timetables.next_moment.Given as goal
 
 abbrev pub invariant-loop-course : goal.invariant-loop-course

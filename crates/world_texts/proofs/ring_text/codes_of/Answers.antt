@@ -1,6 +1,6 @@
 use Rattle.std.proofs.Common.{subst}
-use Rattle.design_codes.specs.Causes.{IsCause}
-use Rattle.world_texts.proofs.Rings.{never_too_long}
+use Rattle.design_codes.specs.OverlongCodes.{IsCause}
+use Rattle.world_texts.proofs.RingSums.{never_too_long}
 use Rattle.world_texts.proofs.ring_text.codes_of.Goals as goal
 
 pub unreachable-requires : goal.unreachable-requires

@@ -2,11 +2,11 @@ use Rattle.std.proofs.Common.{◌≡◌, ◌∙◌, List, ap, subst}
 use Rattle.pals_base.specs.declared.values.PortValue.{PortValue}
 use Rattle.pals_model.specs.declared.design.DesignParts.{DesignParts}
 use Rattle.pals_model.specs.declared.rounds.Env.{Env}
-use Rattle.pals_model.specs.Inputs.{no_env}
+use Rattle.pals_model.specs.ComponentInputs.{no_env}
 use Rattle.pals_runs.specs.declared.events.Event.{Event}
-use Rattle.timed_world.specs.proof.Values.{WorldValue, opening_value}
+use Rattle.timed_world.specs.proof.WorldValues.{WorldValue, opening_value}
 use Rattle.timed_world.specs.proof.EventLists.{Leads}
-use Rattle.world_texts.proofs.Rings.{all_done}
+use Rattle.world_texts.proofs.RingSums.{all_done}
 use Rattle.world_texts.proofs.ring_text.done_ring.Goals as goal
 
 pub returns : goal.returns

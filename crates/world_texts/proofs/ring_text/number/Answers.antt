@@ -4,8 +4,8 @@ use mir.Syntax.{w64}
 use mir.Val.{SFits}
 use Rattle.bus_machine.specs.States.{Run}
 use Rattle.world_gen.specs.Rings.{ring_component}
-use Rattle.world_gen.proofs.Numbered.{length-numbered}
-use Rattle.world_texts.proofs.Rings.{part_is_there, last_number}
+use Rattle.world_gen.proofs.NumberedLists.{length-numbered}
+use Rattle.world_texts.proofs.RingSums.{part_is_there, last_number}
 use Rattle.world_texts.proofs.ring_text.number.Goals as goal
 
 pub part-requires : goal.part-requires

@@ -1,5 +1,5 @@
 use Rattle.std.proofs.Common.{◌≡◌}
-use Rattle.world_texts.proofs.Rings.{sum_first}
+use Rattle.world_texts.proofs.RingSums.{sum_first}
 use Rattle.world_texts.proofs.ring_text.sum_of_numbers.Given as goal
 
 -- the sum of the first numbers

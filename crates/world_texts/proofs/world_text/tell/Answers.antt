@@ -1,6 +1,6 @@
 use Rattle.std.proofs.Common.{◌∙◌, ◌++◌, List, ℕ, ap, subst}
 use Rattle.pals_model.specs.RoundTexts.{text_of}
-use Rattle.loose_world.specs.proof.Finished.{finished_lines}
+use Rattle.loose_world.specs.proof.FinishedRows.{finished_lines}
 use Rattle.timed_world.specs.declared.event_list.WorldEnd.{WorldEnd}
 use Rattle.world_texts.specs.proof.WorldTexts.{LeadsTelling, TellsEvents}
 use Rattle.world_texts.proofs.WorldTexts.{world_told}

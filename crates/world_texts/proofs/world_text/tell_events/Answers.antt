@@ -2,10 +2,10 @@ use Rattle.std.proofs.Common.{◌≡◌, ◌∙◌, ◌++◌, None, ap, subst}
 use Rattle.std.proofs.lemmas.List.{get_or_default}
 use Rattle.pals_model.specs.RoundTexts.{text_of}
 use Rattle.pals_runs.specs.declared.events.Event.{Event}
-use Rattle.pals_bus.specs.Values.{BusValue}
-use Rattle.run_laws.specs.Faults.{fault_of}
-use Rattle.loose_world.specs.Worlds.{told_by}
-use Rattle.timed_world.specs.proof.Values.{world_of, Moves}
+use Rattle.pals_bus.specs.BusValues.{BusValue}
+use Rattle.run_laws.specs.EventFaults.{fault_of}
+use Rattle.loose_world.specs.LooseRuns.{told_by}
+use Rattle.timed_world.specs.proof.WorldValues.{world_of, Moves}
 use Rattle.world_texts.proofs.WorldTexts.{telling_more}
 use Rattle.world_texts.proofs.world_text.tell_events.Goals as goal
 

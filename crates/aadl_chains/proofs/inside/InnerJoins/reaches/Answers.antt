@@ -1,7 +1,7 @@
 use Rattle.std.proofs.Common.{◌∙◌, ap, sym}
 use Rattle.aadl_tree.specs.proof.PackageViews.{placed}
-use Rattle.aadl_chains.specs.proof.Inside.{reaches_in}
-use Rattle.aadl_chains.proofs.Joining.{reaches_in_to, reaches_in_from}
+use Rattle.aadl_chains.specs.proof.PortsJoinedInside.{reaches_in}
+use Rattle.aadl_chains.proofs.InsideByConnection.{reaches_in_to, reaches_in_from}
 use Rattle.aadl_chains.proofs.inside.InnerJoins.reaches.Goals as goal
 
 pub returns : goal.returns

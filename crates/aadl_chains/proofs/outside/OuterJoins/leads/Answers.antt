@@ -1,6 +1,6 @@
 use Rattle.std.proofs.Common.{◌∙◌, sym}
 use Rattle.aadl_tree.specs.proof.PackageViews.{placed}
-use Rattle.aadl_chains.proofs.Leading.{leads_to, leads_found}
+use Rattle.aadl_chains.proofs.OutsideByConnection.{leads_to, leads_found}
 use Rattle.aadl_chains.proofs.outside.OuterJoins.leads.Goals as goal
 
 pub returns : goal.returns

@@ -3,7 +3,7 @@ use Rattle.std.proofs.lemmas.Option.{slice_get-get_or}
 use Rattle.aadl_tree.specs.proof.PackageViews.{placed}
 use Rattle.aadl_uses.specs.declared.connections.Wire.{Wire}
 use Rattle.aadl_uses.specs.Wiring.{wires_at}
-use Rattle.aadl_chains.proofs.WalkTables.{none_front, front_more, front_added}
+use Rattle.aadl_chains.proofs.PortCountTables.{none_front, front_more, front_added}
 use Rattle.aadl_chains.proofs.port_counts.PortCounts.add_all.Goals as goal
 
 pub add-requires-clause-wire : goal.add-requires-clause-wire

@@ -1,5 +1,5 @@
 use Rattle.aadl_tree.specs.proof.PackageViews.{placed}
-use Rattle.aadl_chains.proofs.WalkTables.{FrontTaken}
+use Rattle.aadl_chains.proofs.PortCountTables.{FrontTaken}
 use Rattle.aadl_chains.proofs.port_counts.PortCounts.add_all.Given as goal
 
 abbrev pub invariant-loop-at : goal.invariant-loop-at

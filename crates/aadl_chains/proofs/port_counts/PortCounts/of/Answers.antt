@@ -1,6 +1,6 @@
 use Rattle.std.proofs.Common.{◌+◌, arith, subst, sym}
 use Rattle.aadl_tree.specs.proof.PackageViews.{placed}
-use Rattle.aadl_chains.proofs.WalkTables.{FrontTable, table_more, table_past, table_all}
+use Rattle.aadl_chains.proofs.PortCountTables.{FrontTable, table_more, table_past, table_all}
 use Rattle.aadl_chains.proofs.port_counts.PortCounts.of.Goals.{in-Some+in_ok-add_all, in_default}
 use Rattle.aadl_chains.proofs.port_counts.PortCounts.of.Goals as goal
 

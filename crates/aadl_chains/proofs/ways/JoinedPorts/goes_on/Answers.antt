@@ -1,8 +1,8 @@
 use Rattle.std.proofs.Common.{◌↔◌, IsTrue, subst, sym}
 use Rattle.aadl_tree.specs.proof.PackageViews.{placed}
 use Rattle.aadl_chains.specs.declared.outside.PortSearch.{PortSearch}
-use Rattle.aadl_chains.specs.proof.Outside.{LeadsFrom}
-use Rattle.aadl_chains.specs.proof.OnChains.{IsOnWay}
+use Rattle.aadl_chains.specs.proof.PortsJoinedOutside.{LeadsFrom}
+use Rattle.aadl_chains.specs.proof.ConnectionsOnChains.{IsOnWay}
 use Rattle.aadl_chains.proofs.EndFaults.{ways_tell, no_target}
 use Rattle.aadl_chains.proofs.ways.JoinedPorts.goes_on.Goals as goal
 

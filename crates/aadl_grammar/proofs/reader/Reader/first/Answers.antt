@@ -1,4 +1,4 @@
-use Rattle.aadl_grammar.specs.proof.Reading.{here}
+use Rattle.aadl_grammar.specs.proof.ParserAnswers.{here}
 use Rattle.aadl_grammar.proofs.FirstTerminals.{spots_cons, spots_past}
 use Rattle.aadl_grammar.proofs.reader.Reader.first.Goals as goal
 

@@ -1,9 +1,9 @@
 use Rattle.std.proofs.Common.{◌<◌, ◌≤◌, ◌∙◌, ℕ, ◌+◌, [], Some, ap, arith, get_or, length, subst, sym}
 use Rattle.std.proofs.lemmas.List.{length_push}
 use Rattle.aadl_tree.specs.proof.PackageViews.{placed}
-use Rattle.aadl_names.specs.Resolving.{features_of, type_numbered}
-use Rattle.aadl_instance.specs.proof.Numbers.{AreAmong}
-use Rattle.aadl_instance.proofs.Among.{more_at, rows_whole}
+use Rattle.aadl_names.specs.ReferenceResolution.{features_of, type_numbered}
+use Rattle.aadl_instance.specs.proof.PortNumbers.{AreAmong}
+use Rattle.aadl_instance.proofs.PortNumbers.{more_at, rows_whole}
 use Rattle.aadl_instance.proofs.numbers.PortNumbers.of.Goals as goal
 
 pub loop-number-preserved : goal.loop-number-preserved

@@ -1,7 +1,7 @@
 use Rattle.std.proofs.Common.{◌≡◌, ◌<◌, ℕ, [], Some, get_or, length}
 use Rattle.aadl_tree.specs.proof.PackageViews.{placed}
-use Rattle.aadl_names.specs.Resolving.{features_of, type_numbered}
-use Rattle.aadl_instance.specs.proof.Numbers.{AreAmong}
+use Rattle.aadl_names.specs.ReferenceResolution.{features_of, type_numbered}
+use Rattle.aadl_instance.specs.proof.PortNumbers.{AreAmong}
 use Rattle.aadl_instance.proofs.numbers.PortNumbers.of.Given as goal
 
 -- the rows of the declarations so far

@@ -1,10 +1,10 @@
 use Rattle.std.proofs.Common.{◌≡◌, ℕ, List, ◌++◌, codes, string_bytes, true, refl, ap, ◌∙◌}
 use Rattle.aadl_tree.specs.proof.PackageViews.{placed}
 use Rattle.aadl_tree.specs.proof.NameViews.{reference_view}
-use Rattle.aadl_tree.specs.proof.Maps.{kept_place}
-use Rattle.aadl_names.specs.Resolving as spec
-use Rattle.aadl_names.specs.Resolving.{first_number, is_implementation, referred}
-use Rattle.aadl_names.proofs.FirstOfLists.{ok_as}
+use Rattle.aadl_tree.specs.proof.PlaceMaps.{kept_place}
+use Rattle.aadl_names.specs.ReferenceResolution as spec
+use Rattle.aadl_names.specs.ReferenceResolution.{first_number, is_implementation, referred}
+use Rattle.aadl_names.proofs.FirstMatches.{ok_as}
 use Rattle.aadl_names.proofs.names.Names.referred.Goals as goal
 
 pub returns : goal.returns

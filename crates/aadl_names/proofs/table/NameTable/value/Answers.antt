@@ -4,7 +4,7 @@ use Rattle.std.specs.List.{list_any}
 use Rattle.std.specs.Map.{lookup}
 use Rattle.std.specs.Str.{bytes_eq}
 use Rattle.aadl_names.specs.Spelling.{folded}
-use Rattle.aadl_names.specs.proof.Tables.{value_of}
+use Rattle.aadl_names.specs.proof.NameTables.{value_of}
 use Rattle.aadl_names.proofs.Lookups.{lookup_keys, own_key}
 use Rattle.aadl_names.proofs.table.NameTable.value.Goals as goal
 

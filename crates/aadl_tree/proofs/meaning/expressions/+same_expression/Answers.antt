@@ -2,13 +2,13 @@ use mathlib.Core.Bool.{beq}
 use Rattle.std.proofs.Common.{◌≡◌, Bool, true, false, refl, arith, ap, sym, ◌∙◌}
 use Rattle.std.specs.Prelude.{option_map}
 use Rattle.aadl_tree.specs.proof.ExpressionViews.{primary_view, factor_view, leading_view, term_view}
-use Rattle.aadl_tree.specs.proof.Maps.{no_place}
+use Rattle.aadl_tree.specs.proof.PlaceMaps.{no_place}
 use Rattle.aadl_tree.specs.declared.expressions.Factor.TheViews.{out-Sum}
 use Rattle.aadl_tree.proofs.ExpressionViews.{view-out-expression, view-out-sum, view-term, view-Whole, view-Truth}
 use Rattle.aadl_tree.proofs.ExpressionViews.{view-Named, view-Group, view-Abs, view-Not, view-Plain}
-use Rattle.aadl_tree.proofs.Primaries.{only_whole, only_truth, only_named, only_group}
-use Rattle.aadl_tree.proofs.Factors.{only_absolute, only_negated, only_bare}
-use Rattle.aadl_tree.proofs.Lengths.{factors-length, terms-length, relations-length}
+use Rattle.aadl_tree.proofs.PrimaryKinds.{only_whole, only_truth, only_named, only_group}
+use Rattle.aadl_tree.proofs.FactorKinds.{only_absolute, only_negated, only_bare}
+use Rattle.aadl_tree.proofs.EqualLengths.{factors-length, terms-length, relations-length}
 use Rattle.aadl_tree.proofs.meaning.expressions.+same_expression.Goals as goal
 use Rattle.aadl_tree.proofs.meaning.expressions.+same_expression.Goals.{same_sum-then-same_option}
 use Rattle.aadl_tree.proofs.meaning.expressions.+same_expression.Goals.{same_sum-else-same_option}

@@ -1,11 +1,11 @@
 use Rattle.std.proofs.Common.{arith, ap, sym, ◌∙◌}
 use Rattle.aadl_tree.specs.proof.ValueViews.{value_view}
-use Rattle.aadl_tree.specs.proof.Maps.{no_place}
+use Rattle.aadl_tree.specs.proof.PlaceMaps.{no_place}
 use Rattle.aadl_tree.proofs.ValueViews.{view-List, view-Record, view-Text, view-Reference, view-Classifier, view-Named}
 use Rattle.aadl_tree.proofs.ValueViews.{view-Number}
 use Rattle.aadl_tree.proofs.ValueKinds.{only_list, only_record, only_text, only_reference, only_classifier, only_name}
 use Rattle.aadl_tree.proofs.ValueKinds.{only_number}
-use Rattle.aadl_tree.proofs.Lengths.{values-length, associations-length}
+use Rattle.aadl_tree.proofs.EqualLengths.{values-length, associations-length}
 use Rattle.aadl_tree.proofs.meaning.values.+same_value.Goals as goal
 
 pub same_values-returns-then-left-right : goal.same_values-returns-then-left-right

@@ -1,7 +1,7 @@
 use Rattle.std.proofs.Common.{◌∙◌, ap}
 use Rattle.aadl_tree.specs.proof.PackageViews.{placed}
-use Rattle.aadl_uses.specs.proof.Graphs.{Graph, below_in}
-use Rattle.aadl_uses.proofs.Containing.{below-same}
+use Rattle.aadl_uses.specs.proof.ContainmentGraphs.{Graph, below_in}
+use Rattle.aadl_uses.proofs.PackageContainment.{below-same}
 use Rattle.aadl_uses.proofs.uses.Uses.below.Goals as goal
 
 pub returns : goal.returns

@@ -1,8 +1,8 @@
 use Rattle.std.proofs.Common.{◌+◌, ◌∙◌, ap, subst, sym, get_or}
 use Rattle.aadl_tree.specs.proof.PackageViews.{placed}
 use Rattle.pals_base.specs.declared.limits.TheConstants.{COMPONENTS}
-use Rattle.aadl_uses.specs.proof.Threads.{AreCounted}
-use Rattle.aadl_uses.proofs.Counted.{more_threads, tells}
+use Rattle.aadl_uses.specs.proof.ThreadCounts.{AreCounted}
+use Rattle.aadl_uses.proofs.ThreadCounts.{more_threads, tells}
 use Rattle.aadl_uses.proofs.uses.Uses.has_too_many_threads.Goals as goal
 
 pub returns : goal.returns

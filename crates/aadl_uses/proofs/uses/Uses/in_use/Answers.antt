@@ -1,7 +1,7 @@
 use Rattle.std.proofs.Common.{subst, sym}
 use Rattle.aadl_tree.specs.proof.PackageViews.{placed}
-use Rattle.aadl_uses.specs.proof.Graphs.{Graph, IsWithin}
-use Rattle.aadl_uses.proofs.Containing.{within, ok_in_use}
+use Rattle.aadl_uses.specs.proof.ContainmentGraphs.{Graph, IsWithin}
+use Rattle.aadl_uses.proofs.PackageContainment.{within, ok_in_use}
 use Rattle.aadl_uses.proofs.uses.Uses.in_use.Goals as goal
 
 pub reached-requires-clause-within : goal.reached-requires-clause-within

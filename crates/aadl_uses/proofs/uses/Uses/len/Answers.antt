@@ -1,7 +1,7 @@
 use Rattle.std.proofs.Common.{◌∙◌, ap, length}
 use Rattle.std.proofs.lemmas.List.{length-map}
 use Rattle.aadl_tree.specs.proof.PackageViews.{placed}
-use Rattle.aadl_uses.specs.proof.Uses.{targets_in}
+use Rattle.aadl_uses.specs.proof.PackageContainment.{targets_in}
 use Rattle.aadl_uses.proofs.uses.Uses.len.Goals as goal
 
 pub returns : goal.returns

@@ -1,9 +1,9 @@
 use Rattle.std.proofs.Common.{subst, sym}
 use Rattle.aadl_tree.specs.proof.PackageViews.{placed}
-use Rattle.aadl_uses.specs.proof.Graphs.{Graph, IsWithin, LeadsBack}
-use Rattle.aadl_uses.proofs.Containing.{within}
+use Rattle.aadl_uses.specs.proof.ContainmentGraphs.{Graph, IsWithin, LeadsBack}
+use Rattle.aadl_uses.proofs.PackageContainment.{within}
 use Rattle.aadl_uses.proofs.Cycles.{no_way_back}
-use Rattle.aadl_uses.proofs.Counted.{ok_order}
+use Rattle.aadl_uses.proofs.ThreadCounts.{ok_order}
 use Rattle.aadl_uses.proofs.uses.Uses.order.Goals as goal
 
 pub order-requires : goal.order-requires

@@ -1,7 +1,7 @@
 use Rattle.std.proofs.Common.{◌∙◌, ap}
 use Rattle.aadl_tree.specs.proof.PackageViews.{placed}
-use Rattle.aadl_uses.specs.proof.Graphs.{Graph, targets_in}
-use Rattle.aadl_uses.proofs.Containing.{row}
+use Rattle.aadl_uses.specs.proof.ContainmentGraphs.{Graph, targets_in}
+use Rattle.aadl_uses.proofs.PackageContainment.{row}
 use Rattle.aadl_uses.proofs.uses.Uses.targets.Goals as goal
 
 pub returns : goal.returns

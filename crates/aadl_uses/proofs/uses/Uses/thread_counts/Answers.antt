@@ -1,8 +1,8 @@
 use Rattle.std.proofs.Common.{◌∙◌, subst, sym}
 use Rattle.aadl_tree.specs.proof.PackageViews.{placed}
-use Rattle.aadl_uses.specs.proof.Graphs.{Graph}
-use Rattle.aadl_uses.specs.proof.Orders.{IsOrder}
-use Rattle.aadl_uses.proofs.Counted.{ok_counts}
+use Rattle.aadl_uses.specs.proof.ContainmentGraphs.{Graph}
+use Rattle.aadl_uses.specs.proof.ContainmentOrders.{IsOrder}
+use Rattle.aadl_uses.proofs.ThreadCounts.{ok_counts}
 use Rattle.aadl_uses.proofs.uses.Uses.thread_counts.Goals as goal
 
 pub counts_below-requires : goal.counts_below-requires

@@ -2,7 +2,7 @@ use Rattle.std.proofs.Common.{◌≡◌, ◌-◌, ◌≤◌, not, length, insert
 use Rattle.link_buffers.specs.proof.Halving.{IsFirstToFail}
 use Rattle.std.proofs.lemmas.List.Edits.{length-insert}
 use Rattle.link_buffers.specs.proof.Queues.{comes_before, IsRising}
-use Rattle.link_buffers.proofs.Entries.{parted_not_after, inserted, rising-inserted, same_queue}
+use Rattle.link_buffers.proofs.EntryPlaces.{parted_not_after, inserted, rising-inserted, same_queue}
 use Rattle.link_buffers.proofs.queue.DueQueue.add.Goals.{After-put_at}
 use Rattle.link_buffers.proofs.queue.DueQueue.add.Goals as goal
 

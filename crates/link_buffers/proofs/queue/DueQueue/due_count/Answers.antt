@@ -1,8 +1,8 @@
 use Rattle.std.proofs.Common.{sym, rules, tests}
 use Rattle.link_buffers.specs.proof.Halving.{IsFirstToFail}
 use Rattle.link_buffers.specs.proof.Queues.{is_due_at}
-use Rattle.link_buffers.proofs.Splits.{filter_front, count_front}
-use Rattle.link_buffers.proofs.Entries.{parted_due}
+use Rattle.link_buffers.proofs.PassingFronts.{filter_front, count_front}
+use Rattle.link_buffers.proofs.EntryPlaces.{parted_due}
 use Rattle.link_buffers.proofs.queue.DueQueue.due_count.Goals.{After-partition_point}
 use Rattle.link_buffers.proofs.queue.DueQueue.due_count.Goals as goal
 

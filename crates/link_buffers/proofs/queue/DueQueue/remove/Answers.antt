@@ -6,7 +6,7 @@ use Rattle.std.proofs.lemmas.List.Quantifiers.{all_pairs_remove}
 use Rattle.std.proofs.lemmas.Option.{slice_get_within}
 use Rattle.std.proofs.lemmas.Grind.{common_steps}
 use Rattle.link_buffers.specs.proof.Queues.{comes_before, IsRising}
-use Rattle.link_buffers.proofs.Entries.{parted_before, removed, found, absent, kept}
+use Rattle.link_buffers.proofs.EntryPlaces.{parted_before, removed, found, absent, kept}
 use Rattle.link_buffers.proofs.queue.DueQueue.remove.Goals.{After-stands_at, After-take_at}
 use Rattle.link_buffers.proofs.queue.DueQueue.remove.Goals as goal
 

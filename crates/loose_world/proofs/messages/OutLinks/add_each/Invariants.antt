@@ -2,7 +2,7 @@ use Rattle.std.proofs.Common.{◌≡◌, ◌++◌, map, take}
 use Rattle.std.specs.Prelude.{flat_map}
 use Rattle.pals_base.specs.declared.values.LinkNo.{LinkNo}
 use Rattle.pals_model.specs.RoundTexts.{text_of}
-use Rattle.loose_world.specs.Sent.{message_lines}
+use Rattle.loose_world.specs.SentLines.{message_lines}
 use Rattle.loose_world.proofs.messages.OutLinks.add_each.Given as goal
 
 -- the lines of the first links are there

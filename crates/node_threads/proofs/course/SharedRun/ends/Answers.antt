@@ -1,5 +1,5 @@
 use Rattle.std.proofs.Common.{◌≡◌, ◌+◌, length, subst, sym, ◌∙◌, arith}
-use Rattle.node_threads.proofs.Endings.{AreEnds, one_end, ends_fit}
+use Rattle.node_threads.proofs.NodeEnds.{AreEnds, one_end, ends_fit}
 use Rattle.node_threads.proofs.course.SharedRun.ends.Goals as goal
 
 pub loop-node-preserved : goal.loop-node-preserved

@@ -1,4 +1,4 @@
-use Rattle.node_threads.proofs.Endings.{AreEnds}
+use Rattle.node_threads.proofs.NodeEnds.{AreEnds}
 use Rattle.node_threads.proofs.course.SharedRun.ends.Given as goal
 
 -- the ends so far are those of the nodes

@@ -1,4 +1,4 @@
-use Rattle.node_threads.proofs.Calls.{finish_keeps}
+use Rattle.node_threads.proofs.BusCalls.{finish_keeps}
 use Rattle.node_threads.proofs.course.SharedRun.finish.Goals as goal
 
 pub invariant_of-self : goal.invariant_of-self

@@ -1,4 +1,4 @@
-use Rattle.node_threads.proofs.Calls.{finish_here_keeps}
+use Rattle.node_threads.proofs.BusCalls.{finish_here_keeps}
 use Rattle.node_threads.proofs.course.SharedRun.finish_here.Goals as goal
 
 pub invariant_of-self : goal.invariant_of-self

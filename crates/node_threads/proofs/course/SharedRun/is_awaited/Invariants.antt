@@ -1,6 +1,6 @@
 use Rattle.std.proofs.Common.{ℕ, ◌<◌}
 use Rattle.bus_machine.specs.States.{link_at}
-use Rattle.node_threads.specs.proof.Courses.{IsSentOn}
+use Rattle.node_threads.specs.proof.SharedCourses.{IsSentOn}
 use Rattle.node_threads.proofs.course.SharedRun.is_awaited.Given as goal
 
 -- the sources of the links so far have sent

@@ -1,6 +1,6 @@
 use Rattle.std.proofs.Common.{map, sym, ap, ◌∙◌}
 use Rattle.pals_clock.specs.Clock.{ClockState}
-use Rattle.node_threads.proofs.Outcomes.{same_stays}
+use Rattle.node_threads.proofs.RunOutcomes.{same_stays}
 use Rattle.node_threads.proofs.course.SharedRun.is_same.Goals as goal
 
 pub returns-then-same_run : goal.returns-then-same_run

@@ -1,5 +1,5 @@
 use Rattle.std.proofs.Common.{sym, ◌∙◌}
-use Rattle.node_threads.proofs.Looks.{own_lists}
+use Rattle.node_threads.proofs.NextReadings.{own_lists}
 use Rattle.node_threads.proofs.course.SharedRun.look.Goals as goal
 
 pub pick-requires-clause-lists : goal.pick-requires-clause-lists

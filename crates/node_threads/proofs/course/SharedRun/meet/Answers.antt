@@ -1,4 +1,4 @@
-use Rattle.node_threads.proofs.Looks.{meeting_looks}
+use Rattle.node_threads.proofs.NextReadings.{meeting_looks}
 use Rattle.node_threads.proofs.course.SharedRun.meet.Goals as goal
 
 pub returns-in-Go : goal.returns-in-Go

@@ -4,8 +4,8 @@ use Rattle.pals_model.specs.declared.design.DesignParts.{DesignParts}
 use Rattle.pals_model.specs.Rules.{IsDesign}
 use Rattle.node_threads.specs.declared.ends.NodeNote.{NodeNote}
 use Rattle.node_threads.specs.declared.ends.NodeNote.TheVariants as note
-use Rattle.node_threads.specs.proof.Courses.{course_of, IsCourse}
-use Rattle.node_threads.proofs.Openings.{course_opens}
+use Rattle.node_threads.specs.proof.SharedCourses.{course_of, IsCourse}
+use Rattle.node_threads.proofs.CourseOpenings.{course_opens}
 use Rattle.node_threads.proofs.course.SharedRun.new.Goals as goal
 
 pub invariant_of-result : goal.invariant_of-result

@@ -1,4 +1,4 @@
-use Rattle.node_threads.proofs.Looks.{pick_by, within_lists}
+use Rattle.node_threads.proofs.NextReadings.{pick_by, within_lists}
 use Rattle.node_threads.proofs.course.SharedRun.pick.Goals as goal
 
 pub index_mut-requires : goal.index_mut-requires

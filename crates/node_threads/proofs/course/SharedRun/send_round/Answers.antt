@@ -1,6 +1,6 @@
 use Rattle.std.proofs.Common.{Some}
-use Rattle.node_threads.proofs.Calls.{send_keeps}
-use Rattle.node_threads.proofs.Looks.{goes_at}
+use Rattle.node_threads.proofs.BusCalls.{send_keeps}
+use Rattle.node_threads.proofs.NextReadings.{goes_at}
 use Rattle.node_threads.proofs.course.SharedRun.send_round.Goals as goal
 
 pub send-requires-clause-meets : goal.send-requires-clause-meets

@@ -1,6 +1,6 @@
 use Rattle.std.proofs.Common.{Some}
-use Rattle.node_threads.proofs.Calls.{start_keeps}
-use Rattle.node_threads.proofs.Looks.{goes_at}
+use Rattle.node_threads.proofs.BusCalls.{start_keeps}
+use Rattle.node_threads.proofs.NextReadings.{goes_at}
 use Rattle.node_threads.proofs.course.SharedRun.start_round.Goals as goal
 
 pub start-requires-clause-meets : goal.start-requires-clause-meets

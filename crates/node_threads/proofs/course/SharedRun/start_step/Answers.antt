@@ -1,6 +1,6 @@
 use Rattle.std.proofs.Common.{Some}
-use Rattle.node_threads.proofs.Calls.{step_keeps}
-use Rattle.node_threads.proofs.Looks.{goes_at}
+use Rattle.node_threads.proofs.BusCalls.{step_keeps}
+use Rattle.node_threads.proofs.NextReadings.{goes_at}
 use Rattle.node_threads.proofs.course.SharedRun.start_step.Goals as goal
 
 pub step-requires-clause-meets : goal.step-requires-clause-meets

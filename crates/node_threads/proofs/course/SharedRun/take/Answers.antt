@@ -1,4 +1,4 @@
-use Rattle.node_threads.proofs.Calls.{take_keeps}
+use Rattle.node_threads.proofs.BusCalls.{take_keeps}
 use Rattle.node_threads.proofs.course.SharedRun.take.Goals as goal
 
 pub invariant_of-self : goal.invariant_of-self

@@ -1,4 +1,4 @@
-use Rattle.node_threads.specs.proof.Courses.{Stays}
+use Rattle.node_threads.specs.proof.SharedCourses.{Stays}
 use Rattle.node_threads.proofs.locked.Locked.send_at_hour.Given as goal
 
 -- the run stays

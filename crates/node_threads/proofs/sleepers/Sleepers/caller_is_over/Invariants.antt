@@ -1,5 +1,5 @@
 use Rattle.std.proofs.Common.{◌≡◌, ℕ, ◌<◌, true}
-use Rattle.node_threads.specs.proof.Courses.{IsOpen, IsDone}
+use Rattle.node_threads.specs.proof.SharedCourses.{IsOpen, IsDone}
 use Rattle.node_threads.specs.proof.Sleepers.{seat_at}
 use Rattle.node_threads.proofs.sleepers.Sleepers.caller_is_over.Given as goal
 

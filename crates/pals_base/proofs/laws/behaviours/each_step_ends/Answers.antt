@@ -1,4 +1,4 @@
-use Rattle.pals_base.proofs.Ending.{fires_well, starts_well}
+use Rattle.pals_base.proofs.StepTermination.{fires_well, starts_well}
 use Rattle.pals_base.proofs.laws.behaviours.each_step_ends.Goals as goal
 
 pub returns-clause-start : goal.returns-clause-start

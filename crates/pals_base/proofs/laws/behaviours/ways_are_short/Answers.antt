@@ -1,4 +1,4 @@
-use Rattle.pals_base.proofs.Ending.{ways_are_short}
+use Rattle.pals_base.proofs.StepTermination.{ways_are_short}
 use Rattle.pals_base.proofs.laws.behaviours.ways_are_short.Goals as goal
 
 pub returns : goal.returns

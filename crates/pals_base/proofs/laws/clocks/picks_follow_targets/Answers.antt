@@ -1,4 +1,4 @@
-use Rattle.pals_base.proofs.Clocks.{picks_never_fall, picks_at_least, take-picks}
+use Rattle.pals_base.proofs.ClockPicks.{picks_never_fall, picks_at_least, take-picks}
 use Rattle.pals_base.proofs.laws.clocks.picks_follow_targets.Goals as goal
 
 pub returns-clause-never_fall : goal.returns-clause-never_fall

@@ -4,10 +4,10 @@ use mir.Val.{SFits}
 use Rattle.std.proofs.lemmas.Int.{to_z-of_z}
 use Rattle.std.specs.Prelude.{IfOk}
 use Rattle.std.proofs.lemmas.Grind.{common_steps}
-use Rattle.pals_base.specs.Tree.{If, For}
-use Rattle.pals_base.specs.proof.Seen.{action_of, actions_along, branches_along}
+use Rattle.pals_base.specs.PlainTrees.{If, For}
+use Rattle.pals_base.specs.proof.SourceTrees.{action_of, actions_along, branches_along}
 use Rattle.pals_base.specs.Kinds.{turns, is_short, is_sound, are_sound, branches_are_sound}
-use Rattle.pals_base.proofs.Trees.{action_of-If, action_of-For}
+use Rattle.pals_base.proofs.SourceTrees.{action_of-If, action_of-For}
 use Rattle.pals_base.proofs.rules.actions.+sound_act.Goals as goal
 
 pub is_sound-returns-in_ok-are_sound-in-If : goal.is_sound-returns-in_ok-are_sound-in-If

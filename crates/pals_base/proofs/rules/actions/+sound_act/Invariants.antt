@@ -1,5 +1,5 @@
 use Rattle.std.proofs.Common.{◌≡◌, drop}
-use Rattle.pals_base.specs.proof.Seen.{actions_along, branches_along}
+use Rattle.pals_base.specs.proof.SourceTrees.{actions_along, branches_along}
 use Rattle.pals_base.specs.Kinds.{are_sound, branches_are_sound}
 use Rattle.pals_base.proofs.rules.actions.+sound_act.Given as goal
 

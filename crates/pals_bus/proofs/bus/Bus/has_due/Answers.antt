@@ -1,12 +1,12 @@
 use Rattle.std.proofs.Common.{◌≡◌, ◌↔◌, ◌∙◌, ◌<◌, nat_lt, length, sym, subst, IsTrue, arith, rules, tests}
 use Rattle.std.proofs.lemmas.List.{get_or_default}
-use Rattle.pals_bus.specs.proof.Absent.{no_queue}
-use Rattle.pals_bus.specs.proof.Due.{HasDue}
+use Rattle.pals_bus.specs.proof.AbsentItems.{no_queue}
+use Rattle.pals_bus.specs.proof.DueMessages.{HasDue}
 use Rattle.pals_bus.specs.proof.BusInvariant.{value_of}
-use Rattle.pals_bus.specs.Values.{BusValue}
+use Rattle.pals_bus.specs.BusValues.{BusValue}
 use Rattle.pals_bus.proofs.DueEntries.{due_by_queue}
-use Rattle.pals_bus.proofs.DueTurns.{flights_many}
-use Rattle.pals_bus.proofs.Views.{within_nodes}
+use Rattle.pals_bus.proofs.ArrivalLoop.{flights_many}
+use Rattle.pals_bus.proofs.BusViews.{within_nodes}
 use Rattle.pals_bus.proofs.bus.Bus.has_due.Goals as goal
 
 pub returns : goal.returns

@@ -1,9 +1,9 @@
 use Rattle.std.proofs.Common.{◌≡◌, ◌∙◌, Some, false, is_some, refl, sym, subst, rules, tests, arith}
 use Rattle.pals_bus.specs.proof.BusInvariant.{value_of}
-use Rattle.pals_bus.specs.Values.{BusValue}
+use Rattle.pals_bus.specs.BusValues.{BusValue}
 use Rattle.pals_bus.specs.proof.Meeting.{HasEnded}
-use Rattle.pals_bus.proofs.TargetLists.{some_within, least_of}
-use Rattle.pals_bus.proofs.Targets.{target_listed, within_list, all_listed, within_run, still_going}
+use Rattle.pals_bus.proofs.LeastTargets.{some_within, least_of}
+use Rattle.pals_bus.proofs.NodeTargets.{target_listed, within_list, all_listed, within_run, still_going}
 use Rattle.pals_bus.proofs.bus.Bus.meet.Goals as goal
 
 pub returns-then-least-own-clause-answer : goal.returns-then-least-own-clause-answer

@@ -2,9 +2,9 @@ use Rattle.std.proofs.Common.{◌≡◌, List, sym, subst, IfOk}
 use Rattle.std.specs.Arc.{arc_value}
 use Rattle.step_code.specs.declared.instr.CodeParts.{CodeParts}
 use Rattle.pals_model.specs.declared.design.DesignParts.{DesignParts}
-use Rattle.pals_bus.specs.Values.{BusValue}
+use Rattle.pals_bus.specs.BusValues.{BusValue}
 use Rattle.pals_bus.specs.proof.Openings.{AreOpening}
-use Rattle.pals_bus.specs.proof.Values.{AreCodes, opening_bus}
+use Rattle.pals_bus.specs.proof.BusPartValues.{AreCodes, opening_bus}
 use Rattle.pals_bus.proofs.Openings.{codes_open}
 use Rattle.pals_bus.proofs.bus.Bus.new.Goals as goal
 

@@ -7,9 +7,9 @@ use Rattle.pals_model.specs.declared.flight.FlightCopy.{FlightCopy}
 use Rattle.pals_runs.specs.declared.journal.JournalEntry.TheVariants as entry
 use Rattle.bus_machine.specs.Machine.{Repeat}
 use Rattle.pals_bus.specs.declared.fields.BusFields.{BusFields}
-use Rattle.pals_bus.specs.Values.{BusValue, Happens}
+use Rattle.pals_bus.specs.BusValues.{BusValue, Happens}
 use Rattle.pals_bus.specs.proof.BusInvariant.{value_of}
-use Rattle.pals_bus.proofs.NodeEnds.{room_shows}
+use Rattle.pals_bus.proofs.CallOutcomes.{room_shows}
 use Rattle.pals_bus.proofs.Repeats.{Repeats, oldest_kept, repeat_happens, repeat_keeps_bus}
 use Rattle.pals_bus.proofs.bus.Bus.repeat_message.Goals as goal
 

@@ -2,11 +2,11 @@ use Rattle.std.proofs.Common.{◌≡◌, List, Some, None, inr, refl, ap, subst,
 use Rattle.std.proofs.lemmas.Grind.{common_steps}
 use Rattle.pals_runs.specs.declared.journal.JournalEntry.TheVariants as entry
 use Rattle.pals_node.specs.proof.Answers.{StartEnds}
-use Rattle.pals_node.specs.proof.Values.{NodeValue}
+use Rattle.pals_node.specs.proof.NodeValues.{NodeValue}
 use Rattle.pals_bus.specs.declared.fields.BusFields.{BusFields}
 use Rattle.pals_bus.specs.proof.NodeLists.{node_of}
-use Rattle.pals_bus.proofs.NodeTurns.{Turned}
-use Rattle.pals_bus.proofs.NodeEnds.{HasRoundRoom, is_ready, starts, misses}
+use Rattle.pals_bus.proofs.NodeCalls.{Turned}
+use Rattle.pals_bus.proofs.CallOutcomes.{HasRoundRoom, is_ready, starts, misses}
 use Rattle.pals_bus.proofs.bus.Bus.start.Goals as goal
 
 pub invariant_of-self-in-Err : goal.invariant_of-self-in-Err

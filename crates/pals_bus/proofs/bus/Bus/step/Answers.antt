@@ -1,11 +1,11 @@
 use Rattle.std.proofs.Common.{◌≡◌, ◌∙◌, ◌∷◌, [], ◌++◌, List, None, ap, ap₂, arith}
 use Rattle.std.proofs.lemmas.Grind.{common_steps}
 use Rattle.pals_runs.specs.declared.journal.JournalEntry.TheVariants as entry
-use Rattle.pals_node.specs.proof.Values.{NodeValue}
+use Rattle.pals_node.specs.proof.NodeValues.{NodeValue}
 use Rattle.pals_node.specs.proof.Answers.{StepEnds}
 use Rattle.pals_bus.specs.declared.fields.BusFields.{BusFields}
-use Rattle.pals_bus.proofs.NodeTurns.{Turned}
-use Rattle.pals_bus.proofs.NodeEnds.{reserved, refuses, steps}
+use Rattle.pals_bus.proofs.NodeCalls.{Turned}
+use Rattle.pals_bus.proofs.CallOutcomes.{reserved, refuses, steps}
 use Rattle.pals_bus.proofs.bus.Bus.step.Goals as goal
 
 pub returns-in-Err-clause-cause : goal.returns-in-Err-clause-cause

@@ -1,6 +1,6 @@
 use Rattle.std.proofs.Common.{◌≡◌, ◌∙◌, refl, sym}
 use Rattle.pals_bus.specs.proof.BusInvariant.{value_of}
-use Rattle.pals_bus.proofs.Targets.{target_listed, within_list, all_listed}
+use Rattle.pals_bus.proofs.NodeTargets.{target_listed, within_list, all_listed}
 use Rattle.pals_bus.proofs.bus.Bus.target.Goals as goal
 
 pub returns : goal.returns

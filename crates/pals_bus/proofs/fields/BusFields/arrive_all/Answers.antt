@@ -1,9 +1,9 @@
 use Rattle.std.proofs.Common.{◌≡◌, None, arith}
 use Rattle.std.specs.Prelude.{slice_index_or}
 use Rattle.std.proofs.lemmas.List.{get_or_default}
-use Rattle.pals_bus.specs.proof.Due.{takes_none}
+use Rattle.pals_bus.specs.proof.DueMessages.{takes_none}
 use Rattle.pals_bus.proofs.DueEntries.{no_entry}
-use Rattle.pals_bus.proofs.DueTurns.{none_told, message_link, message_flies, arrives, takes_more, arriving_more}
+use Rattle.pals_bus.proofs.ArrivalLoop.{none_told, message_link, message_flies, arrives, takes_more, arriving_more}
 use Rattle.pals_bus.proofs.fields.BusFields.arrive_all.Goals as goal
 
 pub loop-message-init : goal.loop-message-init

@@ -1,4 +1,4 @@
-use Rattle.pals_bus.proofs.DueTurns.{Arriving}
+use Rattle.pals_bus.proofs.ArrivalLoop.{Arriving}
 use Rattle.pals_bus.proofs.fields.BusFields.arrive_all.Given as goal
 
 -- the first messages have arrived

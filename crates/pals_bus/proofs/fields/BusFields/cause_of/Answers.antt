@@ -5,7 +5,7 @@ use Rattle.pals_model.specs.declared.design.DesignParts.{DesignParts}
 use Rattle.bus_machine.specs.LinkEvents.{is_in_flight}
 use Rattle.bus_machine.specs.States.{no_link}
 use Rattle.pals_bus.specs.proof.BusInvariant.{copies_in_option}
-use Rattle.pals_bus.proofs.Causes.{cause_told}
+use Rattle.pals_bus.proofs.MissCauses.{cause_told}
 use Rattle.pals_bus.proofs.fields.BusFields.cause_of.Goals as goal
 
 pub returns : goal.returns

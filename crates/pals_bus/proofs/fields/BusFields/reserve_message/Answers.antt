@@ -3,7 +3,7 @@ use Rattle.pals_model.specs.declared.design.DesignParts.{DesignParts}
 use Rattle.link_buffers.specs.proof.Queues.{QueueState}
 use Rattle.pals_bus.specs.declared.fields.BusFields.{BusFields}
 use Rattle.pals_bus.specs.proof.BusInvariant.{copies_in}
-use Rattle.pals_bus.proofs.Reserves.{flight_copies, message_room}
+use Rattle.pals_bus.proofs.ReservedRoom.{flight_copies, message_room}
 use Rattle.pals_bus.proofs.fields.BusFields.reserve_message.Goals as goal
 
 pub returns-in_err-reserve-2-clause-keeps : goal.returns-in_err-reserve-2-clause-keeps

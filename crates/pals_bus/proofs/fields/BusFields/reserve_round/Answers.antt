@@ -6,9 +6,9 @@ use Rattle.pals_model.specs.declared.design.Link.{Link}
 use Rattle.pals_bus.specs.declared.fields.BusFields.{BusFields}
 use Rattle.pals_bus.specs.proof.LinksFrom.{links_from}
 use Rattle.pals_bus.specs.proof.Queues.{HasQueueRoomFor, HasQueueRoomOn}
-use Rattle.pals_bus.specs.proof.Sending.{HasRoomFor, HasRoomOn}
+use Rattle.pals_bus.specs.proof.RoundMessages.{HasRoomFor, HasRoomOn}
 use Rattle.pals_bus.proofs.LinksFrom.{numbers_within, room_for, queue_room_for}
-use Rattle.pals_bus.proofs.Reserves.{more_room, held}
+use Rattle.pals_bus.proofs.ReservedRoom.{more_room, held}
 use Rattle.pals_bus.proofs.fields.BusFields.reserve_round.Goals as goal
 
 pub returns-in_err-reserve_links-clause-keeps : goal.returns-in_err-reserve_links-clause-keeps

@@ -7,12 +7,12 @@ use Rattle.pals_model.specs.declared.flight.FlightCopy.{FlightCopy}
 use Rattle.pals_model.specs.Delays.{delay_of}
 use Rattle.bus_machine.specs.States.{link_at}
 use Rattle.pals_bus.specs.declared.fields.BusFields.{BusFields}
-use Rattle.pals_bus.specs.proof.Absent.{no_link_no, no_queue}
+use Rattle.pals_bus.specs.proof.AbsentItems.{no_link_no, no_queue}
 use Rattle.pals_bus.specs.proof.LinksFrom.{no_numbers}
 use Rattle.pals_bus.specs.proof.Queues.{with_due}
 use Rattle.pals_bus.proofs.NextLinks.{reaches_more}
-use Rattle.pals_bus.proofs.SendSteps.{CanSend, Sending, own_links, sending_all, sending_delay, sending_more}
-use Rattle.pals_bus.proofs.SendSteps.{sending_places, sending_room, sending_queue_room, message_left}
+use Rattle.pals_bus.proofs.SendLoop.{CanSend, Sending, own_links, sending_all, sending_delay, sending_more}
+use Rattle.pals_bus.proofs.SendLoop.{sending_places, sending_room, sending_queue_room, message_left}
 use Rattle.pals_bus.proofs.fields.BusFields.send_messages.Goals as goal
 
 pub unreachable-requires : goal.unreachable-requires

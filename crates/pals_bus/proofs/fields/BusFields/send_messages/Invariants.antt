@@ -3,7 +3,7 @@ use Rattle.std.specs.Arc.{arc_value}
 use Rattle.std.specs.Vec.Iter.{into_iter_items}
 use Rattle.pals_bus.specs.proof.LinksFrom.{no_numbers}
 use Rattle.pals_bus.proofs.NextLinks.{Reaches}
-use Rattle.pals_bus.proofs.SendSteps.{Sending}
+use Rattle.pals_bus.proofs.SendLoop.{Sending}
 use Rattle.pals_bus.proofs.fields.BusFields.send_messages.Given as goal
 
 -- the first links from the node have their messages, and the others are left

@@ -1,7 +1,7 @@
 use Rattle.std.proofs.Common.{sym, ◌∙◌, arith}
 use Rattle.std.proofs.lemmas.List.{length-map, same_lists}
-use Rattle.pals_model.specs.Inputs.{values_at}
-use Rattle.pals_model.proofs.Values.{value_here, values_more}
+use Rattle.pals_model.specs.ComponentInputs.{values_at}
+use Rattle.pals_model.proofs.RootInputValues.{value_here, values_more}
 use Rattle.pals_model.proofs.rounds.Env.write_values.Goals as goal
 
 pub loop-at-preserved : goal.loop-at-preserved

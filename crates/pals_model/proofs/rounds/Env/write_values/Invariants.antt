@@ -1,6 +1,6 @@
 use Rattle.std.proofs.Common.{◌≡◌, ℕ, ◌<◌, slice_index_or}
 use Rattle.pals_base.specs.declared.values.PortValue.{PortValue}
-use Rattle.pals_model.specs.Inputs.{values_at}
+use Rattle.pals_model.specs.ComponentInputs.{values_at}
 use Rattle.pals_model.proofs.rounds.Env.write_values.Given as goal
 
 -- the values so far are the round's

@@ -1,5 +1,5 @@
 use Rattle.std.proofs.Common.{◌≡◌, ◌<◌, length, slice_index_or, ap, sym, ◌∙◌, subst, arith}
-use Rattle.pals_model.proofs.Copies.{same_size, sizes_stay, more_copied}
+use Rattle.pals_model.proofs.OverwrittenTuples.{same_size, sizes_stay, more_copied}
 use Rattle.pals_model.proofs.rounds.Part.copy_from.Goals as goal
 
 pub copy_from_slice-requires : goal.copy_from_slice-requires

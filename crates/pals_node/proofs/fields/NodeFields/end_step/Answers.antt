@@ -1,9 +1,9 @@
 use Rattle.std.proofs.Common.{◌≡◌, ◌∙◌, refl, sym, ap, subst, length, arith}
 use Rattle.std.specs.Arc.{arc_value}
 use Rattle.bus_machine.specs.declared.plan.Plan.{Plan}
-use Rattle.pals_node.specs.proof.Values.{Program}
+use Rattle.pals_node.specs.proof.NodeValues.{Program}
 use Rattle.pals_node.specs.proof.NodeInvariants.{AreTuples, PhaseKeeps}
-use Rattle.pals_node.proofs.Ends.{outs_keep, after_keeps}
+use Rattle.pals_node.proofs.StepEnds.{outs_keep, after_keeps}
 use Rattle.pals_node.proofs.fields.NodeFields.end_step.Goals as goal
 
 pub returns-then-step-deref-clause-keeps : goal.returns-then-step-deref-clause-keeps

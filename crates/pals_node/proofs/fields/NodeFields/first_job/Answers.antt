@@ -4,9 +4,9 @@ use Rattle.std.proofs.lemmas.Option.{slice_get-get_or, get_or_from_slice_get}
 use Rattle.pals_base.specs.declared.values.PortValue.{PortValue}
 use Rattle.bus_machine.specs.declared.plan.Plan.{Plan}
 use Rattle.bus_machine.specs.Nodes.{vectors_of}
-use Rattle.pals_node.specs.proof.Values.{Program, job_value}
+use Rattle.pals_node.specs.proof.NodeValues.{Program, job_value}
 use Rattle.pals_node.specs.proof.NodeInvariants.{AreTuples}
-use Rattle.pals_node.proofs.Starts.{vectors_are}
+use Rattle.pals_node.proofs.RoundStarts.{vectors_are}
 use Rattle.pals_node.proofs.fields.NodeFields.first_job.Goals as goal
 
 pub new-requires-clause-inputs : goal.new-requires-clause-inputs

@@ -1,6 +1,6 @@
 use Rattle.std.proofs.Common.{◌∙◌, sym, ap, length, arith}
 use Rattle.std.specs.Arc.{arc_value}
-use Rattle.pals_node.proofs.Programs.{fits}
+use Rattle.pals_node.proofs.ProgramResults.{fits}
 use Rattle.pals_node.proofs.fields.NodeFields.job.Goals as goal
 
 pub new-requires-clause-frame : goal.new-requires-clause-frame

@@ -2,10 +2,10 @@ use Rattle.std.proofs.Common.{◌≡◌, ◌∙◌, [], sym, ap, subst, length, 
 use Rattle.std.specs.Arc.{arc_value}
 use Rattle.std.specs.Vec.{with_items}
 use Rattle.step_code.specs.declared.instr.CodeParts.{CodeParts}
-use Rattle.step_code.specs.proof.Exec.{exec, Leaves}
-use Rattle.step_vm.specs.proof.Rooms.{IsRoomOf}
-use Rattle.pals_node.specs.proof.Values.{Program}
-use Rattle.pals_node.proofs.Ends.{runs_open, makes, keeps_on}
+use Rattle.step_code.specs.proof.CodeRuns.{exec, Leaves}
+use Rattle.step_vm.specs.proof.RoomCapacity.{IsRoomOf}
+use Rattle.pals_node.specs.proof.NodeValues.{Program}
+use Rattle.pals_node.proofs.StepEnds.{runs_open, makes, keeps_on}
 use Rattle.std.proofs.lemmas.List.{with_items_is}
 use Rattle.std.proofs.lemmas.Option.{slice_get-get_or, get_or_from_slice_get}
 use Rattle.pals_node.proofs.fields.NodeFields.run_step.Goals as goal

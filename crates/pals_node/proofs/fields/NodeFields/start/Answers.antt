@@ -3,10 +3,10 @@ use Rattle.std.specs.Arc.{arc_value}
 use Rattle.std.proofs.lemmas.Grind.{common_steps}
 use Rattle.std.proofs.lemmas.List.{length-map}
 use Rattle.bus_machine.specs.Nodes.{vectors_of}
-use Rattle.pals_node.specs.proof.Memories.{HasMemory}
-use Rattle.pals_node.specs.proof.Rounds.{empty_part}
+use Rattle.pals_node.specs.proof.JobMemories.{HasMemory}
+use Rattle.pals_node.specs.proof.RoundStarts.{empty_part}
 use Rattle.pals_node.specs.proof.NodeInvariants.{Keeps, AreTuples, PhaseKeeps, IsPartRoom, value_of}
-use Rattle.pals_node.proofs.Starts.{absent_are, vectors_are, part_room, starts_value}
+use Rattle.pals_node.proofs.RoundStarts.{absent_are, vectors_are, part_room, starts_value}
 use Rattle.pals_node.proofs.fields.NodeFields.start.Goals as goal
 
 pub returns-clause-ok : goal.returns-clause-ok

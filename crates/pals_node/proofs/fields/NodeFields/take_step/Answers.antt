@@ -1,8 +1,8 @@
 use Rattle.std.proofs.Common.{◌∙◌, Some, sym, subst}
-use Rattle.pals_base.specs.Fire.{Fired}
-use Rattle.pals_node.specs.proof.Values.{JobValue, IsResult}
-use Rattle.pals_node.proofs.Ends.{runs_open, makes, keeps_on}
-use Rattle.pals_node.proofs.Memories.{memory_left}
+use Rattle.pals_base.specs.SingleStep.{Fired}
+use Rattle.pals_node.specs.proof.NodeValues.{JobValue, IsResult}
+use Rattle.pals_node.proofs.StepEnds.{runs_open, makes, keeps_on}
+use Rattle.pals_node.proofs.JobMemories.{memory_left}
 use Rattle.pals_node.proofs.fields.NodeFields.take_step.Goals as goal
 
 pub end_step-requires : goal.end_step-requires

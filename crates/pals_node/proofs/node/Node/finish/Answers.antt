@@ -1,6 +1,6 @@
 use Rattle.std.proofs.Common.{◌∙◌, sym}
 use Rattle.std.proofs.lemmas.Bool.{false≢true}
-use Rattle.pals_node.proofs.Ends.{runs_open, job_is}
+use Rattle.pals_node.proofs.StepEnds.{runs_open, job_is}
 use Rattle.pals_node.proofs.node.Node.finish.Goals as goal
 
 pub returns-then-is_of-clause-ok : goal.returns-then-is_of-clause-ok

@@ -2,11 +2,11 @@ use Rattle.std.proofs.Common.{◌≡◌, ◌∙◌, ℕ, List, sym, ap}
 use Rattle.std.specs.Prelude.{Option, None, nat_eq, position, zip, if◌then◌else◌}
 use Rattle.std.specs.Arc.{arc_value}
 use Rattle.pals_base.specs.declared.values.PortValue.{PortValue}
-use Rattle.pals_base.specs.Bound.{alarm}
+use Rattle.pals_base.specs.PeriodBound.{alarm}
 use Rattle.bus_machine.specs.declared.plan.Input.{Input}
 use Rattle.bus_machine.specs.declared.plan.Plan.{Plan}
 use Rattle.bus_machine.specs.NodeEvents.{lacks}
-use Rattle.pals_node.specs.proof.Values.{Program}
+use Rattle.pals_node.specs.proof.NodeValues.{Program}
 use Rattle.pals_node.specs.proof.Answers.{is_early}
 use Rattle.pals_node.proofs.node.Node.start.Goals as goal
 

@@ -6,13 +6,13 @@ use Rattle.pals_model.specs.declared.rounds.Part.{Part}
 use Rattle.pals_model.specs.Rules.{IsDesign}
 use Rattle.sync_product.specs.declared.reads.RoundInputs.{RoundInputs}
 use Rattle.sync_product.specs.declared.stage.Stage.{Stage}
-use Rattle.sync_product.specs.proof.Sizes.{part_size, part_sizes, stage_size, stage_sizes}
+use Rattle.sync_product.specs.proof.ProductSizes.{part_size, part_sizes, stage_size, stage_sizes}
 use Rattle.sync_product.specs.proof.Rounds.{frames_of}
-use Rattle.plant_fuse.specs.Fused.{ArePairs}
+use Rattle.plant_fuse.specs.FusedComposition.{ArePairs}
 use Rattle.plant_fuse.specs.proof.Messages.{sent_on}
 use Rattle.plant_fuse.specs.proof.State.{FuseState, IsAdvanced}
-use Rattle.sync_product.proofs.Fitting.{count_of_parts}
-use Rattle.plant_fuse.proofs.RoundSolutions.{standing, advanced_by}
+use Rattle.sync_product.proofs.StepRoom.{count_of_parts}
+use Rattle.plant_fuse.proofs.ProductAdvance.{standing, advanced_by}
 use Rattle.plant_fuse.proofs.product.FuseProduct.advance.Goals as goal
 
 pub returns-clause-ok : goal.returns-clause-ok

@@ -1,7 +1,7 @@
 use Rattle.std.proofs.Common.{◌∙◌, Bool, true, List, ap, sym, subst, slice_get}
 use Rattle.run_monitor.specs.declared.forms.FlatForm.{FlatForm}
-use Rattle.run_monitor.specs.proof.States.{MonitorState, said, Advances}
-use Rattle.run_monitor.specs.proof.Bits.{bit_at, next_bit, AreNext}
+use Rattle.run_monitor.specs.proof.MonitorState.{MonitorState, said, Advances}
+use Rattle.run_monitor.specs.proof.FormBits.{bit_at, next_bit, AreNext}
 use Rattle.run_monitor.proofs.MonitorHistories.{state, advances}
 use Rattle.run_monitor.proofs.monitor.Monitor.advance.Goals as goal
 

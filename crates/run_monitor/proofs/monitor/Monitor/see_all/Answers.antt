@@ -1,6 +1,6 @@
 use Rattle.std.proofs.Common.{◌∙◌, ap, subst, List, slice_get}
-use Rattle.run_monitor.specs.proof.Bits.{row_of}
-use Rattle.run_monitor.specs.proof.States.{MonitorState, SeesAll}
+use Rattle.run_monitor.specs.proof.FormBits.{row_of}
+use Rattle.run_monitor.specs.proof.MonitorState.{MonitorState, SeesAll}
 use Rattle.run_monitor.specs.declared.forms.FlatForm.{FlatForm}
 use Rattle.run_monitor.proofs.MonitorHistories.{state, sees_all}
 use Rattle.run_monitor.proofs.monitor.Monitor.see_all.Goals as goal

@@ -1,12 +1,12 @@
 use Rattle.std.proofs.Common.{◌≡◌, ◌∙◌, List, ap, sym, subst, not}
 use Rattle.std.specs.Prelude.{position}
 use Rattle.std.specs.Option.{option_or}
-use Rattle.run_monitor.specs.proof.Bits.{row_of}
+use Rattle.run_monitor.specs.proof.FormBits.{row_of}
 use Rattle.run_monitor.specs.Violations.{history}
-use Rattle.run_monitor.specs.proof.States.{MonitorState, said}
-use Rattle.run_monitor.specs.proof.MonitorStates.{MonitorsState, HasWatched}
-use Rattle.run_monitor.proofs.Watching.{history_has_rounds}
-use Rattle.run_monitor.proofs.Several.{at_round, false_in, watch_on, watch_round}
+use Rattle.run_monitor.specs.proof.MonitorState.{MonitorState, said}
+use Rattle.run_monitor.specs.proof.SeveralMonitors.{MonitorsState, HasWatched}
+use Rattle.run_monitor.proofs.HistoryGrowth.{history_has_rounds}
+use Rattle.run_monitor.proofs.SeveralMonitors.{at_round, false_in, watch_on, watch_round}
 use Rattle.run_monitor.proofs.monitors.Monitors.advance.Goals as goal
 
 pub returns-clause-watches : goal.returns-clause-watches

@@ -2,7 +2,7 @@ use Rattle.std.proofs.Common.{◌≡◌, Some, None, map, sym, ◌∙◌, arith,
 use Rattle.std.specs.Prelude.{position}
 use Rattle.std.proofs.lemmas.Grind.{common_steps}
 use Rattle.pals_model.specs.declared.design.Feed.{Feed}
-use Rattle.scenario_values.proofs.Search.{find_at, find_none, position_map, position_zero}
+use Rattle.scenario_values.proofs.NameSearch.{find_at, find_none, position_map, position_zero}
 use Rattle.scenario_values.proofs.names.DesignNames.find_feed.Goals as goal
 
 pub returns-in-Some : goal.returns-in-Some

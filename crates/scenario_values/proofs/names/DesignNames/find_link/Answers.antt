@@ -1,8 +1,8 @@
 use Rattle.std.proofs.Common.{arith, bytes_eq}
 use Rattle.std.proofs.lemmas.Grind.{common_steps}
 use Rattle.pals_model.specs.declared.design.Link.{Link}
-use Rattle.pals_model.specs.LinkNames.{link_name}
-use Rattle.scenario_values.proofs.Search.{within}
+use Rattle.pals_model.specs.NamesInTexts.{link_name}
+use Rattle.scenario_values.proofs.NameSearch.{within}
 use Rattle.scenario_values.proofs.names.DesignNames.find_link.Goals as goal
 
 pub overflow_cast-result : goal.overflow_cast-result

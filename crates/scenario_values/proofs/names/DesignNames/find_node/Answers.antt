@@ -1,7 +1,7 @@
 use Rattle.std.proofs.Common.{arith, bytes_eq}
 use Rattle.std.proofs.lemmas.Grind.{common_steps}
 use Rattle.pals_model.specs.declared.design.Component.{Component}
-use Rattle.scenario_values.proofs.Search.{within}
+use Rattle.scenario_values.proofs.NameSearch.{within}
 use Rattle.scenario_values.proofs.names.DesignNames.find_node.Goals as goal
 
 pub overflow_cast-result : goal.overflow_cast-result

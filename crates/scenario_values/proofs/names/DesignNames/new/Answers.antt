@@ -3,8 +3,8 @@ use Rattle.std.specs.List.{position_from}
 use Rattle.std.proofs.lemmas.Grind.{common_steps}
 use Rattle.pals_model.specs.declared.design.Component.{Component}
 use Rattle.pals_model.specs.declared.design.Feed.{Feed}
-use Rattle.pals_model.specs.LinkNames.{link_name}
-use Rattle.scenario_values.proofs.Search.{position_map, position_zero}
+use Rattle.pals_model.specs.NamesInTexts.{link_name}
+use Rattle.scenario_values.proofs.NameSearch.{position_map, position_zero}
 use Rattle.scenario_values.proofs.names.DesignNames.new.Goals as goal
 
 pub invariant_of-result : goal.invariant_of-result

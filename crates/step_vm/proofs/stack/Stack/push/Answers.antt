@@ -3,8 +3,8 @@ use mir.Val.{to_z, of_z}
 use mir.Syntax.{w64}
 use Rattle.std.proofs.lemmas.Int.{to_z-of_z}
 use Rattle.std.proofs.lemmas.List.{length-set}
-use Rattle.step_vm.specs.proof.Stacks.{stack_of, stacked}
-use Rattle.step_vm.proofs.Cells.{length-stacked, pushed}
+use Rattle.step_vm.specs.proof.OperandStacks.{stack_of, stacked}
+use Rattle.step_vm.proofs.StackCells.{length-stacked, pushed}
 use Rattle.step_vm.proofs.stack.Stack.push.Goals as goal
 
 pub index_mut-requires : goal.index_mut-requires

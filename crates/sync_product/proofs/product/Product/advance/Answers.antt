@@ -5,10 +5,11 @@ use Rattle.pals_model.specs.declared.design.Component.{Component}
 use Rattle.pals_model.specs.declared.design.DesignParts.{DesignParts}
 use Rattle.pals_model.specs.Rules.{IsDesign}
 use Rattle.sync_product.specs.declared.reads.RoundInputs.{RoundInputs}
-use Rattle.sync_product.specs.proof.Sizes.{part_size, part_size_of, part_sizes, stage_size, stage_sizes, tap_ports}
+use Rattle.sync_product.specs.proof.ProductSizes.{part_size, part_size_of, part_sizes, stage_size, stage_sizes}
+use Rattle.sync_product.specs.proof.ProductSizes.{tap_ports}
 use Rattle.sync_product.specs.proof.Rounds.{frames_of, sent_by}
-use Rattle.sync_product.specs.proof.State.{ProductState, advanced}
-use Rattle.sync_product.proofs.Tables.{count_of_sized}
+use Rattle.sync_product.specs.proof.ProductStates.{ProductState, advanced}
+use Rattle.sync_product.proofs.ComponentLists.{count_of_sized}
 use Rattle.sync_product.proofs.ProductRounds.{standing, advanced-by}
 use Rattle.sync_product.proofs.product.Product.advance.Goals as goal
 

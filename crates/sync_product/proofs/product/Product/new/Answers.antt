@@ -5,11 +5,11 @@ use Rattle.pals_base.specs.declared.values.Frame.{Frame}
 use Rattle.pals_model.specs.declared.design.DesignParts.{DesignParts}
 use Rattle.pals_model.specs.declared.rounds.Part.{Part}
 use Rattle.pals_model.specs.Composition.{opening}
-use Rattle.sync_product.specs.proof.Sizes.{part_size, stage_sizes}
-use Rattle.sync_product.specs.proof.Wired.{IsWiring}
+use Rattle.sync_product.specs.proof.ProductSizes.{part_size, stage_sizes}
+use Rattle.sync_product.specs.proof.ComponentWiring.{IsWiring}
 use Rattle.sync_product.specs.proof.Rounds.{frames_of}
-use Rattle.sync_product.specs.proof.State.{ProductState, opening_parts}
-use Rattle.sync_product.proofs.Openings.{opening_fits, opening_frames, opening_messages_fit}
+use Rattle.sync_product.specs.proof.ProductStates.{ProductState, opening_parts}
+use Rattle.sync_product.proofs.OpeningProducts.{opening_fits, opening_frames, opening_messages_fit}
 use Rattle.sync_product.proofs.product.Product.new.Goals as goal
 
 pub invariant_of-result : goal.invariant_of-result

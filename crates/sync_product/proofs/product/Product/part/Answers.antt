@@ -3,9 +3,9 @@ use Rattle.std.proofs.lemmas.Option.{slice_get_read}
 use Rattle.std.specs.Arc.{arc_value}
 use Rattle.list_lemmas.proofs.Lists.{length-map_enumerate_from}
 use Rattle.pals_model.specs.declared.design.Component.{Component}
-use Rattle.sync_product.specs.proof.State.{ProductState}
-use Rattle.sync_product.specs.proof.Sizes.{part_size, part_size_of, part_sizes, tap_ports}
-use Rattle.sync_product.proofs.Tables.{count_of_sized}
+use Rattle.sync_product.specs.proof.ProductStates.{ProductState}
+use Rattle.sync_product.specs.proof.ProductSizes.{part_size, part_size_of, part_sizes, tap_ports}
+use Rattle.sync_product.proofs.ComponentLists.{count_of_sized}
 use Rattle.sync_product.proofs.product.Product.part.Goals as goal
 
 pub bounds-as_slice-node : goal.bounds-as_slice-node

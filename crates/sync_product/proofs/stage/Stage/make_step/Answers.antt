@@ -2,8 +2,8 @@ use Rattle.std.proofs.Common.{◌≡◌, ◌∙◌, ℕ, List, [], ap, sym, leng
 use Rattle.std.proofs.lemmas.List.{with_items_is, get_or_default}
 use Rattle.std.specs.Vec.{with_items}
 use Rattle.pals_base.specs.declared.values.PortValue.{PortValue}
-use Rattle.sync_product.specs.proof.Sizes.{FrameSize, StageSize, frame_size}
-use Rattle.sync_product.proofs.Filling.{same_sizes}
+use Rattle.sync_product.specs.proof.ProductSizes.{FrameSize, StageSize, frame_size}
+use Rattle.sync_product.proofs.SizePreservation.{same_sizes}
 use Rattle.sync_product.proofs.stage.Stage.make_step.Goals as goal
 
 pub returns-clause-stage_size : goal.returns-clause-stage_size

@@ -1,13 +1,13 @@
 use Rattle.std.proofs.Common.{◌∙◌, ◌+◌, [], ◌∷◌, ◌++◌, ap, sym, length, map, take, arith}
 use Rattle.std.proofs.lemmas.List.{take_more_set}
 use Rattle.pals_base.specs.declared.values.Frame.{Frame}
-use Rattle.pals_base.specs.Fire.{fire}
-use Rattle.pals_base.specs.Steps.{column, columns, frame_after, outputs}
-use Rattle.pals_base.proofs.Upwards.{map_upwards_more}
-use Rattle.pals_base.proofs.Steps.{frame_after-append, outputs-append}
+use Rattle.pals_base.specs.SingleStep.{fire}
+use Rattle.pals_base.specs.StepSequences.{column, columns, frame_after, outputs}
+use Rattle.pals_base.proofs.UpwardNumbers.{map_upwards_more}
+use Rattle.pals_base.proofs.StepSequences.{frame_after-append, outputs-append}
 use Rattle.sync_product.specs.proof.Rounds.{brought}
-use Rattle.sync_product.specs.proof.Sizes.{StageSize, stage_size}
-use Rattle.sync_product.proofs.Sizing.{count_of_rows, length_of_row}
+use Rattle.sync_product.specs.proof.ProductSizes.{StageSize, stage_size}
+use Rattle.sync_product.proofs.RowSizes.{count_of_rows, length_of_row}
 use Rattle.sync_product.proofs.stage.Stage.make_steps.Goals as goal
 
 pub make_step-requires-clause-row : goal.make_step-requires-clause-row

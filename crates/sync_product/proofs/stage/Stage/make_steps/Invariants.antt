@@ -1,7 +1,7 @@
 use Rattle.std.proofs.Common.{◌≡◌, take, map}
-use Rattle.pals_base.specs.Steps.{columns, frame_after, outputs}
+use Rattle.pals_base.specs.StepSequences.{columns, frame_after, outputs}
 use Rattle.sync_product.specs.proof.Rounds.{brought}
-use Rattle.sync_product.specs.proof.Sizes.{frame_size, frame_size_of, stage_size}
+use Rattle.sync_product.specs.proof.ProductSizes.{frame_size, frame_size_of, stage_size}
 use Rattle.sync_product.proofs.stage.Stage.make_steps.Given as goal
 
 -- the first steps are made

@@ -1,8 +1,8 @@
 use Rattle.std.proofs.Common.{◌∙◌, ℕ, ◌<◌, ap, length, arith}
 use Rattle.pals_model.specs.declared.design.Component.{Component}
-use Rattle.pals_model.specs.Inputs.{sources_of}
-use Rattle.sync_product.specs.proof.Sizes.{tap_ports}
-use Rattle.sync_product.proofs.Tables.{numbered-at, entry_at, item_at, within_table}
+use Rattle.pals_model.specs.ComponentInputs.{sources_of}
+use Rattle.sync_product.specs.proof.ProductSizes.{tap_ports}
+use Rattle.sync_product.proofs.ComponentLists.{numbered-at, entry_at, item_at, within_table}
 use Rattle.sync_product.proofs.wiring.Wiring.component.Goals as goal
 
 pub index-requires : goal.index-requires

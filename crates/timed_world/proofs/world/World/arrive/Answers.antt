@@ -1,8 +1,8 @@
 use Rattle.std.proofs.Common.{sym, subst}
 use Rattle.pals_runs.specs.declared.events.Event.TheVariants as event
-use Rattle.timed_world.specs.proof.Values.{WorldValue}
-use Rattle.timed_world.proofs.Moving.{IsFine, arrived, moves_keep}
-use Rattle.timed_world.proofs.Refusals.{arrival_only}
+use Rattle.timed_world.specs.proof.WorldValues.{WorldValue}
+use Rattle.timed_world.proofs.FaultlessEvents.{IsFine, arrived, moves_keep}
+use Rattle.timed_world.proofs.BusRefusals.{arrival_only}
 use Rattle.timed_world.proofs.world.World.arrive.Goals as goal
 
 pub refused_arrival-requires : goal.refused_arrival-requires

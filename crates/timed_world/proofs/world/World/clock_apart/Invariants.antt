@@ -1,5 +1,5 @@
 use Rattle.std.proofs.Common.{◌≡◌}
-use Rattle.run_laws.specs.Faults.{clock_apart}
+use Rattle.run_laws.specs.EventFaults.{clock_apart}
 use Rattle.timed_world.proofs.FaultTable.{readings_left}
 use Rattle.timed_world.proofs.world.World.clock_apart.Given as goal
 

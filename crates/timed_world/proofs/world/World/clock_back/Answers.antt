@@ -2,8 +2,8 @@ use Rattle.std.proofs.Common.{ℕ, ◌+◌, ◌<◌, ◌≤◌, List, length, Op
 use Rattle.std.specs.Prelude.{slice_index_or}
 use Rattle.pals_runs.specs.declared.events.EventFault.{EventFault}
 use Rattle.pals_runs.specs.declared.events.EventFault.TheVariants as fault
-use Rattle.run_laws.specs.Faults.{Reading, clock_back}
-use Rattle.timed_world.specs.proof.Values.{WorldValue, world_of}
+use Rattle.run_laws.specs.EventFaults.{Reading, clock_back}
+use Rattle.timed_world.specs.proof.WorldValues.{WorldValue, world_of}
 use Rattle.timed_world.proofs.FaultTable.{readings_left, readings_more, goes_past, has_found, below_found, below_past}
 use Rattle.timed_world.proofs.world.World.clock_back.Goals as goal
 

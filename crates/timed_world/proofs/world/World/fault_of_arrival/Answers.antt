@@ -5,8 +5,8 @@ use Rattle.pals_model.specs.declared.flight.FlightCopy.{FlightCopy}
 use Rattle.pals_model.specs.declared.design.DesignParts.{DesignParts}
 use Rattle.bus_machine.specs.LinkEvents.{is_in_flight}
 use Rattle.bus_machine.specs.States.{flight_at}
-use Rattle.timed_world.specs.proof.Values.{WorldValue, KeepsWorld, world_of}
-use Rattle.timed_world.proofs.Flights.{arrival_fits}
+use Rattle.timed_world.specs.proof.WorldValues.{WorldValue, KeepsWorld, world_of}
+use Rattle.timed_world.proofs.SingleFlights.{arrival_fits}
 use Rattle.timed_world.proofs.world.World.fault_of_arrival.Goals as goal
 
 some_copied : (o : Option (Bor FlightCopy)) → is_some (option_copied o) ≡ is_some o

@@ -6,8 +6,8 @@ use Rattle.bus_machine.specs.NodeEvents.{running_step}
 use Rattle.bus_machine.specs.States.{node_at}
 use Rattle.run_laws.specs.Worlds.{is_last_sent}
 use Rattle.timed_world.specs.declared.standing.NodeStanding.{NodeStanding}
-use Rattle.timed_world.specs.proof.Values.{WorldValue}
-use Rattle.timed_world.proofs.Moving.{IsFine, ends_sent, moves_on, stays_put, ended, moves_keep}
+use Rattle.timed_world.specs.proof.WorldValues.{WorldValue}
+use Rattle.timed_world.proofs.FaultlessEvents.{IsFine, ends_sent, moves_on, stays_put, ended, moves_keep}
 use Rattle.timed_world.proofs.world.World.finish.Goals as goal
 
 pub invariant_of-self : goal.invariant_of-self

@@ -4,10 +4,10 @@ use Rattle.pals_model.specs.declared.design.DesignParts.{DesignParts}
 use Rattle.pals_model.specs.declared.rounds.Delays.{Delays}
 use Rattle.pals_model.specs.Delays.{AreDelays}
 use Rattle.pals_model.specs.Rules.{IsDesign}
-use Rattle.pals_bus.specs.proof.Values.{opening_bus}
+use Rattle.pals_bus.specs.proof.BusPartValues.{opening_bus}
 use Rattle.run_laws.specs.Worlds.{zeros}
-use Rattle.timed_world.specs.proof.Values.{KeepsWorld, opening_value}
-use Rattle.timed_world.proofs.Openings.{least_delays, no_sendings, opening_kept, same_world}
+use Rattle.timed_world.specs.proof.WorldValues.{KeepsWorld, opening_value}
+use Rattle.timed_world.proofs.OpeningWorlds.{least_delays, no_sendings, opening_kept, same_world}
 use Rattle.timed_world.proofs.world.World.new.Goals as goal
 
 pub new-requires-clause-delays : goal.new-requires-clause-delays

@@ -1,9 +1,9 @@
 use Rattle.std.proofs.Common.{◌≡◌, ap, ◌∙◌}
 use Rattle.pals_runs.specs.declared.events.EventSubject.TheVariants as which
 use Rattle.pals_model.specs.declared.design.DesignParts.{DesignParts}
-use Rattle.run_laws.specs.Faults.{past}
-use Rattle.timed_world.specs.proof.Values.{WorldValue, world_of}
-use Rattle.timed_world.proofs.Standings.{last_is}
+use Rattle.run_laws.specs.EventFaults.{past}
+use Rattle.timed_world.specs.proof.WorldValues.{WorldValue, world_of}
+use Rattle.timed_world.proofs.NodeStandings.{last_is}
 use Rattle.timed_world.proofs.world.World.node_past.Goals as goal
 
 pub returns : goal.returns

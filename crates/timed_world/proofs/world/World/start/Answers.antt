@@ -1,10 +1,10 @@
 use Rattle.std.proofs.Common.{ap, sym, ◌∙◌, subst}
 use Rattle.pals_runs.specs.declared.events.Event.TheVariants as event
-use Rattle.pals_bus.specs.Values.{BusValue}
-use Rattle.run_laws.proofs.Faults.{starts_in_time}
-use Rattle.timed_world.specs.proof.Values.{WorldValue, KeepsWorld, Moves, world_of}
-use Rattle.timed_world.proofs.Moving.{IsFine, reads, begun, moves_keep}
-use Rattle.timed_world.proofs.Refusals.{start_only}
+use Rattle.pals_bus.specs.BusValues.{BusValue}
+use Rattle.run_laws.proofs.FaultlessEvents.{starts_in_time}
+use Rattle.timed_world.specs.proof.WorldValues.{WorldValue, KeepsWorld, Moves, world_of}
+use Rattle.timed_world.proofs.FaultlessEvents.{IsFine, reads, begun, moves_keep}
+use Rattle.timed_world.proofs.BusRefusals.{start_only}
 use Rattle.timed_world.proofs.world.World.start.Goals as goal
 
 pub refused_start-requires : goal.refused_start-requires

@@ -1,9 +1,9 @@
 use Rattle.std.proofs.Common.{sym, subst}
 use Rattle.pals_runs.specs.declared.events.Event.TheVariants as event
-use Rattle.run_laws.proofs.Faults.{steps_in_time}
-use Rattle.timed_world.specs.proof.Values.{WorldValue, world_of}
-use Rattle.timed_world.proofs.Moving.{IsFine, reads, stepped, moves_keep}
-use Rattle.timed_world.proofs.Refusals.{step_only}
+use Rattle.run_laws.proofs.FaultlessEvents.{steps_in_time}
+use Rattle.timed_world.specs.proof.WorldValues.{WorldValue, world_of}
+use Rattle.timed_world.proofs.FaultlessEvents.{IsFine, reads, stepped, moves_keep}
+use Rattle.timed_world.proofs.BusRefusals.{step_only}
 use Rattle.timed_world.proofs.world.World.step.Goals as goal
 
 pub refused_step-requires : goal.refused_step-requires

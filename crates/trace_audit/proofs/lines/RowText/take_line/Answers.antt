@@ -1,7 +1,7 @@
 use Rattle.std.proofs.Common.{◌≡◌, ◌+◌, ◌++◌, ◌∷◌, suc, length, drop, ap, ◌∙◌, rules}
 use Rattle.std.specs.Prelude.{min}
 use Rattle.pals_model.specs.RoundTexts.{text_of}
-use Rattle.trace_audit.proofs.Cutting.{first_of, next_place, next_text, next_within}
+use Rattle.trace_audit.proofs.TextLines.{first_of, next_place, next_text, next_within}
 use Rattle.trace_audit.proofs.lines.RowText.take_line.Goals as goal
 
 pub returns-clause-left : goal.returns-clause-left

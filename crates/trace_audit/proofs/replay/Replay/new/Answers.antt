@@ -1,7 +1,7 @@
 use Rattle.std.proofs.Common.{◌≡◌, ℕ, List, None, length, sym, ap₂, ◌∙◌, rules}
 use Rattle.std.specs.Prelude.{replicate}
 use Rattle.bus_machine.specs.States.{BusState}
-use Rattle.run_laws.specs.Traces.{Audit}
+use Rattle.run_laws.specs.TraceVerdicts.{Audit}
 use Rattle.trace_audit.proofs.AuditInvariant.{no_readings}
 use Rattle.trace_audit.proofs.replay.Replay.new.Goals as goal
 

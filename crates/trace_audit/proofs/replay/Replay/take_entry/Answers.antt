@@ -3,8 +3,8 @@ use Rattle.std.specs.Prelude.{IfSome}
 use Rattle.pals_model.specs.declared.design.DesignParts.{DesignParts}
 use Rattle.bus_machine.specs.States.{Run}
 use Rattle.run_laws.specs.Entries.{IsEntryIn}
-use Rattle.run_laws.specs.Traces.{noted}
-use Rattle.pals_bus.specs.Values.{BusValue}
+use Rattle.run_laws.specs.TraceVerdicts.{noted}
+use Rattle.pals_bus.specs.BusValues.{BusValue}
 use Rattle.trace_audit.specs.proof.OwedStops.{owed_by}
 use Rattle.trace_audit.proofs.AuditInvariant.{audit_next, length-noted, owed_within}
 use Rattle.trace_audit.proofs.replay.Replay.take_entry.Goals as goal

@@ -1,8 +1,8 @@
 use Rattle.std.proofs.Common.{sym, ap, ◌∙◌, subst}
-use Rattle.sync_product.specs.proof.State.{state_after}
-use Rattle.run_laws.specs.Traces.{line_at}
-use Rattle.trace_audit.specs.proof.Lines.{HasLeft}
-use Rattle.trace_audit.proofs.Placing.{begun_after, left_behind, left_is, left_next, line_is_one}
+use Rattle.sync_product.specs.proof.ProductStates.{state_after}
+use Rattle.run_laws.specs.TraceVerdicts.{line_at}
+use Rattle.trace_audit.specs.proof.RemainingLines.{HasLeft}
+use Rattle.trace_audit.proofs.ReportLinePlaces.{begun_after, left_behind, left_is, left_next, line_is_one}
 use Rattle.trace_audit.proofs.rows.AuditedRows.is_line.Goals as goal
 
 pub returns-clause-same : goal.returns-clause-same

@@ -2,12 +2,12 @@ use Rattle.std.proofs.Common.{◌≡◌, ◌++◌, length, take, drop, sym, ap, 
 use Rattle.list_lemmas.proofs.Lists.{take-written_whole}
 use Rattle.list_lemmas.proofs.Results.{OnOk-weaker}
 use Rattle.pals_model.specs.declared.design.DesignParts.{DesignParts}
-use Rattle.pals_model.specs.Inputs.{values_at}
+use Rattle.pals_model.specs.ComponentInputs.{values_at}
 use Rattle.pals_model.specs.RoundTexts.{composed_lines, row}
-use Rattle.sync_product.specs.proof.State.{ProductState}
+use Rattle.sync_product.specs.proof.ProductStates.{ProductState}
 use Rattle.trace_audit.specs.declared.lines.RowText.{RowText}
-use Rattle.trace_audit.specs.proof.Lines.{HasLeft}
-use Rattle.trace_audit.proofs.Making.{length-values_at, parts_made}
+use Rattle.trace_audit.specs.proof.RemainingLines.{HasLeft}
+use Rattle.trace_audit.proofs.ReportRows.{length-values_at, parts_made}
 use Rattle.trace_audit.proofs.rows.AuditedRows.make_row.Goals as goal
 
 pub returns-clause-row : goal.returns-clause-row

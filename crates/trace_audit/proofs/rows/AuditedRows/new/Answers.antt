@@ -2,8 +2,8 @@ use Rattle.std.proofs.Common.{◌≡◌, length, refl, sym, ap, ◌∙◌, rules
 use Rattle.std.specs.Arc.{arc_value}
 use Rattle.pals_model.specs.declared.design.DesignParts.{DesignParts}
 use Rattle.pals_report.specs.proof.TapPlaces.{tap_places}
-use Rattle.sync_product.specs.proof.State.{begun, state_after}
-use Rattle.trace_audit.proofs.Placing.{first_place, none_begun}
+use Rattle.sync_product.specs.proof.ProductStates.{begun, state_after}
+use Rattle.trace_audit.proofs.ReportLinePlaces.{first_place, none_begun}
 use Rattle.trace_audit.proofs.rows.AuditedRows.new.Goals as goal
 
 pub returns : goal.returns

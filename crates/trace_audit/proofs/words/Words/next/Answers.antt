@@ -1,6 +1,6 @@
 use Rattle.std.proofs.Common.{◌∙◌, ap}
-use Rattle.trace_audit.specs.proof.Words.{words_in}
-use Rattle.trace_audit.proofs.Splitting.{cut_once}
+use Rattle.trace_audit.specs.proof.RemainingWords.{words_in}
+use Rattle.trace_audit.proofs.FirstWords.{cut_once}
 use Rattle.trace_audit.proofs.words.Words.next.Goals as goal
 
 pub returns-in-Some : goal.returns-in-Some

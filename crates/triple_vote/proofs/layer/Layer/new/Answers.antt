@@ -1,5 +1,5 @@
 use Rattle.triple_vote.specs.declared.layer.Layer.{Layer}
-use Rattle.triple_vote.proofs.Starting.{is_opened}
+use Rattle.triple_vote.proofs.OpeningReplicas.{is_opened}
 use Rattle.triple_vote.proofs.layer.Layer.new.Goals as goal
 
 pub returns : goal.returns

@@ -3,8 +3,8 @@ use Rattle.pals_model.specs.declared.rounds.Part.{Part}
 use Rattle.sync_product.specs.declared.stage.Stage.{Stage}
 use Rattle.sync_product.specs.proof.Rounds.{frames_of}
 use Rattle.triple_vote.specs.declared.layer.Layer.{Layer}
-use Rattle.triple_vote.specs.proof.Layers.{AreRun, AreSent, AreWhole}
-use Rattle.triple_vote.proofs.Making.{is_made}
+use Rattle.triple_vote.specs.proof.ReplicaLayers.{AreRun, AreSent, AreWhole}
+use Rattle.triple_vote.proofs.LayerTuples.{is_made}
 use Rattle.triple_vote.proofs.layer.Layer.run.Goals as goal
 
 pub returns-clause-made : goal.returns-clause-made

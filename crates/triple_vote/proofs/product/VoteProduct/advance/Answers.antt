@@ -1,10 +1,10 @@
 use Rattle.std.proofs.Common.{◌∙◌, ap, subst}
 use Rattle.std.specs.Arc.{arc_value}
 use Rattle.pals_model.specs.declared.design.DesignParts.{DesignParts}
-use Rattle.triple_vote.specs.proof.Layers.{tap_sizes}
-use Rattle.triple_vote.specs.proof.States.{VotedState, vadvanced}
-use Rattle.triple_vote.specs.proof.Triples.{AreThree, AreHeard}
-use Rattle.triple_vote.proofs.Advancing.{tables_stay, replicas_turn, state_advanced_by}
+use Rattle.triple_vote.specs.proof.ReplicaLayers.{tap_sizes}
+use Rattle.triple_vote.specs.proof.VotedStates.{VotedState, vadvanced}
+use Rattle.triple_vote.specs.proof.ReplicaTriples.{AreThree, AreHeard}
+use Rattle.triple_vote.proofs.AdvancedStates.{tables_stay, replicas_turn, state_advanced_by}
 use Rattle.triple_vote.proofs.product.VoteProduct.advance.Goals as goal
 
 pub invariant_of-self-2 : goal.invariant_of-self-2

@@ -2,8 +2,8 @@ use Rattle.std.proofs.Common.{◌≡◌, ◌∙◌, ◌-◌, ◌<◌, List, leng
 use Rattle.std.specs.Arc.{arc_value}
 use Rattle.pals_model.specs.declared.rounds.Part.{Part}
 use Rattle.triple_vote.specs.Replicas.{copies_of, frame_at}
-use Rattle.triple_vote.specs.proof.States.{VotedState}
-use Rattle.triple_vote.proofs.Advancing.{frame_read, before_three, parts_there}
+use Rattle.triple_vote.specs.proof.VotedStates.{VotedState}
+use Rattle.triple_vote.proofs.AdvancedStates.{frame_read, before_three, parts_there}
 use Rattle.triple_vote.proofs.product.VoteProduct.frame.Goals as goal
 
 pub returns : goal.returns

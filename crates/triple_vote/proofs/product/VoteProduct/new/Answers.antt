@@ -4,14 +4,14 @@ use Rattle.pals_base.specs.declared.values.PortValue.{PortValue}
 use Rattle.pals_base.specs.declared.values.PortValue.TheVariants.{Absent}
 use Rattle.pals_model.specs.declared.design.Tap.{Tap}
 use Rattle.pals_model.specs.declared.design.DesignParts.{DesignParts}
-use Rattle.pals_model.specs.Inputs.{rate_of, all_sources}
+use Rattle.pals_model.specs.ComponentInputs.{rate_of, all_sources}
 use Rattle.pals_model.specs.Composition.{opening}
-use Rattle.sync_product.specs.proof.Sizes.{stage_sizes}
-use Rattle.triple_vote.specs.proof.States.{vbegun}
-use Rattle.triple_vote.specs.proof.Layers.{lengths}
-use Rattle.triple_vote.specs.proof.Triples.{AreOpened}
-use Rattle.triple_vote.proofs.Starting.{shown_fits, are_heard}
-use Rattle.triple_vote.proofs.Advancing.{state_begun}
+use Rattle.sync_product.specs.proof.ProductSizes.{stage_sizes}
+use Rattle.triple_vote.specs.proof.VotedStates.{vbegun}
+use Rattle.triple_vote.specs.proof.ReplicaLayers.{lengths}
+use Rattle.triple_vote.specs.proof.ReplicaTriples.{AreOpened}
+use Rattle.triple_vote.proofs.OpeningReplicas.{shown_fits, are_heard}
+use Rattle.triple_vote.proofs.AdvancedStates.{state_begun}
 use Rattle.triple_vote.proofs.product.VoteProduct.new.Goals as goal
 
 abbrev silent : DesignParts → List (List (List PortValue))

@@ -3,14 +3,14 @@ use Rattle.std.specs.Arc.{arc_value}
 use Rattle.std.proofs.lemmas.Option.{slice_get-get_or}
 use Rattle.pals_base.specs.declared.values.PortValue.{PortValue}
 use Rattle.pals_model.specs.declared.design.Link.{Link}
-use Rattle.pals_model.specs.Inputs.{rate_of}
+use Rattle.pals_model.specs.ComponentInputs.{rate_of}
 use Rattle.triple_vote.specs.Replicas.{copies_of, received_at}
-use Rattle.triple_vote.specs.proof.States.{VotedState}
-use Rattle.triple_vote.specs.proof.Triples.{parts_in}
-use Rattle.triple_vote.proofs.Advancing.{received_read, before_three}
-use Rattle.triple_vote.proofs.Gathering.{no_link}
-use Rattle.triple_vote.proofs.Layering.{heard_room}
-use Rattle.triple_vote.proofs.Sizing.{tuple_within}
+use Rattle.triple_vote.specs.proof.VotedStates.{VotedState}
+use Rattle.triple_vote.specs.proof.ReplicaTriples.{parts_in}
+use Rattle.triple_vote.proofs.AdvancedStates.{received_read, before_three}
+use Rattle.triple_vote.proofs.VotedMessages.{no_link}
+use Rattle.triple_vote.proofs.LayerLists.{heard_room}
+use Rattle.triple_vote.proofs.TupleLengths.{tuple_within}
 use Rattle.triple_vote.proofs.product.VoteProduct.received.Goals as goal
 
 pub index-tuples-requires : goal.index-tuples-requires

@@ -1,0 +1,175 @@
+-- The walk back that the code makes, on paths from the outside in, is the walk back of the definitions, on paths
+-- from the inside out.
+use Rattle.std.proofs.Common.{◌≡◌, ◌⊎◌, inl, inr, ℕ, zero, suc, ◌+◌, ◌<◌, ◌≤◌, false, nat_eq, List, [], ◌∷◌, ◌++◌, take}
+use Rattle.std.proofs.Common.{reverse, length, slice_get, get_or, Option, Some, None, option_map, refl, sym, ap, subst}
+use Rattle.std.proofs.Common.{◌∙◌, arith}
+use Rattle.std.specs.Option.{option_and_then, option_map_or}
+use Rattle.std.proofs.lemmas.Bool.{eqb-true, eq-eqb, cases_lt}
+use Rattle.std.proofs.lemmas.List.{reverse-append, length-map}
+use Rattle.std.proofs.lemmas.Option.{none-some, slice_get_past}
+use Rattle.list_lemmas.proofs.Places.{slice_get-from_Contains}
+use Rattle.aadl_tree.specs.Declarations.{Subcomponent, PackageTree}
+use Rattle.aadl_names.specs.declared.site.PortPlace.{PortPlace}
+use Rattle.aadl_names.specs.declared.site.PortPlace.TheVariants.{Own, Inner}
+use Rattle.aadl_names.specs.ReferenceResolution.{first_number, implementation_in, subcomponents_of, referred}
+use Rattle.aadl_uses.specs.Uses.{below, standing}
+use Rattle.aadl_uses.specs.proof.PackageContainment.{containment, targets_in}
+use Rattle.aadl_uses.proofs.PackageContainment.{below-same}
+use Rattle.aadl_uses.specs.proof.DeclarationWires.{into}
+use Rattle.aadl_uses.specs.proof.ContainmentOrders.{IsOrder}
+use Rattle.aadl_chains.specs.proof.PortsJoinedInside.{is_in_at}
+use Rattle.aadl_chains.specs.proof.DeclaredConnections.{MayLeave, AreDeclared}
+use Rattle.aadl_chains.proofs.ConnectionsOnChains.{next_at}
+use Rattle.aadl_chains.specs.declared.walks.ConnectionInto.{ConnectionInto}
+use Rattle.aadl_chains.specs.proof.Walks.{Crossing, Climb, nowhere, crosses, climb, climb_by, climb_along, climb_into}
+use Rattle.aadl_chains.specs.proof.OutermostFirstWalks.{entry}
+use Rattle.aadl_chains.proofs.EnteringConnections.{known, some_first, first_at}
+use Rattle.aadl_chains.proofs.ChainsOfWalks.{crossed}
+
+-- ---- one step of a path
+taken_more : (path : List ℕ) (d : ℕ) → d < length path → take (d + 1) path ≡ take d path ++ get_or path d 0 ∷ []
+taken_more [] d lt = absurd (omega arith)
+taken_more (x ∷ path) zero lt = refl
+taken_more (x ∷ path) (suc d) lt =
+    let next : suc d + 1 ≡ suc (d + 1) = omega arith in
+    ap (λ n. take n (x ∷ path)) next ∙ ap (λ xs. x ∷ xs) (taken_more path d (omega arith))
+
+reversed_more : (path : List ℕ) (d : ℕ) → d < length path
+    → reverse (take (d + 1) path) ≡ get_or path d 0 ∷ reverse (take d path)
+reversed_more path d lt = ap reverse (taken_more path d lt) ∙ reverse-append (take d path) (get_or path d 0 ∷ [])
+
+module _ (tree : PackageTree ℕ) (root : ℕ) where
+  -- where the walk is behind a connection
+  climb_on : List ℕ → Option ConnectionInto → Climb
+  climb_on path None = nowhere
+  climb_on path (Some e) = climb_by (λ k q. climb tree root (Some k) path q) path e.declaration e.connection e.source
+
+  on_into : (path : List ℕ) (n : ℕ) (o : Option (ℕ × PortPlace))
+      → climb_along (λ k q. climb tree root (Some k) path q) path n o
+      ≡ climb_on path (option_map (λ from. record { declaration = n; connection = from.0; source = from.1 }) o)
+  unfolding climb_on
+  on_into path n None = refl
+  on_into path n (Some from) = refl
+
+  on_entry : (path : List ℕ) (s p : ℕ) (o : Option ℕ)
+      → climb_into tree (λ k q. climb tree root (Some k) path q) path s p o ≡ climb_on path (entry tree o s p)
+  unfolding climb_on
+  on_entry path s p None = refl
+  on_entry path s p (Some n) = on_into path n (into tree n (Inner s p))
+
+  climbs_on : (last : Option ℕ) (path : List ℕ) (d p : ℕ) → d < length path
+      → climb tree root last (reverse (take (d + 1) path)) p
+      ≡ climb_on (reverse (take d path)) (entry tree (standing tree root (reverse (take d path))) (get_or path d 0) p)
+  climbs_on last path d p lt =
+      ap (λ l. climb tree root last l p) (reversed_more path d lt)
+      ∙ on_entry (reverse (take d path)) (get_or path d 0) p (standing tree root (reverse (take d path)))
+
+  module _ (last : Option ℕ) (path : List ℕ) (d p : ℕ) (lt : d < length path) where
+    pub climbs_nowhere : entry tree (standing tree root (reverse (take d path))) (get_or path d 0) p ≡ None
+        → climb tree root last (reverse (take (d + 1) path)) p ≡ nowhere
+    unfolding climb_on
+    climbs_nowhere e = climbs_on last path d p lt ∙ ap (climb_on (reverse (take d path))) e
+
+    pub climbs_own : (x : ConnectionInto) (q : ℕ)
+        → entry tree (standing tree root (reverse (take d path))) (get_or path d 0) p ≡ Some x → x.source ≡ Own q
+        → climb tree root last (reverse (take (d + 1) path)) p
+        ≡ climb tree root (Some x.connection) (reverse (take d path)) q
+    unfolding climb_on
+    climbs_own x q e own = climbs_on last path d p lt ∙ (ap (climb_on (reverse (take d path))) e
+        ∙ ap (climb_by (λ k q. climb tree root (Some k) (reverse (take d path)) q) (reverse (take d path)) x.declaration
+        x.connection) own)
+
+    pub climbs_inner : (x : ConnectionInto) (t q : ℕ)
+        → entry tree (standing tree root (reverse (take d path))) (get_or path d 0) p ≡ Some x
+        → x.source ≡ Inner t q
+        → climb tree root last (reverse (take (d + 1) path)) p
+        ≡ crosses (record {
+          path = reverse (take d path);
+          declaration = x.declaration;
+          connection = x.connection;
+          sub = t;
+          port = q;
+        })
+    unfolding climb_on
+    climbs_inner x t q e inner = climbs_on last path d p lt ∙ (ap (climb_on (reverse (take d path))) e
+        ∙ ap (climb_by (λ k q. climb tree root (Some k) (reverse (take d path)) q) (reverse (take d path)) x.declaration
+        x.connection) inner)
+
+  -- what stands where a crossing comes from
+  pub record From (c : Crossing) : Type 0 where
+    pub number : ℕ
+    pub names : below tree c.declaration c.sub ≡ Some number
+    pub goes_out : is_in_at tree number c.port ≡ false
+    pub stands : standing tree root (c.sub ∷ c.path) ≡ Some number
+
+  pub crossing_from : AreDeclared tree → (path : List ℕ) (p : ℕ) (c : Crossing)
+      → climb tree root None path p ≡ crosses c → From c
+  crossing_from sound path p c is =
+      let x = crossed tree root None path p c is in
+      let g = x.goes in
+      let k =
+      known tree root sound (record { path = c.path; connection = c.connection })
+      (record { path = c.sub ∷ c.path; port = c.port }) x.target g in
+      let m = leaves_by g.number g.source k.leaves x.source_is in
+      let names : below tree c.declaration c.sub ≡ Some m.0 = ap (λ n. below tree n c.sub) (sym x.number_is) ∙ m.1 in
+      record {
+        number = m.0;
+        names = names;
+        goes_out = m.2;
+        stands = next_at tree root c.path c.declaration c.sub m.0 (g.stands ∙ ap Some x.number_is) names;
+      }
+    where
+      leaves_by : (n : ℕ) (source : PortPlace) → MayLeave tree n source → source ≡ Inner c.sub c.port
+          → (m : ℕ) × (below tree n c.sub ≡ Some m) × (is_in_at tree m c.port ≡ false)
+      leaves_by n source may e = subst (MayLeave tree n) e may
+
+-- ---- declarations by their places in an order
+pub rank : List ℕ → ℕ → ℕ
+rank keys n = option_map_or (λ k. k) (first_number (nat_eq n) keys) 0
+
+module _ (tree : PackageTree ℕ) (keys : List ℕ) (order : IsOrder (containment tree) keys) where
+  place_of : (n i : ℕ) → slice_get keys i ≡ Some n
+      → (k : ℕ) × (first_number (nat_eq n) keys ≡ Some k) × (k ≤ i) × (slice_get keys k ≡ Some n)
+  place_of n i is =
+      let f = some_first (nat_eq n) keys 0 i n is (eq-eqb n n refl) in
+      let at = first_at (nat_eq n) keys 0 f.0 f.1 in
+      let where_is = at.is in
+      let least = f.2 in
+      let same : f.0 ≡ at.index = omega arith in
+      (f.0, f.1, omega arith, ap (slice_get keys) same ∙ (at.is_item ∙ ap Some (sym (eqb-true n at.item at.passes))))
+
+  declared_by : (n s m : ℕ) → below tree n s ≡ Some m → n < length tree.declarations
+  declared_by n s m b = by (cases_lt n (length tree.declarations))
+    where
+      none_past : length tree.declarations ≤ n → below tree n s ≡ None
+      none_past past =
+          ap (λ o. option_and_then (λ sub. referred tree sub.classifier)
+          (slice_get (subcomponents_of (implementation_in o)) s))
+          (slice_get_past tree.declarations n past) ∙ nothing s
+        where
+          nothing : (s : ℕ) → option_and_then (λ (sub : Subcomponent ℕ). referred tree sub.classifier)
+              (slice_get [] s) ≡ None
+          nothing zero = refl
+          nothing (suc s) = refl
+
+      by : (n < length tree.declarations) ⊎ (length tree.declarations ≤ n) → n < length tree.declarations
+      by (inl lt) = lt
+      by (inr past) = absurd (none-some m (sym (none_past past) ∙ b))
+
+  -- what a declaration contains stands before it
+  pub rank_falls : (n s m : ℕ) → below tree n s ≡ Some m → rank keys m < rank keys n
+  unfolding rank
+  rank_falls n s m b =
+      let size = length-map tree.declarations (targets_in tree) in
+      let lt = declared_by n s m b in
+      let c = order.all n (omega (arith, size, lt)) in
+      let p = place_of n c.0 (slice_get-from_Contains keys n c) in
+      let j = order.sequence.behind p.0 n s m p.3 (below-same tree n s ∙ b) in
+      let q = place_of m j.0 j.2 in
+      let before = j.1 in
+      let first = q.2 in
+      let left : option_map_or (λ k. k) (first_number (nat_eq m) keys) 0
+      ≡ q.0 = ap (λ o. option_map_or (λ k. k) o 0) q.1 in
+      let right : option_map_or (λ k. k) (first_number (nat_eq n) keys) 0
+      ≡ p.0 = ap (λ o. option_map_or (λ k. k) o 0) p.1 in
+      omega arith

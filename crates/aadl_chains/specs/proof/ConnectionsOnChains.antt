@@ -1,0 +1,28 @@
+-- A connection that is on a chain, by what its ends lead to.
+use Rattle.std.specs.Prelude.{◌≡◌, ℕ, Some}
+use Rattle.aadl_tree.specs.Declarations.{PackageTree}
+use Rattle.aadl_names.specs.declared.site.PortPlace.{PortPlace}
+use Rattle.aadl_uses.specs.declared.connections.Wire.{Wire}
+use Rattle.aadl_chains.specs.proof.PortsJoinedInside.{IsInside}
+use Rattle.aadl_chains.specs.proof.PortsJoinedOutside.{LeadsFrom, IsOutside}
+use Rattle.aadl_chains.specs.declared.ways.JoinedPorts.{JoinedPorts}
+use Rattle.aadl_tree.specs.declared.declarations.Direction.TheVariants as directions
+
+pub record IsOnWay (tree : PackageTree ℕ) (root n : ℕ) (wire : Wire) : Type 0 where
+  pub source : PortPlace
+  pub target : PortPlace
+  pub source_is : wire.source ≡ Some source
+  pub target_is : wire.target ≡ Some target
+  pub comes : LeadsFrom tree root directions.In n source
+  pub goes : LeadsFrom tree root directions.Out n target
+
+-- the sets are those of all ports that threads give to or take from, and that are fed or led outside
+pub record AreWays (tree : PackageTree ℕ) (ways : JoinedPorts) : Type 0 where
+  pub gives_out : ways.gives.direction ≡ directions.Out
+  pub gives : IsInside tree directions.Out ways.gives.ports
+  pub takes_in : ways.takes.direction ≡ directions.In
+  pub takes : IsInside tree directions.In ways.takes.ports
+  pub fed_side : ways.fed.side ≡ record { root = ways.root; direction = directions.In }
+  pub fed : IsOutside tree ways.root directions.In ways.fed.ports
+  pub led_side : ways.led.side ≡ record { root = ways.root; direction = directions.Out }
+  pub led : IsOutside tree ways.root directions.Out ways.led.ports

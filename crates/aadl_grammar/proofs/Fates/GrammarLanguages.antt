@@ -1,0 +1,132 @@
+-- The two languages of the grammar, packages and bodies of behaviour annexes, each with the stack that the machine
+-- starts from.
+use Rattle.std.proofs.Common.{ℕ, ◌≡◌, ◌∙◌, sym, ap, refl, ◌≤◌, List, [], ◌∷◌, arith}
+use Rattle.aadl_tree.specs.declared.limits.TheConstants.{GREATEST_NESTING}
+use Rattle.aadl_tree.specs.Terminals.{Kind}
+use Rattle.aadl_tree.specs.SpellingParts.{Spells, kept}
+use Rattle.aadl_tree.specs.Annexes.{AnnexTree, annex_tree_parts}
+use Rattle.aadl_tree.specs.Declarations.{PackageTree, package_parts}
+use Rattle.aadl_tree.specs.Grammar.{IsPackage, IsBehaviour}
+use Rattle.aadl_grammar.specs.proof.Symbols as s
+use Rattle.aadl_grammar.specs.proof.Machine.{depth, whole_package, annex_body}
+use Rattle.aadl_grammar.proofs.Derived.ForbiddenFollowers.{first_of, tail}
+use Rattle.aadl_grammar.proofs.Derived.FollowerMembership.{Clear, apart_means}
+use Rattle.aadl_grammar.proofs.Derived.SymbolTrees.{Trees}
+use Rattle.aadl_grammar.proofs.Derived.DerivedTrees.{derives, Written, written}
+use Rattle.aadl_grammar.proofs.PlaceIndependence.AlikeParts.{alike_spells, alike_kept}
+use Rattle.aadl_tree.specs.proof.PlaceMaps.{annex_tree_to, package_to}
+use Rattle.aadl_grammar.proofs.PlaceIndependence.Annexes.{annex_tree_alike}
+use Rattle.aadl_grammar.proofs.PlaceIndependence.Declarations.{package_alike}
+use Rattle.aadl_grammar.proofs.Derived.UniqueTrees.{one}
+use Rattle.aadl_grammar.proofs.Fates.FateMeanings.{Language}
+
+pub package_clear : Clear whole_package
+unfolding tail
+package_clear = (apart_means [] (tail s.a_package) refl, tt)
+
+pub body_clear : Clear annex_body
+unfolding tail
+body_clear = (
+  apart_means (first_of (s.states ∷ s.transitions ∷ [])) (tail s.variables) refl,
+  (
+    apart_means (first_of (s.transitions ∷ [])) (tail s.states) refl,
+    (apart_means [] (tail s.transitions) refl, tt),
+  ),
+)
+
+-- places that do not count
+abbrev pub nowhere : ℕ → Unit {0}
+nowhere at = tt
+
+abbrev pub somewhere : Unit {0} → ℕ
+somewhere u = 0
+
+abbrev pub body_of : Trees annex_body → AnnexTree (Unit {0})
+body_of y = record { variables = y.0; states = y.1.0; transitions = y.1.1.0 }
+
+pub package_text : (ks : List Kind) → Written whole_package ks → IsPackage ks
+package_text ks w =
+    record {
+      tree = package_to somewhere w.trees.0;
+      spelled = alike_spells ks [] (package_alike somewhere w.trees.0) w.spelled;
+    }
+
+pub body_text : (ks : List Kind) → Written annex_body ks → IsBehaviour ks
+body_text ks w =
+    record {
+      tree = annex_tree_to somewhere (body_of w.trees);
+      spelled = alike_spells ks [] (annex_tree_alike somewhere (body_of w.trees)) w.spelled;
+    }
+
+abbrev pub package_trees : PackageTree (Unit {0}) → Trees whole_package
+package_trees t = (t, tt)
+
+abbrev pub body_trees : AnnexTree (Unit {0}) → Trees annex_body
+body_trees t = (t.variables, (t.states, (t.transitions, tt)))
+
+pub package_flat : depth whole_package ≡ 0
+unfolding depth
+package_flat = refl
+
+pub body_flat : depth annex_body ≡ 0
+unfolding depth
+body_flat = refl
+
+pub none_open : 0 ≤ GREATEST_NESTING
+none_open = omega arith
+
+pub one_open : 1 ≤ GREATEST_NESTING
+one_open = omega arith
+
+abbrev pub packages : Language IsPackage 0
+packages = record {
+  start = whole_package;
+  derived =
+      λ ks t. derives ks whole_package (package_trees (package_to nowhere t.tree))
+      (alike_spells ks [] (package_alike nowhere t.tree) t.spelled);
+  text = λ ks d. package_text ks (written whole_package ks d);
+  clear = package_clear;
+  good = refl;
+  flat = package_flat;
+  low = none_open;
+}
+
+abbrev pub behaviours : Language IsBehaviour 1
+behaviours = record {
+  start = annex_body;
+  derived =
+      λ ks t. derives ks annex_body (body_trees (annex_tree_to nowhere t.tree))
+      (alike_spells ks [] (annex_tree_alike nowhere t.tree) t.spelled);
+  text = λ ks d. body_text ks (written annex_body ks d);
+  clear = body_clear;
+  good = refl;
+  flat = body_flat;
+  low = one_open;
+}
+
+pub one_package : (ks : List Kind) (t u : PackageTree (Unit {0})) → Spells (package_parts t) ks []
+    → Spells (package_parts u) ks [] → t ≡ u
+one_package ks t u sp sq =
+    ap (λ (x : Trees whole_package). x.0) (one ks whole_package package_clear (package_trees t) (package_trees u) sp sq)
+
+pub one_behaviour : (ks : List Kind) (t u : AnnexTree (Unit {0})) → Spells (annex_tree_parts t) ks []
+    → Spells (annex_tree_parts u) ks [] → t ≡ u
+one_behaviour ks t u sp sq = ap body_of (one ks annex_body body_clear (body_trees t) (body_trees u) sp sq)
+
+pub package_kept : (ks : List Kind) (t u : PackageTree ℕ) → Spells (package_parts t) ks []
+    → Spells (package_parts u) ks [] → kept (package_parts t) ≡ kept (package_parts u)
+package_kept ks t u sp sq =
+    let same =
+    one_package ks (package_to nowhere t) (package_to nowhere u) (alike_spells ks [] (package_alike nowhere t) sp)
+    (alike_spells ks [] (package_alike nowhere u) sq) in
+    alike_kept (package_alike nowhere t) ∙ ap (λ (x : PackageTree (Unit {0})). kept (package_parts x)) same
+    ∙ sym (alike_kept (package_alike nowhere u))
+
+pub behaviour_kept : (ks : List Kind) (t u : AnnexTree ℕ) → Spells (annex_tree_parts t) ks []
+    → Spells (annex_tree_parts u) ks [] → kept (annex_tree_parts t) ≡ kept (annex_tree_parts u)
+behaviour_kept ks t u sp sq =
+    let same =
+    one_behaviour ks (annex_tree_to nowhere t) (annex_tree_to nowhere u)
+    (alike_spells ks [] (annex_tree_alike nowhere t) sp) (alike_spells ks [] (annex_tree_alike nowhere u) sq) in
+    alike_kept (annex_tree_alike nowhere t) ∙ ap (λ (x : AnnexTree (Unit {0})). kept (annex_tree_parts x)) same
+    ∙ sym (alike_kept (annex_tree_alike nowhere u))

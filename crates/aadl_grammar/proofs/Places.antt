@@ -1,7 +1,0 @@
--- How a tree is spelled does not depend on its places, by kinds of trees.
-pub mod Alike
-pub mod Values
-pub mod Expressions
-pub mod Actions
-pub mod Annexes
-pub mod Declarations

@@ -1,0 +1,13 @@
+-- A tree is fixed by itself without places and by its places. For the claim that tokens spell one tree with places.
+pub mod PlaceCounts
+pub mod PlaceOrder
+pub mod Names
+pub mod Values
+pub mod Expressions
+pub mod Actions
+pub mod Annexes
+pub mod Members
+pub mod Declarations
+pub mod All
+pub mod MovedTrees
+pub mod KeptTerminals

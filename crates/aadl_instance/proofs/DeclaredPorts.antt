@@ -1,0 +1,117 @@
+-- Ports that connections go out of and into are declared.
+use Rattle.std.proofs.Common.{◌≡◌, ℕ, ◌+◌, ◌<◌, Bool, true, false, cond, List, [], ◌∷◌, length, slice_get, Contains}
+use Rattle.std.proofs.Common.{Option, Some, None, option_map, refl, sym, ap, subst, ◌∙◌, arith}
+use Rattle.std.specs.List.{position_from}
+use Rattle.std.specs.Option.{option_and_then}
+use Rattle.std.proofs.lemmas.Bool.{true≢false}
+use Rattle.std.proofs.lemmas.Option.{same_Some, none-some, option_and_then_some, slice_get_within}
+use Rattle.list_lemmas.proofs.Elements.{Contains-nil}
+use Rattle.list_lemmas.proofs.Options.{option_map-parts}
+use Rattle.aadl_tree.specs.Names.{Identifier}
+use Rattle.aadl_tree.specs.Declarations.{Feature, Subcomponent, ConnectionEnd, Implementation, PackageTree}
+use Rattle.aadl_names.specs.declared.site.PortPlace.{PortPlace}
+use Rattle.aadl_names.specs.declared.site.PortPlace.TheVariants.{Own, Inner}
+use Rattle.aadl_names.specs.PackageFaults.{goes_in}
+use Rattle.aadl_names.specs.ReferenceResolution.{implementation_at, referred, target_of, ports_at, ports_of, port_named}
+use Rattle.aadl_names.specs.ReferenceResolution.{sub_named, inner_ports, inner_site, site_by, site, subcomponents_of}
+use Rattle.aadl_uses.specs.Uses.{below, standing, component_at}
+use Rattle.aadl_chains.specs.Chains.{Port, Place, port_at, Goes, Leads}
+use Rattle.aadl_instance.specs.proof.ChainsSoFar.{HasPort}
+
+-- ---- lists
+first_within : {X : Type 0} (test : X → Bool) (i : ℕ) (xs : List X) (k : ℕ) → position_from test i xs ≡ Some k
+    → k < i + length xs
+first_within test i [] k e = absurd (none-some k e)
+first_within test i (x ∷ xs) k e = by (test x) e (first_within test (i + 1) xs k)
+  where
+    by : (b : Bool) → cond b (Some i) (position_from test (i + 1) xs) ≡ Some k
+        → (position_from test (i + 1) xs ≡ Some k → k < i + 1 + length xs)
+        → k < i + length (x ∷ xs)
+    by true f more = let same = same_Some i k f in omega arith
+    by false f more = let lt = more f in omega arith
+
+named_within : (ports : List (Feature ℕ)) (name : List ℕ) (p : ℕ) → port_named ports name ≡ Some p → p < length ports
+named_within ports name p e = let lt = first_within _ 0 ports p e in omega arith
+
+-- a port that goes in is declared
+in_within_by : (ports : List (Feature ℕ)) (p : ℕ) (o : Option (Feature ℕ)) → slice_get ports p ≡ o
+    → goes_in (option_map (λ f. f.direction) o) ≡ true
+    → p < length ports
+in_within_by ports p None e t = absurd (true≢false (sym t))
+in_within_by ports p (Some x) e t = slice_get_within ports p x e
+
+pub in_within : (ports : List (Feature ℕ)) (p : ℕ) → goes_in (option_map (λ f. f.direction) (slice_get ports p)) ≡ true
+    → p < length ports
+in_within ports p t = in_within_by ports p (slice_get ports p) refl t
+
+-- ---- sites
+module _ (tree : PackageTree ℕ) (root : ℕ) where
+  targets_same : (o : Option (Subcomponent ℕ))
+      → option_and_then (target_of tree) o ≡ option_and_then (implementation_at tree)
+      (option_and_then (λ sub. referred tree sub.classifier) o)
+  targets_same None = refl
+  targets_same (Some sub) = refl
+
+  module _ (path : List ℕ) (n : ℕ) (x : Implementation ℕ) (stands : standing tree root path ≡ Some n)
+      (is : implementation_at tree n ≡ Some x) where
+    here : component_at tree root path ≡ Some x
+    here = ap (option_and_then (implementation_at tree)) stands ∙ is
+
+    inside : (s : ℕ) → component_at tree root (s ∷ path)
+        ≡ option_and_then (target_of tree) (slice_get x.subcomponents s)
+    inside s =
+        ap (λ o. option_and_then (implementation_at tree) (option_and_then (λ k. below tree k s) o)) stands
+        ∙ (ap (λ o. option_and_then (implementation_at tree)
+        (option_and_then (λ (sub : Subcomponent ℕ). referred tree sub.classifier)
+        (slice_get (subcomponents_of o) s))) is
+        ∙ sym (targets_same (slice_get x.subcomponents s)))
+
+    own_there : (p : ℕ) → p < length (ports_of tree x) → HasPort tree root (port_at path (Own p))
+    own_there p lt = subst (λ o. p < length (ports_at tree o)) (sym here) lt
+
+    inner_there : (s p : ℕ) → p < length (inner_ports tree x s) → HasPort tree root (port_at path (Inner s p))
+    inner_there s p lt = subst (λ o. p < length (ports_at tree o)) (sym (inside s)) lt
+
+    there_by : (first : Identifier ℕ) (second : Option (Identifier ℕ)) (at : PortPlace)
+        → site_by tree x first second ≡ Some at
+        → HasPort tree root (port_at path at)
+    there_by first None at e =
+        let m = option_map-parts Own (port_named (ports_of tree x) first.spelling) at e in
+        subst (λ s. HasPort tree root (port_at path s)) m.2
+        (own_there m.0 (named_within (ports_of tree x) first.spelling m.0 m.1))
+    there_by first (Some port) at e =
+        option_and_then_some (inner_site tree x port.spelling) (sub_named x.subcomponents first.spelling) at e
+        (λ s f g.
+        let m = option_map-parts (Inner s) (port_named (inner_ports tree x s) port.spelling) at g in
+        subst (λ t. HasPort tree root (port_at path t)) m.2
+        (inner_there s m.0 (named_within (inner_ports tree x s) port.spelling m.0 m.1)))
+
+    pub there : (end : ConnectionEnd ℕ) (at : PortPlace) → site tree x end ≡ Some at
+        → HasPort tree root (port_at path at)
+    unfolding site
+    there end at e = there_by end.first end.second at e
+
+  -- ---- chains
+  leaves_there : (place : Place) (from to : Port) → Goes tree root place from to → HasPort tree root from
+  leaves_there place from to g =
+      subst (HasPort tree root) (sym g.leaves)
+      (there place.path g.number g.component g.stands g.is_component g.link.source g.source g.is_source)
+
+  enters_there : (place : Place) (from to : Port) → Goes tree root place from to → HasPort tree root to
+  enters_there place from to g =
+      subst (HasPort tree root) (sym g.enters)
+      (there place.path g.number g.component g.stands g.is_component g.link.target g.target g.is_target)
+
+  begins_by : (c : Place) (cs : List Place) (from to : Port) → Leads tree root (c ∷ cs) from to → HasPort tree root from
+  begins_by c [] from to l = subst (HasPort tree root) (sym l.1) (leaves_there c l.0 to l.2)
+  begins_by c (d ∷ cs) from to l = begins_by d cs from l.0 l.1
+
+  pub begins_there : (chain : List Place) (place : Place) (from to : Port) → Contains chain place
+      → Leads tree root chain from to → HasPort tree root from
+  begins_there [] place from to h l = absurd (Contains-nil place h)
+  begins_there (c ∷ cs) place from to h l = begins_by c cs from to l
+
+  pub ends_there : (chain : List Place) (place : Place) (from to : Port) → Contains chain place
+      → Leads tree root chain from to → HasPort tree root to
+  ends_there [] place from to h l = absurd (Contains-nil place h)
+  ends_there (c ∷ cs) place from to h l = enters_there c l.0 to l.2

@@ -1,0 +1,48 @@
+-- What is known of the code's map of threads, ports and chains while it looks for chains, in the terms of the
+-- contracts of `build`.
+use Rattle.std.specs.Prelude.{◌≡◌, ℕ, List, Some, reverse, slice_get}
+use Rattle.aadl_tree.specs.Declarations.{PackageTree}
+use Rattle.aadl_tree.specs.proof.PackageViews.{placed}
+use Rattle.aadl_uses.specs.Uses.{standing}
+use Rattle.aadl_chains.specs.Links.{Ends}
+use Rattle.aadl_instance.specs.declared.parts.Chain.{Chain}
+use Rattle.aadl_instance.specs.declared.build.Incoming.{Incoming}
+use Rattle.aadl_instance.specs.declared.ends.ChainMap.{ChainMap}
+use Rattle.aadl_instance.specs.declared.ends.ThreadNode.{ThreadNode}
+use Rattle.aadl_instance.specs.proof.PortNumbers.{AreNumbers}
+use Rattle.aadl_instance.specs.proof.ChainsSoFar.{paths_of, IsSettled, AreShown, AreInto, AreTapsTo}
+
+abbrev pub tree_of : ChainMap → PackageTree ℕ
+tree_of network = placed network.wires.now.uses.names.tree.now
+
+-- the paths of its threads, the innermost subcomponent first
+abbrev pub paths_in : ChainMap → List (List ℕ)
+paths_in network = paths_of network.threads.now
+
+-- nothing is found in the package, and these are an order of its declarations and its threads,
+-- and the table has the ports' numbers
+pub record IsReady (network : ChainMap) : Type 0 where
+  pub settled : IsSettled (tree_of network) network.order.now.keys network.root (paths_in network)
+  pub numbers : AreNumbers (tree_of network) network.numbers.now
+
+-- the thread of a number is the one at the path
+abbrev pub IsNumbered : ChainMap → ℕ → List ℕ → Type 0
+IsNumbered network node path = slice_get (paths_in network) node ≡ Some path
+
+-- it is the thread of its number, and its declaration stands at its path
+pub record IsNode (network : ChainMap) (node : ThreadNode) : Type 0 where
+  pub numbered : IsNumbered network node.number.0 (reverse node.path.now)
+  pub stands : standing (tree_of network) network.root (reverse node.path.now) ≡ Some node.declaration
+
+-- all chains of a kind, in an order
+abbrev pub Shows : ChainMap → (PackageTree ℕ → ℕ → Ends → Type 0) → (Ends → Ends → Type 0) → List Chain → Type 0
+Shows network Kind Before chains =
+    AreShown (tree_of network) network.root (paths_in network) (Kind (tree_of network) network.root) Before chains
+
+-- the links and feeds into the threads before one, and into its ports before one
+abbrev pub ShowsInto : ChainMap → ℕ → ℕ → Incoming → Type 0
+ShowsInto network node port incoming = AreInto (tree_of network) network.root (paths_in network) node port incoming
+
+-- the taps to the ports before one
+abbrev pub ShowsTaps : ChainMap → ℕ → List Chain → Type 0
+ShowsTaps network port taps = AreTapsTo (tree_of network) network.root (paths_in network) port taps

@@ -1,0 +1,29 @@
+-- What is known of a package in which the rules find nothing, and what `check_package` answers of it.
+use Rattle.std.specs.Prelude.{◌≡◌, ◌↔◌, ℕ, [], Contains, Option, Some, None}
+use Rattle.aadl_tree.specs.Declarations.{PackageTree}
+use Rattle.aadl_names.specs.declared.fault.PackageFault.{PackageFault}
+use Rattle.aadl_names.specs.FirstFindings.{IsFirstByLine}
+use Rattle.aadl_names.specs.PackageFaults.{package_faults}
+use Rattle.aadl_uses.specs.proof.PackageContainment.{containment}
+use Rattle.aadl_uses.specs.Uses.{IsInUse, IsRecursive}
+use Rattle.aadl_uses.specs.proof.ContainmentOrders.{IsOrder}
+use Rattle.aadl_instance.specs.declared.package.Checked.{Checked}
+use Rattle.aadl_instance.specs.Faults.{FoundIn, IsRoot}
+
+-- nothing is wrong with its names and its containment
+pub record IsOrdered (tree : PackageTree ℕ) (checked : Checked) : Type 0 where
+  pub is_root : IsRoot tree checked.root
+  pub order : IsOrder (containment tree) checked.order.keys
+  pub used : (n : ℕ) → Contains checked.used.keys n ↔ IsInUse tree checked.root n
+  pub names : package_faults tree checked.root ≡ []
+  pub recursion : (fault : PackageFault) → IsRecursive tree fault → ⊥
+
+-- and nothing at all is
+pub record IsChecked (tree : PackageTree ℕ) (checked : Checked) : Type 0 where
+  pub ordered : IsOrdered tree checked
+  pub silent : (line : ℕ) (fault : PackageFault) → FoundIn tree checked.root line fault → ⊥
+
+-- the first fault, or that there is none
+abbrev pub FindsFault : PackageTree ℕ → Checked → Option PackageFault → Type 0
+FindsFault tree checked None = IsChecked tree checked
+FindsFault tree checked (Some fault) = IsFirstByLine (FoundIn tree checked.root) fault

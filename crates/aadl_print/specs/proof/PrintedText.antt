@@ -1,0 +1,44 @@
+-- What has been written, and what one more terminal adds.
+use Rattle.std.specs.Prelude.{ℕ, codes, List, [], ◌∷◌, ◌++◌, if◌then◌else◌}
+use Rattle.aadl_tree.specs.Terminals.{Kind}
+use Rattle.aadl_tree.specs.declared.mark.Mark.{Mark}
+use Rattle.aadl_tree.specs.SpellingParts.{Part, token, may, plain}
+use Rattle.aadl_tree.specs.Canon.{kind_text, holds_left, holds_right, ends_line, line_end}
+use Rattle.aadl_print.specs.declared.gap.Spacing.{Spacing}
+use Rattle.aadl_print.specs.declared.gap.Spacing.TheVariants.{Nothing, Space, LineEnd}
+
+-- The text of some terminals, and what stands behind the last of them where the next one lets it.
+pub record Printed : Type 0 where
+  pub text : List ℕ
+  pub gap : Spacing
+
+abbrev pub gap_text : Spacing → List ℕ
+gap_text Nothing = []
+gap_text Space = codes " "
+gap_text LineEnd = line_end
+
+abbrev pub gap_behind : Kind → Spacing
+gap_behind kind = if holds_right kind then Nothing else if ends_line kind then LineEnd else Space
+
+-- before the first terminal
+abbrev pub blank : Printed
+blank = record { text = []; gap = Nothing }
+
+-- one more terminal
+unfoldable pub put : Printed → Kind → Printed
+put before kind =
+    record {
+      text = before.text ++ ((if holds_left kind then [] else gap_text before.gap) ++ kind_text kind);
+      gap = gap_behind kind;
+    }
+
+-- the terminals that parts keep, one behind the other
+abbrev pub printed : {P : Type 0} → Printed → List (Part P) → Printed
+printed before [] = before
+printed before (token kind places ∷ ps) = printed (put before kind) ps
+printed before (may extra ∷ ps) = printed before ps
+
+-- what stands in a section, behind its word; nothing where there is nothing
+abbrev pub under : {P : Type 0} → Mark → List (Part P) → List (Part P)
+under word [] = []
+under word (p ∷ ps) = plain word ∷ (p ∷ ps)

@@ -1,0 +1,55 @@
+-- How many marked declarations stand below another, up to a limit.
+use Rattle.std.specs.Prelude.{◌≡◌, ◌⊎◌, ℕ, Bool, true, false, min, List, [], ◌∷◌, length, Option, Some, None}
+use Rattle.std.specs.Prelude.{slice_index, slice_index_or}
+use Rattle.std.specs.List.{AllByRecursion}
+use Rattle.std.specs.Option.{option_and_then}
+use Rattle.aadl_uses.specs.proof.ContainmentGraphs.{Graph, below_in}
+use Rattle.aadl_uses.specs.Threads.{path_before}
+
+-- what stands at the end of a path of subcomponents, the outermost first
+abbrev pub stands_at : Graph → ℕ → List ℕ → Option ℕ
+stands_at g n [] = Some n
+stands_at g n (s ∷ path) = option_and_then (λ k. stands_at g k path) (below_in g n s)
+
+-- a marked declaration stands at the end of the path
+pub record IsMarkedAt (g : Graph) (marks : List Bool) (n : ℕ) (path : List ℕ) : Type 0 where
+  pub number : ℕ
+  pub stands : stands_at g n path ≡ Some number
+  pub is_marked : slice_index_or marks number false ≡ true
+
+abbrev pub Among : {X : Type 0} → List X → X → Type 0
+Among [] x = ⊥
+Among (y ∷ ys) x = (x ≡ y) ⊎ Among ys x
+
+abbrev pub Ordered : {X : Type 0} → (X → X → Bool) → List X → Type 0
+Ordered before [] = Unit {0}
+Ordered before (x ∷ xs) = AllByRecursion (λ y. before x y ≡ true) xs × Ordered before xs
+
+-- a list of all that have P, each once, in order
+pub record AreListed {X : Type 0} (P : X → Type 0) (before : X → X → Bool) (xs : List X) : Type 0 where
+  pub each : AllByRecursion P xs
+  pub ordered : Ordered before xs
+  pub complete : (x : X) → P x → Among xs x
+
+-- the number of places below a declaration at which a marked one stands, which stops at the limit
+pub record Counted (limit : ℕ) (g : Graph) (marks : List Bool) (n count : ℕ) : Type 0 where
+  pub paths : List (List ℕ)
+  pub listed : AreListed (IsMarkedAt g marks n) path_before paths
+  pub count_is : count ≡ min limit (length paths)
+
+-- the counts of what its subcomponents name
+abbrev pub AreCounted : ℕ → Graph → List Bool → List ℕ → ℕ → Type 0
+AreCounted limit g marks counts n = (s m : ℕ) → below_in g n s ≡ Some m → Counted limit g marks m (slice_index counts m)
+
+abbrev pub own_count : ℕ → Bool → ℕ
+own_count limit true = min limit 1
+own_count limit false = 0
+
+abbrev pub count_of : List ℕ → Option ℕ → ℕ
+count_of counts None = 0
+count_of counts (Some m) = slice_index counts m
+
+-- the empty path leads to the declaration itself
+abbrev pub own_paths : Bool → List (List ℕ)
+own_paths true = [] ∷ []
+own_paths false = []

@@ -1,0 +1,19 @@
+-- What the tokens of a behaviour come to: its one tree, or the place where they stop being one.
+use Rattle.std.specs.Prelude.{ℕ, ◌≡◌, List}
+use Rattle.aadl_lex.specs.declared.token.Token.{Token}
+use Rattle.aadl_tree.specs.Annexes.{AnnexTree}
+use Rattle.aadl_tree.specs.GrammarTrees.{IsBehaviourOf}
+use Rattle.aadl_tree.specs.proof.GrammarTrees.{BehaviourStopsAt, BehaviourNestsAt}
+use Rattle.aadl_grammar.specs.declared.fault.ParseFault.{ParseFault}
+use Rattle.aadl_grammar.specs.declared.fault.ParseFault.TheVariants.{Memory, Syntax, TooDeep}
+
+-- This is the tree of the behaviour's tokens, and there is no other.
+pub record IsOnlyBehaviourOf (text : List ℕ) (tokens : List Token) (tree : AnnexTree ℕ) : Type 0 where
+  pub given : IsBehaviourOf text tokens tree
+  pub only : (other : AnnexTree ℕ) → IsBehaviourOf text tokens other → other ≡ tree
+
+-- The tokens are no behaviour, and this is where. Nothing is said if there was not enough memory.
+abbrev pub IsFaultOfBehaviour : List ℕ → List Token → ParseFault → Type 0
+IsFaultOfBehaviour text tokens (Syntax at) = BehaviourStopsAt text tokens at
+IsFaultOfBehaviour text tokens (TooDeep at) = BehaviourNestsAt text tokens at
+IsFaultOfBehaviour text tokens Memory = Unit {0}

@@ -1,0 +1,17 @@
+-- The frames that expressions and actions are evaluated in: only variables and held inputs are read, with which
+-- ports have a value.
+use Rattle.std.specs.Prelude.{ℤ, Bool, List, map, None}
+use Rattle.pals_base.specs.declared.values.Frame.{Frame}
+use Rattle.pals_base.specs.SingleStep.{is_present}
+use Rattle.behaviour_sem.specs.declared.expressions.StepInputs.{StepInputs}
+
+-- a frame with these variables and held inputs; no expression and no action reads its state or its halt
+abbrev pub frame_of : List ℤ → List ℤ → Frame
+frame_of variables inputs = record { state = 0; vars = variables; held = inputs; halt = None }
+
+abbrev pub seen : List ℤ → StepInputs → Frame
+seen variables inputs = frame_of variables inputs.held.now
+
+-- which in ports have a value in this step
+abbrev pub fresh : StepInputs → List Bool
+fresh inputs = map is_present inputs.present.now

@@ -1,0 +1,58 @@
+-- What a quantity of nodes becomes where one node changes, and how many rounds a node has sent by its count.
+use Rattle.std.proofs.Common.{◌≡◌, ◌≢◌, inl, inr, ℕ, suc, ◌+◌, ◌-◌, ◌<◌, ◌≤◌, nat_eq, Bool, true, false, cond}
+use Rattle.std.proofs.Common.{if◌then◌else◌, length, refl, sym, ap, ◌∙◌, subst, arith}
+use Rattle.std.proofs.lemmas.Bool.{cases_eq, cases_lt, eqb-true, eqb-false, false≢true}
+use Rattle.std.proofs.lemmas.List.{length-set, get_or_past}
+use Rattle.bus_machine.specs.Nodes.{NodeState}
+use Rattle.bus_machine.specs.States.{BusState, node_at, no_node, with_node}
+use Rattle.bus_machine.proofs.AgreementChanges.{node_set, node_stays}
+
+-- ---- it grows at that node
+grows_by : (f : ℕ → NodeState → ℕ) (s : BusState) (node k more : ℕ) (n : NodeState) (b : Bool) → nat_eq node k ≡ b
+    → node < length s.nodes
+    → f node n ≡ f node (node_at s node) + more
+    → f k (node_at (with_node s node n) k) ≡ f k (node_at s k) + cond b more 0
+grows_by f s node k more n true is within grows =
+    let same : node ≡ k = eqb-true node k is in
+    subst (λ j. f j (node_at (with_node s node n) j) ≡ f j (node_at s j) + more) same
+    (ap (f node) (node_set s node n within) ∙ grows)
+grows_by f s node k more n false is within grows =
+    let other : node ≢ k = eqb-false node k is in
+    let stays : f k (node_at (with_node s node n) k) ≡ f k (node_at s k) =
+    ap (f k) (node_stays s node k n (λ e. other (sym e))) in
+    omega arith
+
+pub grows_at : (f : ℕ → NodeState → ℕ) (s : BusState) (node k more : ℕ) (n : NodeState) → node < length s.nodes
+    → f node n ≡ f node (node_at s node) + more
+    → f k (node_at (with_node s node n) k) ≡ f k (node_at s k) + cond (nat_eq node k) more 0
+grows_at f s node k more n within grows = grows_by f s node k more n (nat_eq node k) refl within grows
+
+-- ---- it stays
+pub stays_at : (f : ℕ → NodeState → ℕ) (s : BusState) (node k : ℕ) (n : NodeState) → f node n ≡ f node (node_at s node)
+    → f k (node_at (with_node s node n) k) ≡ f k (node_at s k)
+stays_at f s node k n same = elim (cases_eq k node) [
+  | inl here ↦
+      subst (λ j. f j (node_at (with_node s node n) j) ≡ f j (node_at s j)) (sym here)
+      (elim (cases_lt node (length s.nodes)) [
+        | inl within ↦ ap (f node) (node_set s node n within) ∙ same
+        | inr past ↦
+            let size = length-set s.nodes node n in
+            ap (f node) (get_or_past (with_node s node n).nodes node no_node (omega arith)
+            ∙ sym (get_or_past s.nodes node no_node past))
+      ])
+  | inr other ↦ ap (f k) (node_stays s node k n other)
+]
+
+-- ---- rounds that are sent: as many as are counted, or one less until that of the round in hand is sent
+pub sent_most : (sent : Bool) (count : ℕ) → (if sent then count else (count - 1)) ≤ count
+sent_most true count = omega arith
+sent_most false count = omega arith
+
+pub sent_at_start : (sent : Bool) (count : ℕ) → sent ≡ true → count + 1 - 1 ≡ (if sent then count else (count - 1))
+sent_at_start true count is = omega arith
+sent_at_start false count is = absurd (false≢true is)
+
+pub sent_behind : (sent : Bool) (count round : ℕ) → sent ≡ false → count ≡ suc round
+    → count ≡ (if sent then count else (count - 1)) + 1
+sent_behind true count round unsent some = absurd (false≢true (sym unsent))
+sent_behind false count round unsent some = omega arith

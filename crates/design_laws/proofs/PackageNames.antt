@@ -1,0 +1,16 @@
+-- For PackageNames: what is known of names holds of the package of each text.
+use Rattle.std.proofs.Props.{props}
+use Rattle.std.proofs.Math.Logic.{∥∥₁_elim}
+use Rattle.aadl_tree.specs.declared.package.PackageTree as source
+use Rattle.aadl_tree.specs.proof.PackageViews.{placed}
+use Rattle.design_laws.specs.proof.PackageNames.{AreNamed}
+use Rattle.design_laws.proofs.DistinctPackageNames.{differ_given}
+use Rattle.design_laws.proofs.WordIdentifiers.{have_words}
+
+pub named : (tree : source.PackageTree) → AreNamed (placed tree)
+named tree = record {
+  words = have_words tree;
+  differ =
+      λ root n x none is. ∥∥₁_elim tree.given (hlevel props)
+      (λ given. differ_given (placed tree) root n x given none is);
+}

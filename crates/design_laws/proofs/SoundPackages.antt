@@ -1,0 +1,17 @@
+-- A package that the first four lines of checks find nothing in.
+use Rattle.std.specs.Prelude.{◌≡◌, ℕ, List, [], Some}
+use Rattle.aadl_tree.specs.Declarations.{PackageTree}
+use Rattle.aadl_names.specs.declared.fault.PackageFault.{PackageFault}
+use Rattle.aadl_names.specs.ReferenceResolution.{root_number}
+use Rattle.aadl_names.specs.PackageFaults.{package_faults}
+use Rattle.aadl_uses.specs.Uses.{IsRecursive}
+use Rattle.aadl_chains.specs.Chains.{IsEndFault}
+
+-- it has a root of the name, and nothing is wrong with its names, with what contains what, and with the ends of its
+-- connections
+pub record IsSound (tree : PackageTree ℕ) (name : List ℕ) : Type 0 where
+  pub root : ℕ
+  pub is_root : root_number tree name ≡ Some root
+  pub names : package_faults tree root ≡ []
+  pub recursion : (fault : PackageFault) → IsRecursive tree fault → ⊥
+  pub ends : (fault : PackageFault) → IsEndFault tree root fault → ⊥

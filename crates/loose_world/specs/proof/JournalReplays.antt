@@ -1,0 +1,21 @@
+-- What the journal of a loose world tells: a law at every run of a design.
+use Rattle.std.specs.Prelude.{ℕ, false, List}
+use Rattle.step_code.specs.declared.instr.CodeParts.{CodeParts}
+use Rattle.pals_runs.specs.declared.events.Event.{Event}
+use Rattle.bus_machine.specs.States.{Run}
+use Rattle.bus_machine.specs.proof.MachineLaws.{IsRunOf}
+use Rattle.pals_bus.specs.BusValues.{BusValue}
+use Rattle.pals_bus.specs.proof.BusPartValues.{opening_bus}
+use Rattle.loose_world.specs.declared.events.LooseEnd.{LooseEnd}
+use Rattle.loose_world.specs.LooseRuns.{RunsLoosely}
+use Rattle.loose_world.specs.proof.UndergoneEvents.{IsReplayed}
+
+-- however a list of loose events ends, the journal leads to where the bus stands: behind all events, where each
+-- happens without a stop; behind the event that gives a stop, up to which the journal goes; and before the event that
+-- is not allowed
+abbrev pub JournalReplays : Type 0
+JournalReplays =
+    (run : Run) (programs : List CodeParts) (events : List Event) (how : LooseEnd) (t : BusValue)
+    (lines : List (List ℕ))
+    → IsRunOf run → RunsLoosely (opening_bus run programs false) events how t lines
+    → IsReplayed run t

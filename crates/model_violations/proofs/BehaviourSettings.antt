@@ -1,0 +1,18 @@
+-- For `setting_of`: what is made of the lists of an implementation's ports and variables is what is made of its
+-- behaviour.
+use Rattle.std.proofs.Common.{◌≡◌, ◌∙◌, ℕ, List, ap}
+use Rattle.aadl_tree.specs.Annexes.{AnnexTree}
+use Rattle.aadl_tree.specs.Declarations.{Feature, Implementation, PackageTree}
+use Rattle.aadl_names.specs.ReferenceResolution.{ports_of}
+use Rattle.model_violations.specs.declared.declared.Declared.{Declared}
+use Rattle.model_violations.specs.PortsAndVariables.{ins_in, outs_in, variables_of}
+
+-- what is made of these lists is made of the implementation's own
+pub of_lists : {X : Type 0} (made : List Declared → List Declared → List Declared → X) (tree : PackageTree ℕ)
+    (x : Implementation ℕ) (annex : AnnexTree ℕ) (ports : List (Feature ℕ)) (ins outs variables : List Declared)
+    → ports ≡ ports_of tree x → ins ≡ ins_in ports → outs ≡ outs_in ports → variables ≡ variables_of annex
+    → made ins outs variables ≡ made (ins_in (ports_of tree x)) (outs_in (ports_of tree x)) (variables_of annex)
+of_lists made tree x annex ports ins outs variables ports_are ins_are outs_are variables_are =
+    ap (λ l. made l outs variables) (ins_are ∙ ap ins_in ports_are)
+    ∙ ap (λ l. made (ins_in (ports_of tree x)) l variables) (outs_are ∙ ap outs_in ports_are)
+    ∙ ap (λ l. made (ins_in (ports_of tree x)) (outs_in (ports_of tree x)) l) variables_are

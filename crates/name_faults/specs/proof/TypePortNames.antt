@@ -1,0 +1,31 @@
+-- What is known of the ports of types.
+use Rattle.std.specs.Prelude.{◌≡◌, ℕ, List, Option, Some, None, slice_index_or}
+use Rattle.aadl_tree.specs.Declarations.{Feature, PackageTree}
+use Rattle.aadl_names.specs.declared.role.Role.{Role}
+use Rattle.aadl_names.specs.proof.NameTables.{value_of}
+use Rattle.aadl_names.specs.proof.FindingSoFar.{found}
+use Rattle.aadl_names.specs.DuplicateNames.{twice}
+use Rattle.aadl_names.specs.DuplicatesBySpace.{port_entries}
+use Rattle.aadl_names.specs.proof.EarliestDeclarations.{earliest}
+use Rattle.aadl_names.specs.ReferenceResolution.{features_of, type_numbered}
+use Rattle.aadl_names.specs.PackageFaults.{port_roles}
+use Rattle.name_faults.specs.declared.port_names.PortNames.{PortNames}
+use Rattle.name_faults.specs.declared.port_names.AllPortNames.{AllPortNames}
+
+-- a table in which each name stands for what it stands for among the ports
+abbrev pub HasRolesOf : List (Feature ℕ) → List (List ℕ × Role) → Type 0
+HasRolesOf ports roles = (name : List ℕ) → value_of roles name ≡ port_roles ports name
+
+-- these are the names of the ports
+pub record AreNamesOf (ports : List (Feature ℕ)) (names : PortNames) : Type 0 where
+  pub roles : HasRolesOf ports names.roles
+  pub earliest : (name : List ℕ) → value_of names.earliest name ≡ earliest name 0 (port_entries ports)
+  pub again : names.again ≡ found None (twice (port_entries ports))
+
+abbrev pub names_at : AllPortNames → Option ℕ → PortNames
+names_at all None = all.none
+names_at all (Some number) = slice_index_or all.of_declarations number all.none
+
+-- the names of the ports of each type, by its number, and none without a type
+pub record AreAllNamesOf (tree : PackageTree ℕ) (all : AllPortNames) : Type 0 where
+  pub each : (number : Option ℕ) → AreNamesOf (features_of (type_numbered tree number)) (names_at all number)

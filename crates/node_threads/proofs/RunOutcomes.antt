@@ -1,0 +1,96 @@
+-- For `driven` and `run_threads`: what comes out of a run of a design, and that it opens anew as fresh.
+use Rattle.std.proofs.Common.{◌≡◌, Bool, true, false, List, map, Some, refl, sym, ap, ◌∙◌, subst}
+use Rattle.std.specs.Prelude.{Result, Ok, Err, IfOk}
+use Rattle.pals_clock.specs.Clock.{ClockState}
+use Rattle.pals_clock.specs.declared.clock.Clocks.{Clocks}
+use Rattle.pals_clock.specs.declared.clock.Clocks.TheVariants.{Meet, Lists}
+use Rattle.bus_machine.specs.proof.MachineLaws.{IsRunOf}
+use Rattle.pals_bus.specs.BusValues.{BusValue}
+use Rattle.pals_bus.specs.proof.BusPartValues.{opening_bus}
+use Rattle.run_laws.specs.Runs.{lists_in, Runs}
+use Rattle.node_threads.specs.declared.ends.NodeEnd.{NodeEnd}
+use Rattle.node_threads.specs.declared.ends.NodeNote.{NodeNote}
+use Rattle.node_threads.specs.proof.SharedCourses.{CourseValue, AreClocksOf, clocks_of, course_of, IsOf, Stays}
+use Rattle.node_threads.specs.declared.threads.RunEnd.{RunEnd}
+use Rattle.node_threads.specs.proof.NodeEnds.{EndsFit, IsOutcome}
+use Rattle.node_threads.proofs.CourseOpenings.{Begins}
+
+-- ---- two courses of one run
+lists_of : (meeting : Bool) (lists others : List ClockState)
+    → map (λ (c : ClockState). c.readings) lists ≡ map (λ (c : ClockState). c.readings) others
+    → lists_in (clocks_of meeting lists) ≡ lists_in (clocks_of meeting others)
+lists_of true lists others same = refl
+lists_of false lists others same = ap Some same
+
+same_by : (bus other : BusValue) (lists others : List ClockState) (notes noted : List NodeNote)
+    → (bus.run ≡ other.run) × (bus.meeting ≡ other.meeting)
+    → map (λ (c : ClockState). c.readings) lists ≡ map (λ (c : ClockState). c.readings) others
+    → Stays (course_of other others noted) (course_of bus lists notes)
+same_by bus other lists others notes noted same readings = record {
+  run = same.0;
+  lists = lists_of bus.meeting lists others readings ∙ ap (λ m. lists_in (clocks_of m others)) same.1;
+}
+
+pub same_stays : (bus other : BusValue) (lists others : List ClockState) (notes noted : List NodeNote)
+    (v w : CourseValue)
+    → course_of bus lists notes ≡ v → course_of other others noted ≡ w
+    → (bus.run ≡ other.run) × (bus.meeting ≡ other.meeting)
+    → map (λ (c : ClockState). c.readings) lists ≡ map (λ (c : ClockState). c.readings) others → Stays w v
+same_stays bus other lists others notes noted v w is there same readings =
+    subst (λ a. Stays w a) is
+    (subst (λ a. Stays a (course_of bus lists notes)) there
+    (same_by bus other lists others notes noted same readings))
+
+-- ---- what comes out
+-- a course whose parts have all ended
+pub outcome_by : (old c : CourseValue) (new : BusValue) (ends : List NodeEnd) → Stays old c → new ≡ c.bus
+    → IsRunOf c.bus.run → Runs c.bus.run c.clocks c.bus.journal c.bus.state → EndsFit c.bus c.clocks ends
+    → IsOutcome old.bus old.clocks new ends
+outcome_by old c new ends stays is rules runs fit =
+    subst (λ (b : BusValue). IsOutcome old.bus old.clocks b ends) (sym is)
+    (record { run = stays.run; rules = rules; later = c.clocks; lists = stays.lists; runs = runs; ends_fit = fit })
+
+-- a course is of the run of a bus and of its lists, and what comes of it is what comes of them
+outcome_of : (b : BusValue) (clocks : Clocks) (kept c : CourseValue) (new : BusValue) (ends : List NodeEnd)
+    → IsOf b clocks kept → Stays kept c → IsOutcome c.bus c.clocks new ends → IsOutcome b clocks new ends
+outcome_of b clocks kept c new ends is stays out = record {
+  run = out.run ∙ stays.run ∙ is.0;
+  rules = out.rules;
+  later = out.later;
+  lists = out.lists ∙ stays.lists ∙ is.1;
+  runs = out.runs;
+  ends_fit = out.ends_fit;
+}
+
+pub run_outcome : {E : Type 0} (b : BusValue) (clocks : Clocks) (kept c : CourseValue) (result : Result RunEnd E)
+    → IsOf b clocks kept → Stays kept c
+    → IfOk result (λ (end : RunEnd). IsOutcome c.bus c.clocks end.bus end.ends)
+    → IfOk result (λ (end : RunEnd). IsOutcome b clocks end.bus end.ends)
+run_outcome b clocks kept c (Ok end) is stays out = outcome_of b clocks kept c end.bus end.ends is stays out
+run_outcome b clocks kept c (Err e) is stays out = tt
+
+-- ---- the run that is kept
+pub fresh_opens : (b f : BusValue) → f ≡ opening_bus b.run b.codes b.meeting → f ≡ opening_bus f.run f.codes f.meeting
+fresh_opens b f is = is ∙ ap (λ (v : BusValue). opening_bus v.run v.codes v.meeting) (sym is)
+
+opening_clocks : (b : BusValue) (clocks : Clocks) → AreClocksOf b clocks
+    → AreClocksOf (opening_bus b.run b.codes b.meeting) clocks
+opening_clocks b Meet are = are
+opening_clocks b (Lists lists) are = are
+
+pub fresh_clocks : (b f : BusValue) (clocks : Clocks) → f ≡ opening_bus b.run b.codes b.meeting → AreClocksOf b clocks
+    → AreClocksOf f clocks
+fresh_clocks b f clocks is are = subst (λ (v : BusValue). AreClocksOf v clocks) (sym is) (opening_clocks b clocks are)
+
+-- a course that begins is of the run and of the lists that it begins with
+pub opens_of : {E : Type 0} (b : BusValue) (clocks : Clocks) (lists : List ClockState) (result : Result CourseValue E)
+    → Begins b clocks lists → IfOk result (λ (c : CourseValue). (c.bus ≡ b) × (c.clocks ≡ clocks_of b.meeting lists))
+    → IfOk result (IsOf b clocks)
+opens_of b clocks lists (Ok c) begins ok = (ap (λ (v : BusValue). v.run) ok.0, ap lists_in ok.1 ∙ begins.same)
+opens_of b clocks lists (Err e) begins ok = tt
+
+-- the course of the run of a bus before its first event is of that bus
+pub anew_of : {E : Type 0} (b f : BusValue) (clocks : Clocks) (result : Result CourseValue E)
+    → f ≡ opening_bus b.run b.codes b.meeting → IfOk result (IsOf f clocks) → IfOk result (IsOf b clocks)
+anew_of b f clocks (Ok c) is ok = (ok.0 ∙ ap (λ (v : BusValue). v.run) is, ok.1)
+anew_of b f clocks (Err e) is ok = tt

@@ -1,0 +1,85 @@
+-- The laws of steps one after another and of halted frames: frames and outputs after several steps, and the columns
+-- gathered from them.
+use Rattle.std.proofs.Common.{◌≡◌, ◌∙◌, ℕ, zero, suc, ◌+◌, ◌<◌, List, [], ◌∷◌, ◌++◌, length, map, take, replicate, Some}
+use Rattle.std.proofs.Common.{refl, sym, ap, add-zero, zero-add, arith}
+use Rattle.std.proofs.lemmas.List.{length-map}
+use Rattle.std.specs.Prelude.{slice_get}
+use Rattle.std.specs.List.{All, AllByRecursion, fold}
+use Rattle.std.proofs.lemmas.List.Elements.{All-from_recursion}
+use Rattle.pals_base.specs.declared.values.Trap.{Trap}
+use Rattle.pals_base.specs.declared.values.Frame.{Frame}
+use Rattle.pals_base.specs.declared.values.PortValue.{PortValue}
+use Rattle.pals_base.specs.declared.behaviour.BehaviourParts.{BehaviourParts}
+use Rattle.pals_base.specs.SingleStep.{Fired, fire, holding, silence, unless_halted, reaction, is_present}
+use Rattle.pals_base.specs.StepSequences.{frame_after, outputs, upwards, column, columns}
+
+pub outputs-take : (b : BehaviourParts) (frame : Frame) (vectors : List (List PortValue)) (n : ℕ)
+    → take n (outputs b frame vectors) ≡ outputs b frame (take n vectors)
+outputs-take b frame vectors zero = refl
+outputs-take b frame [] (suc n) = refl
+outputs-take b frame (inputs ∷ vectors) (suc n) =
+    ap (λ os. (fire b frame inputs).outs ∷ os) (outputs-take b (fire b frame inputs).frame vectors n)
+
+pub frame_after-append : (b : BehaviourParts) (frame : Frame) (xs ys : List (List PortValue))
+    → frame_after b frame (xs ++ ys) ≡ frame_after b (frame_after b frame xs) ys
+frame_after-append b frame [] ys = refl
+frame_after-append b frame (x ∷ xs) ys = frame_after-append b (fire b frame x).frame xs ys
+
+pub outputs-append : (b : BehaviourParts) (frame : Frame) (xs ys : List (List PortValue))
+    → outputs b frame (xs ++ ys) ≡ outputs b frame xs ++ outputs b (frame_after b frame xs) ys
+outputs-append b frame [] ys = refl
+outputs-append b frame (x ∷ xs) ys =
+    ap (λ os. (fire b frame x).outs ∷ os) (outputs-append b (fire b frame x).frame xs ys)
+
+-- ---- columns
+length-upwards : (from n : ℕ) → length (upwards from n) ≡ n
+length-upwards from zero = refl
+length-upwards from (suc n) = ap suc (length-upwards (suc from) n)
+
+pub length-columns : (n : ℕ) (lists : List (List PortValue)) → length (columns n lists) ≡ n
+length-columns n lists = length-map (upwards 0 n) (λ at. column at lists) ∙ length-upwards 0 n
+
+slice_get-column : (lists : List (List PortValue)) (from n at : ℕ) → at < n
+    → slice_get (map (λ k. column k lists) (upwards from n)) at ≡ Some (column (from + at) lists)
+slice_get-column lists from zero at within = absurd (omega arith)
+slice_get-column lists from (suc n) zero within = ap (λ k. Some (column k lists)) (sym (add-zero from))
+slice_get-column lists from (suc n) (suc at) within =
+    let place : suc from + at ≡ from + suc at = omega arith in
+    slice_get-column lists (suc from) n at (omega arith) ∙ ap (λ k. Some (column k lists)) place
+
+pub slice_get-columns : (n : ℕ) (lists : List (List PortValue)) (at : ℕ) → at < n
+    → slice_get (columns n lists) at ≡ Some (column at lists)
+slice_get-columns n lists at within =
+    slice_get-column lists 0 n at within ∙ ap (λ k. Some (column k lists)) (zero-add at)
+
+each_column : (lists : List (List PortValue)) (ats : List ℕ)
+    → AllByRecursion (λ c. length c ≡ length lists) (map (λ at. column at lists) ats)
+each_column lists [] = tt
+each_column lists (at ∷ ats) = (length-map lists _, each_column lists ats)
+
+pub length-each_column : (n : ℕ) (lists : List (List PortValue)) → All (λ c. length c ≡ length lists) (columns n lists)
+length-each_column n lists =
+    All-from_recursion (λ c. length c ≡ length lists) (columns n lists) (each_column lists (upwards 0 n))
+
+-- ---- a halted frame
+pub fire-halted : (b : BehaviourParts) (frame : Frame) (trap : Trap) (inputs : List PortValue) → frame.halt ≡ Some trap
+    → fire b frame inputs ≡ record { frame = record frame { held = holding frame.held inputs }; outs = silence b }
+unfolding fire
+fire-halted b frame trap inputs halted =
+    let held : Frame = record frame { held = holding frame.held inputs } in
+    ap (λ h. unless_halted b held h (reaction b (map is_present inputs) held)) halted
+
+pub frame_after-halted : (b : BehaviourParts) (frame : Frame) (trap : Trap) (vectors : List (List PortValue))
+    → frame.halt ≡ Some trap → frame_after b frame vectors ≡ record frame { held = fold holding frame.held vectors }
+frame_after-halted b frame trap [] halted = refl
+frame_after-halted b frame trap (inputs ∷ vectors) halted =
+    ap (λ (f : Fired). frame_after b f.frame vectors) (fire-halted b frame trap inputs halted)
+    ∙ frame_after-halted b (record frame { held = holding frame.held inputs }) trap vectors halted
+
+pub outputs-halted : (b : BehaviourParts) (frame : Frame) (trap : Trap) (vectors : List (List PortValue))
+    → frame.halt ≡ Some trap → outputs b frame vectors ≡ replicate (length vectors) (silence b)
+outputs-halted b frame trap [] halted = refl
+outputs-halted b frame trap (inputs ∷ vectors) halted =
+    ap (λ (f : Fired). f.outs ∷ outputs b f.frame vectors) (fire-halted b frame trap inputs halted)
+    ∙ ap (λ os. silence b ∷ os)
+    (outputs-halted b (record frame { held = holding frame.held inputs }) trap vectors halted)

@@ -1,0 +1,80 @@
+-- Lists that are tables of a function over numbers: their lengths, and their elements by place.
+use Rattle.std.proofs.Common.{◌≡◌, ◌∙◌, ℕ, zero, suc, ◌+◌, ◌<◌, ◌≤◌, List, [], ◌∷◌, length, map, Some, None, slice_get}
+use Rattle.std.proofs.Common.{slice_index_or, refl, sym, ap, ap₂, arith}
+use Rattle.std.specs.List.{enumerate_from}
+use Rattle.pals_base.specs.StepSequences.{upwards}
+
+pub map_map : {X Y Z : Type 0} (f : X → Y) (g : Y → Z) (xs : List X) → map g (map f xs) ≡ map (λ x. g (f x)) xs
+map_map f g [] = refl
+map_map f g (x ∷ xs) = ap (λ ys. g (f x) ∷ ys) (map_map f g xs)
+
+-- ---- numbers
+pub map_upwards_same : {X : Type 0} (f g : ℕ → X) (from n : ℕ) → ((k : ℕ) → from ≤ k → k < from + n → f k ≡ g k)
+    → map f (upwards from n) ≡ map g (upwards from n)
+map_upwards_same f g from zero same = refl
+map_upwards_same f g from (suc n) same =
+    ap₂ (λ y ys. y ∷ ys) (same from (omega arith) (omega arith))
+    (map_upwards_same f g (suc from) n (λ k above below. same k (omega arith) (omega arith)))
+
+pub length_upwards : (from n : ℕ) → length (upwards from n) ≡ n
+length_upwards from zero = refl
+length_upwards from (suc n) = ap suc (length_upwards (suc from) n)
+
+pub length_map_upwards : {X : Type 0} (f : ℕ → X) (from n : ℕ) → length (map f (upwards from n)) ≡ n
+length_map_upwards f from zero = refl
+length_map_upwards f from (suc n) = ap suc (length_map_upwards f (suc from) n)
+
+get_from_same : {X : Type 0} (f g : ℕ → X) (from n at place : ℕ) → place ≡ from + at → f place ≡ g place
+    → slice_get (map f (upwards from n)) at ≡ slice_get (map g (upwards from n)) at
+get_from_same f g from zero at place is same = refl
+get_from_same f g from (suc n) zero place is same =
+    let here : from ≡ place = omega arith in
+    ap (λ k. Some (f k)) here ∙ ap Some same ∙ sym (ap (λ k. Some (g k)) here)
+get_from_same f g from (suc n) (suc at) place is same = get_from_same f g (suc from) n at place (omega arith) same
+
+pub get_upwards_same : {X : Type 0} (f g : ℕ → X) (n at : ℕ) → f at ≡ g at
+    → slice_get (map f (upwards 0 n)) at ≡ slice_get (map g (upwards 0 n)) at
+get_upwards_same f g n at same = get_from_same f g 0 n at at (omega arith) same
+
+counted_from : {X : Type 0} (f : ℕ → X) (from n k place : ℕ) → place ≡ from + k → k < n
+    → slice_get (map f (upwards from n)) k ≡ Some (f place)
+counted_from f from zero k place is within = absurd (omega arith)
+counted_from f from (suc n) zero place is within = ap (λ m. Some (f m)) (let same : from ≡ place = omega arith in same)
+counted_from f from (suc n) (suc k) place is within = counted_from f (suc from) n k place (omega arith) (omega arith)
+
+pub counted_at : {X : Type 0} (f : ℕ → X) (n k : ℕ) → k < n → slice_get (map f (upwards 0 n)) k ≡ Some (f k)
+counted_at f n k within = counted_from f 0 n k k (omega arith) within
+
+-- ---- elements with their numbers
+abbrev pub table : {X Y : Type 0} → (ℕ → X → Y) → ℕ → List X → List Y
+table f from xs = map (λ numbered. f numbered.0 numbered.1) (enumerate_from from xs)
+
+pub table_at : {X Y : Type 0} (f : ℕ → X → Y) (from : ℕ) (xs : List X) (k place : ℕ) (x : X) (d : Y) → place ≡ from + k
+    → slice_get xs k ≡ Some x → slice_index_or (table f from xs) k d ≡ f place x
+table_at f from [] k place x d at is = absurd (cc)
+table_at f from (y ∷ xs) zero place x d at is =
+    let here : from ≡ place = omega arith in
+    let one : y ≡ x = cc in
+    ap (λ n. f n y) here ∙ ap (f place) one
+table_at f from (y ∷ xs) (suc k) place x d at is = table_at f (from + 1) xs k place x d (omega arith) is
+
+pub table_past : {X Y : Type 0} (f : ℕ → X → Y) (from : ℕ) (xs : List X) (k : ℕ) (d : Y) → slice_get xs k ≡ None
+    → slice_index_or (table f from xs) k d ≡ d
+table_past f from [] k d is = refl
+table_past f from (y ∷ xs) zero d is = absurd (cc)
+table_past f from (y ∷ xs) (suc k) d is = table_past f (from + 1) xs k d is
+
+table_from_same : {X Y : Type 0} (f g : ℕ → X → Y) (from : ℕ) (xs : List X)
+    → ((k place : ℕ) (x : X) → place ≡ from + k → slice_get xs k ≡ Some x → f place x ≡ g place x)
+    → table f from xs ≡ table g from xs
+table_from_same f g from [] same = refl
+table_from_same f g from (x ∷ xs) same =
+    ap₂ (λ y ys. y ∷ ys) (same 0 from x (omega arith) refl)
+    (table_from_same f g (from + 1) xs (λ k place z at is. same (suc k) place z (omega arith) is))
+
+pub table_same : {X Y : Type 0} (f g : ℕ → X → Y) (xs : List X)
+    → ((k : ℕ) (x : X) → slice_get xs k ≡ Some x → f k x ≡ g k x) → table f 0 xs ≡ table g 0 xs
+table_same f g xs same =
+    table_from_same f g 0 xs (λ k place x at is.
+    let here : k ≡ place = omega arith in
+    sym (ap (λ n. f n x) here) ∙ same k x is ∙ ap (λ n. g n x) here)

@@ -1,0 +1,12 @@
+-- What is found once for a design and its pairs.
+use Rattle.std.specs.Prelude.{◌≡◌, List}
+use Rattle.pals_model.specs.declared.design.DesignParts.{DesignParts}
+use Rattle.pals_runs.specs.declared.pairs.Pair.{Pair}
+use Rattle.sync_product.specs.proof.ComponentWiring.{IsWiring}
+use Rattle.plant_fuse.specs.declared.tables.Tables.{Tables}
+use Rattle.plant_fuse.specs.proof.Partners.{all_partners}
+
+pub record AreTables (design : DesignParts) (pairs : List Pair) (tables : Tables) : Type 0 where
+  pub pairs_are : tables.pairs ≡ pairs
+  pub partners_are : tables.partners ≡ all_partners design pairs
+  pub wiring_is : IsWiring design tables.wiring

@@ -1,0 +1,159 @@
+-- The opening world: nothing has started, and nothing is sent.
+use Rattle.std.proofs.Common.{◌≡◌, ℕ, zero, suc, ◌+◌, ◌<◌, ◌≤◌, nat_eq, List, [], ◌∷◌, length, map, Option, Some, None}
+use Rattle.std.proofs.Common.{refl, sym, ap, ◌∙◌, subst, arith}
+use Rattle.std.specs.Prelude.{nat_lt, is_some, option_map, slice_index_or}
+use Rattle.std.proofs.lemmas.Bool.{and_right, le-ltb, false≢true}
+use Rattle.std.proofs.lemmas.List.{length-map}
+use Rattle.std.proofs.lemmas.Option.{slice_get-map, get_or_from_slice_get, none-some}
+use Rattle.pals_base.specs.declared.values.PortValue.{PortValue}
+use Rattle.pals_base.specs.StepSequences.{upwards}
+use Rattle.pals_model.specs.declared.design.Component.{Component}
+use Rattle.pals_model.specs.declared.design.Link.{Link}
+use Rattle.pals_model.specs.declared.flight.FlightCopy.{FlightCopy}
+use Rattle.pals_runs.specs.declared.journal.Phase.TheVariants.{Waiting, Running}
+use Rattle.bus_machine.specs.declared.plan.Input.{Input}
+use Rattle.bus_machine.specs.Plans.{plan_of}
+use Rattle.bus_machine.specs.Nodes.{NodeState, opening_node}
+use Rattle.bus_machine.specs.NodeEvents.{slot_at}
+use Rattle.bus_machine.specs.EarliestReadings.{start_alarm}
+use Rattle.bus_machine.specs.States.{Run, opening, node_at, no_node, flight_at, link_at}
+use Rattle.bus_machine.specs.MissedStarts.{rounds_sent_on, sent_rounds}
+use Rattle.bus_machine.specs.proof.MachineLaws.{IsRunOf}
+use Rattle.run_laws.specs.Deadlines.{last_before}
+use Rattle.run_laws.specs.Worlds.{opening_world, reading_at, since_at, ready_at}
+use Rattle.bus_machine.proofs.ReplayAgreement.{opening_agrees}
+use Rattle.run_laws.specs.proof.WorldInvariant.{IsInTime, IsOnce, copies, waits, taken, one_if, KeepsLink}
+use Rattle.run_laws.specs.proof.WorldLaws.{OpeningKeepsTime}
+use Rattle.run_laws.proofs.Lists.{upwards_at}
+use Rattle.run_laws.proofs.WorldNodes.{Stands, StandsAt, deadline_is, both_in_time, send_last}
+use Rattle.run_laws.proofs.WorldLinks.{rule_of, one_of_false}
+
+-- ---- what stands where
+abbrev pub no_time : ℕ
+no_time = 0
+
+pub zero_at : (cs : List Component) (node : ℕ)
+    → slice_index_or (map (λ (_ : Component). no_time) cs) node no_time ≡ no_time
+zero_at [] node = refl
+zero_at (c ∷ cs) zero = refl
+zero_at (c ∷ cs) (suc node) = zero_at cs node
+
+abbrev pub no_moments : List ℕ
+no_moments = []
+
+pub nothing_sent : (cs : List Component) (node : ℕ)
+    → slice_index_or (map (λ (_ : Component). no_moments) cs) node no_moments ≡ no_moments
+nothing_sent [] node = refl
+nothing_sent (c ∷ cs) zero = refl
+nothing_sent (c ∷ cs) (suc node) = nothing_sent cs node
+
+abbrev pub no_copies : List FlightCopy
+no_copies = []
+
+pub nothing_flies : (ls : List Link) (number : ℕ)
+    → slice_index_or (map (λ (_ : Link). no_copies) ls) number no_copies ≡ no_copies
+nothing_flies [] number = refl
+nothing_flies (l ∷ ls) zero = refl
+nothing_flies (l ∷ ls) (suc number) = nothing_flies ls number
+
+abbrev no_slot : Option (List PortValue)
+no_slot = None
+
+nothing_waits : (inputs : List Input) (port : ℕ)
+    → slice_index_or (map (λ (_ : Input). no_slot) inputs) port no_slot ≡ no_slot
+nothing_waits [] port = refl
+nothing_waits (i ∷ inputs) zero = refl
+nothing_waits (i ∷ inputs) (suc port) = nothing_waits inputs port
+
+pub opens_at : (run : Run) (node : ℕ) → node < length run.design.components
+    → node_at (opening run) node ≡ opening_node (plan_of run.design node)
+opens_at run node within =
+    let f : ℕ → NodeState = λ k. opening_node (plan_of run.design k) in
+    let nodes = upwards 0 (length run.design.components) in
+    get_or_from_slice_get (map f nodes) node (f node) no_node
+    (slice_get-map f nodes node ∙ ap (option_map f) (upwards_at (length run.design.components) node within))
+
+-- ---- a link
+none_once : (slot : Option (List PortValue)) (flight : List FlightCopy) (count sent round : ℕ) → slot ≡ None
+    → flight ≡ [] → count ≡ 0 → sent ≡ 0 → IsOnce count slot sent flight round
+none_once slot flight count sent round no_message none_flies none_started none_sent =
+    let flying : copies round flight ≡ 0 = ap (copies round) none_flies in
+    let waiting : one_if (waits count slot round) ≡ 0 =
+    one_of_false (waits count slot round)
+    (and_right (nat_eq count (round + 1)) (is_some slot)
+    (ap (λ (o : Option (List PortValue)). is_some o) no_message)) in
+    let not_taken : one_if (taken count round) ≡ 0 =
+    one_of_false (taken count round) (le-ltb (round + 1) count (omega arith)) in
+    let unsent : one_if (nat_lt round sent) ≡ 0 = one_of_false (nat_lt round sent) (le-ltb round sent (omega arith)) in
+    let all : copies round flight + one_if (waits count slot round) + one_if (taken count round) ≡ one_if (nat_lt round sent) = omega arith in
+    all
+
+pub not_running : (step : ℕ) → Waiting ≡ Running step → ⊥
+not_running step is = cc
+
+module _ (run : Run) (rules : IsRunOf run) where
+  opening_stands : (node : ℕ) → node < length run.design.components → StandsAt run (opening_world run) node
+  opening_stands node within =
+      let g = run.design.gamma in
+      let plan = plan_of run.design node in
+      let n = opening_node plan in
+      let skew = rules.design.gamma.skew.0 in
+      let late : 0 ≤ last_before (start_alarm plan n) g.eps = omega arith in
+      let stands : Stands g plan n 0 0 0 0 [] = record {
+        clock = record { slow = omega arith; fast = omega arith };
+        in_time = both_in_time 0 (Some (last_before (start_alarm plan n) g.eps)) (send_last g plan n 0) late tt;
+        keeps = record {
+          started = λ some. absurd (omega arith);
+          finished = λ step is. absurd (none-some (suc step) is);
+          running = λ step is. absurd (not_running step is);
+          unsent = λ may. absurd (false≢true may);
+        };
+        sends = record { each = refl; sent = λ round is. absurd (omega arith) };
+      } in
+      let cs = run.design.components in
+      let one = subst (λ (m : NodeState). Stands g plan m 0 0 0 0 []) (sym (opens_at run node within)) stands in
+      let two = subst (λ k. Stands g plan (node_at (opening run) node) k 0 k k []) (sym (zero_at cs node)) one in
+      subst (λ l. Stands g plan (node_at (opening run) node) (reading_at (opening_world run) node) 0
+      (since_at (opening_world run) node) (ready_at (opening_world run) node) l)
+      (sym (nothing_sent cs node)) two
+
+  opening_link : (number : ℕ) → number < length run.design.links
+      → KeepsLink run (opening_world run) number (link_at run.design number).target.0
+      (link_at run.design number).in_port
+  opening_link number within =
+      let link = link_at run.design number in
+      let s = opening run in
+      let rule = rule_of run number rules within in
+      let to = opens_at run link.target.0 rule.target.node_is in
+      let from = opens_at run link.source.0 rule.source.node_is in
+      let flies : flight_at s number ≡ [] = nothing_flies run.design.links number in
+      record {
+        once = λ round.
+            none_once (slot_at (node_at s link.target.0) link.in_port) (flight_at s number)
+            (node_at s link.target.0).count (rounds_sent_on run s number) round
+            (ap (λ (n : NodeState). slot_at n link.in_port) to
+            ∙ nothing_waits (plan_of run.design link.target.0).inputs link.in_port)
+            flies (ap (λ (n : NodeState). n.count) to) (ap (λ (n : NodeState). sent_rounds n) from);
+        in_time = λ round is. omega arith;
+      }
+
+pub opening_keeps_time : OpeningKeepsTime
+opening_keeps_time run rules =
+    let w = opening_world run in
+    let cs = run.design.components in
+    let stands = opening_stands run rules in
+    record {
+      going = refl;
+      agrees = opening_agrees run rules;
+      moments = record {
+        readings = length-map cs (λ (_ : Component). no_time);
+        since = length-map cs (λ (_ : Component). no_time);
+        ready = length-map cs (λ (_ : Component). no_time);
+        sent_at = length-map cs (λ (_ : Component). no_moments);
+      };
+      clocks = λ node within. (stands node within).clock;
+      in_time = λ node within. subst (IsInTime 0) (sym (deadline_is run w node)) (stands node within).in_time;
+      nodes = λ node within. (stands node within).keeps;
+      sends = λ node within. (stands node within).sends;
+      links = opening_link run rules;
+    }

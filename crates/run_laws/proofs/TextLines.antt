@@ -1,0 +1,13 @@
+-- The lines of a text.
+use Rattle.std.proofs.Common.{◌≡◌, ℕ, List, [], ◌∷◌, ◌++◌, refl, ap, ◌∙◌}
+use Rattle.pals_model.proofs.LineLaws.{text_splits}
+use Rattle.run_laws.specs.ReportVerdicts.{without_end}
+use Rattle.run_laws.specs.proof.ReportVerdicts.{TextsHaveLines}
+
+ended : (lines : List (List ℕ)) → without_end (lines ++ [] ∷ []) ≡ lines
+ended [] = refl
+ended (line ∷ []) = refl
+ended (line ∷ next ∷ lines) = ap (λ ls. line ∷ ls) (ended (next ∷ lines))
+
+pub texts_have_lines : TextsHaveLines
+texts_have_lines lines each = ap without_end (text_splits lines each) ∙ ended lines

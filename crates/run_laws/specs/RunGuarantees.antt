@@ -1,0 +1,59 @@
+-- What each run keeps, clause by clause.
+use Rattle.std.specs.Prelude.{◌≡◌, ◌↔◌, ℕ, List, [], None, IfSome}
+use Rattle.pals_clock.specs.Clock.{ClockState}
+use Rattle.pals_clock.specs.declared.clock.Clocks.{Clocks}
+use Rattle.pals_clock.specs.declared.clock.Clocks.TheVariants.{Meet, Lists}
+use Rattle.pals_runs.specs.declared.journal.JournalEntry.{JournalEntry}
+use Rattle.pals_runs.specs.declared.journal.Phase.TheVariants.{Done}
+use Rattle.bus_machine.specs.Agreement.{Agrees}
+use Rattle.bus_machine.specs.Plans.{plan_of}
+use Rattle.bus_machine.specs.Replay.{Replays}
+use Rattle.bus_machine.specs.States.{Run, BusState, node_at}
+use Rattle.bus_machine.specs.Targets.{target}
+use Rattle.run_laws.specs.Runs.{HasEnded}
+use Rattle.run_laws.specs.ShownReadings.{acts}
+use Rattle.run_laws.specs.NodeLinkQuantifiers.{EachNode, EachLink}
+use Rattle.run_laws.specs.ListPicks.{picks_of, IsPrefix, LinesAre}
+use Rattle.run_laws.specs.TimelyRounds.{IsTimely, IsOver, AllOver, PicksAll, PicksEndAt, ListStop}
+use Rattle.run_laws.specs.Meetings.{ShowTargets, AllDone, IsLate, MeetingStop, DelaysFit}
+use Rattle.run_laws.specs.StopBounds.{BoundedStop}
+
+-- with list clocks
+pub record KeepsLists (run : Run) (clocks : List ClockState) (journal : List JournalEntry) (s : BusState) : Type 0 where
+  -- the readings of a node's starts, steps and sends are a prefix of its picks
+  pub readings : EachNode run (λ node. IsPrefix (acts node journal) (picks_of run clocks node))
+  -- an arrival and a stop show the pick for the start that they belong to
+  pub lines : LinesAre run clocks [] journal
+  -- a stop comes only of a message that is not in time, or that is due by a start before the one that it is for
+  pub stop : IfSome s.stop (ListStop run clocks s)
+  -- where each node is done or has come to its list's end, each round of each link is in time
+  pub timely : AllOver run clocks s → EachLink run (λ number. (round : ℕ) → IsTimely run clocks number round)
+  -- a node is done then exactly where its picks reach its last target
+  pub done : EachNode run (λ node. IsOver run clocks s node
+      → ((node_at s node).phase ≡ Done) ↔ PicksAll run clocks node)
+  -- and else they end at the target that it waits for
+  pub ended : EachNode run (λ node. (ended : HasEnded run clocks s node)
+      → PicksEndAt run clocks node (target (plan_of run.design node) ended.0))
+
+-- where nodes meet
+pub record KeepsMeetings (run : Run) (journal : List JournalEntry) (s : BusState) : Type 0 where
+  -- each line shows its target
+  pub lines : ShowTargets run [] journal
+  -- a message that is missed is late and in transit, and one that comes early has no delay and is sent at its alarm
+  pub stop : IfSome s.stop (MeetingStop run)
+  -- where all nodes are done, no round of a link is late
+  pub timely : AllDone run s → (number round : ℕ) → IsLate run number round → ⊥
+  -- with delays within the bounds no stop stands
+  pub bounded : DelaysFit run → s.stop ≡ None
+
+abbrev pub KeepsClocks : Run → Clocks → List JournalEntry → BusState → Type 0
+KeepsClocks run Meet journal s = KeepsMeetings run journal s
+KeepsClocks run (Lists clocks) journal s = KeepsLists run clocks journal s
+
+pub record KeepsClauses (run : Run) (clocks : Clocks) (journal : List JournalEntry) (s : BusState) : Type 0 where
+  pub by_clocks : KeepsClocks run clocks journal s
+  -- a stop says by how much the bounds were not kept
+  pub stop : IfSome s.stop (BoundedStop run journal)
+  -- the journal replays to the state, which agrees with the composition
+  pub replays : Replays run journal s
+  pub agrees : Agrees run s

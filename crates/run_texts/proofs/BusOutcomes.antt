@@ -1,0 +1,121 @@
+-- What is told of a bus that has come to its end holds of the bus's run.
+use Rattle.std.proofs.Common.{◌≡◌, ◌≢◌, ◌∙◌, inl, inr, ℕ, ◌<◌, ◌≤◌, Bool, List, [], length, ◌++◌, Option, Some, None}
+use Rattle.std.proofs.Common.{slice_get, refl, sym, ap, subst, arith, if◌then◌else◌}
+use Rattle.std.specs.Prelude.{Result, Ok, Err, IfOk}
+use Rattle.pals_base.specs.declared.limits.TheConstants.{COMPONENTS, ROUNDS}
+use Rattle.pals_clock.specs.Clock.{ClockState}
+use Rattle.pals_clock.specs.declared.clock.Clocks.{Clocks}
+use Rattle.pals_clock.specs.declared.clock.Clocks.TheVariants.{Meet, Lists}
+use Rattle.pals_model.specs.RoundTexts.{text_of, report}
+use Rattle.pals_runs.specs.declared.journal.Phase.TheVariants.{Done}
+use Rattle.pals_runs.specs.declared.journal.Stop.{Stop}
+use Rattle.bus_machine.specs.Agreement.{Agrees}
+use Rattle.bus_machine.specs.States.{Run, node_at, finished_by_all}
+use Rattle.pals_bus.specs.BusValues.{BusValue}
+use Rattle.loose_world.specs.proof.FinishedRows.{common_lines}
+use Rattle.loose_world.proofs.FinishedRows.{common_rows}
+use Rattle.node_threads.specs.proof.SharedCourses.{EndsAt as EndsAtOn}
+use Rattle.node_threads.specs.declared.ends.NodeEnd.{NodeEnd}
+use Rattle.node_threads.specs.declared.ends.NodeEnd.TheVariants as end
+use Rattle.node_threads.specs.proof.NodeEnds.{EndFits, EndsFit, IsOutcome}
+use Rattle.run_laws.specs.TimelyRounds.{IsOver, AllAtEnd}
+use Rattle.run_laws.specs.proof.RunTraces.{AreReadings}
+use Rattle.run_laws.proofs.NodePicks.{runs_agree}
+use Rattle.run_texts.specs.declared.told.RunReport.{RunReport}
+use Rattle.run_texts.specs.declared.told.RunReport.TheVariants as told
+use Rattle.run_texts.specs.RunTexts.{EndsAt, TellsRun}
+use Rattle.run_texts.specs.proof.NodeEnds.{IsComeEnd, journal_lines, TellsEnd}
+use Rattle.run_texts.proofs.RunTexts.{outcome, completed, stopped}
+
+-- ---- what the ends say
+pub no_stop_left : (old : BusValue) (clocks : Clocks) (new : BusValue) (ends : List NodeEnd)
+    → IsOutcome old clocks new ends
+    → (node : ℕ) → slice_get ends node ≡ Some end.Stopped → new.state.stop ≢ None
+no_stop_left old clocks new ends out node is = out.ends_fit.each node end.Stopped is
+
+pub few_ends : (old : BusValue) (clocks : Clocks) (new : BusValue) (ends : List NodeEnd) → IsOutcome old clocks new ends
+    → length ends ≤ COMPONENTS
+few_ends old clocks new ends out =
+    let many = out.ends_fit.many in
+    let few = out.rules.design.components.count in
+    omega (arith, many, few)
+
+ends_at : (b : BusValue) (later : Clocks) (node goal : ℕ) → EndsAtOn b later node goal
+    → EndsAt b.run later b.state node goal
+ends_at b Meet node goal ends = ends
+ends_at b (Lists lists) node goal ends = ends
+
+met_by : (b : BusValue) (node : ℕ) (e : NodeEnd) → IsComeEnd e → EndFits b Meet node e
+    → (node_at b.state node).phase ≡ Done
+met_by b node e (inl is) fits = subst (EndFits b Meet node) is fits
+met_by b node e (inr is) fits = absurd (subst (EndFits b Meet node) is.1 fits)
+
+over_by : (b : BusValue) (lists : List ClockState) (node : ℕ) (e : NodeEnd) → IsComeEnd e
+    → EndFits b (Lists lists) node e → IsOver b.run lists b.state node
+over_by b lists node e (inl is) fits = inl (subst (EndFits b (Lists lists) node) is fits)
+over_by b lists node e (inr is) fits = let ends : EndsAtOn b (Lists lists) node is.0 =
+    subst (EndFits b (Lists lists) node) is.1 fits in inr ends.0
+
+all_at_end : (b : BusValue) (later : Clocks) (ends : List NodeEnd) → EndsFit b later ends
+    → ((node : ℕ) → node < length ends → (e : NodeEnd) × (slice_get ends node ≡ Some e) × IsComeEnd e)
+    → AllAtEnd b.run later b.state
+all_at_end b Meet ends fit each = λ node within.
+    let many = fit.many in
+    let e = each node (omega (arith, within, many)) in
+    met_by b node e.0 e.2 (fit.each node e.0 e.1)
+all_at_end b (Lists lists) ends fit each = λ node within.
+    let many = fit.many in
+    let e = each node (omega (arith, within, many)) in
+    over_by b lists node e.0 e.2 (fit.each node e.0 e.1)
+
+some_of : (o : Option Stop) → o ≢ None → (why : Stop) × (o ≡ Some why)
+some_of None not_none = absurd (not_none refl)
+some_of (Some why) not_none = (why, refl)
+
+module _ (old : BusValue) (clocks : Clocks) (new : BusValue) (ends : List NodeEnd) (out : IsOutcome old clocks new ends)
+    (few : new.run.rounds ≤ ROUNDS)
+    (range : AreReadings clocks) where
+  agrees : Agrees new.run new.state
+  agrees = runs_agree new.run out.later new.journal new.state out.rules out.runs
+
+  rows : text_of (common_lines new) ≡ report new.run.design new.run.env (finished_by_all new.run new.state)
+  rows = common_rows new out.rules agrees
+
+  is_done : (node : ℕ) → slice_get ends node ≡ Some end.Finished → (node_at new.state node).phase ≡ Done
+  is_done node is = out.ends_fit.each node end.Finished is
+
+  told_new : (trace : Bool) (told : RunReport) → TellsEnd new ends trace told → TellsRun new.run clocks trace told
+  told_new trace (told.Completed text) tells =
+      let many = out.ends_fit.many in
+      completed new.run clocks out.later new.journal new.state out.rules out.runs out.lists few range trace text.items
+      (λ node within. is_done node (tells.1.first node (omega (arith, within, many)))) tells.0
+      (tells.2 ∙ ap (λ shown. shown ++ (if trace then journal_lines new else [])) rows)
+  told_new trace (told.Stopped text) tells =
+      let why = some_of new.state.stop tells.0 in
+      stopped new.run clocks out.later new.journal new.state out.rules out.runs out.lists few range why.0
+      text.items why.1
+      (tells.1 ∙ ap (λ shown. shown ++ journal_lines new) rows)
+  told_new trace (told.ClockEnded text) tells =
+      let named = tells.1.0 in
+      let firsts = tells.1.1 in
+      let ends_here = out.ends_fit.each named.0.0 (end.ClockEnded named.1) firsts.first.1 in
+      record {
+        outcome = outcome new.run clocks out.later new.journal new.state out.rules out.runs out.lists few range;
+        going = tells.0;
+        all = all_at_end new out.later ends out.ends_fit firsts.each;
+        node = named.0.0;
+        goal = named.1;
+        ends = ends_at new out.later named.0.0 named.1 ends_here;
+        first = λ other before. is_done other (firsts.first.2 other before);
+        text_is = tells.1.2;
+      }
+
+pub told_of : {E : Type 0} (old : BusValue) (clocks : Clocks) (new : BusValue) (ends : List NodeEnd) (trace : Bool)
+    (result : Result RunReport E)
+    → old.run.rounds ≤ ROUNDS → AreReadings clocks → IsOutcome old clocks new ends
+    → IfOk result (TellsEnd new ends trace) → IfOk result (TellsRun old.run clocks trace)
+told_of old clocks new ends trace (Ok told) few range out tells =
+    let still : new.run.rounds ≤ ROUNDS = subst (λ (r : Run). r.rounds ≤ ROUNDS) (sym out.run) few in
+    subst (λ (r : Run). TellsRun r clocks trace told) out.run
+    (told_new old clocks new ends out still range trace told tells)
+told_of old clocks new ends trace (Err e) few range out tells = tt

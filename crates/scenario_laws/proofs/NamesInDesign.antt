@@ -1,0 +1,24 @@
+-- A name in a scenario that is taken for a component or a link has the number of one in the design.
+use Rattle.std.proofs.Common.{◌≡◌, ℕ, ◌<◌, List, length, Ok, bytes_eq}
+use Rattle.scenario_values.proofs.NameSearch.{within}
+use Rattle.pals_model.specs.declared.design.DesignParts.{DesignParts}
+use Rattle.pals_model.specs.declared.design.Component.{Component}
+use Rattle.pals_model.specs.declared.design.Link.{Link}
+use Rattle.pals_model.specs.NamesInTexts.{node_named, link_named, link_name}
+use Rattle.scenario_values.specs.declared.fault.ScenarioFault.TheVariants.{Unknown}
+use Rattle.scenario_values.proofs.SuccessfulOutcomes.{ok_given}
+use Rattle.scenario_values.specs.NameLookup.{node_at, link_at}
+
+pub node_below : (place : List ℕ) (design : DesignParts) (path : List ℕ) (node : ℕ)
+    → node_at place design path ≡ Ok node → node < length design.components
+unfolding node_at
+node_below place design path node e =
+    within (λ (c : Component). bytes_eq path c.path) design.components node
+    (ok_given (Unknown place) (node_named design path) node e)
+
+pub link_below : (place : List ℕ) (design : DesignParts) (name : List ℕ) (link : ℕ)
+    → link_at place design name ≡ Ok link → link < length design.links
+unfolding link_at
+link_below place design name link e =
+    within (λ (l : Link). bytes_eq name (link_name design l)) design.links link
+    (ok_given (Unknown place) (link_named design name) link e)

@@ -1,0 +1,227 @@
+-- At which places of the compiled code no loop is under way and the stack is empty: where transitions and blocks
+-- begin.
+use Rattle.std.proofs.Common.{◌≡◌, ◌∙◌, inl, inr, ⊎_elim, ℕ, ◌+◌, ◌-◌, ◌<◌, ◌≤◌, Bool, true, false, ◌||◌, if◌then◌else◌}
+use Rattle.std.proofs.Common.{List, [], ◌∷◌, ◌++◌, length, refl, sym, ap, subst, arith, nat_eq}
+use Rattle.std.specs.Prelude.{filter, fold}
+use Rattle.std.proofs.lemmas.Bool.{cases_lt, true≢false, false≢true, or_right}
+use Rattle.pals_base.specs.declared.behaviour.BehaviourParts.{BehaviourParts}
+use Rattle.pals_base.specs.PlainTrees.{Edge, Trigger, Dispatch, Always, When}
+use Rattle.pals_base.specs.SingleStep.{is_complete, leaving}
+use Rattle.pals_base.specs.Rules.{is_always, ends_unguarded}
+use Rattle.step_code.specs.declared.instr.Instr.{Instr}
+use Rattle.step_code.specs.declared.instr.Instr.TheVariants as code
+use Rattle.step_code.specs.proof.StackHeights.{Member}
+use Rattle.step_code.specs.CodeLengths.{length_of, length_acts, length_trigger, length_edge, length_edges}
+use Rattle.step_compiler.specs.ActionLayout.{code_of, code_acts}
+use Rattle.step_compiler.specs.LoopDepths.{depth_acts, depth_edges}
+use Rattle.step_compiler.specs.proof.BlockOrder.{is_placed}
+use Rattle.step_compiler.specs.BlockLayout.{trigger_code, last_instr, past, edge_code, block_code, block_length}
+use Rattle.step_compiler.specs.BlockLayout.{start_of, blocks_code}
+use Rattle.step_compiler.specs.proof.BlockLengths.{order_length}
+use Rattle.step_compiler.proofs.PlacedCode.{HasAt, has_front, has_back, code-length, acts-length, trigger-length}
+use Rattle.step_compiler.proofs.PlacedCode.{edge-length, block-length}
+use Rattle.step_compiler.proofs.OrderInvariant.{AreOnce}
+use Rattle.step_compiler.proofs.LoopsAndJumps.{Outer, Closed, closed_both, one_closed, none_closed, starts_none}
+use Rattle.step_compiler.proofs.LoopsAndJumps.{expr_closed, acts_closed}
+use Rattle.step_compiler.proofs.StackHeights.{height, edge_height, block_height}
+use Rattle.step_compiler.proofs.ActionChecks.{Round}
+
+-- ---- loops of transitions and blocks
+last_plain : (b : BehaviourParts) (starts : ℕ → ℕ) (target : ℕ) → starts_none (last_instr b starts target) ≡ true
+last_plain b starts target = by (is_complete b target)
+  where
+    by : (t : Bool) → starts_none (if t then code.End target else code.Jump (starts target)) ≡ true
+    by true = refl
+    by false = refl
+
+pub trigger_closed : (whole : List Instr) (t : Trigger) (to p : ℕ) → HasAt whole p (trigger_code t to p)
+    → Closed whole p (p + length_trigger t)
+trigger_closed whole Dispatch to p has = none_closed whole p (p + 0) (omega arith)
+trigger_closed whole Always to p has = none_closed whole p (p + 0) (omega arith)
+trigger_closed whole (When e) to p has =
+    let r = p + length_of e in
+    let here = (has_back whole p (length_of e) r (code_of e p) (code.JumpZero to ∷ []) (code-length e p) refl has).0 in
+    closed_both whole p r (p + (length_of e + 1)) (omega arith)
+    (expr_closed whole e p r (has_front whole p (code_of e p) (code.JumpZero to ∷ []) has) refl)
+    (one_closed whole r (p + (length_of e + 1)) (code.JumpZero to) here refl (omega arith))
+
+pub edge_closed : (whole : List Instr) (b : BehaviourParts) (starts : ℕ → ℕ) (complete : Bool) (e : Edge) (p : ℕ)
+    → HasAt whole p (edge_code b starts complete e p) → Closed whole p (p + length_edge e)
+edge_closed whole b starts complete e p has =
+    let t = length_trigger e.trigger in
+    let m = length_acts e.actions in
+    let guard = trigger_code e.trigger (past complete e p) p in
+    let body = code_acts e.actions (length b.vars) (p + t) in
+    let i = last_instr b starts e.target in
+    let back =
+    has_back whole p t (p + t) guard (body ++ i ∷ []) (trigger-length e.trigger (past complete e p) p) refl has in
+    let here =
+    (has_back whole (p + t) m (p + t + m) body (i ∷ []) (acts-length e.actions (length b.vars) (p + t))
+    refl back).0 in
+    closed_both whole p (p + t) (p + (t + m + 1)) (omega arith)
+    (trigger_closed whole e.trigger (past complete e p) p (has_front whole p guard (body ++ i ∷ []) has))
+    (closed_both whole (p + t) (p + t + m) (p + (t + m + 1)) (omega arith)
+    (acts_closed whole e.actions (length b.vars) (p + t) (p + t + m)
+    (has_front whole (p + t) body (i ∷ []) back) refl)
+    (one_closed whole (p + t + m) (p + (t + m + 1)) i here (last_plain b starts e.target) (omega arith)))
+
+block_closed : (whole : List Instr) (b : BehaviourParts) (starts : ℕ → ℕ) (complete : Bool) (es : List Edge) (p : ℕ)
+    → HasAt whole p (block_code b starts complete es p) → Closed whole p (p + length_edges es)
+block_closed whole b starts complete [] p has = none_closed whole p (p + 0) (omega arith)
+block_closed whole b starts complete (e ∷ es) p has =
+    let q = p + length_edge e in
+    let part = edge_code b starts complete e p in
+    let front = has_front whole p part (block_code b starts complete es q) has in
+    let back =
+    has_back whole p (length_edge e) q part (block_code b starts complete es q)
+    (edge-length b starts complete e p) refl has in
+    let place : q + length_edges es ≡ p + (length_edge e + length_edges es) = omega arith in
+    subst (Closed whole p) place
+    (closed_both whole p q (q + length_edges es) (omega arith) (edge_closed whole b starts complete e p front)
+    (block_closed whole b starts complete es q back))
+
+-- at a place no loop is under way, and the stack is empty
+pub record IsCalm (whole : List Instr) (p : ℕ) : Type 0 where
+  pub closed : Closed whole 0 p
+  pub level : height whole p ≡ 0
+
+calm_on : (whole : List Instr) (b : BehaviourParts) (starts : ℕ → ℕ) (complete : Bool) (es : List Edge) (p : ℕ)
+    → HasAt whole p (block_code b starts complete es p) → IsCalm whole p → IsCalm whole (p + length_edges es)
+calm_on whole b starts complete es p has calm = record {
+  closed =
+      closed_both whole 0 p (p + length_edges es) (omega arith) calm.closed
+      (block_closed whole b starts complete es p has);
+  level = block_height whole b starts complete es p has calm.level;
+}
+
+pub calm_edge : (whole : List Instr) (b : BehaviourParts) (starts : ℕ → ℕ) (complete : Bool) (e : Edge) (p : ℕ)
+    → HasAt whole p (edge_code b starts complete e p) → IsCalm whole p → IsCalm whole (p + length_edge e)
+calm_edge whole b starts complete e p has calm = record {
+  closed =
+      closed_both whole 0 p (p + length_edge e) (omega arith) calm.closed (edge_closed whole b starts complete e p has);
+  level = edge_height whole b starts complete e p has calm.level;
+}
+
+pub calm_at : (whole : List Instr) (p q : ℕ) → p ≡ q → IsCalm whole p → IsCalm whole q
+calm_at whole p q same calm = subst (IsCalm whole) same calm
+
+pub calm_round : (whole : List Instr) (p q n : ℕ) → IsCalm whole p → Round whole p q n
+calm_round whole p q n calm = record { each = λ k l is before. inl (calm.closed.each k l is (omega arith) before) }
+
+pub calm_outer : (whole : List Instr) (p q : ℕ) → Closed whole 0 p → Outer whole p q
+calm_outer whole p q closed = record { each = λ k l is before. inl (closed.each k l is (omega arith) before) }
+
+-- ---- where blocks begin
+calm_by : (whole : List Instr) (b : BehaviourParts) (starts : ℕ → ℕ) (order : List ℕ) (t s p : ℕ) (r : Bool)
+    → IsCalm whole p → (r ≡ false → IsCalm whole (p + block_length b t + start_of b order s))
+    → IsCalm whole (p + (if r then 0 else block_length b t + start_of b order s))
+calm_by whole b starts order t s p true calm later = calm_at whole p (p + 0) (omega arith) calm
+calm_by whole b starts order t s p false calm later =
+    calm_at whole (p + block_length b t + start_of b order s) (p + (block_length b t + start_of b order s))
+    (omega arith) (later refl)
+
+pub calm_start : (whole : List Instr) (b : BehaviourParts) (starts : ℕ → ℕ) (order : List ℕ) (s p : ℕ)
+    → HasAt whole p (blocks_code b starts order p) → IsCalm whole p → IsCalm whole (p + start_of b order s)
+calm_start whole b starts [] s p has calm = calm_at whole p (p + 0) (omega arith) calm
+calm_start whole b starts (t ∷ order) s p has calm =
+    let part = block_code b starts (is_complete b t) (leaving b t) p in
+    let q = p + block_length b t in
+    calm_by whole b starts order t s p (nat_eq t s) calm
+    (λ isnt. calm_start whole b starts order s q
+    (has_back whole p (block_length b t) q part (blocks_code b starts order q)
+    (block-length b starts (is_complete b t) (leaving b t) p) refl has)
+    (calm_on whole b starts (is_complete b t) (leaving b t) p
+    (has_front whole p part (blocks_code b starts order q) has) calm))
+
+-- each place lies in a block
+pub record LiesIn (b : BehaviourParts) (order : List ℕ) (p k : ℕ) : Type 0 where
+  pub state : ℕ
+  pub placed : is_placed order state ≡ true
+  pub from : p + start_of b order state ≤ k
+  pub before : k < p + start_of b order state + block_length b state
+
+lies_first : (b : BehaviourParts) (t : ℕ) (order : List ℕ) (p k : ℕ) (r : Bool) → nat_eq t t ≡ r → p ≤ k
+    → k < p + block_length b t
+    → (p + (if r then 0 else block_length b t + start_of b order t) ≤ k)
+    × (k < p + (if r then 0 else block_length b t + start_of b order t) + block_length b t)
+lies_first b t order p k true is from before = (omega arith, omega arith)
+lies_first b t order p k false is from before = absurd (grind arith)
+
+lies_later : (b : BehaviourParts) (t s : ℕ) (order : List ℕ) (p k : ℕ) (r : Bool) → nat_eq t s ≡ r
+    → is_placed order t ≡ false → is_placed order s ≡ true → p + block_length b t + start_of b order s ≤ k
+    → k < p + block_length b t + start_of b order s + block_length b s
+    → (p + (if r then 0 else block_length b t + start_of b order s) ≤ k)
+    × (k < p + (if r then 0 else block_length b t + start_of b order s) + block_length b s)
+lies_later b t s order p k true is out placed from before = let same : t ≡ s = grind arith in
+    absurd (true≢false (sym placed ∙ ap (is_placed order) (sym same) ∙ out))
+lies_later b t s order p k false is out placed from before = (omega arith, omega arith)
+
+pub lies_in : (b : BehaviourParts) (order : List ℕ) (p k : ℕ) → AreOnce order → p ≤ k → k < p + order_length b order
+    → LiesIn b order p k
+lies_in b [] p k once from before = absurd (omega arith)
+lies_in b (t ∷ order) p k once from before =
+    ⊎_elim
+    (λ (early : k < p + block_length b t).
+    let x = lies_first b t order p k (nat_eq t t) refl from early in
+    record {
+      state = t;
+      placed = ap (λ y. y || is_placed order t) (let same : nat_eq t t ≡ true = grind arith in same);
+      from = x.0;
+      before = x.1;
+    })
+    (λ (late : p + block_length b t ≤ k).
+    let w = lies_in b order (p + block_length b t) k once.1 late (omega arith) in
+    let x = lies_later b t w.state order p k (nat_eq t w.state) refl once.0 w.placed w.from w.before in
+    record {
+      state = w.state;
+      placed = or_right (nat_eq t w.state) (is_placed order w.state) w.placed;
+      from = x.0;
+      before = x.1;
+    })
+    (cases_lt k (p + block_length b t))
+
+-- ---- members
+pub member_leaving : (es : List Edge) (s : ℕ) (e : Edge) → Member (filter (λ e. nat_eq e.source s) es) e
+    → Member es e × (e.source ≡ s)
+member_leaving [] s e among = absurd among
+member_leaving (x ∷ es) s e among = by (nat_eq x.source s) refl among (λ later. member_leaving es s e later)
+  where
+    by : (t : Bool) → nat_eq x.source s ≡ t
+        → Member (if t then x ∷ filter (λ e. nat_eq e.source s) es else filter (λ e. nat_eq e.source s) es) e
+        → (Member (filter (λ e. nat_eq e.source s) es) e → Member es e × (e.source ≡ s))
+        → Member (x ∷ es) e × (e.source ≡ s)
+    by true is m later =
+        ⊎_elim (λ (here : x ≡ e). let at : x.source ≡ s = grind arith in
+        (inl here, sym (ap (λ (y : Edge). y.source) here) ∙ at)) (λ rest. let y = later rest in (inr y.0, y.1)) m
+    by false is m later = let y = later m in (inr y.0, y.1)
+
+pub edge_depth : (es : List Edge) (e : Edge) → Member es e → depth_acts e.actions ≤ depth_edges es
+edge_depth [] e among = absurd among
+edge_depth (f ∷ es) e among =
+    ⊎_elim (λ (is : f ≡ e). let same = ap (λ (x : Edge). depth_acts x.actions) is in omega arith)
+    (λ later. let le = edge_depth es e later in omega arith) among
+
+pub some_edges : (es : List Edge) → ends_unguarded es ≡ true → 0 < length_edges es
+some_edges [] is = absurd (false≢true is)
+some_edges (e ∷ es) is = omega arith
+
+-- the last of transitions has no guard
+abbrev pub LastOpen : List Edge → Type 0
+LastOpen [] = Unit {0}
+LastOpen (e ∷ es) = fold (λ before (f : Edge). is_always f.trigger) (is_always e.trigger) es ≡ true
+
+pub last_open : (es : List Edge) → ends_unguarded es ≡ true → LastOpen es
+last_open [] is = tt
+last_open (e ∷ es) is = is
+
+pub rest_open : (e : Edge) (es : List Edge) → LastOpen (e ∷ es) → LastOpen es
+rest_open e [] is = tt
+rest_open e (f ∷ es) is = is
+
+pub past_inside : (complete : Bool) (e : Edge) (es : List Edge) (p n : ℕ) → is_always e.trigger ≡ false
+    → p + (length_edge e + length_edges es) ≤ n → (complete ≡ false → LastOpen (e ∷ es)) → past complete e p < n
+past_inside true e es p n guarded most unguarded = omega arith
+past_inside false e [] p n guarded most unguarded = absurd (true≢false (sym (unguarded refl) ∙ guarded))
+past_inside false e (f ∷ es) p n guarded most unguarded = omega arith
+
+-- ---- the compiled code

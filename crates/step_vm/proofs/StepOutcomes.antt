@@ -1,0 +1,20 @@
+-- A step of code that has not halted leaves what its run from the state's entry leaves: for the machine's step.
+use Rattle.std.proofs.Common.{◌≡◌, ◌∙◌, ℕ, List, Some, None, sym, ap}
+use Rattle.std.specs.Prelude.{slice_get}
+use Rattle.pals_base.specs.declared.values.Frame.{Frame}
+use Rattle.pals_base.specs.declared.values.PortValue.{PortValue}
+use Rattle.pals_base.specs.SingleStep.{Fired, holding}
+use Rattle.step_code.specs.declared.instr.CodeParts.{CodeParts}
+use Rattle.step_code.specs.proof.CodeRuns.{left, run_from, from_entry, unless_halted, exec, Leaves}
+
+-- the whole step
+pub stepped : (c : CodeParts) (frame held : Frame) (inputs : List PortValue) (entry : ℕ) (f : Fired)
+    → held ≡ record frame { held = holding frame.held inputs } → frame.halt ≡ None
+    → slice_get c.entries frame.state ≡ Some (Some entry)
+    → left c held (run_from c held inputs entry) ≡ Leaves f → exec c frame inputs ≡ Leaves f
+stepped c frame held inputs entry f is halt at leaves =
+    let h : Frame = record frame { held = holding frame.held inputs } in
+    ap (λ x. unless_halted c h x (from_entry c h inputs (slice_get c.entries frame.state))) halt
+    ∙ ap (λ x. left c h (from_entry c h inputs x)) at
+    ∙ ap (λ g. left c g (run_from c g inputs entry)) (sym is)
+    ∙ leaves

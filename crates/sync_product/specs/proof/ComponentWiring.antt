@@ -1,0 +1,18 @@
+-- How the components of a design are wired.
+use Rattle.std.specs.Prelude.{◌≡◌, ℕ, Some, slice_get}
+use Rattle.pals_model.specs.declared.design.DesignParts.{DesignParts}
+use Rattle.pals_model.specs.ComponentInputs.{sources_of, all_sources}
+use Rattle.sync_product.specs.declared.wiring.WiredComponent.{WiredComponent}
+use Rattle.sync_product.specs.declared.wiring.Wiring.{Wiring}
+use Rattle.sync_product.specs.proof.ProductSizes.{tap_ports, all_taps}
+
+-- a component of a design
+pub record IsWired (design : DesignParts) (node : ℕ) (wired : WiredComponent) : Type 0 where
+  pub component_is : slice_get design.components node ≡ Some wired.component.now
+  pub sources_are : wired.sources.now ≡ sources_of design node wired.component.now
+  pub taps_are : wired.taps.now ≡ tap_ports design.taps node
+
+-- all its components
+pub record IsWiring (design : DesignParts) (wiring : Wiring) : Type 0 where
+  pub sources_are : wiring.sources ≡ all_sources design
+  pub taps_are : wiring.taps ≡ all_taps design

@@ -1,0 +1,64 @@
+-- What contracts see of the rounds that are voted on.
+use Rattle.std.specs.Prelude.{ℕ, zero, suc, Bool, List, map, replicate, refl}
+use Rattle.std.specs.Coded.{Coded, code_by, coded×, coded_bool, coded_list}
+use Rattle.pals_base.specs.contracts.values.Frame.{the_row as frames}
+use Rattle.pals_base.specs.contracts.values.PortValue.{the_row as ports}
+use Rattle.pals_model.specs.contracts.design.DesignParts.{the_row as design_parts}
+use Rattle.pals_base.specs.declared.values.Frame.{Frame}
+use Rattle.pals_base.specs.declared.values.PortValue.{PortValue}
+use Rattle.pals_base.specs.declared.values.PortValue.TheVariants.{Absent}
+use Rattle.pals_model.specs.declared.design.Tap.{Tap}
+use Rattle.pals_model.specs.declared.design.DesignParts.{DesignParts}
+use Rattle.pals_model.specs.declared.rounds.Env.{Env}
+use Rattle.pals_model.specs.ComponentInputs.{rate_of, values_at}
+use Rattle.pals_runs.specs.declared.pairs.VoteFault.{VoteFault}
+use Rattle.triple_vote.specs.Replicas.{Voted, vopening, vnext, vshown_by}
+
+-- a design, which of its components have replicas, what stands after some rounds, and what the root out ports showed
+-- in the last
+pub record VotedState : Type 0 where
+  pub design : DesignParts
+  pub replicated : List Bool
+  pub voted : Voted
+  pub shown : List (List PortValue)
+
+-- a state is stored as its parts
+abbrev pub voted_code : Coded VotedState
+voted_code =
+    code_by (DesignParts × (List Bool × (List (List Frame) × (List (List (List PortValue)) × List (List PortValue)))))
+    (coded× design_parts.coded
+    (coded× (coded_list coded_bool)
+    (coded× (coded_list (coded_list frames.coded))
+    (coded× (coded_list (coded_list (coded_list ports.coded))) (coded_list (coded_list ports.coded))))))
+    (λ s. (s.design, (s.replicated, (s.voted.frames, (s.voted.received, s.shown)))))
+    (λ p. record {
+      design = p.0;
+      replicated = p.1.0;
+      voted = record { frames = p.1.1.0; received = p.1.1.1.0 };
+      shown = p.1.1.1.1;
+    })
+    (λ _. refl)
+
+-- before the first round
+abbrev pub vbegun : DesignParts → List Bool → VotedState
+vbegun design replicated = record {
+  design = design;
+  replicated = replicated;
+  voted = vopening design replicated;
+  shown = map (λ (tap : Tap). replicate (rate_of design tap.source.0) Absent) design.taps;
+}
+
+-- one round further, with these values of the root in ports and these faults
+abbrev pub vadvanced : VotedState → List PortValue → List VoteFault → VotedState
+vadvanced s values faults = record {
+  design = s.design;
+  replicated = s.replicated;
+  voted = vnext s.design s.replicated values faults s.voted;
+  shown = map (vshown_by s.design s.replicated values s.voted) s.design.taps;
+}
+
+-- after a number of rounds of an environment, with the faults of each round
+abbrev pub vstate_after : DesignParts → Env → List Bool → (ℕ → List VoteFault) → ℕ → VotedState
+vstate_after design env replicated faults zero = vbegun design replicated
+vstate_after design env replicated faults (suc round) =
+    vadvanced (vstate_after design env replicated faults round) (values_at env round) (faults round)

@@ -1,0 +1,133 @@
+-- Courses: what is done over and over in a schedule, at equal distances in time. All times are nanoseconds.
+use Rattle.std.specs.Prelude.{ℕ, ◌+◌, ◌*◌, ◌<◌, ◌≤◌, nat_eq, nat_le, if◌then◌else◌, List, [], ◌∷◌, ◌++◌, length, map}
+use Rattle.std.specs.Prelude.{replicate, flat_map, fold, position, Option, None, option_map}
+use Rattle.pals_base.specs.declared.values.NodeNo.{NodeNo}
+use Rattle.pals_base.specs.declared.values.LinkNo.{LinkNo}
+use Rattle.pals_base.specs.declared.limits.TheConstants.{READING}
+use Rattle.pals_base.specs.StepSequences.{upwards}
+use Rattle.pals_model.specs.declared.design.DesignParts.{DesignParts}
+use Rattle.pals_runs.specs.declared.events.Event.{Event}
+use Rattle.bus_machine.specs.Plans.{plan_of}
+use Rattle.run_laws.specs.Deadlines.{lesser}
+use Rattle.world_gen.specs.declared.courses.EventKind.{EventKind}
+use Rattle.world_gen.specs.declared.courses.EventKind.TheVariants.{Begin, Finish, Send, Arrive}
+use Rattle.world_gen.specs.declared.courses.EventSeries.{EventSeries}
+use Rattle.world_gen.specs.proof.Schedules.{which, event_of, step_count, begins, send_time, arrive_time}
+use Rattle.pals_runs.specs.declared.events.Event.TheVariants as event
+
+-- ---- a course
+-- a node that begins steps makes some in a round
+abbrev pub HasSteps : EventKind → Type 0
+HasSteps (Begin node rate) = 0 < rate
+HasSteps (Finish node) = Unit {0}
+HasSteps (Send node) = Unit {0}
+HasSteps (Arrive link) = Unit {0}
+
+-- its times rise, and are readings
+pub record IsEventSeries (course : EventSeries) : Type 0 where
+  pub steps : HasSteps course.deed
+  pub rises : 0 < course.every
+  pub fits : course.first + course.count * course.every ≤ READING
+
+-- the time of the deed of a number
+abbrev pub time_of : EventSeries → ℕ → ℕ
+time_of course number = course.first + number * course.every
+
+-- the number of the first deed that is not before a time
+abbrev pub next_of : EventSeries → ℕ → Option ℕ
+next_of course from = position (λ number. nat_le from (time_of course number)) (upwards 0 course.count)
+
+-- the deed of a number as an event
+abbrev pub deed_event : EventKind → ℕ → Event
+deed_event (Begin node rate) number = begins rate node.0 number
+deed_event (Finish node) number = event.Finish node
+deed_event (Send node) number = event.Send node
+deed_event (Arrive link) number = event.Arrive link number
+
+abbrev pub course_events : ℕ → EventSeries → List Event
+course_events moment course = event_of (which (time_of course) course.count moment) (deed_event course.deed)
+
+-- ---- courses
+-- what they do at a moment
+abbrev pub events_of : List EventSeries → ℕ → List Event
+events_of courses moment = flat_map (course_events moment) courses
+
+-- a Pass to a moment, and what they do at it
+abbrev pub moment_events : ℕ → List EventSeries → ℕ → List Event
+moment_events nodes courses moment = event.Pass moment (replicate nodes moment) ∷ events_of courses moment
+
+-- the first moment, from a time on, at which one of them does something
+abbrev pub next_moment : List EventSeries → ℕ → Option ℕ
+next_moment courses from =
+    fold (λ moment course. lesser moment (option_map (time_of course) (next_of course from))) None courses
+
+-- ---- those of a design
+abbrev numbered_node : ℕ → NodeNo
+numbered_node node = record { 0 = node }
+
+abbrev numbered_link : ℕ → LinkNo
+numbered_link link = record { 0 = link }
+
+abbrev pub begin_course : DesignParts → ℕ → ℕ → EventSeries
+begin_course design rounds node = record {
+  deed = Begin (numbered_node node) (plan_of design node).rate;
+  first = design.period;
+  every = (plan_of design node).step_period;
+  count = step_count design rounds node;
+}
+
+abbrev pub finish_course : DesignParts → ℕ → ℕ → EventSeries
+finish_course design rounds node = record {
+  deed = Finish (numbered_node node);
+  first = design.period + design.gamma.alpha_min;
+  every = (plan_of design node).step_period;
+  count = step_count design rounds node;
+}
+
+abbrev pub send_course : DesignParts → ℕ → ℕ → EventSeries
+send_course design rounds node = record {
+  deed = Send (numbered_node node);
+  first = send_time design node 0;
+  every = design.period;
+  count = rounds;
+}
+
+abbrev pub arrive_course : DesignParts → ℕ → ℕ → EventSeries
+arrive_course design rounds link = record {
+  deed = Arrive (numbered_link link);
+  first = arrive_time design link 0;
+  every = design.period;
+  count = rounds;
+}
+
+-- one for each number
+abbrev pub each_of : ℕ → (ℕ → EventSeries) → List EventSeries
+each_of count course = map course (upwards 0 count)
+
+abbrev pub begin_courses : DesignParts → ℕ → List EventSeries
+begin_courses design rounds = each_of (length design.components) (begin_course design rounds)
+
+abbrev pub finish_courses : DesignParts → ℕ → List EventSeries
+finish_courses design rounds = each_of (length design.components) (finish_course design rounds)
+
+abbrev pub send_courses : DesignParts → ℕ → List EventSeries
+send_courses design rounds = each_of (length design.components) (send_course design rounds)
+
+abbrev pub arrive_courses : DesignParts → ℕ → List EventSeries
+arrive_courses design rounds = each_of (length design.links) (arrive_course design rounds)
+
+-- a step that takes no time is finished in the moment in which it begins
+abbrev pub earlier_courses : DesignParts → ℕ → List EventSeries
+earlier_courses design rounds = if nat_eq design.gamma.alpha_min 0 then [] else finish_courses design rounds
+
+abbrev pub present_courses : DesignParts → ℕ → List EventSeries
+present_courses design rounds = if nat_eq design.gamma.alpha_min 0 then finish_courses design rounds else []
+
+-- all of them, in the order in which they go on at one moment
+abbrev pub timetable : DesignParts → ℕ → List EventSeries
+timetable design rounds =
+    earlier_courses design rounds
+    ++ (begin_courses design rounds
+    ++ (present_courses design rounds
+    ++ (send_courses design rounds
+    ++ arrive_courses design rounds)))
