@@ -134,7 +134,7 @@ fn parts_among(values: &[Value]) -> &[Value]
 }
 
 // What stands inside a value where a formula may stand.
-#[tactic(auto, unfolding(crate::specs::Properties::parts_of), using(scenario_values::proofs::Lists::values_seen))]
+#[tactic(auto, unfolding(crate::specs::Properties::parts_of), using(scenario_values::proofs::JsonLists::values_seen))]
 fn parts_of(value: &Value) -> &[Value]
     ensures { map view result.now ≡ parts_of (view value.now) }
 {

@@ -94,7 +94,7 @@ impl Reachability {
     }
 
     // What a state reaches with one more state in between.
-    #[tactic(auto, using(pals_base::proofs::Upwards::map_upwards_more))]
+    #[tactic(auto, using(pals_base::proofs::UpwardNumbers::map_upwards_more))]
     fn next_row(
         &self,
         alloc: Global,
@@ -118,7 +118,7 @@ impl Reachability {
     }
 
     // The table with one more state in between.
-    #[tactic(auto, using(pals_base::proofs::Upwards::map_upwards_more))]
+    #[tactic(auto, using(pals_base::proofs::UpwardNumbers::map_upwards_more))]
     fn next(&self, alloc: Global, parts: &BehaviourParts) -> Result<Reachability, NoMemory>
         requires table { IsTable parts.now self.now }
         requires between { self.now.between < length parts.now.states }
@@ -135,7 +135,7 @@ impl Reachability {
 }
 
 /// For each state, whether it is on a cycle of states that are not complete.
-#[tactic(auto, using(pals_base::proofs::Upwards::map_upwards_more))]
+#[tactic(auto, using(pals_base::proofs::UpwardNumbers::map_upwards_more))]
 pub fn cyclic_states(alloc: Global, parts: &BehaviourParts) -> Result<Items<bool>, NoMemory>
     ensures { IfOk result (λ marks. marks ≡ map (is_on_cycle parts.now) (upwards 0 (length parts.now.states))) }
 {

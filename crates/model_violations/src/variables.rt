@@ -21,7 +21,7 @@ use std::alloc::Global;
 const MOST: u64 = 9_223_372_036_854_775_807;
 
 // The number that the digits say, where it is a whole number of the language.
-#[tactic(auto, using(aadl_lex::proofs::Scans::decimal_step))]
+#[tactic(auto, using(aadl_lex::proofs::ScanLengths::decimal_step))]
 fn number_of(digits: &[u8]) -> Option<i64>
     ensures { result ≡ (if nat_le (decimal digits.now) most then Some (pos (decimal digits.now)) else None) }
 {

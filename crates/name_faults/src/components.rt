@@ -1,5 +1,5 @@
 //! What is wrong with the names in subcomponents, and with the properties of ports.
-#![tactic(auto, using(aadl_names::proofs::Finds::found_append))]
+#![tactic(auto, using(aadl_names::proofs::FindingSoFar::found_append))]
 
 ghost use Rattle.std.specs.Prelude.{◌≡◌, OnOk, map, flat_map, option_map, option_copied};
 ghost use Rattle.std.specs.Option.{option_and_then};

@@ -1,5 +1,5 @@
 //! What is wrong with the names in connections.
-#![tactic(auto, using(aadl_names::proofs::Finds::found_append))]
+#![tactic(auto, using(aadl_names::proofs::FindingSoFar::found_append))]
 
 ghost use Rattle.std.specs.Prelude.{◌≡◌, ℕ, OnOk, flat_map, option_map};
 ghost use Rattle.aadl_tree.specs.Declarations as trees;

@@ -1,5 +1,5 @@
 //! What is wrong with the names in declarations, except what is declared twice.
-#![tactic(auto, using(aadl_names::proofs::Finds::found_append))]
+#![tactic(auto, using(aadl_names::proofs::FindingSoFar::found_append))]
 
 ghost use Rattle.std.specs.Prelude.{◌≡◌, not, Some, OnOk, slice_get};
 ghost use Rattle.aadl_tree.specs.Names.{same_name};

@@ -1,5 +1,5 @@
 //! What is declared twice among the ports of a type and what an implementation declares beside them.
-#![tactic(auto, using(aadl_names::proofs::Finds::found_append))]
+#![tactic(auto, using(aadl_names::proofs::FindingSoFar::found_append))]
 
 ghost use Rattle.std.specs.Prelude.{◌≡◌, Some, OnOk, map, slice_get};
 ghost use Rattle.aadl_tree.specs.proof.DeclarationViews.{feature_view};
@@ -76,7 +76,7 @@ fn check_one(
 }
 
 /// Finds what is declared twice among ports and what stands beside them.
-#[tactic(auto, unfolding(aadl_names::specs::proof::DeclaredTwice::beside))]
+#[tactic(auto, unfolding(aadl_names::specs::proof::PortDuplicates::beside))]
 pub fn check_beside(
     finder: &mut Finder,
     ports: &[Feature],

@@ -18,7 +18,7 @@ fn begins_digit(text: &[u8]) -> bool
 }
 
 /// How many bytes a whole number at the front has.
-#[tactic(auto, using(aadl_lex::proofs::Scans::whole_step))]
+#[tactic(auto, using(aadl_lex::proofs::ScanLengths::whole_step))]
 fn whole_len(text: &[u8]) -> usize
     ensures value { result ≡ spec.whole_len text.now }
     ensures within { result ≤ length text.now }
@@ -32,7 +32,7 @@ fn whole_len(text: &[u8]) -> usize
 }
 
 /// Whether the digits say a whole number of the language.
-#[tactic(auto, using(aadl_lex::proofs::Scans::decimal_step))]
+#[tactic(auto, using(aadl_lex::proofs::ScanLengths::decimal_step))]
 fn is_small(text: &[u8]) -> bool
     ensures { result ≡ nat_le (decimal text.now) most }
 {

@@ -1,5 +1,5 @@
 //! Lists of properties.
-#![tactic(auto, using(aadl_names::proofs::Finds::found_append))]
+#![tactic(auto, using(aadl_names::proofs::FindingSoFar::found_append))]
 
 ghost use Rattle.std.specs.Prelude.{◌≡◌, ◌&&◌, ◌++◌, not, OnOk, IfOk, flat_map};
 ghost use Rattle.aadl_tree.specs.Names.{same_name};

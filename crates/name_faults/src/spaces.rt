@@ -1,5 +1,5 @@
 //! What is declared twice in a package.
-#![tactic(auto, using(aadl_names::proofs::Finds::found_append))]
+#![tactic(auto, using(aadl_names::proofs::FindingSoFar::found_append))]
 
 ghost use Rattle.std.specs.Prelude.{◌≡◌, Some, OnOk, map, option_map, slice_get};
 ghost use Rattle.aadl_tree.specs.proof.PackageViews.{placed};
@@ -132,7 +132,7 @@ fn check_in(
 }
 
 /// Finds two types or two implementations of one name, and two of one name in an implementation.
-#[tactic(auto, unfolding(aadl_names::specs::proof::DeclaredTwice::beside_names))]
+#[tactic(auto, unfolding(aadl_names::specs::proof::PortDuplicates::beside_names))]
 pub fn check_spaces(
     finder: &mut Finder,
     uses: &Uses<'_>,

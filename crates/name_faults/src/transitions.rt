@@ -1,5 +1,5 @@
 //! How transitions use names.
-#![tactic(auto, using(aadl_names::proofs::Finds::found_append))]
+#![tactic(auto, using(aadl_names::proofs::FindingSoFar::found_append))]
 
 ghost use Rattle.std.specs.Prelude.{◌≡◌, OnOk, map, flat_map, option_map};
 ghost use Rattle.aadl_tree.specs.proof.NameViews.{identifier_view};

@@ -1,5 +1,5 @@
 //! What is wrong with the names in types, and in annexes wherever they stand.
-#![tactic(auto, using(aadl_names::proofs::Finds::found_append))]
+#![tactic(auto, using(aadl_names::proofs::FindingSoFar::found_append))]
 
 ghost use Rattle.std.specs.Prelude.{◌≡◌, OnOk, map, flat_map};
 ghost use Rattle.aadl_tree.specs.proof.DeclarationViews.{variable_view, annex_view, type_view};

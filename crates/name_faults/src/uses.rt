@@ -1,5 +1,5 @@
 //! How a behaviour uses the names that stand for something in it.
-#![tactic(auto, using(aadl_names::proofs::Finds::found_append))]
+#![tactic(auto, using(aadl_names::proofs::FindingSoFar::found_append))]
 
 ghost use Rattle.std.specs.Prelude.{◌≡◌, OnOk};
 ghost use Rattle.aadl_tree.specs.proof.NameViews.{identifier_view};

@@ -17,7 +17,7 @@ use step_code::Instr;
 
 /// For each state the place at which its block begins. It looks at all transitions once for each
 /// state, and at all states: with 64 states that is 64 looks at each transition.
-#[tactic(auto, using(pals_base::proofs::Upwards::map_upwards_more))]
+#[tactic(auto, using(pals_base::proofs::UpwardNumbers::map_upwards_more))]
 pub fn starts(alloc: Global, behaviour: &Behaviour, order: &[usize]) -> Result<Vec<u32>, NoMemory>
     requires { All (λ s. s < length behaviour.now.states) order.now }
     ensures { IfOk result (λ starts. starts.items ≡ map (start_of behaviour.now order.now) (states_of behaviour.now)) }
@@ -31,7 +31,7 @@ pub fn starts(alloc: Global, behaviour: &Behaviour, order: &[usize]) -> Result<V
 }
 
 // For each state the length of its block.
-#[tactic(auto, using(pals_base::proofs::Upwards::map_upwards_more))]
+#[tactic(auto, using(pals_base::proofs::UpwardNumbers::map_upwards_more))]
 fn block_lengths(alloc: Global, behaviour: &Behaviour) -> Result<Vec<u64>, NoMemory>
     ensures { IfOk result (λ lengths. lengths.items ≡ map (capped_length behaviour.now) (states_of behaviour.now)) }
 {
@@ -70,7 +70,7 @@ fn start_in(lengths: &[u64], order: &[usize], state: usize) -> u64
 }
 
 /// For each complete state the place of its dispatch transition.
-#[tactic(auto, using(pals_base::proofs::Upwards::map_upwards_more))]
+#[tactic(auto, using(pals_base::proofs::UpwardNumbers::map_upwards_more))]
 pub fn entries(
     alloc: Global,
     behaviour: &Behaviour,

@@ -68,7 +68,7 @@ fn next_state(
 }
 
 // For each state, whether its block is not placed.
-#[tactic(auto, using(pals_base::proofs::Upwards::map_upwards_more))]
+#[tactic(auto, using(pals_base::proofs::UpwardNumbers::map_upwards_more))]
 fn outside(alloc: Global, states: usize, order: &[usize]) -> Result<Vec<bool>, NoMemory>
     ensures { IfOk result (λ marks. marks.items ≡ states_outside order.now states) }
 {

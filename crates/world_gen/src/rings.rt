@@ -85,7 +85,7 @@ fn component(alloc: Global, number: u32) -> Result<Component, NoMemory>
     })
 }
 
-#[tactic(auto, using(pals_base::proofs::Upwards::map_upwards_more))]
+#[tactic(auto, using(pals_base::proofs::UpwardNumbers::map_upwards_more))]
 fn components(alloc: Global, n: u32) -> Result<Items<Component>, NoMemory>
     ensures { IfOk result (λ components. components ≡ map ring_component (upwards 0 n)) }
 {
@@ -96,7 +96,7 @@ fn components(alloc: Global, n: u32) -> Result<Items<Component>, NoMemory>
     Ok(components)
 }
 
-#[tactic(auto, using(pals_base::proofs::Upwards::map_upwards_more))]
+#[tactic(auto, using(pals_base::proofs::UpwardNumbers::map_upwards_more))]
 fn links(alloc: Global, n: u32) -> Result<Items<Link>, NoMemory>
     ensures { IfOk result (λ links. links ≡ map (ring_link n) (upwards 0 n)) }
 {
