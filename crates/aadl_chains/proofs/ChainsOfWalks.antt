@@ -8,7 +8,7 @@ use Rattle.aadl_tree.specs.Declarations.{PackageTree}
 use Rattle.aadl_names.specs.declared.site.PortPlace.{PortPlace}
 use Rattle.aadl_names.specs.declared.site.PortPlace.TheVariants.{Own, Inner}
 use Rattle.aadl_uses.specs.Uses.{standing}
-use Rattle.aadl_uses.specs.proof.DeclarationWires.{into}
+use Rattle.aadl_uses.specs.proof.DeclarationWires.{connection_into}
 use Rattle.aadl_chains.specs.Chains.{Port, Place, Goes, Leads}
 use Rattle.aadl_chains.specs.proof.Walks.{Crossing, Climb, nowhere, at_root, crosses, climb_along, climb_into, climb}
 use Rattle.aadl_chains.proofs.EnteringConnections.{Entered, entered, goes_into}
@@ -27,21 +27,21 @@ in_tail y xs x h = Contains-append_right (y ∷ []) xs x h
 -- ---- ends of walks
 module _ (tree : PackageTree ℕ) (root : ℕ) where
   pub climb_none : (last : Option ℕ) (path : List ℕ) (s p n : ℕ) → standing tree root path ≡ Some n
-      → into tree n (Inner s p) ≡ None
+      → connection_into tree n (Inner s p) ≡ None
       → climb tree root last (s ∷ path) p ≡ nowhere
   climb_none last path s p n e f =
       ap (climb_into tree (λ k q. climb tree root (Some k) path q) path s p) e
       ∙ ap (climb_along (λ k q. climb tree root (Some k) path q) path n) f
 
   pub climb_own : (last : Option ℕ) (path : List ℕ) (s p n k q : ℕ) → standing tree root path ≡ Some n
-      → into tree n (Inner s p) ≡ Some (k, Own q)
+      → connection_into tree n (Inner s p) ≡ Some (k, Own q)
       → climb tree root last (s ∷ path) p ≡ climb tree root (Some k) path q
   climb_own last path s p n k q e f =
       ap (climb_into tree (λ k q. climb tree root (Some k) path q) path s p) e
       ∙ ap (climb_along (λ k q. climb tree root (Some k) path q) path n) f
 
   pub climb_inner : (last : Option ℕ) (path : List ℕ) (s p n k t q : ℕ) → standing tree root path ≡ Some n
-      → into tree n (Inner s p) ≡ Some (k, Inner t q)
+      → connection_into tree n (Inner s p) ≡ Some (k, Inner t q)
       → climb tree root last (s ∷ path) p
       ≡ crosses (record { path = path; declaration = n; connection = k; sub = t; port = q })
   climb_inner last path s p n k t q e f =
@@ -59,7 +59,7 @@ module _ (tree : PackageTree ℕ) (root : ℕ) where
 
   turn_at : (last : Option ℕ) (path : List ℕ) (s p n k : ℕ) (r : Climb) (source : PortPlace)
       → standing tree root path ≡ Some n
-      → into tree n (Inner s p) ≡ Some (k, source) → climb tree root last (s ∷ path) p ≡ r → Turn last path s p r
+      → connection_into tree n (Inner s p) ≡ Some (k, source) → climb tree root last (s ∷ path) p ≡ r → Turn last path s p r
   turn_at last path s p n k r (Own q) e i is =
       up n k q e (entered tree n (Inner s p) (k, Own q) i) (sym (climb_own last path s p n k q e i) ∙ is)
   turn_at last path s p n k r (Inner t q) e i is = over n k t q e (entered tree n (Inner s p) (k, Inner t q) i)
@@ -67,7 +67,7 @@ module _ (tree : PackageTree ℕ) (root : ℕ) where
 
   turn_along : (last : Option ℕ) (path : List ℕ) (s p n : ℕ) (r : Climb) (o : Option (ℕ × PortPlace))
       → standing tree root path ≡ Some n
-      → into tree n (Inner s p) ≡ o → climb tree root last (s ∷ path) p ≡ r → Turn last path s p r
+      → connection_into tree n (Inner s p) ≡ o → climb tree root last (s ∷ path) p ≡ r → Turn last path s p r
   turn_along last path s p n r None e i is = stops (sym is ∙ climb_none last path s p n e i)
   turn_along last path s p n r (Some from) e i is = turn_at last path s p n from.0 r from.1 e i is
 
@@ -75,7 +75,7 @@ module _ (tree : PackageTree ℕ) (root : ℕ) where
       → climb tree root last (s ∷ path) p ≡ r → Turn last path s p r
   turn_by last path s p r None e is =
       stops (sym is ∙ ap (climb_into tree (λ k q. climb tree root (Some k) path q) path s p) e)
-  turn_by last path s p r (Some n) e is = turn_along last path s p n r (into tree n (Inner s p)) e refl is
+  turn_by last path s p r (Some n) e is = turn_along last path s p n r (connection_into tree n (Inner s p)) e refl is
 
   pub turn : (last : Option ℕ) (path : List ℕ) (s p : ℕ) (r : Climb) → climb tree root last (s ∷ path) p ≡ r
       → Turn last path s p r

@@ -9,7 +9,7 @@ use Rattle.aadl_names.specs.declared.site.PortPlace.TheVariants.{Own, Inner}
 use Rattle.aadl_uses.specs.Uses.{below}
 use Rattle.aadl_uses.specs.declared.connections.Wire.{Wire}
 use Rattle.aadl_uses.specs.Wiring.{wires_at}
-use Rattle.aadl_uses.specs.proof.DeclarationWires.{into, first_into_at}
+use Rattle.aadl_uses.specs.proof.DeclarationWires.{connection_into, first_into_at}
 use Rattle.aadl_chains.specs.proof.PortsJoinedInside.{is_thread_at, is_in_at, ReachesIn}
 use Rattle.aadl_chains.specs.Chains.{Port}
 use Rattle.aadl_chains.specs.proof.DeclaredConnections.{AreDeclared}
@@ -71,7 +71,7 @@ module _ (tree : PackageTree ℕ) (n : ℕ) where
 
   into_of : (k : ℕ) (x : Port) (source : PortPlace) (wire : Wire) → (t : Through tree n k x)
       → slice_get (wires_at tree n) k ≡ Some wire
-      → wire.source ≡ Some source → into tree n (Inner t.sub t.inner_port) ≡ Some (k, source)
+      → wire.source ≡ Some source → connection_into tree n (Inner t.sub t.inner_port) ≡ Some (k, source)
   into_of k x source wire t is e = into_first tree n (Inner t.sub t.inner_port) source k wire t.first is e
 
   pub own_to : (q k : ℕ) (x : Port) → FromOwn tree n q k x → ComesFrom tree n q x

@@ -19,7 +19,7 @@ use Rattle.aadl_uses.specs.proof.PortNumbers.{is_site}
 use Rattle.aadl_uses.specs.FirstConnections.{target_in, IsSecond}
 use Rattle.aadl_uses.specs.proof.FirstConnections.{is_before}
 use Rattle.aadl_uses.specs.Wiring.{wire_of, wires_of, wires_at}
-use Rattle.aadl_uses.specs.proof.DeclarationWires.{first_into_at, with_source, sourced, into}
+use Rattle.aadl_uses.specs.proof.DeclarationWires.{first_into_at, with_source, sourced, connection_into}
 use Rattle.aadl_uses.proofs.DeclarationTables.{listed}
 use Rattle.aadl_uses.proofs.FirstConnectionTables.{same_site-true, itself, second_from}
 use Rattle.aadl_chains.specs.proof.PortsJoinedInside.{is_thread_at, is_in_at}
@@ -104,7 +104,7 @@ module _ (tree : PackageTree ℕ) where
       let same : (k, source) ≡ from = same_Some (k, source) from e in
       (ap (λ (x : ℕ × PortPlace). Some x.1) same, ap (λ (x : ℕ × PortPlace). x.0) same)
 
-  pub entered : (n : ℕ) (target : PortPlace) (from : ℕ × PortPlace) → into tree n target ≡ Some from
+  pub entered : (n : ℕ) (target : PortPlace) (from : ℕ × PortPlace) → connection_into tree n target ≡ Some from
       → Entered n target from.0 from.1
   entered n target from e =
       option_and_then_some (sourced (wires_at tree n)) (first_into_at tree n target) from e
@@ -121,7 +121,7 @@ module _ (tree : PackageTree ℕ) where
 
   pub into_first : (n : ℕ) (target source : PortPlace) (k : ℕ) (wire : Wire) → first_into_at tree n target ≡ Some k
       → slice_get (wires_at tree n) k ≡ Some wire
-      → wire.source ≡ Some source → into tree n target ≡ Some (k, source)
+      → wire.source ≡ Some source → connection_into tree n target ≡ Some (k, source)
   into_first n target source k wire first is s =
       ap (option_and_then (sourced (wires_at tree n))) first
       ∙ (ap (option_and_then (with_source k)) is
@@ -229,7 +229,7 @@ module _ (tree : PackageTree ℕ) where
           some.1 ∙ ap Some same
 
       pub into_of_goes : (place : Place) (from to : Port) → (g : Goes tree root place from to)
-          → into tree g.number g.target ≡ Some (place.connection, g.source)
+          → connection_into tree g.number g.target ≡ Some (place.connection, g.source)
       into_of_goes place from to g =
           into_first g.number g.target g.source place.connection
           (record { source = Some g.source; target = Some g.target })
@@ -284,7 +284,7 @@ module _ (tree : PackageTree ℕ) where
 -- into an own out port a connection goes from an out port of a subcomponent
 pub inner_of : (tree : PackageTree ℕ) → AreDeclared tree → (here out k : ℕ) (source : PortPlace)
     → is_in_at tree here out ≡ false
-    → into tree here (Own out) ≡ Some (k, source) → IsFromInner tree here source
+    → connection_into tree here (Own out) ≡ Some (k, source) → IsFromInner tree here source
 inner_of tree sound here out k (Own q) goes_out e =
     absurd (known_into tree 0 sound here (Own out) k (Own q) (entered tree here (Own out) (k, Own q) e)).not_both
 inner_of tree sound here out k (Inner s p) goes_out e =

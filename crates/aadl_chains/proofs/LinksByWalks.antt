@@ -18,7 +18,7 @@ use Rattle.aadl_chains.specs.proof.DeclaredConnections.{AreDeclared}
 use Rattle.aadl_chains.proofs.ConnectionsOnChains.{opposed, is_in-at}
 use Rattle.aadl_chains.specs.proof.Walks.{Crossing, at_root, crosses, climb, OneEach, IsThreadPort}
 use Rattle.aadl_chains.specs.Links.{Ends, not_own, is_crossing, Carries, IsLink, IsFeed, IsTap}
-use Rattle.aadl_uses.specs.proof.DeclarationWires.{into}
+use Rattle.aadl_uses.specs.proof.DeclarationWires.{connection_into}
 use Rattle.aadl_chains.proofs.EnteringConnections.{Entered, goes_into, known_into, into_of_goes}
 use Rattle.aadl_chains.proofs.ChainsOfWalks.{Rooted, rooted, crossed}
 use Rattle.aadl_chains.proofs.WalksOfChains.{Crosses, Down, down, into_own, from_inner, never_both, MetRoot}
@@ -288,7 +288,7 @@ module _ (tree : PackageTree ℕ) (root : ℕ) where
       pub out : is_in tree root ends.to ≡ false
       pub sub : ℕ
       pub port : ℕ
-      pub enters : into tree root (Own ends.to.port) ≡ Some (ends.connection, Inner sub port)
+      pub enters : connection_into tree root (Own ends.to.port) ≡ Some (ends.connection, Inner sub port)
       pub earlier : List Place
       pub leads : Leads tree root earlier ends.from (record { path = sub ∷ []; port = port })
       pub start : IsStart tree root ends.from
@@ -327,9 +327,9 @@ module _ (tree : PackageTree ℕ) (root : ℕ) where
           out = out;
           sub = t;
           port = q;
-          enters = ap (λ r. into tree root (Own r)) port
-              ∙ (ap (λ n. into tree n (Own o.0)) o.3
-              ∙ (ap (into tree g.number) (sym o.1)
+          enters = ap (λ r. connection_into tree root (Own r)) port
+              ∙ (ap (λ n. connection_into tree n (Own o.0)) o.3
+              ∙ (ap (connection_into tree g.number) (sym o.1)
               ∙ (into_of_goes tree root one c mid ends.to g
               ∙ (ap (λ (y : PortPlace). Some (c.connection, y)) e
               ∙ ap (λ k. Some (k, Inner t q)) (ap (λ (y : Place). y.connection) here ∙ carried.number)))));

@@ -15,7 +15,7 @@ use Rattle.aadl_names.specs.ReferenceResolution.{first_number, implementation_in
 use Rattle.aadl_uses.specs.Uses.{below, standing}
 use Rattle.aadl_uses.specs.proof.PackageContainment.{containment, targets_in}
 use Rattle.aadl_uses.proofs.PackageContainment.{below-same}
-use Rattle.aadl_uses.specs.proof.DeclarationWires.{into}
+use Rattle.aadl_uses.specs.proof.DeclarationWires.{connection_into}
 use Rattle.aadl_uses.specs.proof.ContainmentOrders.{IsOrder}
 use Rattle.aadl_chains.specs.proof.PortsJoinedInside.{is_in_at}
 use Rattle.aadl_chains.specs.proof.DeclaredConnections.{MayLeave, AreDeclared}
@@ -55,7 +55,7 @@ module _ (tree : PackageTree ℕ) (root : ℕ) where
       → climb_into tree (λ k q. climb tree root (Some k) path q) path s p o ≡ climb_on path (entry tree o s p)
   unfolding climb_on
   on_entry path s p None = refl
-  on_entry path s p (Some n) = on_into path n (into tree n (Inner s p))
+  on_entry path s p (Some n) = on_into path n (connection_into tree n (Inner s p))
 
   climbs_on : (last : Option ℕ) (path : List ℕ) (d p : ℕ) → d < length path
       → climb tree root last (reverse (take (d + 1) path)) p

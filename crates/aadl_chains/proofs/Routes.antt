@@ -8,7 +8,7 @@ use Rattle.aadl_names.specs.declared.site.PortPlace.{PortPlace}
 use Rattle.aadl_names.specs.declared.site.PortPlace.TheVariants.{Own, Inner}
 use Rattle.aadl_uses.specs.Uses.{below, standing}
 use Rattle.aadl_uses.specs.Threads.{IsThreadAt}
-use Rattle.aadl_uses.specs.proof.DeclarationWires.{into}
+use Rattle.aadl_uses.specs.proof.DeclarationWires.{connection_into}
 use Rattle.aadl_chains.specs.proof.PortsJoinedInside.{is_thread_at, is_in_at}
 use Rattle.aadl_chains.specs.Chains.{Port, Place, Goes, Leads, is_in, IsStart}
 use Rattle.aadl_chains.specs.proof.DeclaredConnections.{AreDeclared}
@@ -60,7 +60,7 @@ module _ (tree : PackageTree ℕ) (root : ℕ) (sound : AreDeclared tree) (one :
   }
 
   pub descend_more : (end : Port) (path : List ℕ) (here out k s p m : ℕ)
-      → into tree here (Own out) ≡ Some (k, Inner s p) → below tree here s ≡ Some m
+      → connection_into tree here (Own out) ≡ Some (k, Inner s p) → below tree here s ≡ Some m
       → Descending tree root end path here out → Descending tree root end (path ++ s ∷ []) m p
   descend_more end path here out k s p m e b d =
       let x = entered tree here (Own out) (k, Inner s p) e in
@@ -101,7 +101,7 @@ module _ (tree : PackageTree ℕ) (root : ℕ) (sound : AreDeclared tree) (one :
       }
 
   pub descend_none : (end : Port) (path : List ℕ) (here out : ℕ) → is_thread_at tree here ≡ false
-      → into tree here (Own out) ≡ None
+      → connection_into tree here (Own out) ≡ None
       → Descending tree root end path here out → (cs : List Place) (from : Port) → IsStart tree root from
       → Leads tree root cs from end → ⊥
   descend_none end path here out no_thread none d cs from start leads =
@@ -119,9 +119,9 @@ module _ (tree : PackageTree ℕ) (root : ℕ) (sound : AreDeclared tree) (one :
       no_connection place before g =
           let o = into_own tree root sound place before at g g.target refl here d.stands d.goes_out in
           let port : out ≡ o.0 = ap (λ (p : Port). p.port) o.2 in
-          let i : into tree here (Own out) ≡ Some (place.connection, g.source) =
-          ap (into tree here) (ap Own port ∙ sym o.1)
-          ∙ (ap (λ n. into tree n g.target) o.3 ∙ into_of_goes tree root one place before at g) in
+          let i : connection_into tree here (Own out) ≡ Some (place.connection, g.source) =
+          ap (connection_into tree here) (ap Own port ∙ sym o.1)
+          ∙ (ap (λ n. connection_into tree n g.target) o.3 ∙ into_of_goes tree root one place before at g) in
           none-some (place.connection, g.source) (sym none ∙ i)
 
   -- ---- links and feeds
@@ -238,16 +238,16 @@ module _ (tree : PackageTree ℕ) (root : ℕ) (sound : AreDeclared tree) (one :
   module _ (no_thread : is_thread_at tree root ≡ false) (port : ℕ) where
     met_tap : (ends : Ends) → IsTap tree root ends → ends.to ≡ record { path = []; port = port }
         → (m : TapMet tree root sound one no_thread ends)
-        × (into tree root (Own port) ≡ Some (ends.connection, Inner m.sub m.port))
+        × (connection_into tree root (Own port) ≡ Some (ends.connection, Inner m.sub m.port))
     met_tap ends l e =
         let m = tap_met tree root sound one no_thread ends l in
-        (m, ap (λ (p : Port). into tree root (Own p.port)) (sym e) ∙ m.enters)
+        (m, ap (λ (p : Port). connection_into tree root (Own p.port)) (sym e) ∙ m.enters)
 
-    pub no_tap : into tree root (Own port) ≡ None → TracesTap tree root (record { path = []; port = port }) None
+    pub no_tap : connection_into tree root (Own port) ≡ None → TracesTap tree root (record { path = []; port = port }) None
     no_tap none ends l e = let m = met_tap ends l e in
         none-some (ends.connection, Inner m.0.sub m.0.port) (sym none ∙ m.1)
 
-    module _ (k t q : ℕ) (is : into tree root (Own port) ≡ Some (k, Inner t q)) where
+    module _ (k t q : ℕ) (is : connection_into tree root (Own port) ≡ Some (k, Inner t q)) where
       abbrev pair : ℕ → ℕ → ℕ → ℕ × PortPlace
       pair k s p = (k, Inner s p)
 
@@ -258,7 +258,7 @@ module _ (tree : PackageTree ℕ) (root : ℕ) (sound : AreDeclared tree) (one :
           (ap (λ (x : ℕ × PortPlace). x.0) both, cc site, cc site)
 
       there : (ends : Ends) (m : TapMet tree root sound one no_thread ends)
-          → into tree root (Own port) ≡ Some (ends.connection, Inner m.sub m.port)
+          → connection_into tree root (Own port) ≡ Some (ends.connection, Inner m.sub m.port)
           → Leads tree root m.earlier ends.from (record { path = t ∷ []; port = q })
       there ends m e =
           let same = same_into ends.connection k m.sub m.port t q (sym e ∙ is) in

@@ -11,7 +11,7 @@ use Rattle.aadl_names.specs.PackageFaults.{goes_in}
 use Rattle.aadl_uses.specs.Uses.{below, standing, component_at}
 use Rattle.aadl_uses.specs.Threads.{IsThreadAt}
 use Rattle.aadl_uses.specs.proof.ThreadCounts.{is_thread_in}
-use Rattle.aadl_uses.specs.proof.DeclarationWires.{into}
+use Rattle.aadl_uses.specs.proof.DeclarationWires.{connection_into}
 use Rattle.aadl_chains.specs.proof.PortsJoinedInside.{is_thread_at}
 use Rattle.aadl_chains.specs.Chains.{Port, is_in}
 use Rattle.aadl_chains.specs.proof.Walks.{Crossing, Climb, nowhere, at_root, crosses, climb_by, climb_along, climb_into}
@@ -72,7 +72,7 @@ module _ (tree : PackageTree ℕ) where
     -- ---- a walk, one level further out
     pub outer : Climb → Climb
     outer nowhere = nowhere
-    outer (at_root l p) = climb_along (λ k q. at_root (Some k) q) [] n (into tree n (Inner s p))
+    outer (at_root l p) = climb_along (λ k q. at_root (Some k) q) [] n (connection_into tree n (Inner s p))
     outer (crosses c) =
         crosses (record {
           path = c.path ++ s ∷ [];
@@ -101,7 +101,7 @@ module _ (tree : PackageTree ℕ) where
         → climb_into tree wide (path ++ s ∷ []) u p o ≡ outer (climb_into tree up path u p o)
     unfolding outer
     outer_into up wide same path u p None = refl
-    outer_into up wide same path u p (Some j) = outer_along up wide same path j (into tree j (Inner u p))
+    outer_into up wide same path u p (Some j) = outer_along up wide same path j (connection_into tree j (Inner u p))
 
     pub climb_outer : (last : Option ℕ) (path : List ℕ) (p : ℕ)
         → climb tree n last (path ++ s ∷ []) p ≡ outer (climb tree m last path p)
@@ -115,14 +115,14 @@ module _ (tree : PackageTree ℕ) where
         (standing tree m path)
 
     -- ---- what a walk one level further out comes from
-    root_by : (p k : ℕ) (l : Option ℕ) (q : ℕ) (source : PortPlace) → into tree n (Inner s p) ≡ Some (k, source)
+    root_by : (p k : ℕ) (l : Option ℕ) (q : ℕ) (source : PortPlace) → connection_into tree n (Inner s p) ≡ Some (k, source)
         → climb_by (λ k q. at_root (Some k) q) [] n k source ≡ at_root l q → Entered tree n (Inner s p) k (Own q)
     root_by p k l q (Own r) i is =
         let same : r ≡ q = cc is in
         subst (λ x. Entered tree n (Inner s p) k (Own x)) same (entered tree n (Inner s p) (k, Own r) i)
     root_by p k l q (Inner t r) i is = absurd (cc is)
 
-    root_along : (p : ℕ) (l : Option ℕ) (q : ℕ) (o : Option (ℕ × PortPlace)) → into tree n (Inner s p) ≡ o
+    root_along : (p : ℕ) (l : Option ℕ) (q : ℕ) (o : Option (ℕ × PortPlace)) → connection_into tree n (Inner s p) ≡ o
         → climb_along (λ k q. at_root (Some k) q) [] n o ≡ at_root l q → (k : ℕ) × Entered tree n (Inner s p) k (Own q)
     root_along p l q None i is = absurd (cc is)
     root_along p l q (Some from) i is = (from.0, root_by p from.0 l q from.1 i is)
@@ -131,7 +131,7 @@ module _ (tree : PackageTree ℕ) where
         → (last : Option ℕ) × (p k : ℕ) × (r ≡ at_root last p) × Entered tree n (Inner s p) k (Own q)
     unfolding outer
     root_outer nowhere l q is = absurd (cc is)
-    root_outer (at_root last p) l q is = let e = root_along p l q (into tree n (Inner s p)) refl is in
+    root_outer (at_root last p) l q is = let e = root_along p l q (connection_into tree n (Inner s p)) refl is in
         (last, p, e.0, refl, e.1)
     root_outer (crosses c) l q is = absurd (cc is)
 
@@ -152,7 +152,7 @@ module _ (tree : PackageTree ℕ) where
       pub declaration_is : c.declaration ≡ n
 
     crossing_by : (last : Option ℕ) (p k : ℕ) (c : Crossing) (source : PortPlace)
-        → into tree n (Inner s p) ≡ Some (k, source)
+        → connection_into tree n (Inner s p) ≡ Some (k, source)
         → climb_by (λ k q. at_root (Some k) q) [] n k source ≡ crosses c → Itself (at_root last p) c
     crossing_by last p k c (Own r) i is = absurd (cc is)
     crossing_by last p k c (Inner t r) i is =
@@ -168,7 +168,7 @@ module _ (tree : PackageTree ℕ) where
           declaration_is = ap (λ (x : Crossing). x.declaration) (sym same);
         }
 
-    crossing_along : (last : Option ℕ) (p : ℕ) (c : Crossing) (o : Option (ℕ × PortPlace)) → into tree n (Inner s p) ≡ o
+    crossing_along : (last : Option ℕ) (p : ℕ) (c : Crossing) (o : Option (ℕ × PortPlace)) → connection_into tree n (Inner s p) ≡ o
         → climb_along (λ k q. at_root (Some k) q) [] n o ≡ crosses c → Itself (at_root last p) c
     crossing_along last p c None i is = absurd (cc is)
     crossing_along last p c (Some from) i is = crossing_by last p from.0 c from.1 i is
@@ -176,7 +176,7 @@ module _ (tree : PackageTree ℕ) where
     pub crossing_outer : (r : Climb) (c : Crossing) → outer r ≡ crosses c → Within r c ⊎ Itself r c
     unfolding outer
     crossing_outer nowhere c is = absurd (cc is)
-    crossing_outer (at_root last p) c is = inr (crossing_along last p c (into tree n (Inner s p)) refl is)
+    crossing_outer (at_root last p) c is = inr (crossing_along last p c (connection_into tree n (Inner s p)) refl is)
     crossing_outer (crosses x) c is =
         let same : record {
           path = x.path ++ s ∷ [];
@@ -205,13 +205,13 @@ module _ (tree : PackageTree ℕ) where
     crossing_kept r x e = ap outer e
 
     pub root_kept : (r : Climb) (last : Option ℕ) (p k q : ℕ) → r ≡ at_root last p
-        → into tree n (Inner s p) ≡ Some (k, Own q)
+        → connection_into tree n (Inner s p) ≡ Some (k, Own q)
         → outer r ≡ at_root (Some k) q
     unfolding outer
     root_kept r last p k q e i = ap outer e ∙ ap (climb_along (λ k q. at_root (Some k) q) [] n) i
 
     pub root_crosses : (r : Climb) (last : Option ℕ) (p k t q : ℕ) → r ≡ at_root last p
-        → into tree n (Inner s p) ≡ Some (k, Inner t q)
+        → connection_into tree n (Inner s p) ≡ Some (k, Inner t q)
         → outer r ≡ crosses (record { path = []; declaration = n; connection = k; sub = t; port = q })
     unfolding outer
     root_crosses r last p k t q e i = ap outer e ∙ ap (climb_along (λ k q. at_root (Some k) q) [] n) i

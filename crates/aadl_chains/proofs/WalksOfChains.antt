@@ -11,7 +11,7 @@ use Rattle.aadl_names.specs.declared.site.PortPlace.TheVariants.{Own, Inner}
 use Rattle.aadl_names.specs.ReferenceResolution.{implementation_at, site}
 use Rattle.aadl_uses.specs.Uses.{below, standing}
 use Rattle.aadl_uses.specs.Threads.{IsThreadAt}
-use Rattle.aadl_uses.specs.proof.DeclarationWires.{into}
+use Rattle.aadl_uses.specs.proof.DeclarationWires.{connection_into}
 use Rattle.aadl_chains.specs.proof.PortsJoinedInside.{is_in_at, Reaches, of_thread, of_inner}
 use Rattle.aadl_chains.specs.Chains.{Port, Place, port_at, Goes, Leads, is_in, IsStart}
 use Rattle.aadl_chains.specs.proof.DeclaredConnections.{MayLeave, MayEnter, NotBothOwn, AreDeclared}
@@ -234,9 +234,9 @@ module _ (tree : PackageTree ℕ) (root : ℕ) where
           mid_is : mid ≡ port c.path q
           mid_is = g.leaves ∙ ap (port_at c.path) e
 
-          is : into tree g.number (Inner s r) ≡ Some (c.connection, Own q)
+          is : connection_into tree g.number (Inner s r) ≡ Some (c.connection, Own q)
           is =
-              ap (into tree g.number) (sym f)
+              ap (connection_into tree g.number) (sym f)
               ∙ (into_of_goes tree root one c mid p g ∙ ap (λ x. Some (c.connection, x)) e)
 
           here : c.path ≡ [] → m.by ≡ Some c.connection
@@ -275,9 +275,9 @@ module _ (tree : PackageTree ℕ) (root : ℕ) where
           mid_is : mid ≡ port c.path q
           mid_is = g.leaves ∙ ap (port_at c.path) e
 
-          is : into tree g.number (Inner s r) ≡ Some (c.connection, Own q)
+          is : connection_into tree g.number (Inner s r) ≡ Some (c.connection, Own q)
           is =
-              ap (into tree g.number) (sym f)
+              ap (connection_into tree g.number) (sym f)
               ∙ (into_of_goes tree root one c mid p g ∙ ap (λ x. Some (c.connection, x)) e)
 
           by : (place : Place) → Crosses place → (c ≡ place) ⊎ Contains cs place
@@ -313,9 +313,9 @@ module _ (tree : PackageTree ℕ) (root : ℕ) where
               × (is_in_at tree m q ≡ false)
           i = from_inner c mid p g t q e
 
-          is : into tree g.number (Inner s r) ≡ Some (c.connection, Inner t q)
+          is : connection_into tree g.number (Inner s r) ≡ Some (c.connection, Inner t q)
           is =
-              ap (into tree g.number) (sym f)
+              ap (connection_into tree g.number) (sym f)
               ∙ (into_of_goes tree root one c mid p g ∙ ap (λ x. Some (c.connection, x)) e)
 
           there : Leads tree root cs from (port (t ∷ c.path) q)

@@ -6,7 +6,7 @@ use Rattle.aadl_tree.specs.Declarations.{PackageTree}
 use Rattle.aadl_names.specs.declared.site.PortPlace.{PortPlace}
 use Rattle.aadl_names.specs.declared.site.PortPlace.TheVariants.{Own, Inner}
 use Rattle.aadl_uses.specs.Uses.{below, standing}
-use Rattle.aadl_uses.specs.proof.DeclarationWires.{into}
+use Rattle.aadl_uses.specs.proof.DeclarationWires.{connection_into}
 use Rattle.aadl_chains.specs.proof.PortsJoinedInside.{is_thread_at, is_in_at}
 use Rattle.aadl_chains.specs.Chains.{Port}
 use Rattle.aadl_chains.specs.proof.DeclaredConnections.{AreDeclared}
@@ -61,7 +61,7 @@ module _ (tree : PackageTree ℕ) (root : ℕ) (sound : AreDeclared tree) (one :
       (subst (λ l. Descends tree root (record { path = l; port = lower.port }) begin) turned d))
 
   -- into an out port of the root
-  tap_by : (port k t q : ℕ) (begin : Option ChainStart) → into tree root (Own port) ≡ Some (k, Inner t q)
+  tap_by : (port k t q : ℕ) (begin : Option ChainStart) → connection_into tree root (Own port) ≡ Some (k, Inner t q)
       → is_in_at tree root port ≡ false
       → Descends tree root (record { path = t ∷ []; port = q }) begin
       → TracesTap tree root (record { path = []; port = port }) (route_from begin root k)
@@ -69,7 +69,7 @@ module _ (tree : PackageTree ℕ) (root : ℕ) (sound : AreDeclared tree) (one :
   tap_by port k t q (Some begin) is out d = tap_over tree root sound one no_thread port k t q is begin _ out d refl
 
   pub tap_route : (port k : ℕ) (source : PortPlace) (begin : Option ChainStart) (way : List ℕ) (lower : PortBelow)
-      → into tree root (Own port) ≡ Some (k, source)
+      → connection_into tree root (Own port) ≡ Some (k, source)
       → is_in_at tree root port ≡ false → reverse way ≡ lower.sub ∷ [] → source ≡ Inner lower.sub lower.port
       → below tree root lower.sub ≡ Some lower.number
       → (standing tree root (reverse way) ≡ Some lower.number

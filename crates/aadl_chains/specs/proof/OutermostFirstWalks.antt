@@ -4,7 +4,7 @@ use Rattle.aadl_tree.specs.Declarations.{PackageTree}
 use Rattle.aadl_names.specs.declared.site.PortPlace.{PortPlace}
 use Rattle.aadl_names.specs.declared.site.PortPlace.TheVariants.{Own, Inner}
 use Rattle.aadl_uses.specs.Uses.{below}
-use Rattle.aadl_uses.specs.proof.DeclarationWires.{into}
+use Rattle.aadl_uses.specs.proof.DeclarationWires.{connection_into}
 use Rattle.aadl_chains.specs.proof.PortsJoinedInside.{is_in_at}
 use Rattle.aadl_chains.specs.declared.walks.ChainStart.{ChainStart}
 use Rattle.aadl_chains.specs.declared.walks.ChainRoute.{ChainRoute}
@@ -20,7 +20,7 @@ use Rattle.aadl_chains.specs.declared.walks.ClimbResult.TheVariants as ends
 abbrev pub entry : PackageTree ℕ → Option ℕ → ℕ → ℕ → Option ConnectionInto
 entry tree None s port = None
 entry tree (Some n) s port =
-    option_map (λ from. record { declaration = n; connection = from.0; source = from.1 }) (into tree n (Inner s port))
+    option_map (λ from. record { declaration = n; connection = from.0; source = from.1 }) (connection_into tree n (Inner s port))
 
 abbrev pub crossing : List ℕ → CrossConnection → Crossing
 crossing path c =
@@ -60,8 +60,8 @@ pub record IsLower (tree : PackageTree ℕ) (n : ℕ) (source : PortPlace) (lowe
 
 -- the port of a subcomponent that gives to an own out port, or none where no connection goes into it
 abbrev pub LeadsDown : PackageTree ℕ → ℕ → ℕ → Option PortBelow → Type 0
-LeadsDown tree n out None = into tree n (Own out) ≡ None
+LeadsDown tree n out None = connection_into tree n (Own out) ≡ None
 LeadsDown tree n out (Some lower) =
-    (k : ℕ) × (into tree n (Own out) ≡ Some (k, Inner lower.sub lower.port))
+    (k : ℕ) × (connection_into tree n (Own out) ≡ Some (k, Inner lower.sub lower.port))
     × (below tree n lower.sub ≡ Some lower.number)
     × (is_in_at tree lower.number lower.port ≡ false)

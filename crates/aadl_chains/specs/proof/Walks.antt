@@ -8,7 +8,7 @@ use Rattle.aadl_uses.specs.Uses.{standing, IsInUse}
 use Rattle.aadl_uses.specs.Threads.{IsThreadAt}
 use Rattle.aadl_uses.specs.FirstConnections.{target_in}
 use Rattle.aadl_uses.specs.Wiring.{wires_at}
-use Rattle.aadl_uses.specs.proof.DeclarationWires.{into}
+use Rattle.aadl_uses.specs.proof.DeclarationWires.{connection_into}
 use Rattle.aadl_chains.specs.Chains.{Port, is_in}
 
 -- a connection between two subcomponents of the component at a path, and the port from which it comes
@@ -36,7 +36,7 @@ climb_along up path n (Some from) = climb_by up path n from.0 from.1
 
 abbrev pub climb_into : PackageTree ℕ → (ℕ → ℕ → Climb) → List ℕ → ℕ → ℕ → Option ℕ → Climb
 climb_into tree up path s port None = nowhere
-climb_into tree up path s port (Some n) = climb_along up path n (into tree n (Inner s port))
+climb_into tree up path s port (Some n) = climb_along up path n (connection_into tree n (Inner s port))
 
 -- from a port of the component at a path, the innermost subcomponent first, behind the last connection
 abbrev pub climb : PackageTree ℕ → ℕ → Option ℕ → List ℕ → ℕ → Climb
