@@ -10,7 +10,7 @@ use Rattle.trace_audit.proofs.JournalVerdicts.{judged_whole}
 use Rattle.trace_audit.proofs.traces.audit.Goals as goal
 
 pub audit_behind-requires-clause-design : goal.audit_behind-requires-clause-design
-audit_behind-requires-clause-design c = c.deref.ensures ∙ sym (ap (λ (r : Run). r.design) c.in_ok-replay.ensures.run)
+audit_behind-requires-clause-design c = c.deref.ensures ∙ sym (ap (λ (r : Run). r.design) c.in_ok-replay-in-Whole.ensures.run)
 
 pub returns-in-Whole : goal.returns-in-Whole
 returns-in-Whole c =
@@ -20,12 +20,12 @@ returns-in-Whole c =
       rounds = c.args.rounds;
       delays = c.args.delays;
     } in
-    let replay = c.in_ok-replay.replay in
+    let replay = c.in_ok-replay-in-Whole.replay in
     let size = c.in-Whole.size in
     let report = subst (ReportEnds run.design run.env c.args.trace.now) c.in-Whole.is c.in_ok-size.ensures.value in
     subst (λ (v : Verdict). IfOk c.audit_behind.result (λ w. w ≡ v))
     (judged_whole run replay.bus.run c.args.trace.now size _ _ report.0 report.1
-    c.in_ok-replay.ensures.run
-    (c.in_ok-replay.ensures.value ∙ ap opening_audit c.in_ok-replay.ensures.run)
+    c.in_ok-replay-in-Whole.ensures.run
+    (c.in_ok-replay-in-Whole.ensures.value ∙ ap opening_audit c.in_ok-replay-in-Whole.ensures.run)
     (ap (λ (d : DesignParts). size / row_size d) c.deref.ensures))
     c.audit_behind.ensures
