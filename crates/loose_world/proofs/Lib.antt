@@ -1,4 +1,4 @@
-pub mod OutLinks
+pub mod LinksFromNodes
 pub mod RowPrefixes
 pub mod EventSequences
 pub mod LooseRuns

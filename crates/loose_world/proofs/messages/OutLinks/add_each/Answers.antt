@@ -6,7 +6,7 @@ use Rattle.pals_model.specs.ComponentInputs.{links_from}
 use Rattle.pals_model.specs.RoundTexts.{text_of}
 use Rattle.bus_machine.specs.States.{node_at}
 use Rattle.loose_world.specs.SentLines.{message_lines}
-use Rattle.loose_world.proofs.OutLinks.{items_are, link_within}
+use Rattle.loose_world.proofs.LinksFromNodes.{items_are, link_within}
 use Rattle.loose_world.proofs.messages.OutLinks.add_each.Goals as goal
 
 pub add_message-requires : goal.add_message-requires

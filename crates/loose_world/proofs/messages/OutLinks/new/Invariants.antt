@@ -1,4 +1,4 @@
-use Rattle.loose_world.proofs.OutLinks.{AreFirstLinks}
+use Rattle.loose_world.proofs.LinksFromNodes.{AreFirstLinks}
 use Rattle.loose_world.proofs.messages.OutLinks.new.Given as goal
 
 -- the links of the first nodes are there
