@@ -168,8 +168,8 @@ pub fn add_declarations_findings(
         ++ spec.declarations_findings (placed in_use.now.wires.now.uses.names.tree.now) in_use.now.root
         (has in_use.now.implementations.now.keys) (has in_use.now.types.now.keys) (carries in_use.now.carriers.now)) }
 {
-    let tree = in_use.wires.uses.names.tree;
-    for (number, declaration) in tree.declarations.iter().enumerate() {
+    let wires = in_use.wires;
+    for (number, declaration) in wires.uses.names.tree.declarations.iter().enumerate() {
         add_declaration_findings(alloc, in_use, number, declaration, found)?;
     }
     Ok(())
