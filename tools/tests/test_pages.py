@@ -39,6 +39,40 @@ def test_pages_show_what_the_tools_write():
     expect(count >= 8, True, f"{count} commands in the pages")
 
 
+def test_pages_name_files_that_are_there():
+    """Each file of a crate that a page names is there, and so is each file of the list of what to read."""
+    there = [it for kind in ("rt", "antt") for it in glob.glob(f"{TOP}/crates/**/*.{kind}", recursive=True)]
+    files = {os.path.basename(it) for it in there}
+    names = ["README.md"] + [os.path.relpath(it, TOP) for it in sorted(glob.glob(f"{TOP}/docs/*.md"))]
+    for name in names:
+        for found in re.findall(r"`(?:[\w/+-]*/)?([\w+-]+\.(?:antt|rt))`", page(name)):
+            expect(found in files, True, f"{name} names {found}, which is there")
+    listed = page("docs/definitions.md").partition("in this order:")[2].partition("\n\n#")[0]
+    count = 0
+    for row in (line for line in listed.split("\n") if line.startswith("| ")):
+        crate = None
+        for word in re.findall(r"`(\w+)`", row):
+            if os.path.isdir(f"{TOP}/crates/{word}"):
+                crate = word
+            elif crate and re.fullmatch("[A-Z][A-Za-z]+", word):
+                folder = glob.glob(f"{TOP}/crates/{crate}/specs/*.antt")
+                own = f"{TOP}/crates/{crate}/specs/{word}.antt" in folder
+                inner = any(re.search(rf"\bpub (?:record |data )?{word}\b", read(it).decode()) for it in folder)
+                expect(own or inner, True, f"the list of definitions names {word} of {crate}, which is there")
+                count += 1
+    expect(count >= 40, True, f"{count} files in the list of definitions")
+
+
+def test_the_table_of_crates_has_their_edges():
+    """A crate stands on no other one than `crates.txt` says."""
+    lines = [line.partition(":") for line in page("crates.txt").split("\n") if not line.startswith("#")]
+    below = {name: rest.split() for name, _, rest in lines if name}
+    for name, last in re.findall(r"(?m)^\| `(\w+)` \|.*\|([^|]*)\|$", page("docs/crates.md")):
+        if name in below:
+            for word in re.findall(r"`(\w+)`", last):
+                expect(word in below[name], True, f"docs/crates.md: {name} stands on {word}")
+
+
 def test_definitions_are_told_by_their_folder():
     """No definition on which the theorem rests uses one of a folder `proof`, nor does the theorem."""
     files = [it for it in of_pals(f"{TOP}/crates/*/specs/**/*.antt") if not it.endswith("/Lib.antt")]
