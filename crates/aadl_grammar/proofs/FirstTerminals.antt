@@ -1,4 +1,5 @@
--- The first terminal, by its number; and words as texts.
+-- The spots that a list of terminals stands for: the first one and those behind it. Each word among terminals is a
+-- word, also with one terminal more, and its bytes are a text.
 use Rattle.std.proofs.Common.{◌≡◌, ℕ, zero, suc, ◌+◌, ◌<◌, ◌≤◌, true, ◌∙◌, sym, ap, List, [], ◌∷◌, ◌++◌, length, get_or}
 use Rattle.std.proofs.Common.{drop, refl, arith, add-one, drop-cons, ◌&&◌}
 use Rattle.std.specs.List.{list_all, All}

@@ -1,4 +1,5 @@
--- The text of one terminal is lexed as its token, where what follows does not go on with it.
+-- Blanks, words and symbols at the front of a text, each lexed as what it is where the bytes behind do not go on
+-- with it. For the claim that canonical text is read back.
 use Rattle.std.proofs.Common.{◌≡◌, ℕ, ◌+◌, Bool, true, false, cond, not, ◌&&◌, ◌||◌, ◌==◌, ◌∙◌, ap, refl, List, [], ◌∷◌}
 use Rattle.std.proofs.Common.{◌++◌, length, get_or, arith, Some, nat_eq, nat_le}
 use Rattle.std.specs.Prelude.{codes}

@@ -1,4 +1,4 @@
--- The tree that each row of the table builds, by kinds of symbols.
+-- The tree that each production, which is a row of the parse table, builds, by kinds of symbols.
 pub mod Values
 pub mod Expressions
 pub mod Actions

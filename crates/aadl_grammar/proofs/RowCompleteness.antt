@@ -1,4 +1,5 @@
--- Each spelled tree is built by some row of the table, by kinds of symbols.
+-- Each tree that terminals spell is built by some production of its symbol, which is a row of the parse table, by
+-- kinds of symbols.
 pub mod Values
 pub mod Expressions
 pub mod Actions

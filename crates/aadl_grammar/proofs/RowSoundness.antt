@@ -1,4 +1,5 @@
--- What a row of the table builds is spelled by terminals that the row takes, by kinds of symbols.
+-- What a production, which is a row of the parse table, builds is spelled by terminals that it takes, by kinds of
+-- symbols.
 pub mod Values
 pub mod Expressions
 pub mod Actions

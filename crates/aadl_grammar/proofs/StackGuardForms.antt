@@ -1,5 +1,5 @@
--- Two kinds of invariants of stacks, on what comes behind and before a terminal, each proved by a check of all rows
--- of the table.
+-- Two kinds of invariants that say which terminals may be neighbours, on what comes behind and before a terminal.
+-- Each is proved by a check of all rows of the parse table.
 use Rattle.std.proofs.Common.{◌≡◌, ℕ, Bool, true, false, not, ◌&&◌, ◌||◌, ◌==◌, ◌∙◌, ap, refl, List, [], ◌∷◌, inl, inr}
 use Rattle.std.proofs.lemmas.Bool.{or_left}
 use Rattle.std.specs.Cmp.{first_so, second_so}

@@ -1,4 +1,5 @@
--- What a symbol does at the first terminals, and the ends of the parts of a parser.
+-- What the symbol on top of the stack does at the first terminal: it takes it, is left out, or no text goes on. And
+-- the ends of the parts of a parser. For the proofs of parsers.
 use Rattle.std.proofs.Common.{◌≡◌, ℕ, ◌+◌, ◌<◌, ◌≤◌, Bool, true, false, cond, ◌∙◌, sym, ap, subst, refl, List, [], ◌∷◌}
 use Rattle.std.proofs.Common.{◌++◌, ◌==◌, inl, inr}
 use Rattle.std.specs.Prelude.{Result, Ok, Err, IfOk}

@@ -1,5 +1,5 @@
--- The chain that a walk back finds is added to those found before it. For the functions of `build` that add chains
--- and taps.
+-- The chain that a walk back finds is added to those found before it. For the functions of `chain_search` that add
+-- chains and taps.
 use Rattle.std.proofs.Common.{◌≡◌, ◌⊎◌, inl, inr, ℕ, ◌+◌, true, false, List, [], ◌∷◌, ◌++◌, slice_get, AllPairs, Some}
 use Rattle.std.proofs.Common.{None, refl, sym, ap, subst, ◌∙◌}
 use Rattle.std.proofs.lemmas.Bool.{true≢false}

@@ -1,4 +1,5 @@
--- What an action is, by what it stands for.
+-- Which variant an action is, by the plain action that it stands for: an assignment, a send, a choice or a loop. For
+-- the comparison of actions.
 use Rattle.std.proofs.Common.{◌≡◌, ◌∙◌, ap, sym, Box, Global}
 use Rattle.aadl_tree.specs.declared.names.Identifier.{Identifier}
 use Rattle.aadl_tree.specs.declared.expressions.Expression.{Expression}

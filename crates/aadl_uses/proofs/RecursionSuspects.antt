@@ -1,4 +1,5 @@
--- For RecursionSuspects: what the levels of declarations tell of subcomponents that lead back to where they stand.
+-- What the levels of declarations tell of subcomponents that lead back to where they stand: all that do so are
+-- suspects.
 use Rattle.std.proofs.Common.{◌≡◌, ◌⊎◌, inl, inr, ◌↔◌, ℕ, ◌<◌, ◌≤◌, ◌+◌, Bool, true, false, ◌||◌, nat_eq, nat_le, List}
 use Rattle.std.proofs.Common.{[], ◌∷◌, ◌++◌, Option, Some, length, get_or, Contains, refl, sym, ap, subst, ◌∙◌, arith}
 use Rattle.std.specs.Option.{option_and_then}

@@ -1,4 +1,5 @@
--- The places of faults, and whether one of them is that of a fault.
+-- Where faults of replicas stand, by round, replica and link: one more fault is read, or refused where one before
+-- stands at its place.
 use Rattle.std.proofs.Common.{◌≡◌, Bool, true, false, not, ◌&&◌, ◌||◌, ℕ, List, [], ◌∷◌, ◌++◌, length, map, codes}
 use Rattle.std.proofs.Common.{decimal, Ok, Err, refl, sym, ap, ap₂, ◌∙◌}
 use Rattle.std.specs.Prelude.{nat_eq}

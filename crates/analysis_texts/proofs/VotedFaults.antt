@@ -1,4 +1,4 @@
--- The faults that a scenario gives in each round are ones that a vote may meet.
+-- The faults of replicas that a scenario gives in each round are ones that a vote allows.
 use Rattle.std.proofs.Common.{◌≡◌, ◌∙◌, ℕ, ◌<◌, nat_eq, Bool, true, false, cond, List, [], ◌∷◌, map, All, Option, Some}
 use Rattle.std.proofs.Common.{None, filter, slice_get, refl, sym, subst, arith}
 use Rattle.std.proofs.lemmas.List.Elements.{All-nil, All-cons, All-head, All-tail, All-same, All-from_get_or}

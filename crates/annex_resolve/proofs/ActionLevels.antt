@@ -1,4 +1,4 @@
--- One level of the text of actions after another.
+-- The actions of a text are resolved as they are meant, one level of their trees after another.
 use Rattle.std.proofs.Common.{◌≡◌, ℕ, ◌+◌, ◌<◌, ℤ, not, Bool, Result, Ok, Err, List, [], ◌∷◌, ◌++◌, length, take}
 use Rattle.std.proofs.Common.{get_or, Option, Some, None, refl, sym, ap, ◌∙◌, append_assoc, Vec, Box, Global}
 use Rattle.std.specs.Prelude.{option_map, IfOk}

@@ -1,4 +1,5 @@
--- One level of an expression's text after another.
+-- Relations, whole expressions, factors and lists of operands are resolved as they are meant, one level of the tree
+-- after another.
 use Rattle.std.proofs.Common.{◌≡◌, ℕ, ℤ, pos, not, Bool, Result, Ok, Err, ◌+◌, ◌<◌, List, [], ◌∷◌, ◌++◌, length, take}
 use Rattle.std.proofs.Common.{get_or, Option, Some, None, refl, sym, ap, ◌∙◌, append_assoc, arith, Box, Global}
 use Rattle.std.specs.Option.{is_some}

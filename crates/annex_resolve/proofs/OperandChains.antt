@@ -1,4 +1,4 @@
--- A chain of several operands.
+-- An expression of several operands, and the tests whether there are several.
 use Rattle.std.proofs.Common.{◌≡◌, Bool, true, false, ◌==◌, List, [], Option, Some, None, ◌∷◌, length, arith, vec_len}
 use Rattle.std.proofs.Common.{refl, sym, ap, ◌∙◌, Box, Vec, Global}
 use Rattle.std.specs.Option.{is_some}

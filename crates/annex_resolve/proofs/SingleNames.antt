@@ -1,4 +1,4 @@
--- A name that is a list of one identifier.
+-- A list of qualifiers that is one identifier: whether it is `Base_Types`.
 use Rattle.std.proofs.Common.{◌≡◌, ◌≤◌, ◌<◌, Bool, List, [], ◌∷◌, length, get_or, codes, map, string_bytes, ap, ◌∙◌}
 use Rattle.std.proofs.Common.{arith}
 use Rattle.aadl_tree.specs.Names.{same_name}

@@ -1,4 +1,4 @@
--- The laws of lower crates by which each bundle has an answer.
+-- The premises from which each bundle has an answer: the laws of lower crates.
 use Rattle.std.specs.Prelude.{◌⊎◌, ◌≢◌, ℕ, List, []}
 use Rattle.aadl_tree.specs.Declarations.{PackageTree}
 use Rattle.aadl_tree.specs.proof.GrammarTrees.{IsGiven}

@@ -1,5 +1,5 @@
--- The laws of lower crates by which a command that is no run has one answer, for analyses and for commands that need
--- step codes.
+-- The premises from which a command that is no run has one answer: the laws of lower crates, for analyses and for
+-- commands that need step codes.
 use Rattle.std.specs.Prelude.{◌≡◌, ℕ, List}
 use Rattle.pals_model.specs.declared.design.DesignParts.{DesignParts}
 use Rattle.pals_model.specs.Rules.{IsDesign}

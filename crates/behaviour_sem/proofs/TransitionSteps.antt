@@ -1,4 +1,4 @@
--- Transitions and held inputs, a step at a time.
+-- Transitions that are tried and taken one after another, and inputs that are held port by port.
 use Rattle.std.proofs.Common.{◌≡◌, ℕ, zero, suc, ◌+◌, ℤ, ◌<◌, List, [], ◌∷◌, ◌++◌, length, take, drop, drop-cons}
 use Rattle.std.proofs.Common.{get_or, add-one, append_assoc, refl, sym, ap, ◌∙◌, arith}
 use Rattle.std.proofs.lemmas.List.{take_more_set, drop-set-lt}

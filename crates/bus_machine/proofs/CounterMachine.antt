@@ -1,4 +1,4 @@
--- For the claims of the same name: the two example runs of the counters, computed.
+-- For StoppedCounterRuns: the two example runs of the counters, computed.
 use Rattle.std.proofs.Common.{refl, sym, subst, append-nil}
 use Rattle.std.proofs.lemmas.List.{append_assoc}
 use Rattle.std.specs.Fmt.{digits}

@@ -1,4 +1,4 @@
--- Lists by their places.
+-- Lists by their places: numbered lists, the first that passes a test, the oldest copy of a flight, and cut tuples.
 use Rattle.std.proofs.Common.{◌≡◌, ℕ, zero, suc, ◌+◌, ◌-◌, ◌≤◌, Bool, true, false, cond, List, [], ◌∷◌, ◌++◌, map, take}
 use Rattle.std.proofs.Common.{drop, set, replicate, slice_get, Some, None, All, refl, sym, ap, ap₂, ◌∙◌, subst, arith}
 use Rattle.std.proofs.Common.{zero-add}

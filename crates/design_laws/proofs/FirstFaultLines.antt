@@ -1,4 +1,4 @@
--- The first four lines of checks on a package: one of them gives its first fault, or the package passes them all.
+-- The first four checks of a package: one of them gives its first fault, or the package passes them all.
 use Rattle.std.proofs.Common.{◌≡◌, ◌⊎◌, ◌↔◌, inl, inr, ℕ, ◌<◌, List, [], length, Contains, Option, Some, None, refl}
 use Rattle.std.proofs.Common.{arith}
 use Rattle.std.proofs.lemmas.List.{length-map}

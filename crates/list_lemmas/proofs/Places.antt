@@ -1,4 +1,5 @@
--- What stands at a place of a list.
+-- The elements of a list by their positions: of joined, mapped and paired lists, and the first position that passes
+-- a test.
 use Rattle.std.proofs.Common.{◌≡◌, ◌∙◌, ℕ, zero, suc, ◌+◌, ◌-◌, ◌<◌, Bool, true, false, cond, List, [], ◌∷◌, ◌++◌, map}
 use Rattle.std.proofs.Common.{length, slice_get, Contains, Option, Some, None, refl, ap, ap₂, subst, arith}
 use Rattle.std.specs.Prelude.{flat_map, zip, option_map}

@@ -1,4 +1,4 @@
--- For the loops of `rounds`: the rows of the first rounds, and the most and the least number of rounds that the
+-- For the loops of `row_text`: the rows of the first rounds, and the most and the least number of rounds that the
 -- first nodes have finished.
 use Rattle.std.proofs.Common.{◌≡◌, ◌∙◌, ℕ, ◌+◌, ◌<◌, ◌≤◌, List, [], ◌∷◌, ◌++◌, length, map, take, fold, max, min, ap}
 use Rattle.std.proofs.Common.{add-one, zero-add, append-nil}

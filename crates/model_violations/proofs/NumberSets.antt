@@ -1,4 +1,4 @@
--- For the functions of `usage`: which numbers are in a set of numbers, with one more inserted.
+-- For the functions of `used_declarations`: which numbers are in a set of numbers, with one more inserted.
 use Rattle.std.proofs.Common.{◌≡◌, ◌↔◌, ℕ, ◌+◌, ◌<◌, nat_eq, Bool, true, false, cond, ◌&&◌, ◌||◌, List, [], ◌∷◌, ◌++◌}
 use Rattle.std.proofs.Common.{length, take, Option, Some, slice_get, refl, sym, ap, ◌∙◌}
 use Rattle.std.specs.Prelude.{Contains}

@@ -1,4 +1,4 @@
--- All that is wrong with an instance, in order of place, then of number.
+-- What an instance shows, and all that is wrong with it, in order of place, then of number.
 use Rattle.std.specs.Prelude.{ℕ, nat_eq, nat_lt, Bool, ◌&&◌, ◌||◌, List, ◌++◌, map, flat_map, Option}
 use Rattle.std.specs.List.Sorted.{IsSortedBy, IsStableBy}
 use Rattle.aadl_tree.specs.Declarations.{PackageTree}

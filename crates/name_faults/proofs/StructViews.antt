@@ -1,4 +1,4 @@
--- For `uses`: what contracts see of the structs of a behaviour, made of their fields.
+-- For `actions_and_expressions`: what contracts see of the structs of a behaviour, made of their fields.
 use Rattle.std.proofs.Common.{◌≡◌, ◌∙◌, ap, sym, ℕ, rules}
 use Rattle.std.specs.Prelude.{option_map}
 use Rattle.aadl_tree.specs.declared.expressions.Factor.{the_lemmas as expression_lemmas}

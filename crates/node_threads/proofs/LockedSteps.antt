@@ -1,4 +1,4 @@
--- Each kind of locked step keeps a course, its run and its lists.
+-- Each kind of change under the lock, an event or a pick, keeps a course, its run and its lists.
 use Rattle.std.proofs.Common.{◌≡◌, ◌≢◌, inl, inr, ℕ, ◌<◌, true, false, List, length, Some, refl, sym, ap, ◌∙◌, subst}
 use Rattle.std.proofs.Common.{arith}
 use Rattle.std.specs.Prelude.{slice_set}

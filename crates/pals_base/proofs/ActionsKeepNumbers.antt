@@ -1,4 +1,4 @@
--- Actions keep the numbers of variables and of out ports.
+-- Actions leave as many variables and out ports as they find.
 use Rattle.std.proofs.Common.{◌≡◌, ◌∙◌, ℕ, ◌+◌, ℤ, Bool, true, false, if◌then◌else◌, List, [], ◌∷◌, ◌++◌, length, sym}
 use Rattle.std.proofs.Common.{ap, subst, arith, Ok, Err}
 use Rattle.std.specs.Prelude.{Result, IfOk}

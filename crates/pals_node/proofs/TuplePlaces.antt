@@ -1,4 +1,4 @@
--- For the functions of `buffers` and `inputs`: tuples that are written place by place, cut, or empty.
+-- For the functions of `written_tuples` and `inputs`: tuples that are written place by place, cut, or empty.
 use Rattle.std.proofs.Common.{◌≡◌, ◌∙◌, ℕ, zero, suc, ◌+◌, ◌-◌, ◌<◌, ◌≤◌, inl, inr, Bool, cond, if◌then◌else◌, nat_lt}
 use Rattle.std.proofs.Common.{List, [], ◌∷◌, ◌++◌, length, map, take, drop, replicate, All, Option, Some, None}
 use Rattle.std.proofs.Common.{slice_index_or, refl, sym, ap, ap₂, arith, add-one}

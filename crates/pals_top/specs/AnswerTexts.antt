@@ -1,4 +1,5 @@
--- The texts of answers that are the same for every command.
+-- The texts of answers that are the same for every command: the usage, a source that cannot be read, and a bundle
+-- that is too long.
 use Rattle.std.specs.Prelude.{ℕ, codes, List, ◌++◌}
 use Rattle.pals_model.specs.RoundTexts.{line_end}
 

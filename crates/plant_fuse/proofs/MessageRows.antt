@@ -1,4 +1,4 @@
--- The message of each link, and the rows of its source that it comes from.
+-- The message of each link is cut from the values that its source's steps left on the out port in the round.
 use Rattle.std.proofs.Common.{◌≡◌, ◌∙◌, ℕ, ◌<◌, List, Bool, length, map, slice_index_or, refl, sym, ap, ap₂}
 use Rattle.std.proofs.lemmas.Option.{slice_get_read}
 use Rattle.std.proofs.lemmas.List.{get_or-map}

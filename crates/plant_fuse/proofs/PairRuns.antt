@@ -1,4 +1,4 @@
--- The run of a pair, from what its two sides leave.
+-- What a plant and its controller do in a round, from what the two sides leave; and a component by itself.
 use Rattle.std.proofs.Common.{◌≡◌, ◌≢◌, ◌∙◌, ℕ, ◌<◌, List, length, map, set, Option, Some, slice_get, slice_index_or}
 use Rattle.std.proofs.Common.{sym, ap, ap₂, subst}
 use Rattle.std.specs.Option.{option_map}

@@ -1,4 +1,4 @@
--- The list of partners has an entry for each component: a partner, or none.
+-- The list of partners is as long as the list of components.
 use Rattle.std.proofs.Common.{◌≡◌, ◌∙◌, List, length, ap}
 use Rattle.std.proofs.lemmas.List.{length-map}
 use Rattle.pals_base.specs.StepSequences.{upwards}

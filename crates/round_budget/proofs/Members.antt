@@ -1,4 +1,4 @@
--- Members of a processor: they are few.
+-- A processor's members have rising numbers below the number of components, so they are no more than the components.
 use Rattle.std.proofs.Common.{inl, inr, ℕ, zero, suc, ◌+◌, ◌<◌, ◌≤◌, List, length, All, AllPairs, subst, arith, add-one}
 use Rattle.std.specs.Prelude.{slice_index, slice_index_or}
 use Rattle.std.specs.List.Sorted.{IsStrictlyIncreasing}

@@ -1,4 +1,4 @@
--- The lines of a text.
+-- A text that is made of lines has these lines: the claim TextsHaveLines.
 use Rattle.std.proofs.Common.{◌≡◌, ℕ, List, [], ◌∷◌, ◌++◌, refl, ap, ◌∙◌}
 use Rattle.pals_model.proofs.LineLaws.{text_splits}
 use Rattle.run_laws.specs.ReportVerdicts.{without_end}

@@ -1,4 +1,5 @@
--- The numbers of a world are readings.
+-- The times of a world (deadlines of nodes and messages, and next alarms) are small enough to be readings: the claim
+-- TimesAreReadings.
 use Rattle.std.proofs.Common.{◌≡◌, ◌≢◌, ℕ, suc, ◌+◌, ◌-◌, ◌*◌, ◌<◌, ◌≤◌, Bool, true, false, length, Option, Some, None}
 use Rattle.std.proofs.Common.{refl, sym, ◌∙◌, arith}
 use Rattle.std.specs.Prelude.{max, min, if◌then◌else◌}

@@ -1,4 +1,4 @@
--- What the verdict says of the report of a design: its lines are the composition's, and none is taken for a journal's.
+-- The lines of a text: what stands between its line feeds, without an empty last line.
 use Rattle.std.specs.Prelude.{ℕ, nat_eq, if◌then◌else◌, List, [], ◌∷◌, length}
 use Rattle.std.specs.List.{slice_split}
 use Rattle.pals_model.specs.RoundTexts.{is_line_feed}

@@ -1,4 +1,5 @@
--- Reading that may meet a fault.
+-- Results that are a value or the first fault: how one step follows another, a test of a value, and how what a call
+-- returns stands for such a result.
 use Rattle.std.specs.Prelude.{◌≡◌, ◌≢◌, Bool, List, [], ◌∷◌, Option, Some, None, Result, Ok, Err, MatchResult}
 use Rattle.std.specs.Prelude.{if◌then◌else◌}
 use Rattle.scenario_values.specs.declared.fault.ScenarioFault.{ScenarioFault}

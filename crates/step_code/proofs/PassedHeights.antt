@@ -1,4 +1,5 @@
--- Heights that are passed on.
+-- Stack heights that an instruction passes on to the places that it leads to: those places exist, and each of them
+-- is set. For the claim of `pass_on`.
 use Rattle.std.proofs.Common.{◌≡◌, inl, inr, ℕ, ◌<◌, List, [], ◌∷◌, ◌++◌, length, Option, Some, None, option_to_list}
 use Rattle.std.proofs.Common.{refl, sym, subst, ⊎_elim}
 use Rattle.std.specs.Prelude.{◌⊎◌, slice_set}

@@ -1,4 +1,4 @@
--- Each link's message comes from the rows that its source's steps made.
+-- Each link's message is made of the out values that its source's steps left, cut to the steps that are sent.
 use Rattle.std.proofs.Common.{◌≡◌, ◌∙◌, ℕ, ◌<◌, inl, inr, List, length, map, slice_get, slice_index_or, refl, sym, ap}
 use Rattle.std.proofs.Common.{arith, Some}
 use Rattle.std.proofs.lemmas.Option.{slice_get_cases, slice_get_read}

@@ -1,4 +1,4 @@
--- The lengths of rows and tuples.
+-- The lengths of the out tuples of a round, and of the lists of out values that its steps leave.
 use Rattle.std.proofs.Common.{◌≡◌, ◌∙◌, ℕ, zero, suc, ◌<◌, List, refl, length, map, replicate, slice_index_or, sym, ap}
 use Rattle.std.proofs.Common.{arith}
 use Rattle.std.proofs.lemmas.List.{length-map, length-replicate, get_or-map, get_or-replicate}

@@ -1,4 +1,5 @@
--- The first fault at each place, from the last of the list to the first.
+-- The table of first faults, filled from the last fault of the list to the first: each place holds the first fault
+-- there, which is what is sent to a reader. For the claim of `first_faults`.
 use Rattle.std.proofs.Common.{◌≡◌, ◌≢◌, ◌∙◌, ℕ, suc, ◌+◌, ◌-◌, ◌*◌, ◌<◌, ◌≤◌, nat_eq, nat_lt, ◌&&◌, Bool, true, false}
 use Rattle.std.proofs.Common.{cond, if◌then◌else◌, List, [], ◌∷◌, length, set, drop, replicate, find, Option, None}
 use Rattle.std.proofs.Common.{Some, slice_get, slice_index_or, refl, sym, subst, ap, ap₂, inl, inr, arith, add-one}

@@ -1,4 +1,5 @@
--- How long tuples are.
+-- The tuples that a layer sends and shows have as many values as the steps of their components, and keep their
+-- lengths when they are written over.
 use Rattle.std.proofs.Common.{◌≡◌, ◌∙◌, ℕ, ◌<◌, inl, inr, List, length, map, slice_get, slice_set, slice_index_or, Some}
 use Rattle.std.proofs.Common.{sym, ap, arith}
 use Rattle.std.proofs.lemmas.List.{length-map}

@@ -1,4 +1,4 @@
--- The next moment of a list of courses: nothing comes before it, and something comes at it.
+-- The next moment of a list of event series: nothing of them comes before it, and something comes at it.
 use Rattle.std.proofs.Common.{◌≡◌, ◌≢◌, ◌⊎◌, inl, inr, ℕ, ◌+◌, ◌*◌, ◌<◌, ◌≤◌, min, List, [], ◌∷◌, ◌++◌, Option, Some}
 use Rattle.std.proofs.Common.{None, All, refl, sym, ap, ◌∙◌, subst, arith}
 use Rattle.std.specs.Prelude.{fold, option_map}

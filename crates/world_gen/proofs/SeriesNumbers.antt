@@ -1,4 +1,4 @@
--- Which deed of a course comes next, and which one comes at a moment.
+-- Which event of an event series comes next, and which one comes at a moment.
 use Rattle.std.proofs.Common.{◌≡◌, inl, inr, ℕ, ◌+◌, ◌-◌, ◌*◌, ◌/◌, ◌%◌, ◌<◌, ◌≤◌, min, nat_eq, nat_le, Bool, true}
 use Rattle.std.proofs.Common.{false, slice_get, Option, Some, None, refl, sym, ap, ◌∙◌, arith}
 use Rattle.std.specs.Prelude.{position}

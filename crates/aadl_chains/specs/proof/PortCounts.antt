@@ -1,4 +1,5 @@
--- Ports of threads below an implementation, by how the walk back from them goes there.
+-- Ports of threads below an implementation, by the connections through which they are entered, and tables of how
+-- many of them each in port of an implementation leads to, up to a limit.
 use Rattle.std.specs.Prelude.{◌≡◌, ℕ, ◌<◌, false, ◌+◌, min, List, [], ◌∷◌, ◌++◌, Option, Some, None, slice_get}
 use Rattle.std.specs.Prelude.{if◌then◌else◌}
 use Rattle.std.specs.Map.{lookup}

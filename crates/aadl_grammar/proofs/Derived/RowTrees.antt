@@ -1,4 +1,5 @@
--- Trees by how they begin: what each row of a symbol builds.
+-- What a production, which is a row of the parse table, builds of its terminal and of the trees behind it. So a tree
+-- that terminals spell is known by how it begins.
 use Rattle.std.proofs.Common.{◌≡◌, ◌⊎◌, ◌∙◌, sym, ap, ap₂, subst, refl, List, [], ◌∷◌, ◌++◌, inl, inr}
 use Rattle.aadl_tree.specs.Terminals.{Kind}
 use Rattle.aadl_tree.specs.SpellingParts.{Part, Spells}

@@ -1,4 +1,4 @@
--- The machine over several terminals.
+-- Which stack is left when the machine has taken several terminals, one after the other, and how deep these nest.
 use Rattle.std.proofs.Common.{◌≡◌, ℕ, ◌+◌, ◌≤◌, Bool, ◌∙◌, sym, ap, subst, refl, List, [], ◌∷◌, ◌++◌, Option, Some}
 use Rattle.std.proofs.Common.{None, option_and_then, unwrap_or}
 use Rattle.std.proofs.lemmas.Option.{same_Some}

@@ -1,5 +1,5 @@
--- What is checked of the table for nesting: each row opens or closes as its terminal does, and an `if` that closes
--- stands only behind its `end`.
+-- What is checked of the parse table for nesting: each production opens or closes as its terminal does, and an `if`
+-- that closes stands only behind its `end`.
 use Rattle.std.proofs.Common.{◌≡◌, ℕ, ◌+◌, ◌-◌, Bool, true, false, cond, not, ◌&&◌, ◌||◌, ◌==◌, List, [], ◌∷◌, refl}
 use Rattle.aadl_tree.specs.declared.mark.Mark.{Mark}
 use Rattle.aadl_tree.specs.declared.mark.Mark.TheVariants as k

@@ -1,5 +1,5 @@
 -- What is known of the code's map of threads, ports and chains while it looks for chains, in the terms of the
--- contracts of `build`.
+-- contracts of `chain_search`.
 use Rattle.std.specs.Prelude.{◌≡◌, ℕ, List, Some, reverse, slice_get}
 use Rattle.aadl_tree.specs.Declarations.{PackageTree}
 use Rattle.aadl_tree.specs.proof.PackageViews.{placed}

@@ -1,4 +1,4 @@
--- The links, feeds and taps into the threads and ports that a loop has passed. For the contracts of `build`.
+-- The links, feeds and taps into the threads and ports that a loop has passed. For the contracts of `chain_search`.
 use Rattle.std.specs.Prelude.{◌≡◌, ◌⊎◌, ℕ, ◌<◌, ◌≤◌, false, List, [], ◌∷◌, ◌++◌, map, reverse, length, Some, slice_get}
 use Rattle.std.specs.declared.vec.Vec.{Vec}
 use Rattle.std.specs.declared.alloc.Global.{Global}

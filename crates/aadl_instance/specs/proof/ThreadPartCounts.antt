@@ -1,4 +1,4 @@
--- How many parts of a kind a thread in use has, and the most of them.
+-- How many ports, variables or states a thread in use has, and the most of them that it may have.
 use Rattle.std.specs.Prelude.{◌≡◌, ℕ, ◌<◌, true, List, length, Some, Contains}
 use Rattle.std.specs.Option.{option_map_or}
 use Rattle.pals_base.specs.declared.limits.TheConstants.{PORTS, VARIABLES, STATES}

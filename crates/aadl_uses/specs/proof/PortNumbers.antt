@@ -1,4 +1,4 @@
--- Ports by their numbers, and tables that give them numbers.
+-- Tables that give a number to each port, and when two ports that ends of connections name are the same.
 use Rattle.std.specs.Prelude.{ℕ, Bool, false, ◌&&◌, nat_eq, List, Option, Some, None}
 use Rattle.std.specs.Map.{lookup}
 use Rattle.aadl_names.specs.declared.site.PortPlace.{PortPlace}

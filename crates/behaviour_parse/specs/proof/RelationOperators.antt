@@ -1,4 +1,4 @@
--- The operators `and` and `or` between relations.
+-- The logic operators between relations, as the tokens of a text: `and`, `or`, `xor`, `and then`, `or else`.
 use Rattle.std.specs.Prelude.{List}
 use Rattle.aadl_tree.specs.declared.expressions.LogicOperator.{LogicOperator}
 use Rattle.aadl_tree.specs.Terminals.{Spot}

@@ -1,4 +1,4 @@
--- What stands in the place of an item that is not there.
+-- What stands for a plan, node, flight, queue or link number past the end of a list.
 use Rattle.std.specs.Prelude.{[]}
 use Rattle.pals_base.specs.declared.values.LinkNo.{LinkNo}
 use Rattle.link_buffers.specs.proof.Flights.{FlightState, flight_of}

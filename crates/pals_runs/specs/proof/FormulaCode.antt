@@ -1,4 +1,5 @@
--- How the logic stores formulas, by which it tells them apart: each as numbers and pairs that give it back.
+-- How the logic stores formulas: each as numbers and pairs from which it is read back, so that two formulas stored
+-- alike are equal.
 use Rattle.std.specs.Prelude.{◌≡◌, ℕ, zero, suc, List, [], ◌∷◌, slice_index_or, refl}
 use Rattle.std.proofs.Common.{sym, ap, ◌∙◌}
 use Rattle.std.specs.Coded.{Coded}

@@ -1,4 +1,5 @@
--- Laws of the verdict on reports: its lines are those of the composition, and none is taken for a line of a journal.
+-- Laws of the lines of texts and reports: those of a report are the composition's, and none has the form of a
+-- journal line.
 use Rattle.std.specs.Prelude.{◌≡◌, ℕ, List, All, None}
 use Rattle.pals_model.specs.declared.design.DesignParts.{DesignParts}
 use Rattle.pals_model.specs.declared.rounds.Env.{Env}

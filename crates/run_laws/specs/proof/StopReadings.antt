@@ -1,4 +1,5 @@
--- The readings of starts and sends, and what a stop tells.
+-- Readings of starts and sends that fit their alarms and releases, and what a stop tells: the claims AllTimesFit and
+-- StopsFit.
 use Rattle.std.specs.Prelude.{◌≡◌, ℕ, ◌+◌, ◌<◌, ◌≤◌, List, Option, Some, None, slice_get}
 use Rattle.pals_base.specs.PeriodBound.{alarm}
 use Rattle.pals_model.specs.declared.design.Link.{Link}

@@ -1,4 +1,5 @@
--- What private functions answer of how the nodes of a run ended. The theorem cites none of it.
+-- How the nodes of a run ended: the first one whose clock ended, and the report that private functions make of it.
+-- The theorem cites none of it.
 use Rattle.std.specs.Prelude.{◌≡◌, ◌≢◌, ◌⊎◌, ℕ, ◌<◌, Bool, if◌then◌else◌, List, [], ◌++◌, length, map, Option, Some}
 use Rattle.std.specs.Prelude.{None, slice_get}
 use Rattle.pals_base.specs.declared.values.NodeNo.{NodeNo}

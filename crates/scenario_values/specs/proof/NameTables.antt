@@ -1,4 +1,5 @@
--- Tables of names.
+-- The tables of a design's names: each gives the number that a component, link or feed of that name has in the
+-- design.
 use Rattle.std.specs.Prelude.{◌≡◌, ℕ, bytes_eq, List, String, position}
 use Rattle.std.specs.List.{position_from}
 use Rattle.std.specs.declared.alloc.Global.{Global}

@@ -1,4 +1,5 @@
--- Where the faults of a round stand.
+-- The table of a round's faults: for each link, replica of its source and replica of its target, the number of the
+-- first fault there.
 use Rattle.std.specs.Prelude.{◌≡◌, ℕ, suc, ◌+◌, ◌*◌, ◌<◌, nat_lt, Bool, ◌&&◌, if◌then◌else◌, List, find, Option, None}
 use Rattle.std.specs.Prelude.{Some, slice_get, slice_set, slice_index_or}
 use Rattle.pals_runs.specs.declared.pairs.VoteFault.{VoteFault}

@@ -1,4 +1,5 @@
--- Courses: what is done over and over in a schedule, at equal distances in time. All times are nanoseconds.
+-- Event series: events of one kind that are done over and over in a schedule, at equal distances in time. All times
+-- are nanoseconds.
 use Rattle.std.specs.Prelude.{ℕ, ◌+◌, ◌*◌, ◌<◌, ◌≤◌, nat_eq, nat_le, if◌then◌else◌, List, [], ◌∷◌, ◌++◌, length, map}
 use Rattle.std.specs.Prelude.{replicate, flat_map, fold, position, Option, None, option_map}
 use Rattle.pals_base.specs.declared.values.NodeNo.{NodeNo}
