@@ -5,8 +5,8 @@ use Rattle.std.proofs.lemmas.List.Elements.{Contains-append_right}
 use Rattle.std.proofs.lemmas.Option.{same_Some}
 use Rattle.list_lemmas.proofs.Elements.{Contains-head}
 use Rattle.aadl_tree.specs.Declarations.{PackageTree}
-use Rattle.aadl_names.specs.declared.site.PortPlace.{PortPlace}
-use Rattle.aadl_names.specs.declared.site.PortPlace.TheVariants.{Own, Inner}
+use Rattle.aadl_names.specs.declared.port_place.PortPlace.{PortPlace}
+use Rattle.aadl_names.specs.declared.port_place.PortPlace.TheVariants.{Own, Inner}
 use Rattle.aadl_uses.specs.Uses.{standing}
 use Rattle.aadl_uses.specs.proof.DeclarationWires.{connection_into}
 use Rattle.aadl_chains.specs.Chains.{Port, Place, Goes, Leads}

@@ -8,20 +8,20 @@ use Rattle.std.proofs.lemmas.Bool.{true≢false, not-false, not-true}
 use Rattle.std.proofs.lemmas.Option.{same_Some, none-some, option_and_then_some}
 use Rattle.list_lemmas.proofs.Elements.{Contains-nil}
 use Rattle.list_lemmas.proofs.Options.{option_map-parts}
-use Rattle.list_lemmas.proofs.Places.{flat_map-nil_at, slice_get-from_Contains, Contains-from_slice_get}
-use Rattle.list_lemmas.proofs.Lists.{append_is_nil_left, append_is_nil_right}
+use Rattle.list_lemmas.proofs.ElementPositions.{flat_map-nil_at, slice_get-from_Contains, Contains-from_slice_get}
+use Rattle.list_lemmas.proofs.ListOperations.{append_is_nil_left, append_is_nil_right}
 use Rattle.aadl_tree.specs.declared.declarations.Direction.{Direction}
 use Rattle.aadl_tree.specs.declared.declarations.Category.{Category}
 use Rattle.aadl_tree.specs.declared.declarations.Category.TheVariants as categories
 use Rattle.aadl_tree.specs.Names.{Identifier}
 use Rattle.aadl_tree.specs.Declarations.{Feature, Subcomponent, ConnectionEnd, Connection, Implementation, Declaration}
 use Rattle.aadl_tree.specs.Declarations.{type, implementation, PackageTree}
-use Rattle.aadl_names.specs.declared.holder.PropertyHolder.TheVariants as holders
-use Rattle.aadl_names.specs.declared.site.PortPlace.{PortPlace}
-use Rattle.aadl_names.specs.declared.site.PortPlace.TheVariants.{Own, Inner}
-use Rattle.aadl_names.specs.FirstFindings.{wrong_if}
-use Rattle.aadl_names.specs.Properties.{list_faults}
-use Rattle.aadl_names.specs.Behaviours.{behaviours}
+use Rattle.aadl_names.specs.declared.property_holder.PropertyHolder.TheVariants as holders
+use Rattle.aadl_names.specs.declared.port_place.PortPlace.{PortPlace}
+use Rattle.aadl_names.specs.declared.port_place.PortPlace.TheVariants.{Own, Inner}
+use Rattle.aadl_names.specs.FirstFaults.{wrong_if}
+use Rattle.aadl_names.specs.RecognisedProperties.{list_faults}
+use Rattle.aadl_names.specs.BehaviourAnnexes.{behaviours}
 use Rattle.aadl_names.specs.ReferenceResolution.{implementation_in, implementation_at, is_thread, subcomponents_of}
 use Rattle.aadl_names.specs.ReferenceResolution.{target_of, referred, port_named, sub_named, inner_ports, inner_site}
 use Rattle.aadl_names.specs.ReferenceResolution.{site_by, site, ports_at, ports_of, direction_of, with_direction}

@@ -7,27 +7,27 @@ use Rattle.std.proofs.lemmas.List.Elements.{Contains-append_left, Contains-appen
 use Rattle.std.proofs.lemmas.List.Elements.{Contains-push, Contains-push_cases}
 use Rattle.std.proofs.lemmas.Option.{same_Some, none-some, slice_get_within, get_or_from_slice_get}
 use Rattle.list_lemmas.proofs.Elements.{Contains-nil}
-use Rattle.list_lemmas.proofs.Places.{slice_get-from_Contains, Contains-from_slice_get}
+use Rattle.list_lemmas.proofs.ElementPositions.{slice_get-from_Contains, Contains-from_slice_get}
 use Rattle.aadl_tree.specs.declared.declarations.Direction.TheVariants as directions
 use Rattle.aadl_tree.specs.Declarations.{Connection, Implementation, PackageTree}
 use Rattle.aadl_names.specs.declared.fault.PackageFault.{PackageFault}
 use Rattle.aadl_names.specs.declared.fault.PackageFault.TheVariants.{DeadEnd, TwoSources}
 use Rattle.aadl_names.specs.ReferenceResolution.{implementation_at, connections_of}
-use Rattle.aadl_names.specs.declared.site.PortPlace.{PortPlace}
-use Rattle.aadl_names.specs.proof.FindingSoFar.{found}
-use Rattle.aadl_names.proofs.FindingSoFar.{found_append}
+use Rattle.aadl_names.specs.declared.port_place.PortPlace.{PortPlace}
+use Rattle.aadl_names.specs.proof.FirstFaultSoFar.{found}
+use Rattle.aadl_names.proofs.FirstFaultSoFar.{found_append}
 use Rattle.aadl_uses.specs.Uses.{IsInUse}
 use Rattle.aadl_uses.specs.proof.PackageContainment.{FirstIn}
 use Rattle.aadl_uses.specs.declared.connections.Wire.{Wire}
 use Rattle.aadl_uses.specs.FirstConnections.{IsSecond}
 use Rattle.aadl_uses.specs.Wiring.{wire_of, wires_of, wires_at}
 use Rattle.aadl_chains.specs.proof.PortsJoinedOutside.{LeadsFrom}
-use Rattle.aadl_chains.proofs.InsideByDeclaration.{one_of_two}
+use Rattle.aadl_chains.proofs.JoinedInsideByDeclaration.{one_of_two}
 use Rattle.aadl_chains.specs.Chains.{IsDeadEnd, IsEndFault}
 use Rattle.aadl_chains.specs.proof.DeclaredConnections.{AreDeclared}
 use Rattle.aadl_chains.specs.proof.ConnectionsOnChains.{IsOnWay}
-use Rattle.aadl_chains.specs.proof.Findings.{FindsAll, IsOnWayAt, IsFoundAt, IsFoundIn, dead_end, second}
-use Rattle.aadl_chains.proofs.Findings.{finds_nothing, finds_both, finds_same, first_found}
+use Rattle.aadl_chains.specs.proof.FoundFaults.{FindsAll, IsOnWayAt, IsFoundAt, IsFoundIn, dead_end, second}
+use Rattle.aadl_chains.proofs.FoundFaults.{finds_nothing, finds_both, finds_same, first_found}
 use Rattle.aadl_chains.proofs.ConnectionsOnChains.{chained}
 use Rattle.aadl_chains.proofs.ChainConnectionEnds.{on_way}
 

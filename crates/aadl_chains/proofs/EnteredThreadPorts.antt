@@ -4,8 +4,8 @@ use Rattle.std.proofs.Common.{slice_get, Option, Some, None, refl, sym, ap, subs
 use Rattle.std.proofs.lemmas.Option.{same_Some, none-some}
 use Rattle.aadl_tree.specs.declared.declarations.Direction.TheVariants as directions
 use Rattle.aadl_tree.specs.Declarations.{PackageTree}
-use Rattle.aadl_names.specs.declared.site.PortPlace.{PortPlace}
-use Rattle.aadl_names.specs.declared.site.PortPlace.TheVariants.{Own, Inner}
+use Rattle.aadl_names.specs.declared.port_place.PortPlace.{PortPlace}
+use Rattle.aadl_names.specs.declared.port_place.PortPlace.TheVariants.{Own, Inner}
 use Rattle.aadl_uses.specs.Uses.{below}
 use Rattle.aadl_uses.specs.declared.connections.Wire.{Wire}
 use Rattle.aadl_uses.specs.Wiring.{wires_at}
@@ -16,7 +16,7 @@ use Rattle.aadl_chains.specs.proof.DeclaredConnections.{AreDeclared}
 use Rattle.aadl_chains.proofs.ConnectionsOnChains.{opposed, is_in-at}
 use Rattle.aadl_chains.specs.proof.LimitedCounts.{IsNumber}
 use Rattle.aadl_chains.specs.proof.Walks.{Crossing, at_root, crosses, climb, IsThreadPort}
-use Rattle.aadl_chains.specs.proof.PortCounts.{ComesFrom, EndsLink, Through, Deeper, AmongFirst, FromOwn, FromThread}
+use Rattle.aadl_chains.specs.proof.EnteredPortCounts.{ComesFrom, EndsLink, Through, Deeper, AmongFirst, FromOwn, FromThread}
 use Rattle.aadl_chains.proofs.LimitedCounts.{no_number, one_number, both_numbers, image_number}
 use Rattle.aadl_chains.proofs.EnteringConnections.{first_wire, into_first, known_into}
 use Rattle.aadl_chains.proofs.SubcomponentWalks.{last_of, same_ends, port_outer, port_inner, climb_outer, root_outer}

@@ -7,15 +7,15 @@ use Rattle.std.specs.Option.{option_and_then, option_map_or}
 use Rattle.std.proofs.lemmas.Bool.{true≢false, cases_order}
 use Rattle.std.proofs.lemmas.Bool.Decides.{nat_tests}
 use Rattle.std.proofs.lemmas.Option.{same_Some, none-some, option_and_then_some}
-use Rattle.list_lemmas.proofs.Places.{Contains-from_slice_get}
+use Rattle.list_lemmas.proofs.ElementPositions.{Contains-from_slice_get}
 use Rattle.list_lemmas.proofs.Elements.{Contains-nil}
 use Rattle.aadl_tree.specs.Declarations.{Implementation, PackageTree}
-use Rattle.aadl_names.specs.declared.site.PortPlace.{PortPlace}
-use Rattle.aadl_names.specs.declared.site.PortPlace.TheVariants.{Own, Inner}
+use Rattle.aadl_names.specs.declared.port_place.PortPlace.{PortPlace}
+use Rattle.aadl_names.specs.declared.port_place.PortPlace.TheVariants.{Own, Inner}
 use Rattle.aadl_names.specs.ReferenceResolution.{implementation_at}
 use Rattle.aadl_uses.specs.Uses.{standing}
 use Rattle.aadl_uses.specs.declared.connections.Wire.{Wire}
-use Rattle.aadl_uses.specs.proof.PortNumbers.{is_site}
+use Rattle.aadl_uses.specs.proof.NumbersByPort.{is_site}
 use Rattle.aadl_uses.specs.FirstConnections.{target_in, IsSecond}
 use Rattle.aadl_uses.specs.proof.FirstConnections.{is_before}
 use Rattle.aadl_uses.specs.Wiring.{wire_of, wires_of, wires_at}

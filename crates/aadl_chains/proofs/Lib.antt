@@ -1,11 +1,11 @@
 pub mod PortSets
-pub mod InsideByConnection
-pub mod InsideByDeclaration
-pub mod OutsideByConnection
-pub mod OutsideByDeclaration
+pub mod JoinedInsideByConnection
+pub mod JoinedInsideByDeclaration
+pub mod JoinedOutsideByConnection
+pub mod JoinedOutsideByDeclaration
 pub mod ConnectionsOnChains
 pub mod ChainConnectionEnds
-pub mod Findings
+pub mod FoundFaults
 pub mod EndFaults
 pub mod DeclaredConnections
 pub mod ChainsFromEnds

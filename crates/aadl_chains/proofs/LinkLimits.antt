@@ -10,18 +10,18 @@ use Rattle.std.proofs.lemmas.List.Elements.{All-from_recursion, recursion_from_A
 use Rattle.std.proofs.lemmas.List.Kept.{AllPairs-cons}
 use Rattle.std.proofs.lemmas.Option.{same_Some, option_and_then_some, slice_get_within, slice_get-get_or, slice_get-map}
 use Rattle.list_lemmas.proofs.Elements.{Contains-nil}
-use Rattle.list_lemmas.proofs.Places.{slice_get-from_Contains, Contains-from_slice_get}
+use Rattle.list_lemmas.proofs.ElementPositions.{slice_get-from_Contains, Contains-from_slice_get}
 use Rattle.aadl_uses.specs.proof.MarkedCounts.{Among, count_of}
 use Rattle.aadl_tree.specs.declared.declarations.Direction.TheVariants as directions
 use Rattle.aadl_tree.specs.Declarations.{Connection, Implementation, PackageTree}
-use Rattle.aadl_names.specs.declared.site.PortPlace.TheVariants.{Own, Inner}
+use Rattle.aadl_names.specs.declared.port_place.PortPlace.TheVariants.{Own, Inner}
 use Rattle.aadl_names.specs.declared.fault.PackageFault.{PackageFault}
 use Rattle.aadl_names.specs.declared.fault.PackageFault.TheVariants.{TwoSources}
 use Rattle.aadl_names.specs.ReferenceResolution.{implementation_at, is_thread, subcomponents_of, connections_of}
 use Rattle.aadl_names.specs.ReferenceResolution.{referred}
 use Rattle.aadl_uses.specs.Uses.{sub_at, below, standing}
 use Rattle.aadl_uses.specs.proof.PackageContainment.{targets_of}
-use Rattle.aadl_uses.specs.Threads.{IsThreadAt, MoreThan}
+use Rattle.aadl_uses.specs.ThreadsBelow.{IsThreadAt, MoreThan}
 use Rattle.aadl_uses.specs.proof.ThreadCounts.{is_thread_in}
 use Rattle.aadl_uses.specs.declared.connections.Wire.{Wire}
 use Rattle.aadl_uses.specs.FirstConnections.{target_in}
@@ -34,7 +34,7 @@ use Rattle.aadl_chains.proofs.ConnectionsOnChains.{next_at, is_in-at}
 use Rattle.aadl_chains.specs.proof.LimitedCounts.{Distinct, IsNumber}
 use Rattle.aadl_chains.specs.proof.Walks.{OneEach}
 use Rattle.aadl_chains.specs.Links.{Ends, IsLink, OtherTarget}
-use Rattle.aadl_chains.specs.proof.PortCounts.{EndsLink, Through, Deeper, AmongFirst, FromThread}
+use Rattle.aadl_chains.specs.proof.EnteredPortCounts.{EndsLink, Through, Deeper, AmongFirst, FromThread}
 use Rattle.aadl_chains.proofs.LimitedCounts.{no_number, same_number, both_numbers, no_more}
 use Rattle.aadl_chains.proofs.EnteringConnections.{goes_at}
 use Rattle.aadl_chains.proofs.ChainsOfWalks.{crossed}

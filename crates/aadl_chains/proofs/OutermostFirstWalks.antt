@@ -7,10 +7,10 @@ use Rattle.std.specs.Option.{option_and_then, option_map_or}
 use Rattle.std.proofs.lemmas.Bool.{eqb-true, eq-eqb, cases_lt}
 use Rattle.std.proofs.lemmas.List.{reverse-append, length-map}
 use Rattle.std.proofs.lemmas.Option.{none-some, slice_get_past}
-use Rattle.list_lemmas.proofs.Places.{slice_get-from_Contains}
+use Rattle.list_lemmas.proofs.ElementPositions.{slice_get-from_Contains}
 use Rattle.aadl_tree.specs.Declarations.{Subcomponent, PackageTree}
-use Rattle.aadl_names.specs.declared.site.PortPlace.{PortPlace}
-use Rattle.aadl_names.specs.declared.site.PortPlace.TheVariants.{Own, Inner}
+use Rattle.aadl_names.specs.declared.port_place.PortPlace.{PortPlace}
+use Rattle.aadl_names.specs.declared.port_place.PortPlace.TheVariants.{Own, Inner}
 use Rattle.aadl_names.specs.ReferenceResolution.{first_number, implementation_in, subcomponents_of, referred}
 use Rattle.aadl_uses.specs.Uses.{below, standing}
 use Rattle.aadl_uses.specs.proof.PackageContainment.{containment, targets_in}

@@ -8,11 +8,11 @@ use Rattle.std.specs.Option.{option_map_or}
 use Rattle.std.proofs.lemmas.Bool.{cases_order, true≢false, false≢true, eqb-true, eq-eqb}
 use Rattle.std.proofs.lemmas.Map.Keys.{apart_from_distinct}
 use Rattle.std.proofs.lemmas.Option.{same_Some, none-some, slice_get_within, slice_get-get_or}
-use Rattle.list_lemmas.proofs.Places.{slice_get-from_Contains, Contains-from_slice_get}
+use Rattle.list_lemmas.proofs.ElementPositions.{slice_get-from_Contains, Contains-from_slice_get}
 use Rattle.aadl_uses.specs.proof.ContainmentOrders.{IsSequence}
 use Rattle.aadl_tree.specs.Declarations.{Implementation, PackageTree}
-use Rattle.aadl_names.specs.declared.site.PortPlace.{PortPlace}
-use Rattle.aadl_names.specs.declared.site.PortPlace.TheVariants.{Own, Inner}
+use Rattle.aadl_names.specs.declared.port_place.PortPlace.{PortPlace}
+use Rattle.aadl_names.specs.declared.port_place.PortPlace.TheVariants.{Own, Inner}
 use Rattle.aadl_names.specs.ReferenceResolution.{implementation_at, is_thread}
 use Rattle.aadl_uses.specs.Uses.{below}
 use Rattle.aadl_uses.specs.proof.PackageContainment.{containment}
@@ -21,15 +21,15 @@ use Rattle.aadl_uses.proofs.PackageContainment.{below-same}
 use Rattle.aadl_uses.specs.declared.connections.Wire.{Wire}
 use Rattle.aadl_uses.specs.FirstConnections.{IsSecond}
 use Rattle.aadl_uses.specs.Wiring.{wires_at}
-use Rattle.aadl_chains.specs.declared.ports.PortAt.{PortAt}
-use Rattle.aadl_chains.specs.proof.Ports.{same_port}
+use Rattle.aadl_chains.specs.declared.port_set.PortAt.{PortAt}
+use Rattle.aadl_chains.specs.proof.PortSets.{same_port}
 use Rattle.aadl_chains.specs.proof.PortsJoinedInside.{is_thread_at, is_in_at, port_at}
 use Rattle.aadl_chains.specs.Chains.{Port}
 use Rattle.aadl_chains.specs.proof.DeclaredConnections.{MayEnter, AreDeclared}
 use Rattle.aadl_chains.proofs.ConnectionsOnChains.{is_in-at}
 use Rattle.aadl_chains.specs.proof.LimitedCounts.{IsNumber}
-use Rattle.aadl_chains.specs.proof.PortCounts.{ComesFrom, Through, AmongFirst, FromOwn, taken, taken_by, AreTaken}
-use Rattle.aadl_chains.specs.proof.PortCounts.{AreTakenBelow, IsTaken, IsNew, AreAdded}
+use Rattle.aadl_chains.specs.proof.EnteredPortCounts.{ComesFrom, Through, AmongFirst, FromOwn, taken, taken_by, AreTaken}
+use Rattle.aadl_chains.specs.proof.EnteredPortCounts.{AreTakenBelow, IsTaken, IsNew, AreAdded}
 use Rattle.aadl_chains.proofs.LimitedCounts.{no_number, same_number}
 use Rattle.aadl_chains.proofs.EnteringConnections.{first_if, second_never, first_wire}
 use Rattle.aadl_chains.proofs.EnteredThreadPorts.{through_number, own_from, own_to, one_through, thread_number}

@@ -5,8 +5,8 @@ use Rattle.std.proofs.lemmas.Bool.{eqb-true, eq-eqb, and_parts}
 use Rattle.std.proofs.lemmas.List.Folds.{list_any_at}
 use Rattle.std.proofs.lemmas.List.Elements.{Contains-append_left, Contains-push, Contains-push_cases}
 use Rattle.indexmap.proofs.CallerLemmas.{Contains-list_any}
-use Rattle.aadl_chains.specs.declared.ports.PortAt.{PortAt}
-use Rattle.aadl_chains.specs.proof.Ports.{same_port, has, with_port}
+use Rattle.aadl_chains.specs.declared.port_set.PortAt.{PortAt}
+use Rattle.aadl_chains.specs.proof.PortSets.{same_port, has, with_port}
 
 port_by : (a b : PortAt) → a.declaration ≡ b.declaration → a.port ≡ b.port → a ≡ b
 port_by a b first second =

@@ -3,7 +3,7 @@
 use Rattle.std.proofs.Common.{◌≡◌, ℕ, slice_get, Contains, Some, option_map, sym, ap, subst, ◌∙◌}
 use Rattle.std.specs.Option.{option_and_then}
 use Rattle.std.proofs.lemmas.Option.{same_Some, slice_get-map}
-use Rattle.list_lemmas.proofs.Places.{Contains-from_slice_get}
+use Rattle.list_lemmas.proofs.ElementPositions.{Contains-from_slice_get}
 use Rattle.list_lemmas.proofs.Elements.{Contains-nil}
 use Rattle.aadl_tree.specs.Declarations.{Connection, Implementation, PackageTree}
 use Rattle.aadl_names.specs.ReferenceResolution.{implementation_at}

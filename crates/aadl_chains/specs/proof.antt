@@ -1,13 +1,13 @@
 -- What the theorem of the program does not rest on: definitions of contracts below it, of laws, and of proofs.
-pub mod Ports
+pub mod PortSets
 pub mod PortsJoinedInside
 pub mod PortsJoinedOutside
 pub mod DeclaredConnections
 pub mod ConnectionsOnChains
-pub mod Findings
+pub mod FoundFaults
 pub mod SoundConnections
 pub mod Walks
 pub mod LimitedCounts
-pub mod PortCounts
+pub mod EnteredPortCounts
 pub mod Routes
 pub mod OutermostFirstWalks

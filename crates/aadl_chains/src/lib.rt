@@ -2,19 +2,19 @@
 //! connections are on none, where each chain comes from, and whether there are too many links.
 #![tactic(auto)]
 
-pub mod ends;
-pub mod inside;
-pub mod links;
-pub mod outside;
+pub mod connection_faults;
+pub mod inner_joins;
+pub mod link_limit;
+pub mod outer_joins;
 pub mod port_counts;
-pub mod ports;
+pub mod port_set;
 pub mod walks;
-pub mod ways;
+pub mod joined_ports;
 
-pub use ends::first_end_fault;
-pub use inside::InnerJoins;
-pub use links::has_too_many_links;
-pub use outside::{OuterJoins, PortSearch};
-pub use ports::{PortAt, Ports};
+pub use connection_faults::first_end_fault;
+pub use inner_joins::InnerJoins;
+pub use link_limit::has_too_many_links;
+pub use outer_joins::{OuterJoins, PortSearch};
+pub use port_set::{PortAt, Ports};
 pub use walks::{ChainRoute, ChainStart, trace_back, trace_tap};
-pub use ways::JoinedPorts;
+pub use joined_ports::JoinedPorts;

@@ -4,16 +4,16 @@ ghost use Rattle.aadl_tree.specs.proof.PackageViews.{placed};
 ghost use Rattle.aadl_uses.specs.proof.PackageContainment.{containment};
 ghost use Rattle.aadl_uses.specs.Wiring.{wires_at};
 ghost use Rattle.aadl_uses.specs.proof.ContainmentOrders.{IsOrder};
-ghost use Rattle.aadl_chains.specs.declared.ports.PortAt.{PortAt};
-ghost use Rattle.aadl_chains.specs.proof.Ports.{same_port};
+ghost use Rattle.aadl_chains.specs.declared.port_set.PortAt.{PortAt};
+ghost use Rattle.aadl_chains.specs.proof.PortSets.{same_port};
 ghost use Rattle.aadl_chains.specs.proof.DeclaredConnections.{AreDeclared};
 ghost use Rattle.aadl_chains.specs.proof.LimitedCounts.{IsNumber};
-ghost use Rattle.aadl_chains.specs.proof.PortCounts.{taken, taken_by, Through, AreTaken, AreTakenBelow, IsTaken};
-ghost use Rattle.aadl_chains.specs.proof.PortCounts.{AreAdded};
+ghost use Rattle.aadl_chains.specs.proof.EnteredPortCounts.{taken, taken_by, Through, AreTaken, AreTakenBelow, IsTaken};
+ghost use Rattle.aadl_chains.specs.proof.EnteredPortCounts.{AreAdded};
 
 use crate::PortAt;
 use aadl_names::PortPlace;
-use aadl_uses::count::add_up_to;
+use aadl_uses::below_counts::add_up_to;
 use aadl_uses::{Wire, Wires};
 use indexmap::{IndexMap, IndexSet};
 use std::alloc::{AllocError, Global};
@@ -33,7 +33,7 @@ impl Drop for PortCounts {
 
 impl Model for PortCounts {
     ghost use Rattle.std.specs.Prelude.{ℕ, List};
-    ghost use Rattle.aadl_chains.specs.declared.ports.PortAt.{PortAt};
+    ghost use Rattle.aadl_chains.specs.declared.port_set.PortAt.{PortAt};
 
     ghost Value = { List (PortAt × ℕ) };
 

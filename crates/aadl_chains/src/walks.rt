@@ -2,7 +2,7 @@
 ghost use Rattle.std.specs.Prelude.{◌≡◌, ◌++◌, ◌∷◌, ◌<◌, ℕ, false, take, reverse, length, None, Some, [], slice_index};
 ghost use Rattle.std.specs.Prelude.{IfOk};
 ghost use Rattle.aadl_tree.specs.proof.PackageViews.{placed};
-ghost use Rattle.aadl_names.specs.declared.site.PortPlace.TheVariants.{Own};
+ghost use Rattle.aadl_names.specs.declared.port_place.PortPlace.TheVariants.{Own};
 ghost use Rattle.aadl_uses.specs.Uses as uses;
 ghost use Rattle.aadl_uses.specs.proof.PackageContainment as inner;
 ghost use Rattle.aadl_uses.specs.proof.ContainmentOrders.{IsOrder};

@@ -8,12 +8,12 @@ use Rattle.aadl_tree.specs.proof.MarkNumbers.{mark_number}
 use Rattle.aadl_tree.specs.Terminals.{Kind}
 use Rattle.aadl_grammar.specs.proof.Symbols.{Class, a_word, a_whole, a_real, a_quoted, an_unread, the, Symbol}
 use Rattle.aadl_grammar.specs.proof.Symbols as s
-use Rattle.aadl_grammar.specs.proof.Machine.{class_number, kind_number, whole_package}
-use Rattle.aadl_grammar.proofs.Derived.Derivations.{Derives}
+use Rattle.aadl_grammar.specs.proof.StackMachine.{class_number, kind_number, whole_package}
+use Rattle.aadl_grammar.proofs.DerivationTrees.Derivations.{Derives}
 use Rattle.aadl_grammar.proofs.AdjacencyRules.{of_class, AreNeighbours}
-use Rattle.aadl_grammar.proofs.StackGuards.{neat, on_top, seam, Guard, Beside, guarded}
-use Rattle.aadl_grammar.proofs.StackGuardForms.{after_check, after_beside, after_guard, before_check, before_beside}
-use Rattle.aadl_grammar.proofs.StackGuardForms.{before_guard}
+use Rattle.aadl_grammar.proofs.AdjacencyInvariant.{neat, on_top, seam, Guard, Beside, guarded}
+use Rattle.aadl_grammar.proofs.AdjacencyChecks.{after_check, after_beside, after_guard, before_check, before_beside}
+use Rattle.aadl_grammar.proofs.AdjacencyChecks.{before_guard}
 
 abbrev nothing_more : Symbol → Bool
 nothing_more x = false

@@ -14,14 +14,14 @@ use Rattle.aadl_tree.specs.declared.mark.Mark.TheVariants as k
 use Rattle.aadl_tree.specs.Marks.{mark_text, keyword_of, symbol_of}
 use Rattle.aadl_tree.specs.Terminals.{Kind, mark, class_kind, inside_behind, spots_from, kinds_of}
 use Rattle.aadl_tree.specs.Canon.{kind_text, line_end, between, text_behind}
-use Rattle.aadl_grammar.specs.proof.Machine.{kind_number}
+use Rattle.aadl_grammar.specs.proof.StackMachine.{kind_number}
 use Rattle.aadl_grammar.proofs.AdjacencyRules.{AreNeighbours}
-use Rattle.aadl_grammar.proofs.Literals.{body_first}
+use Rattle.aadl_grammar.proofs.LiteralLexing.{body_first}
 use Rattle.aadl_grammar.proofs.PossibleTerminals.{is_inside, Spoken, a_word, a_number, a_real, a_string, an_annex}
 use Rattle.aadl_grammar.proofs.PossibleTerminals.{a_keyword, a_symbol, opens, closes, behind, Said}
 use Rattle.aadl_grammar.proofs.TerminalRelexing.{Ends, Lexed, IsPlain, lexed}
 use Rattle.aadl_grammar.proofs.TerminalSeparation.{ends_behind}
-use Rattle.aadl_grammar.proofs.AnnexEnds.{close_past, kind_past, close_at}
+use Rattle.aadl_grammar.proofs.NoAnnexEnds.{close_past, kind_past, close_at}
 use Rattle.aadl_grammar.proofs.TextPieces.{line, is_gap, gap_blank, stands_within, drop_past, drop_cut, gap_skipped}
 use Rattle.aadl_grammar.proofs.TextPieces.{token_bytes, close_gap}
 

@@ -16,11 +16,11 @@ use Rattle.aadl_tree.specs.Grammar.{IsShallow}
 use Rattle.aadl_tree.specs.GrammarTrees.{IsTreeOf}
 use Rattle.aadl_tree.specs.Canon.{canon, canonical}
 use Rattle.aadl_tree.proofs.SpellingParts.{written_spells, kept_spells}
-use Rattle.aadl_grammar.specs.proof.Machine.{whole_package}
+use Rattle.aadl_grammar.specs.proof.StackMachine.{whole_package}
 use Rattle.aadl_grammar.specs.proof.MovedPackages.{Behind, Rising}
 use Rattle.aadl_grammar.proofs.PlaceIndependence.AlikeParts.{alike_kept}
 use Rattle.aadl_grammar.proofs.PlaceIndependence.Declarations.{package_alike}
-use Rattle.aadl_grammar.proofs.Derived.Derivations.{Derives}
+use Rattle.aadl_grammar.proofs.DerivationTrees.Derivations.{Derives}
 use Rattle.aadl_grammar.proofs.UniquePlacedTrees.All.{one_placed_package}
 use Rattle.aadl_grammar.proofs.UniquePlacedTrees.KeptTerminals.{same_package}
 use Rattle.aadl_grammar.proofs.Fates.GrammarLanguages.{packages}

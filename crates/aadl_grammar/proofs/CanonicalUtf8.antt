@@ -17,10 +17,10 @@ use Rattle.aadl_tree.specs.Marks.{mark_text}
 use Rattle.aadl_tree.specs.Terminals.{Kind}
 use Rattle.aadl_tree.specs.Canon.{kind_text, line_end, between, text_behind}
 use Rattle.aadl_lex.specs.proof.TokenSpellings.{IsReal}
-use Rattle.aadl_grammar.proofs.Literals.{number_digits}
+use Rattle.aadl_grammar.proofs.LiteralLexing.{number_digits}
 use Rattle.aadl_grammar.proofs.PossibleTerminals.{Spoken, a_word, a_number, a_real, a_string, an_annex, a_keyword}
 use Rattle.aadl_grammar.proofs.PossibleTerminals.{a_symbol, opens, closes, behind, Said}
-use Rattle.aadl_grammar.proofs.AnnexEnds.{all_weaker, all_append}
+use Rattle.aadl_grammar.proofs.NoAnnexEnds.{all_weaker, all_append}
 use Rattle.aadl_grammar.proofs.TextPieces.{is_gap, gap_blank}
 
 abbrev low : ℕ → Bool

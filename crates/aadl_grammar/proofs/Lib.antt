@@ -1,39 +1,39 @@
 pub mod ListHeads
-pub mod Derived
-pub mod RowBuilders
-pub mod RowSoundness
-pub mod RowCompleteness
+pub mod DerivationTrees
+pub mod ProductionTrees
+pub mod ProductionSoundness
+pub mod ProductionCompleteness
 pub mod Fates
 pub mod PlaceIndependence
 pub mod OneTerminalLookahead
 pub mod UniquePlacedTrees
-pub mod FirstTerminals
-pub mod FirstTokens
-pub mod SymbolRows
+pub mod TerminalSpots
+pub mod WordAndSymbolLexing
+pub mod SymbolMoves
 pub mod PartSequences
 pub mod QualifiedReferences
 pub mod SignedQuantities
 pub mod PropertyLists
 mod KeywordLists
-mod KeywordWays
+mod ParseTableWays
 mod OnlyListedKeywords
 mod ReachedKeywords
 pub mod TokensOrFault
 pub mod PlaceFilling
 pub mod TreeOrFault
 pub mod AdjacencyRules
-pub mod StackGuards
-pub mod StackGuardForms
+pub mod AdjacencyInvariant
+pub mod AdjacencyChecks
 pub mod AdjacentTerminals
 pub mod OmissionNesting
-pub mod Literals
+pub mod LiteralLexing
 pub mod PossibleTerminals
 pub mod TerminalRelexing
 pub mod TerminalSeparation
-pub mod AnnexEnds
+pub mod NoAnnexEnds
 pub mod TextPieces
 pub mod CanonLexing
-pub mod Keywords
+pub mod KeywordSpellings
 pub mod TokenTerminals
 pub mod CanonicalUtf8
 pub mod CanonicalRoundTrip

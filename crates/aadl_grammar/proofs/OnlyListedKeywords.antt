@@ -11,10 +11,10 @@ use Rattle.aadl_tree.specs.Marks.{keywords_outside, keywords_inside}
 use Rattle.aadl_grammar.specs.proof.Symbols.{Class, the, Symbol, Row}
 use Rattle.aadl_grammar.specs.proof.Symbols as s
 use Rattle.aadl_grammar.specs.proof.ParseTable.{rows}
-use Rattle.aadl_grammar.specs.proof.Machine.{whole_package, annex_body}
+use Rattle.aadl_grammar.specs.proof.StackMachine.{whole_package, annex_body}
 use Rattle.aadl_grammar.specs.proof.ReachableKeywords.{is_word, Stands, at_first, later, CanCome}
 use Rattle.aadl_grammar.proofs.KeywordLists.{or_not, or_false, listed, is_listed}
-use Rattle.aadl_grammar.proofs.KeywordWays.{is_the, the_mark}
+use Rattle.aadl_grammar.proofs.ParseTableWays.{is_the, the_mark}
 
 -- a keyword or symbol that may come where these are the keywords
 abbrev fine_mark : List Mark → Mark → Bool

@@ -16,7 +16,7 @@ use Rattle.aadl_tree.specs.Terminals.{Kind, word, whole, real, quoted, unread, m
 use Rattle.aadl_tree.specs.SpellingParts.{Part, token, may, feature_section, subcomponent_section, connection_section}
 use Rattle.aadl_tree.specs.SpellingParts.{property_section, Extra, empty_section, last_semicolon, extra_kinds, Spells}
 use Rattle.aadl_tree.specs.SpellingParts.{kept}
-use Rattle.aadl_grammar.specs.proof.Machine.{kind_number}
+use Rattle.aadl_grammar.specs.proof.StackMachine.{kind_number}
 use Rattle.aadl_grammar.proofs.AdjacencyRules.{may_stand_behind, AreNeighbours}
 use Rattle.aadl_lex.specs.proof.TokenSpellings.{IsReal, IsString, IsUnread}
 

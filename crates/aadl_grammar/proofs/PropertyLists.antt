@@ -13,10 +13,10 @@ use Rattle.aadl_tree.specs.proof.PlaceMaps.{kept_place}
 use Rattle.aadl_grammar.proofs.ListHeads.{heads}
 use Rattle.aadl_grammar.specs.proof.Symbols.{a_word, a_quoted, Row}
 use Rattle.aadl_grammar.specs.proof.Symbols as s
-use Rattle.aadl_grammar.specs.proof.Machine.{Stack}
+use Rattle.aadl_grammar.specs.proof.StackMachine.{Stack}
 use Rattle.aadl_grammar.specs.proof.ParseTable.{by, on}
 use Rattle.aadl_grammar.specs.declared.reader.Reader.{Reader}
-use Rattle.aadl_grammar.specs.declared.fault.ParseFault.{ParseFault}
+use Rattle.aadl_grammar.specs.declared.parse_fault.ParseFault.{ParseFault}
 use Rattle.aadl_grammar.specs.proof.ParserAnswers.{spot, At, AtMark, StartsWord, Reads, Parses, AnyRoom, Room}
 use Rattle.aadl_grammar.proofs.PartSequences.{nothing, then, marked, respelled, begun}
 

@@ -14,9 +14,9 @@ use Rattle.aadl_tree.specs.Marks.{mark_text}
 use Rattle.aadl_tree.specs.proof.MarkNumbers.{mark_number}
 use Rattle.aadl_tree.specs.Terminals.{Kind, whole, mark}
 use Rattle.aadl_tree.specs.Canon.{kind_text, holds_left, holds_right, ends_line, line_end, text_behind}
-use Rattle.aadl_grammar.specs.proof.Machine.{kind_number}
+use Rattle.aadl_grammar.specs.proof.StackMachine.{kind_number}
 use Rattle.aadl_grammar.proofs.AdjacencyRules.{may_stand_behind, AreNeighbours}
-use Rattle.aadl_grammar.proofs.FirstTokens.{other_bytes}
+use Rattle.aadl_grammar.proofs.WordAndSymbolLexing.{other_bytes}
 use Rattle.aadl_grammar.proofs.PossibleTerminals.{Spoken, a_word, Said}
 use Rattle.aadl_grammar.proofs.TerminalRelexing.{goes_on, Ends}
 

@@ -5,7 +5,7 @@ use Rattle.std.specs.Prelude.{codes, if◌then◌else◌}
 use Rattle.std.specs.List.{list_all}
 use Rattle.std.proofs.Math.Seq.{drop-append_seam, take-append_seam, take-append-add}
 use Rattle.std.proofs.lemmas.List.{length-drop, drop-take}
-use Rattle.list_lemmas.proofs.Lists.{drop_add}
+use Rattle.list_lemmas.proofs.ListOperations.{drop_add}
 use Rattle.aadl_lex.specs.declared.token.Token.{Token}
 use Rattle.aadl_lex.specs.declared.token.TokenKind.{TokenKind}
 use Rattle.aadl_lex.specs.declared.rules.Reading.{Reading}
@@ -13,7 +13,7 @@ use Rattle.aadl_lex.specs.Rules.{is_blank, close_from, first}
 use Rattle.aadl_lex.specs.Tokens.{token, bytes_of, Lexes, skips}
 use Rattle.aadl_tree.specs.Terminals.{Kind}
 use Rattle.aadl_tree.specs.Canon.{holds_left, holds_right, ends_line, line_end, between}
-use Rattle.aadl_grammar.proofs.FirstTokens.{space_first, line_end_first}
+use Rattle.aadl_grammar.proofs.WordAndSymbolLexing.{space_first, line_end_first}
 
 pub data IsGap : List ℕ → Type 0 where
   none : IsGap []

@@ -7,7 +7,7 @@ use Rattle.aadl_tree.specs.SpellingParts.{Part, Spells, Written}
 use Rattle.aadl_tree.specs.Declarations.{PackageTree, package_parts}
 use Rattle.aadl_tree.specs.Grammar.{IsPackage}
 use Rattle.aadl_tree.specs.proof.PlaceMaps.{no_place, package_to}
-use Rattle.aadl_grammar.specs.proof.Machine.{Fate, finished, syntax_at, deep_at, fate, whole_package}
+use Rattle.aadl_grammar.specs.proof.StackMachine.{Fate, finished, syntax_at, deep_at, fate, whole_package}
 use Rattle.aadl_grammar.proofs.PlaceIndependence.AlikeParts.{alike_spells}
 use Rattle.aadl_grammar.proofs.PlaceIndependence.Declarations.{package_alike}
 use Rattle.aadl_grammar.proofs.Fates.Answers.{answers_text, answers_fault, answers_depth}

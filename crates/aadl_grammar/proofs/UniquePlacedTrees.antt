@@ -6,7 +6,7 @@ pub mod Values
 pub mod Expressions
 pub mod Actions
 pub mod Annexes
-pub mod Members
+pub mod DeclarationMembers
 pub mod Declarations
 pub mod All
 pub mod MovedTrees

@@ -1,10 +1,10 @@
 -- What the theorem of the program does not rest on: definitions of contracts below it, of laws, and of proofs.
 pub mod Symbols
 pub mod ParseTable
-pub mod Machine
+pub mod StackMachine
 pub mod MovedPackages
 pub mod ExampleTerminals
-pub mod Terminals
+pub mod TerminalSpots
 pub mod ParserAnswers
 pub mod ReachableKeywords
 pub mod TextOutcomes

@@ -11,7 +11,7 @@ ghost use Rattle.aadl_tree.specs.proof.ExampleTransition.{counting_kinds};
 ghost use Rattle.aadl_grammar.specs.proof.Symbols.{Symbol};
 ghost use Rattle.aadl_grammar.specs.proof.Symbols as s;
 ghost use Rattle.aadl_grammar.specs.proof.ParseTable.{rows, Decides};
-ghost use Rattle.aadl_grammar.specs.proof.Machine.{fate, finished, syntax_at, deep_at, whole_package, annex_body};
+ghost use Rattle.aadl_grammar.specs.proof.StackMachine.{fate, finished, syntax_at, deep_at, whole_package, annex_body};
 ghost use Rattle.aadl_grammar.specs.proof.MovedPackages.{Rising, SamePackage};
 ghost use Rattle.aadl_grammar.specs.proof.ExampleTerminals.{numbered, without_value, nested, small_package};
 

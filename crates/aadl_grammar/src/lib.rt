@@ -11,17 +11,17 @@
 #![tactic(auto)]
 
 pub mod canon_laws;
-mod fault;
+mod parse_fault;
 pub mod keyword_laws;
 pub mod laws;
-mod leaves;
+mod single_terminals;
 mod names;
 mod reader;
 mod terminal;
 pub mod text_laws;
 mod values;
 
-pub use fault::ParseFault;
+pub use parse_fault::ParseFault;
 pub use names::{dot_identifier, identifier, identifiers, name, path, reference};
 pub use reader::{Parsed, Reader};
 pub use terminal::{Terminal, TerminalKind, narrow, resolve};

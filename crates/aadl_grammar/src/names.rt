@@ -9,7 +9,7 @@ ghost use Rattle.aadl_tree.specs.proof.PlaceMaps.{kept_place};
 ghost use Rattle.aadl_grammar.specs.proof.Symbols as s;
 ghost use Rattle.aadl_grammar.specs.proof.ParserAnswers.{Parses, AnyRoom};
 
-use crate::fault::ParseFault;
+use crate::parse_fault::ParseFault;
 use crate::reader::{Parsed, Reader};
 use aadl_tree::{Identifier, Identifiers, Mark, Name, Path, Reference};
 

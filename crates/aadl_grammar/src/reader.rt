@@ -1,7 +1,7 @@
 //! The terminals of a text, read from places on.
-ghost use Rattle.aadl_grammar.specs.proof.Terminals.{AreWords};
+ghost use Rattle.aadl_grammar.specs.proof.TerminalSpots.{AreWords};
 
-use crate::fault::ParseFault;
+use crate::parse_fault::ParseFault;
 use crate::terminal::Terminal;
 use std::alloc::Global;
 

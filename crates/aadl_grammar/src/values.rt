@@ -14,7 +14,7 @@ ghost use Rattle.aadl_grammar.specs.proof.Symbols as s;
 ghost use Rattle.aadl_grammar.specs.proof.ParseTable.{on};
 ghost use Rattle.aadl_grammar.specs.proof.ParserAnswers.{here, MissAll, Parses, AnyRoom, Room};
 
-use crate::fault::ParseFault;
+use crate::parse_fault::ParseFault;
 use crate::names::{name, path, reference};
 use crate::reader::{Parsed, Reader};
 use aadl_tree::{

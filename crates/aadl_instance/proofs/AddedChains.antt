@@ -4,7 +4,7 @@ use Rattle.std.proofs.Common.{◌≡◌, ◌⊎◌, inl, inr, ℕ, ◌+◌, true
 use Rattle.std.proofs.Common.{None, refl, sym, ap, subst, ◌∙◌}
 use Rattle.std.proofs.lemmas.Bool.{true≢false}
 use Rattle.aadl_tree.specs.Declarations.{PackageTree}
-use Rattle.aadl_uses.specs.Threads.{IsThreadAt, PathBefore}
+use Rattle.aadl_uses.specs.ThreadsBelow.{IsThreadAt, PathBefore}
 use Rattle.aadl_chains.specs.proof.PortsJoinedInside.{is_thread_at}
 use Rattle.aadl_chains.specs.Chains.{Port, is_in, IsEnd}
 use Rattle.aadl_chains.specs.Links.{Ends, IsLink, IsFeed, IsTap}
@@ -12,8 +12,8 @@ use Rattle.aadl_chains.specs.declared.walks.ChainStart.{ChainStart}
 use Rattle.aadl_chains.specs.declared.walks.ChainStart.TheVariants as begins
 use Rattle.aadl_chains.specs.declared.walks.ChainRoute.{ChainRoute}
 use Rattle.aadl_chains.specs.proof.Routes.{begin_port, route_ends, IsOfKind, IsRoute, IsTapRoute, Traces, TracesTap}
-use Rattle.aadl_instance.specs.declared.parts.Chain.{Chain}
-use Rattle.aadl_instance.specs.declared.build.Incoming.{Incoming}
+use Rattle.aadl_instance.specs.declared.chain.Chain.{Chain}
+use Rattle.aadl_instance.specs.declared.chain_search.Incoming.{Incoming}
 use Rattle.aadl_instance.specs.Instances.{chain_in}
 use Rattle.aadl_instance.specs.proof.ChainsSoFar.{HasPort, IsBegin, AreInto, AreTapsTo, with_chain}
 use Rattle.aadl_instance.proofs.DeclaredPorts.{begins_there}

@@ -10,7 +10,7 @@ use Rattle.std.proofs.lemmas.List.{take-map}
 use Rattle.std.proofs.lemmas.List.Folds.{fold-map}
 use Rattle.std.proofs.lemmas.Option.{same_Some, none-some, slice_get-map, slice_get_read, slice_get_within}
 use Rattle.std.proofs.lemmas.Option.{get_or_from_slice_get}
-use Rattle.list_lemmas.proofs.Places.{Contains-from_slice_get}
+use Rattle.list_lemmas.proofs.ElementPositions.{Contains-from_slice_get}
 use Rattle.list_lemmas.proofs.Elements.{Contains-nil}
 use Rattle.pals_base.specs.declared.limits.TheConstants.{PORTS}
 use Rattle.pals_base.specs.declared.values.NodeNo.{NodeNo}
@@ -18,14 +18,14 @@ use Rattle.aadl_tree.specs.declared.declarations.Feature as source
 use Rattle.aadl_tree.specs.Declarations.{Feature, PackageTree}
 use Rattle.aadl_tree.specs.proof.PlaceMaps.{kept_place}
 use Rattle.aadl_tree.specs.proof.DeclarationViews.{feature_view}
-use Rattle.aadl_uses.specs.Threads.{path_before, IsThreadAt, PathBefore}
+use Rattle.aadl_uses.specs.ThreadsBelow.{path_before, IsThreadAt, PathBefore}
 use Rattle.aadl_names.specs.ReferenceResolution.{ports_at, ports_of, implementation_at}
 use Rattle.aadl_uses.specs.Uses.{standing, component_at}
-use Rattle.aadl_uses.specs.ThreadPlaces.{ThreadWith}
+use Rattle.aadl_uses.specs.ThreadLocations.{ThreadWith}
 use Rattle.aadl_chains.specs.proof.PortsJoinedInside.{is_thread_at}
 use Rattle.aadl_chains.proofs.ConnectionsOnChains.{thread_from}
 use Rattle.aadl_chains.specs.Links.{same_path}
-use Rattle.aadl_instance.specs.declared.parts.ChainEnd.TheVariants.{Thread}
+use Rattle.aadl_instance.specs.declared.chain.ChainEnd.TheVariants.{Thread}
 use Rattle.aadl_instance.specs.proof.ChainsSoFar.{paths_of}
 use Rattle.aadl_instance.specs.Instances.{same_direction, node_at, goes_as, number_among, port_number, end_in}
 

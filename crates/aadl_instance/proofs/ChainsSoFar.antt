@@ -7,8 +7,8 @@ use Rattle.std.proofs.lemmas.Bool.Decides.{nat_tests}
 use Rattle.std.proofs.lemmas.List.{map-append}
 use Rattle.std.proofs.lemmas.Option.{same_Some, slice_get_within, get_or_from_slice_get}
 use Rattle.std.proofs.Math.Bool.{or-true}
-use Rattle.list_lemmas.proofs.Places.{slice_get-from_Contains}
-use Rattle.aadl_uses.specs.Threads.{path_before, Lists, IsThreadAt, PathBefore}
+use Rattle.list_lemmas.proofs.ElementPositions.{slice_get-from_Contains}
+use Rattle.aadl_uses.specs.ThreadsBelow.{path_before, Lists, IsThreadAt, PathBefore}
 use Rattle.aadl_tree.specs.Declarations.{PackageTree}
 use Rattle.aadl_names.specs.ReferenceResolution.{ports_at, implementation_at}
 use Rattle.aadl_uses.specs.Uses.{standing, component_at}
@@ -16,8 +16,8 @@ use Rattle.aadl_chains.specs.proof.PortsJoinedInside.{is_thread_at}
 use Rattle.aadl_chains.specs.Chains.{Port, is_in, IsEnd}
 use Rattle.aadl_chains.proofs.ConnectionsOnChains.{thread_from}
 use Rattle.aadl_chains.specs.Links.{Ends, IsLink, IsFeed, IsTap, same_path, TargetBefore, PortBefore}
-use Rattle.aadl_instance.specs.declared.parts.Chain.{Chain}
-use Rattle.aadl_instance.specs.declared.build.Incoming.{Incoming}
+use Rattle.aadl_instance.specs.declared.chain.Chain.{Chain}
+use Rattle.aadl_instance.specs.declared.chain_search.Incoming.{Incoming}
 use Rattle.aadl_instance.specs.Instances.{chain_in}
 use Rattle.aadl_instance.specs.proof.ChainsSoFar.{HasPort, AreShown, IsPassed, AreInto, AreTapsTo}
 use Rattle.aadl_instance.proofs.OrderedLists.{lists_same, lists_more, lists_none}

@@ -9,17 +9,17 @@ use Rattle.aadl_tree.specs.Declarations.{PackageTree}
 use Rattle.aadl_names.specs.declared.fault.PackageFault.TheVariants.{TooMany}
 use Rattle.aadl_names.specs.ReferenceResolution.{root_number}
 use Rattle.aadl_uses.specs.Uses.{standing}
-use Rattle.aadl_uses.specs.Threads.{Lists, IsThreadAt, PathBefore}
-use Rattle.aadl_uses.specs.declared.thread_places.ThreadAt.{ThreadAt}
-use Rattle.aadl_uses.specs.ThreadPlaces.{thread_at}
+use Rattle.aadl_uses.specs.ThreadsBelow.{Lists, IsThreadAt, PathBefore}
+use Rattle.aadl_uses.specs.declared.thread_locations.ThreadAt.{ThreadAt}
+use Rattle.aadl_uses.specs.ThreadLocations.{thread_at}
 use Rattle.aadl_chains.proofs.DeclaredConnections.{declared}
 use Rattle.aadl_chains.specs.Links.{IsLink, IsFeed, IsTap, TargetBefore, PortBefore}
 use Rattle.aadl_chains.proofs.LinkLimits.{one_each}
-use Rattle.aadl_instance.specs.declared.package.Checked.{Checked}
+use Rattle.aadl_instance.specs.declared.checked_package.Checked.{Checked}
 use Rattle.aadl_instance.specs.proof.FaultlessPackages.{IsChecked}
-use Rattle.aadl_instance.proofs.FaultLines.{root_silent}
+use Rattle.aadl_instance.proofs.FaultPrecedence.{root_silent}
 use Rattle.aadl_instance.proofs.Roots.{root_no_thread}
-use Rattle.aadl_instance.specs.declared.parts.Chain.{Chain}
+use Rattle.aadl_instance.specs.declared.chain.Chain.{Chain}
 use Rattle.aadl_instance.specs.Instances.{IsInstance}
 use Rattle.aadl_instance.specs.proof.ChainsSoFar.{paths_of, IsSettled, AreShown}
 use Rattle.aadl_instance.proofs.ChainsSoFar.{thread_listed}

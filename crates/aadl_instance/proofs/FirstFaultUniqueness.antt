@@ -3,7 +3,7 @@ use Rattle.std.proofs.Common.{◌≡◌, ℕ, ◌<◌, false, ◌&&◌, ◌||◌
 use Rattle.std.proofs.lemmas.Bool.Decides.{nat_tests}
 use Rattle.std.proofs.lemmas.Bool.{cases_order}
 use Rattle.aadl_names.specs.declared.fault.PackageFault.{PackageFault}
-use Rattle.aadl_names.specs.FirstFindings.{place_of, number_of, IsFirst, IsFirstByLine}
+use Rattle.aadl_names.specs.FirstFaults.{place_of, number_of, IsFirst, IsFirstByLine}
 
 same_by : (p q m n : ℕ) → (nat_lt p q || (nat_eq p q && nat_lt m n)) ≡ false
     → (nat_lt q p || (nat_eq q p && nat_lt n m)) ≡ false → (p ≡ q) × (m ≡ n)

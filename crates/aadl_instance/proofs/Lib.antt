@@ -1,7 +1,7 @@
 pub mod LimitedWordCounts
 pub mod ThreadsInUse
 pub mod PathLengths
-pub mod FaultLines
+pub mod FaultPrecedence
 pub mod Roots
 pub mod FirstFaultUniqueness
 pub mod OrderedLists
@@ -11,4 +11,4 @@ pub mod ChainEnds
 pub mod DepthFirstOrder
 pub mod AddedChains
 pub mod FaultlessInstances
-pub mod PortNumbers
+pub mod PortNumberTables

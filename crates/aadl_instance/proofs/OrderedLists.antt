@@ -3,7 +3,7 @@ use Rattle.std.proofs.Common.{◌≡◌, ◌⊎◌, inl, inr, List, [], ◌∷�
 use Rattle.std.proofs.lemmas.List.Elements.{All-contains, Contains-get_or, Contains-append_left, Contains-push}
 use Rattle.std.proofs.lemmas.List.Elements.{Contains-push_cases}
 use Rattle.std.proofs.lemmas.List.Quantifiers.{all_pairs_push}
-use Rattle.aadl_uses.specs.Threads.{Lists}
+use Rattle.aadl_uses.specs.ThreadsBelow.{Lists}
 
 module _ {X : Type 0} (P Q : X → Type 0) (Before : X → X → Type 0) where
   pub lists_same : (xs : List X) → ((x : X) → P x → Q x) → ((x : X) → Q x → P x) → Lists P Before xs → Lists Q Before xs

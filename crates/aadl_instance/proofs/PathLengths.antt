@@ -18,7 +18,7 @@ use Rattle.aadl_uses.specs.proof.ContainmentGraphs.{below_in}
 use Rattle.aadl_uses.specs.proof.MarkedCounts.{stands_at, IsMarkedAt}
 use Rattle.aadl_uses.specs.proof.PathWeights as weights
 use Rattle.aadl_uses.specs.proof.PathWeights.{path_weight, IsGreatest, IsGreatestOf, IsHeaviest}
-use Rattle.aadl_uses.specs.ThreadPlaces.{name_at, names_along, dotted_names, spelled_path, ThreadWith}
+use Rattle.aadl_uses.specs.ThreadLocations.{name_at, names_along, dotted_names, spelled_path, ThreadWith}
 use Rattle.aadl_instance.specs.proof.PathLengths.{weight_of, weights_in, name_weights, is_over}
 
 -- ---- names

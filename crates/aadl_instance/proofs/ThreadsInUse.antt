@@ -8,7 +8,7 @@ use Rattle.aadl_tree.specs.Declarations.{Implementation, Declaration, PackageTre
 use Rattle.aadl_names.specs.ReferenceResolution.{implementation_in, implementation_at}
 use Rattle.aadl_uses.specs.Uses.{standing, IsInUse}
 use Rattle.aadl_uses.specs.proof.ThreadCounts.{is_thread_in}
-use Rattle.aadl_uses.specs.ThreadPlaces.{ThreadWith}
+use Rattle.aadl_uses.specs.ThreadLocations.{ThreadWith}
 use Rattle.aadl_instance.specs.declared.thread_parts.ThreadPart.{ThreadPart}
 use Rattle.aadl_instance.specs.proof.ThreadPartCounts.{most, count_of, count_at, IsUsedThread, HasTooMany}
 

@@ -4,14 +4,14 @@ use Rattle.pals_base.specs.declared.limits.TheConstants.{COMPONENTS, LINKS, PORT
 use Rattle.aadl_tree.specs.Declarations.{Implementation, PackageTree}
 use Rattle.aadl_names.specs.declared.fault.PackageFault.{PackageFault}
 use Rattle.aadl_names.specs.declared.fault.PackageFault.TheVariants.{NoRoot, TooMany}
-use Rattle.aadl_names.specs.FirstFindings.{IsFirstByLine}
+use Rattle.aadl_names.specs.FirstFaults.{IsFirstByLine}
 use Rattle.aadl_names.specs.ReferenceResolution.{implementation_at, is_system, ports_of, root_number}
 use Rattle.aadl_names.specs.PackageFaults.{package_faults}
 use Rattle.aadl_uses.specs.Uses.{IsRecursive}
 use Rattle.aadl_chains.specs.Chains.{IsEndFault}
-use Rattle.aadl_uses.specs.Threads.{MoreThan, IsThreadAt, PathBefore}
-use Rattle.aadl_uses.specs.ThreadPlaces.{ThreadWith, spelled_path}
-use Rattle.aadl_instance.specs.ThreadParts.{variable_count, state_count}
+use Rattle.aadl_uses.specs.ThreadsBelow.{MoreThan, IsThreadAt, PathBefore}
+use Rattle.aadl_uses.specs.ThreadLocations.{ThreadWith, spelled_path}
+use Rattle.aadl_instance.specs.BehaviourSizes.{variable_count, state_count}
 use Rattle.aadl_chains.specs.Links.{IsLink, OtherTarget}
 
 -- there is more of something than a design may have, at the line of its limit

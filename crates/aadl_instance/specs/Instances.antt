@@ -7,11 +7,11 @@ use Rattle.aadl_tree.specs.declared.declarations.Direction.{Direction}
 use Rattle.aadl_tree.specs.Declarations.{Feature, PackageTree}
 use Rattle.aadl_names.specs.ReferenceResolution.{first_number, ports_at}
 use Rattle.aadl_names.specs.PackageFaults.{goes_in}
-use Rattle.aadl_uses.specs.declared.thread_places.ThreadAt.{ThreadAt}
-use Rattle.aadl_uses.specs.ThreadPlaces.{thread_at}
-use Rattle.aadl_instance.specs.declared.parts.Chain.{Chain}
-use Rattle.aadl_instance.specs.declared.parts.ChainEnd.{ChainEnd}
-use Rattle.aadl_instance.specs.declared.parts.ChainEnd.TheVariants.{Thread, Root}
+use Rattle.aadl_uses.specs.declared.thread_locations.ThreadAt.{ThreadAt}
+use Rattle.aadl_uses.specs.ThreadLocations.{thread_at}
+use Rattle.aadl_instance.specs.declared.chain.Chain.{Chain}
+use Rattle.aadl_instance.specs.declared.chain.ChainEnd.{ChainEnd}
+use Rattle.aadl_instance.specs.declared.chain.ChainEnd.TheVariants.{Thread, Root}
 use Rattle.aadl_uses.specs.Uses.{component_at}
 use Rattle.aadl_chains.specs.Chains.{Port, port_of}
 use Rattle.aadl_chains.specs.Links.{same_path, Ends}

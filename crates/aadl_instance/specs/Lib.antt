@@ -1,4 +1,4 @@
-pub mod ThreadParts
+pub mod BehaviourSizes
 pub mod Faults
 pub mod FlattenedDesign
 pub mod Instances

@@ -4,5 +4,5 @@ pub mod PathLengths
 pub mod Limits
 pub mod FaultlessPackages
 pub mod ChainsSoFar
-pub mod PortNumbers
+pub mod PortNumberTables
 pub mod ChainMaps

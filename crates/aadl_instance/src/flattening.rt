@@ -7,10 +7,10 @@ ghost use Rattle.aadl_instance.specs.Faults.{IsFault};
 ghost use Rattle.aadl_instance.specs.proof.FaultlessPackages.{IsChecked};
 ghost use Rattle.aadl_instance.specs.Instances.{IsInstance};
 
-use crate::build::{incoming_of, taps_of};
-use crate::ends::ChainMap;
+use crate::chain_search::{incoming_of, taps_of};
+use crate::chain_map::ChainMap;
 use crate::instance::Instance;
-use crate::numbers::PortNumbers;
+use crate::port_numbers::PortNumbers;
 use crate::{Checked, check_package};
 use aadl_names::PackageFault;
 use aadl_tree::PackageTree;

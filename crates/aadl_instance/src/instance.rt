@@ -2,7 +2,7 @@
 ghost use Rattle.aadl_tree.specs.proof.PackageViews.{placed};
 ghost use Rattle.aadl_instance.specs.Instances.{IsInstance};
 
-use crate::parts::Chain;
+use crate::chain::Chain;
 use aadl_uses::{ThreadAt, Wires};
 use pals_base::Items;
 

@@ -2,7 +2,7 @@
 ghost use Rattle.std.specs.Prelude.{◌≡◌, ℕ, List};
 ghost use Rattle.aadl_tree.specs.Declarations.{PackageTree};
 ghost use Rattle.aadl_names.specs.declared.fault.PackageFault.{PackageFault};
-ghost use Rattle.aadl_names.specs.FirstFindings.{place_of, number_of};
+ghost use Rattle.aadl_names.specs.FirstFaults.{place_of, number_of};
 ghost use Rattle.aadl_instance.specs.Faults.{IsFault};
 ghost use Rattle.aadl_instance.specs.FlattenedDesign.{IsFlat, Parts};
 

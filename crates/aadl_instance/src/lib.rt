@@ -2,17 +2,17 @@
 //! of the package, limits on threads and on the paths by which they are known among them.
 #![tactic(auto)]
 
-mod build;
-mod counts;
-mod ends;
+mod chain_search;
+mod behaviour_sizes;
+mod chain_map;
 mod flattening;
 pub mod instance;
 pub mod laws;
 pub mod limits;
-mod numbers;
-pub mod package;
-pub mod parts;
-mod paths;
+mod port_numbers;
+pub mod checked_package;
+pub mod chain;
+mod longest_path;
 mod root;
 mod thread_parts;
 
@@ -21,7 +21,7 @@ pub use aadl_uses::{SubAt, ThreadAt};
 pub use flattening::flatten;
 pub use instance::Instance;
 pub use limits::Limit;
-pub use package::{Checked, check_package};
-pub use parts::{Chain, ChainEnd, ConnAt};
-pub use paths::has_too_long_path;
+pub use checked_package::{Checked, check_package};
+pub use chain::{Chain, ChainEnd, ConnAt};
+pub use longest_path::has_too_long_path;
 pub use thread_parts::{ThreadPart, has_too_many};

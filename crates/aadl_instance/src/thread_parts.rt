@@ -2,11 +2,11 @@
 ghost use Rattle.std.specs.Prelude.{◌≡◌, ◌↔◌, ◌<◌, ℕ, min, Contains, IsTrue};
 ghost use Rattle.aadl_tree.specs.proof.PackageViews.{placed};
 ghost use Rattle.aadl_uses.specs.Uses.{IsInUse};
-ghost use Rattle.aadl_uses.specs.ThreadPlaces.{ThreadWith};
+ghost use Rattle.aadl_uses.specs.ThreadLocations.{ThreadWith};
 ghost use Rattle.aadl_instance.specs.proof.ThreadPartCounts as spec;
 ghost use Rattle.aadl_instance.specs.proof.ThreadPartCounts.{HasTooMany};
 
-use crate::counts::{states_up_to, variables_up_to};
+use crate::behaviour_sizes::{states_up_to, variables_up_to};
 use aadl_uses::Wires;
 use indexmap::IndexSet;
 use pals_base::limits::{PORTS, STATES, VARIABLES};

@@ -14,7 +14,7 @@ ghost use Rattle.aadl_lex.specs.Tokens.{Adds, Faults, AreTokensOf, AreInOrder, I
 
 mod fault;
 mod rules;
-mod scan;
+mod token_lengths;
 mod token;
 
 pub use fault::LexFault;

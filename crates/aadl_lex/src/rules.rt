@@ -5,7 +5,7 @@ ghost use Rattle.aadl_lex.specs.Rules as spec;
 ghost use Rattle.aadl_lex.specs.Rules.{IsWithin};
 
 use crate::fault::LexFault;
-use crate::scan;
+use crate::token_lengths;
 use crate::token::{NAME_BYTES, TokenKind};
 
 /// How a text is read at a place.
@@ -56,7 +56,7 @@ fn is_blank(byte: u8) -> bool
 fn word_first(text: &[u8], at: usize) -> First
     ensures { result ≡ spec.word_first at text.now }
 {
-    let len = scan::word_len(text);
+    let len = token_lengths::word_len(text);
     if len <= NAME_BYTES {
         First::Taken(TokenKind::Word, len)
     } else {
@@ -67,11 +67,11 @@ fn word_first(text: &[u8], at: usize) -> First
 fn number_first(text: &[u8], at: usize) -> First
     ensures { result ≡ spec.number_first at text.now }
 {
-    if let Some(len) = scan::real_len(text) {
+    if let Some(len) = token_lengths::real_len(text) {
         return First::Taken(TokenKind::Real, len);
     }
-    let len = scan::whole_len(text);
-    match scan::decimal(&text[..len]) {
+    let len = token_lengths::whole_len(text);
+    match token_lengths::decimal(&text[..len]) {
         Some(value) => First::Taken(TokenKind::Whole(value), len),
         None => First::Refused(LexFault::BigNumber { at }),
     }
@@ -81,7 +81,7 @@ fn string_first(text: &[u8], at: usize) -> First
     requires { 0 < length text.now }
     ensures { result ≡ spec.string_first at text.now }
 {
-    let inner = scan::string_len(&text[1..]);
+    let inner = token_lengths::string_len(&text[1..]);
     if text.get(inner + 1) == Some(&b'"') {
         First::Taken(TokenKind::Quoted, inner + 2)
     } else {
@@ -93,7 +93,7 @@ fn annex_first(reading: Reading, text: &[u8], at: usize) -> First
     requires { 3 ≤ length text.now }
     ensures { result ≡ spec.annex_first reading at text.now }
 {
-    match (scan::body_len(&text[3..]), reading) {
+    match (token_lengths::body_len(&text[3..]), reading) {
         (None, _) => First::Refused(LexFault::OpenAnnex { at }),
         (Some(len), Reading::AfterName) => First::Body(len),
         (Some(len), _) => First::Taken(TokenKind::Unread, len + 6),
@@ -104,7 +104,7 @@ fn symbol_first(text: &[u8], at: usize) -> First
     requires { 0 < length text.now }
     ensures { result ≡ spec.symbol_first at text.now }
 {
-    match scan::symbol_len(text) {
+    match token_lengths::symbol_len(text) {
         0 => First::Refused(LexFault::BadByte { at }),
         len => First::Taken(TokenKind::Symbol, len),
     }
@@ -121,7 +121,7 @@ pub fn front(reading: Reading, text: &[u8], at: usize) -> First
     if is_blank(byte) {
         First::Skipped(1)
     } else if text.starts_with(b"--") {
-        First::Skipped(scan::line_len(text))
+        First::Skipped(token_lengths::line_len(text))
     } else if byte.is_ascii_alphabetic() {
         word_first(text, at)
     } else if byte.is_ascii_digit() {

@@ -6,15 +6,15 @@ use Rattle.std.specs.List.{list_any}
 use Rattle.std.proofs.lemmas.Bool.{true≢false}
 use Rattle.std.proofs.lemmas.Bool.Decides.{nat_tests}
 use Rattle.std.proofs.Math.Bool.{or-false}
-use Rattle.list_lemmas.proofs.Lists.{drop-next}
+use Rattle.list_lemmas.proofs.ListOperations.{drop-next}
 use Rattle.aadl_names.specs.declared.fault.PackageFault.TheVariants.{Twice}
-use Rattle.aadl_names.specs.declared.entry.SpelledName.{SpelledName}
-use Rattle.aadl_names.specs.declared.spot.NumberedPlace.{NumberedPlace}
+use Rattle.aadl_names.specs.declared.spelled_name.SpelledName.{SpelledName}
+use Rattle.aadl_names.specs.declared.numbered_place.NumberedPlace.{NumberedPlace}
 use Rattle.aadl_names.specs.proof.NameTables.{value_of}
 use Rattle.aadl_names.specs.DuplicateNames.{again}
 use Rattle.aadl_names.specs.proof.EarliestDeclarations.{sooner, is_sooner, earliest, is_before, again_by}
 use Rattle.aadl_names.proofs.Lookups.{value-same}
-use Rattle.aadl_names.proofs.FindingSoFar.{none_left}
+use Rattle.aadl_names.proofs.FirstFaultSoFar.{none_left}
 
 -- ---- of two and of three
 below_chain : (a b c : ℕ) → nat_lt c b ≡ true → nat_lt b a ≡ true → nat_lt c a ≡ true

@@ -4,18 +4,18 @@ use Rattle.std.specs.List.{filter_map, flat_map}
 use Rattle.aadl_tree.specs.Annexes.{AnnexTree}
 use Rattle.aadl_tree.specs.Declarations.{Implementation, Declaration, type, implementation, PackageTree}
 use Rattle.aadl_names.specs.declared.fault.PackageFault.{PackageFault}
-use Rattle.aadl_names.specs.FirstFindings.{FirstOf}
-use Rattle.aadl_names.specs.proof.FindingSoFar.{found}
+use Rattle.aadl_names.specs.FirstFaults.{FirstOf}
+use Rattle.aadl_names.specs.proof.FirstFaultSoFar.{found}
 use Rattle.aadl_names.specs.DuplicateNames.{twice}
 use Rattle.aadl_names.specs.ReferenceResolution.{is_thread, ports_of}
-use Rattle.aadl_names.specs.Behaviours.{behaviours}
-use Rattle.aadl_names.specs.DuplicatesBySpace.{port_entries, variable_entries, state_entries, member_entries}
-use Rattle.aadl_names.specs.DuplicatesBySpace.{type_entry, implementation_entry, twice_in_behaviour, twice_in_first}
-use Rattle.aadl_names.specs.DuplicatesBySpace.{twice_in, twice_names}
+use Rattle.aadl_names.specs.BehaviourAnnexes.{behaviours}
+use Rattle.aadl_names.specs.DuplicatesByNamespace.{port_entries, variable_entries, state_entries, member_entries}
+use Rattle.aadl_names.specs.DuplicatesByNamespace.{type_entry, implementation_entry, twice_in_behaviour, twice_in_first}
+use Rattle.aadl_names.specs.DuplicatesByNamespace.{twice_in, twice_names}
 use Rattle.aadl_names.specs.PackageFaults.{wrong_names, package_faults}
 use Rattle.aadl_names.specs.proof.PortDuplicates.{beside, beside_in_behaviour, beside_in_first, beside_in, beside_names}
-use Rattle.aadl_names.proofs.FirstFindingCovers.{Covers, covers_itself, covers_append, covers_all, first_of_more}
-use Rattle.aadl_names.proofs.FirstFindingCovers.{found_is_first}
+use Rattle.aadl_names.proofs.CoveringFaultLists.{Covers, covers_itself, covers_append, covers_all, first_of_more}
+use Rattle.aadl_names.proofs.CoveringFaultLists.{found_is_first}
 use Rattle.aadl_names.proofs.PortDuplicates.{beside_covers}
 
 behaviour_covers : (tree : PackageTree ℕ) (x : Implementation ℕ) (annex : AnnexTree ℕ)

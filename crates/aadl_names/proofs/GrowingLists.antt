@@ -2,8 +2,8 @@
 use Rattle.std.proofs.Common.{◌≡◌, ℕ, ◌+◌, ◌<◌, ◌≤◌, List, ◌∷◌, [], ◌++◌, length, drop, get_or, append_assoc, sym, ap}
 use Rattle.std.proofs.Common.{◌∙◌}
 use Rattle.std.proofs.lemmas.List.{append-nil}
-use Rattle.list_lemmas.proofs.Lists.{drop-next}
-use Rattle.aadl_names.proofs.FindingSoFar.{none_left}
+use Rattle.list_lemmas.proofs.ListOperations.{drop-next}
+use Rattle.aadl_names.proofs.FirstFaultSoFar.{none_left}
 
 -- One turn of a loop adds what the first of the things that are left gives.
 pub next_added : {A B : Type 0} (parts : List A → List B) (here : A → List B)

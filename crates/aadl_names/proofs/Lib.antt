@@ -1,12 +1,12 @@
-pub mod FindingSoFar
+pub mod FirstFaultSoFar
 pub mod Lookups
 pub mod FirstMatches
 pub mod WordLists
-pub mod StoredDeclarations
+pub mod NumberedDeclarations
 pub mod EarliestDeclarations
 pub mod GrowingLists
 pub mod ListMembers
-pub mod FirstFindingCovers
+pub mod CoveringFaultLists
 pub mod PortDuplicates
 pub mod FirstFaults
 pub mod PlaceOrder

@@ -14,20 +14,20 @@ use Rattle.std.proofs.lemmas.List.Elements.{Contains-append_left, Contains-appen
 use Rattle.std.proofs.lemmas.Slice.Eq.{bytes_eq-Decides}
 use Rattle.std.specs.Str.{bytes_eq}
 use Rattle.std.specs.Cmp.{first_so, second_so}
-use Rattle.list_lemmas.proofs.Places.{Contains-from_slice_get}
+use Rattle.list_lemmas.proofs.ElementPositions.{Contains-from_slice_get}
 use Rattle.list_lemmas.proofs.Elements.{list_any_by_element, Contains-nil}
 use Rattle.aadl_names.specs.declared.fault.PackageFault.{PackageFault}
 use Rattle.aadl_names.specs.declared.fault.PackageFault.TheVariants.{Twice}
-use Rattle.aadl_names.specs.declared.entry.SpelledName.{SpelledName}
-use Rattle.aadl_names.specs.declared.spot.NumberedPlace.{NumberedPlace}
-use Rattle.aadl_names.specs.proof.FindingSoFar.{found, as_list}
+use Rattle.aadl_names.specs.declared.spelled_name.SpelledName.{SpelledName}
+use Rattle.aadl_names.specs.declared.numbered_place.NumberedPlace.{NumberedPlace}
+use Rattle.aadl_names.specs.proof.FirstFaultSoFar.{found, as_list}
 use Rattle.aadl_names.specs.Spelling.{folded}
 use Rattle.aadl_names.specs.DuplicateNames.{again, twice}
 use Rattle.aadl_names.specs.proof.EarliestDeclarations.{sooner, earliest, is_before}
 use Rattle.aadl_names.proofs.EarliestDeclarations.{any_before}
 use Rattle.aadl_names.specs.proof.PortDuplicates.{entry_again, again_beside, port_again, beside_each, beside}
 use Rattle.aadl_names.proofs.ListMembers.{from_all, among_all, passing, is_here, only_here}
-use Rattle.aadl_names.proofs.FirstFindingCovers.{Covers, NotBehind, found_is_first, first_covers, not_itself}
+use Rattle.aadl_names.proofs.CoveringFaultLists.{Covers, NotBehind, found_is_first, first_covers, not_itself}
 
 -- ---- names
 same_from : (a b : List ℕ) → same_name a b ≡ true → folded a ≡ folded b

@@ -4,7 +4,7 @@ use Rattle.aadl_tree.specs.Names.{same_name}
 use Rattle.std.specs.List.{list_any}
 use Rattle.aadl_names.specs.declared.fault.PackageFault.{PackageFault}
 use Rattle.aadl_names.specs.declared.fault.PackageFault.TheVariants.{Twice}
-use Rattle.aadl_names.specs.declared.entry.SpelledName.{SpelledName}
+use Rattle.aadl_names.specs.declared.spelled_name.SpelledName.{SpelledName}
 
 -- each that has the name of another one which stands before it in the text
 abbrev pub again : List SpelledName → SpelledName → List PackageFault

@@ -1,10 +1,10 @@
 pub mod Spelling
-pub mod FirstFindings
+pub mod FirstFaults
 pub mod ReferenceResolution
 pub mod DuplicateNames
-pub mod Properties
-pub mod Behaviours
-pub mod DuplicatesBySpace
+pub mod RecognisedProperties
+pub mod BehaviourAnnexes
+pub mod DuplicatesByNamespace
 pub mod AnnexNames
 pub mod PackageFaults
 pub mod proof

@@ -13,21 +13,21 @@ use Rattle.aadl_tree.specs.Declarations.{Implementation, Declaration, type, impl
 use Rattle.aadl_tree.specs.Actions.{Block}
 use Rattle.aadl_names.specs.declared.fault.PackageFault.{PackageFault}
 use Rattle.aadl_names.specs.declared.fault.PackageFault.TheVariants.{Unknown, WrongKind}
-use Rattle.aadl_names.specs.FirstFindings.{wrong_if}
+use Rattle.aadl_names.specs.FirstFaults.{wrong_if}
 use Rattle.aadl_names.specs.Spelling.{spelled_name, spelled_reference, spelled_implementation, spelled_end}
 use Rattle.aadl_names.specs.ReferenceResolution.{type_number, is_system, is_process, is_thread, ports_of, type_of}
 use Rattle.aadl_names.specs.ReferenceResolution.{target_of, implementation_in, site, with_direction}
-use Rattle.aadl_names.specs.Properties.{list_faults}
-use Rattle.aadl_names.specs.DuplicatesBySpace.{twice_names}
-use Rattle.aadl_names.specs.Behaviours.{behaviours, variables_in, variables_of, states_of}
+use Rattle.aadl_names.specs.RecognisedProperties.{list_faults}
+use Rattle.aadl_names.specs.DuplicatesByNamespace.{twice_names}
+use Rattle.aadl_names.specs.BehaviourAnnexes.{behaviours, variables_in, variables_of, states_of}
 use Rattle.aadl_names.specs.declared.role.Role.{Role}
 use Rattle.aadl_names.specs.declared.role.Role.TheVariants.{Receives, Gives, Varies}
-use Rattle.aadl_names.specs.declared.site.PortPlace.{PortPlace}
-use Rattle.aadl_names.specs.declared.site.PortPlace.TheVariants.{Own, Inner}
+use Rattle.aadl_names.specs.declared.port_place.PortPlace.{PortPlace}
+use Rattle.aadl_names.specs.declared.port_place.PortPlace.TheVariants.{Own, Inner}
 use Rattle.aadl_names.specs.AnnexNames.{Known, either, expression_uses, block_uses}
 use Rattle.aadl_tree.specs.declared.declarations.Category.TheVariants as categories
 use Rattle.aadl_tree.specs.declared.declarations.Direction.TheVariants as directions
-use Rattle.aadl_names.specs.declared.holder.PropertyHolder.TheVariants as holders
+use Rattle.aadl_names.specs.declared.property_holder.PropertyHolder.TheVariants as holders
 
 -- ---- annexes
 abbrev pub role_in : Direction → Role

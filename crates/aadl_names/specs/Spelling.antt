@@ -3,7 +3,7 @@ use Rattle.std.specs.Prelude.{ℕ, List, ◌++◌, flat_map, Option, Some, None,
 use Rattle.std.specs.Str.{str_to_ascii_lowercase}
 use Rattle.aadl_tree.specs.Names.{Identifier, Name, Reference}
 use Rattle.aadl_tree.specs.Declarations.{ImplementationName, ConnectionEnd}
-use Rattle.aadl_names.specs.declared.entry.SpelledName.{SpelledName}
+use Rattle.aadl_names.specs.declared.spelled_name.SpelledName.{SpelledName}
 
 -- a name with its capitals made small
 abbrev pub folded : List ℕ → List ℕ

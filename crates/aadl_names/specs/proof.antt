@@ -1,5 +1,5 @@
 -- What the theorem of the program does not rest on: definitions of contracts below it, of laws, and of proofs.
-pub mod FindingSoFar
+pub mod FirstFaultSoFar
 pub mod EarliestDeclarations
 pub mod NameTables
 pub mod MemberNumbers

@@ -56,7 +56,7 @@ impl Drop for PackageFault {
 
 impl PackageFault {
     ghost use Rattle.std.specs.Prelude.{◌≡◌};
-    ghost use Rattle.aadl_names.specs.FirstFindings.{place_of, number_of};
+    ghost use Rattle.aadl_names.specs.FirstFaults.{place_of, number_of};
 
     /// Where it stands; 0 where it has no place.
     pub fn place(&self) -> usize

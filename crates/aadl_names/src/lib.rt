@@ -3,30 +3,30 @@
 #![tactic(auto)]
 
 pub mod connection_ends;
-pub mod earliest;
-pub mod entry;
+pub mod earliest_places;
+pub mod spelled_name;
 pub mod fault;
-pub mod finder;
-pub mod finding_laws;
-pub mod holder;
+pub mod fault_finder;
+pub mod first_fault_laws;
+pub mod property_holder;
 pub mod name_comparison;
 pub mod names;
-pub mod numbered;
+pub mod declarations_by_number;
 pub mod place_laws;
 pub mod role;
-pub mod site;
+pub mod port_place;
 pub mod spelling;
-pub mod spot;
-pub mod table;
-pub mod twice;
-pub mod units;
+pub mod numbered_place;
+pub mod name_table;
+pub mod duplicate_names;
+pub mod time_units;
 
-pub use entry::SpelledName;
+pub use spelled_name::SpelledName;
 pub use fault::PackageFault;
-pub use finder::Finder;
-pub use holder::{PropertyHolder, PropertyName};
+pub use fault_finder::Finder;
+pub use property_holder::{PropertyHolder, PropertyName};
 pub use names::Names;
 pub use role::{Role, Usage};
-pub use site::PortPlace;
-pub use spot::NumberedPlace;
-pub use table::NameTable;
+pub use port_place::PortPlace;
+pub use numbered_place::NumberedPlace;
+pub use name_table::NameTable;

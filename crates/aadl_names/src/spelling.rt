@@ -6,7 +6,7 @@ ghost use Rattle.aadl_tree.specs.proof.NameViews.{identifier_view, name_view, re
 ghost use Rattle.aadl_tree.specs.proof.DeclarationViews.{end_view, implementation_name_view};
 ghost use Rattle.aadl_names.specs.Spelling as spec;
 
-use crate::entry::SpelledName;
+use crate::spelled_name::SpelledName;
 use aadl_tree::{ConnectionEnd, Identifier, ImplementationName, Name, Reference};
 use pals_base::Text;
 use std::alloc::{AllocError, Global};

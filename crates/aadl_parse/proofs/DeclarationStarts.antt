@@ -13,7 +13,7 @@ use Rattle.aadl_tree.specs.Declarations.{category_mark, feature_parts, subcompon
 use Rattle.aadl_tree.specs.proof.DeclarationViews.{feature_view, subcomponent_view, connection_view, annex_view}
 use Rattle.aadl_tree.specs.proof.PlaceMaps.{kept_place}
 use Rattle.aadl_grammar.specs.proof.Symbols as s
-use Rattle.aadl_grammar.specs.proof.Machine.{takes, move}
+use Rattle.aadl_grammar.specs.proof.StackMachine.{takes, move}
 use Rattle.aadl_grammar.specs.proof.ParserAnswers.{Reads}
 use Rattle.aadl_grammar.proofs.PartSequences.{begun}
 

@@ -12,20 +12,20 @@ use Rattle.aadl_tree.specs.Declarations.{PackageTree, package_parts}
 use Rattle.aadl_tree.specs.Grammar.{IsPackage, IsShallow, FailsAt, DeepAt, place}
 use Rattle.aadl_tree.specs.GrammarTrees.{IsTreeOf}
 use Rattle.aadl_grammar.specs.proof.Symbols as s
-use Rattle.aadl_grammar.specs.proof.Machine.{fate, syntax_at}
+use Rattle.aadl_grammar.specs.proof.StackMachine.{fate, syntax_at}
 use Rattle.aadl_grammar.proofs.Fates.Answers.{answers_text, answers_fault, answers_depth}
 use Rattle.aadl_grammar.proofs.Fates.ExclusiveFates.{fails_once, fails_not_deep, deep_once}
 use Rattle.aadl_grammar.proofs.Fates.FateMeanings.{fails_no_text, deep_not_shallow}
 use Rattle.aadl_grammar.proofs.UniquePlacedTrees.All.{one_placed_package}
 use Rattle.aadl_grammar.proofs.Fates.GrammarLanguages.{packages}
 use Rattle.aadl_grammar.proofs.Fates.OneTerminalFates.{fate_end, fate_left}
-use Rattle.aadl_grammar.specs.declared.fault.ParseFault.{ParseFault}
-use Rattle.aadl_grammar.specs.declared.fault.ParseFault.TheVariants as parsing
+use Rattle.aadl_grammar.specs.declared.parse_fault.ParseFault.{ParseFault}
+use Rattle.aadl_grammar.specs.declared.parse_fault.ParseFault.TheVariants as parsing
 use Rattle.aadl_grammar.specs.declared.terminal.Terminal.{Terminal}
-use Rattle.aadl_grammar.specs.proof.Terminals.{spots_of}
+use Rattle.aadl_grammar.specs.proof.TerminalSpots.{spots_of}
 use Rattle.aadl_grammar.specs.proof.ParserAnswers.{FailsAs, Reads}
-use Rattle.aadl_parse.specs.declared.fault.TextFault.{TextFault}
-use Rattle.aadl_parse.specs.declared.fault.TextFault.TheVariants.{Lex, Memory, Syntax, TooDeep}
+use Rattle.aadl_parse.specs.declared.text_fault.TextFault.{TextFault}
+use Rattle.aadl_parse.specs.declared.text_fault.TextFault.TheVariants.{Lex, Memory, Syntax, TooDeep}
 use Rattle.aadl_parse.specs.ParseResults.{IsOnlyTreeOf, IsFaultOfText, of_parse}
 
 faults : (text : List ℕ) (tokens : List Token) → AreTokensOf text tokens → (e : ParseFault)

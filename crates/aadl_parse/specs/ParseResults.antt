@@ -4,11 +4,11 @@ use Rattle.std.specs.Str.{IsUtf8}
 use Rattle.aadl_lex.specs.Tokens.{IsFaultOf}
 use Rattle.aadl_tree.specs.Declarations.{PackageTree}
 use Rattle.aadl_tree.specs.GrammarTrees.{IsTreeOf, StopsAt, NestsAt}
-use Rattle.aadl_grammar.specs.declared.fault.ParseFault.{ParseFault}
-use Rattle.aadl_parse.specs.declared.fault.TextFault.{TextFault}
-use Rattle.aadl_parse.specs.declared.fault.TextFault.TheVariants.{Lex, Memory, Syntax, TooDeep}
+use Rattle.aadl_grammar.specs.declared.parse_fault.ParseFault.{ParseFault}
+use Rattle.aadl_parse.specs.declared.text_fault.TextFault.{TextFault}
+use Rattle.aadl_parse.specs.declared.text_fault.TextFault.TheVariants.{Lex, Memory, Syntax, TooDeep}
 use Rattle.aadl_lex.specs.declared.fault.LexFault.TheVariants as lexical
-use Rattle.aadl_grammar.specs.declared.fault.ParseFault.TheVariants as parsing
+use Rattle.aadl_grammar.specs.declared.parse_fault.ParseFault.TheVariants as parsing
 
 -- This is the tree of the text, and there is no other.
 pub record IsOnlyTreeOf (text : List ℕ) (tree : PackageTree ℕ) : Type 0 where

@@ -15,7 +15,7 @@ ghost use Rattle.aadl_grammar.specs.proof.Symbols as s;
 ghost use Rattle.aadl_grammar.specs.proof.ParserAnswers.{Parses, AnyRoom, Room};
 ghost use Rattle.aadl_parse.specs.proof.DeclarationRests.{rest_parts, package_of};
 
-use crate::components::{category, connections, features, own_properties, subcomponents};
+use crate::declaration_members::{category, connections, features, own_properties, subcomponents};
 use aadl_grammar::{ParseFault, Parsed, Reader, identifier, name};
 use aadl_tree::{
     Annex, AnnexContent, Association, Category, Connection, Declaration, Feature, Identifier,

@@ -8,18 +8,18 @@ ghost use Rattle.std.specs.Prelude.{ℕ, ◌≡◌, ◌≢◌, List, IfOk, IfErr
 ghost use Rattle.aadl_tree.specs.Declarations.{PackageTree as Tree};
 ghost use Rattle.aadl_tree.specs.GrammarTrees.{IsTreeOf};
 ghost use Rattle.aadl_tree.specs.proof.PackageViews.{placed};
-ghost use Rattle.aadl_parse.specs.declared.fault.TextFault.{TextFault};
+ghost use Rattle.aadl_parse.specs.declared.text_fault.TextFault.{TextFault};
 ghost use Rattle.aadl_parse.specs.ParseResults.{IsOnlyTreeOf, IsFaultOfText};
 
-mod components;
+mod declaration_members;
 mod declarations;
-mod fault;
+mod text_fault;
 
 use aadl_grammar::{Reader, resolve};
 use aadl_lex::{LexFault, lex};
 use aadl_tree::{GREATEST_NESTING, PackageTree};
 use declarations::{PackageParts, package};
-pub use fault::TextFault;
+pub use text_fault::TextFault;
 use std::alloc::Global;
 
 /// The tree of the text, or why it has none.

@@ -10,8 +10,8 @@ use Rattle.aadl_tree.specs.proof.PlaceMaps.{kept_place, no_place}
 use Rattle.aadl_tree.specs.proof.PackageViews.{placed, meaning}
 use Rattle.aadl_tree.proofs.PlaceMaps.Declarations.{package_tied}
 use Rattle.aadl_grammar.proofs.CanonicalRoundTrip.{canon_of, reads_back, only_so}
-use Rattle.aadl_parse.specs.declared.fault.TextFault.{TextFault}
-use Rattle.aadl_parse.specs.declared.fault.TextFault.TheVariants.{Memory}
+use Rattle.aadl_parse.specs.declared.text_fault.TextFault.{TextFault}
+use Rattle.aadl_parse.specs.declared.text_fault.TextFault.TheVariants.{Memory}
 use Rattle.aadl_parse.specs.ParseResults.{IsFaultOfText}
 use Rattle.aadl_parse.proofs.PackageFates.{tree_or_fault}
 

@@ -6,7 +6,7 @@ use Rattle.aadl_tree.specs.SpellingParts.{Part, token, may, kept}
 use Rattle.aadl_tree.specs.Canon.{kind_text, holds_left, holds_right, ends_line, line_end, text_behind, canonical}
 use Rattle.aadl_tree.specs.Canon.{canon}
 use Rattle.aadl_tree.specs.Declarations.{PackageTree, package_parts}
-use Rattle.aadl_print.specs.declared.gap.Spacing.TheVariants.{Nothing, Space, LineEnd}
+use Rattle.aadl_print.specs.declared.spacing.Spacing.TheVariants.{Nothing, Space, LineEnd}
 use Rattle.aadl_print.specs.proof.PrintedText.{Printed, gap_text, gap_behind, blank, put, printed}
 
 -- terminals one behind the other

@@ -1,5 +1,5 @@
 pub mod PrintedParts
 pub mod FieldViews
-pub mod Sections
+pub mod NonemptySections
 pub mod CanonicalText
 pub mod CanonicalReparse

@@ -4,7 +4,7 @@ use Rattle.std.proofs.Common.{get_or, arith, suc, Result, Ok, Err}
 use Rattle.std.proofs.lemmas.Grind.{common_steps}
 use Rattle.std.specs.Prelude.{OnOk}
 use Rattle.std.proofs.lemmas.List.{take_all}
-use Rattle.list_lemmas.proofs.Lists.{drop-next}
+use Rattle.list_lemmas.proofs.ListOperations.{drop-next}
 use Rattle.aadl_tree.specs.SpellingParts.{Part, token, may}
 use Rattle.aadl_print.specs.proof.PrintedText.{Printed, put, printed}
 

@@ -9,7 +9,7 @@ ghost use Rattle.aadl_tree.specs.proof.PlaceMaps.{no_place};
 ghost use Rattle.aadl_print.specs.proof.PrintedText.{printed};
 
 use crate::expressions::print_expression;
-use crate::items::{PrintItem, print_if};
+use crate::print_item::{PrintItem, print_if};
 use crate::printer::Printer;
 use aadl_tree::{Action, Actions, Block, Bound, Choice, Expression, Loop, Mark};
 use std::alloc::AllocError;

@@ -9,7 +9,7 @@ ghost use Rattle.aadl_tree.specs.proof.PlaceMaps.{no_place};
 ghost use Rattle.aadl_print.specs.proof.PrintedText.{printed};
 
 use crate::expressions::print_expression;
-use crate::items::{PrintItem, print_all, print_declared, print_if, print_option};
+use crate::print_item::{PrintItem, print_all, print_declared, print_if, print_option};
 use crate::printer::Printer;
 use crate::values::print_properties;
 use aadl_tree::{

@@ -9,7 +9,7 @@ ghost use Rattle.aadl_tree.specs.proof.ExpressionViews.{expression_view};
 ghost use Rattle.aadl_tree.specs.proof.PlaceMaps.{no_place};
 ghost use Rattle.aadl_print.specs.proof.PrintedText.{printed};
 
-use crate::items::{PrintItem, print_option};
+use crate::print_item::{PrintItem, print_option};
 use crate::printer::Printer;
 use crate::values::sign_mark;
 use aadl_tree::{

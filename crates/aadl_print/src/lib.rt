@@ -13,15 +13,15 @@ mod actions;
 mod annex;
 mod declarations;
 mod expressions;
-mod gap;
-mod items;
+mod spacing;
+mod print_item;
 mod names;
 mod printer;
 mod round_trip;
 mod values;
 
 use aadl_tree::{Mark, PackageTree};
-use items::{PrintItem, print_all};
+use print_item::{PrintItem, print_all};
 use printer::Printer;
 pub use round_trip::is_read_back;
 use std::alloc::{AllocError, Global};

@@ -7,7 +7,7 @@ ghost use Rattle.aadl_tree.specs.proof.NameViews.{identifier_view};
 ghost use Rattle.aadl_tree.specs.proof.PlaceMaps.{no_place};
 ghost use Rattle.aadl_print.specs.proof.PrintedText.{printed};
 
-use crate::items::{PrintItem, print_behind, print_chain};
+use crate::print_item::{PrintItem, print_behind, print_chain};
 use crate::printer::Printer;
 use aadl_tree::{Identifier, Identifiers, Mark, Name, Path, Reference};
 use std::alloc::AllocError;

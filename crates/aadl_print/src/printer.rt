@@ -2,7 +2,7 @@
 ghost use Rattle.std.specs.Prelude.{◌≡◌, OnOk};
 ghost use Rattle.aadl_tree.specs.Terminals.{word, whole, real, quoted, unread, mark};
 
-use crate::gap::{Spacing, stands_close};
+use crate::spacing::{Spacing, stands_close};
 use aadl_tree::Mark;
 use itoa::Buffer;
 use std::alloc::{AllocError, Global};

@@ -10,7 +10,7 @@ ghost use Rattle.aadl_tree.specs.proof.ValueViews.{value_view, values_view, asso
 ghost use Rattle.aadl_tree.specs.proof.PlaceMaps.{no_place};
 ghost use Rattle.aadl_print.specs.proof.PrintedText.{printed, under};
 
-use crate::items::{PrintItem, print_behind, print_chain, print_if, print_option};
+use crate::print_item::{PrintItem, print_behind, print_chain, print_if, print_option};
 use crate::printer::Printer;
 use aadl_tree::{
     Association, AssociationOperator, Mark, Number, Path, Quantity, Sign, UnsignedNumber, Value,

@@ -4,15 +4,15 @@
 
 mod behaviours;
 mod containment;
-mod faults;
-mod first_faults;
+mod text_faults;
+mod first_name_faults;
 mod packages;
 mod text_checks;
 mod threads;
 
 use behaviours::behaviour;
 use case_files::{Answers, asked, check, text_of};
-use faults::messages;
+use text_faults::messages;
 use packages::Packages;
 use std::alloc::{AllocError, Global};
 use std::io;

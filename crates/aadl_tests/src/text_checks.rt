@@ -1,5 +1,5 @@
 //! Texts with their tokens, trees and canonical texts.
-use crate::faults::{lex_fault, text_fault};
+use crate::text_faults::{lex_fault, text_fault};
 use aadl_lex::{Token, lex};
 use aadl_parse::{TextFault, parse};
 use aadl_print::{is_read_back, print};

@@ -4,10 +4,10 @@ pub mod ExpressionViews
 pub mod ValueViews
 pub mod ActionViews
 pub mod EqualLengths
-pub mod PrimaryKinds
-pub mod FactorKinds
-pub mod ValueKinds
-pub mod ActionKinds
+pub mod PrimaryVariants
+pub mod FactorVariants
+pub mod ValueVariants
+pub mod ActionVariants
 pub mod SymbolTokens
 pub mod EmptyPackage
 pub mod MarkNumbers

@@ -14,12 +14,12 @@ pub mod expressions;
 pub mod laws;
 pub mod limits;
 pub mod mark;
-pub mod meaning;
+pub mod same;
 pub mod names;
-pub mod offsets;
+pub mod expression_offsets;
 pub mod package;
 mod short_lists;
-mod spelling;
+mod mark_spelling;
 pub mod values;
 
 pub use actions::{Action, Actions, Block, Bound, Choice, Elsif, Loop};
@@ -36,7 +36,7 @@ pub use expressions::{
 };
 pub use limits::GREATEST_NESTING;
 pub use mark::Mark;
-pub use meaning::{Same, same};
+pub use same::{Same, same};
 pub use names::{Identifier, Identifiers, Name, Path, Reference};
 pub use package::PackageTree;
 pub use short_lists::push_exact;

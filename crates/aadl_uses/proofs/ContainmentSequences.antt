@@ -13,7 +13,7 @@ use Rattle.std.proofs.lemmas.Option.{slice_get-get_or, same_Some}
 use Rattle.std.proofs.lemmas.Map.Steps.{length-le_from_distinct_below, le-length_from_below}
 use Rattle.indexmap.specs.IndexSet.{insert_key}
 use Rattle.indexmap.proofs.CallerLemmas.{Contains-list_any, Contains-insert_key}
-use Rattle.list_lemmas.proofs.Places.{slice_get-from_Contains, Contains-from_slice_get, slice_get-append_left}
+use Rattle.list_lemmas.proofs.ElementPositions.{slice_get-from_Contains, Contains-from_slice_get, slice_get-append_left}
 use Rattle.list_lemmas.proofs.Elements.{list_any_by_number, Contains-nil}
 use Rattle.aadl_uses.specs.proof.ContainmentGraphs.{Graph, targets_in, below_in, IsReached, IsWithin, LeadsBack}
 use Rattle.aadl_uses.specs.proof.ContainmentOrders.{is_there, IsSequence, IsOrder, Misses, IsPlaced, ArePlaced}

@@ -10,11 +10,11 @@ use Rattle.std.proofs.lemmas.List.Elements.{Contains-push_cases}
 use Rattle.aadl_tree.specs.Declarations.{Subcomponent, PackageTree}
 use Rattle.aadl_names.specs.declared.fault.PackageFault.{PackageFault}
 use Rattle.aadl_names.specs.declared.fault.PackageFault.TheVariants.{Recursive}
-use Rattle.aadl_names.specs.FirstFindings.{place_of, number_of, precedes}
+use Rattle.aadl_names.specs.FirstFaults.{place_of, number_of, precedes}
 use Rattle.aadl_names.specs.ReferenceResolution.{referred}
 use Rattle.aadl_uses.specs.Uses.{sub_at, ClosesCycle, IsRecursive}
 use Rattle.aadl_uses.specs.proof.PackageContainment.{FirstIn, containment}
-use Rattle.aadl_uses.specs.proof.Recursion.{is_sooner, IsBefore, AreBefore, IsFound, IsSooner, IsFirstOf}
+use Rattle.aadl_uses.specs.proof.FirstRecursion.{is_sooner, IsBefore, AreBefore, IsFound, IsSooner, IsFirstOf}
 use Rattle.aadl_uses.proofs.PackageContainment.{below-same, standing-same}
 use Rattle.aadl_uses.specs.proof.ContainmentGraphs.{Graph, below_in, reached_by, LeadsBack}
 

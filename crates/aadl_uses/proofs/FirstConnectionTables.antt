@@ -7,11 +7,11 @@ use Rattle.std.specs.Option.{option_or}
 use Rattle.std.proofs.lemmas.Bool.{true≢false, eqb-true, eq-eqb, and_parts, ltb-true, lt-ltb}
 use Rattle.std.proofs.lemmas.Grind.{common_steps}
 use Rattle.std.proofs.lemmas.Option.{same_Some, none-some}
-use Rattle.aadl_names.specs.declared.site.PortPlace.{PortPlace}
-use Rattle.aadl_names.specs.declared.site.PortPlace.TheVariants.{Own, Inner}
+use Rattle.aadl_names.specs.declared.port_place.PortPlace.{PortPlace}
+use Rattle.aadl_names.specs.declared.port_place.PortPlace.TheVariants.{Own, Inner}
 use Rattle.aadl_names.proofs.Lookups.{lookup-push}
 use Rattle.aadl_uses.specs.declared.connections.Wire.{Wire}
-use Rattle.aadl_uses.specs.proof.PortNumbers.{same_site, is_site, number_of}
+use Rattle.aadl_uses.specs.proof.NumbersByPort.{same_site, is_site, number_of}
 use Rattle.aadl_uses.specs.proof.FirstConnections.{first_into, is_before}
 use Rattle.aadl_uses.specs.FirstConnections.{target_in, IsSecond}
 

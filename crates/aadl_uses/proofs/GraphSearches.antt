@@ -12,7 +12,7 @@ use Rattle.std.proofs.lemmas.Option.{slice_get_within, slice_get-get_or, same_So
 use Rattle.std.proofs.lemmas.Map.Steps.{length-le_from_distinct_below}
 use Rattle.indexmap.specs.IndexSet.{insert_key}
 use Rattle.indexmap.proofs.CallerLemmas.{Contains-list_any, Contains-insert_key}
-use Rattle.list_lemmas.proofs.Places.{Contains-from_slice_get, slice_get-from_Contains, slice_get-append_left}
+use Rattle.list_lemmas.proofs.ElementPositions.{Contains-from_slice_get, slice_get-from_Contains, slice_get-append_left}
 use Rattle.list_lemmas.proofs.Elements.{Contains-nil}
 use Rattle.aadl_uses.specs.proof.ContainmentGraphs.{Graph, targets_in, below_in, reached_by, IsReached, IsWithin}
 use Rattle.aadl_uses.specs.proof.ContainmentGraphs.{AreAdded}

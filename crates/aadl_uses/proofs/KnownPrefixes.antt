@@ -5,7 +5,7 @@ use Rattle.std.proofs.Common.{subst, arith, inl, inr, ◌⊎◌, get_or-set_othe
 use Rattle.std.proofs.lemmas.Bool.{cases_order, cases_lt}
 use Rattle.std.proofs.lemmas.List.{length-set}
 use Rattle.std.proofs.lemmas.Option.{none-some, same_Some}
-use Rattle.list_lemmas.proofs.Places.{slice_get-from_Contains, Contains-from_slice_get}
+use Rattle.list_lemmas.proofs.ElementPositions.{slice_get-from_Contains, Contains-from_slice_get}
 use Rattle.aadl_uses.specs.proof.ContainmentGraphs.{Graph, below_in}
 use Rattle.aadl_uses.specs.proof.ContainmentOrders.{IsSequence, IsOrder}
 

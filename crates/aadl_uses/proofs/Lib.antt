@@ -2,7 +2,7 @@ pub mod GraphSearches
 pub mod RecursionSuspects
 pub mod ContainmentSequences
 pub mod KnownPrefixes
-pub mod SubcomponentCounts
+pub mod MarkedCounts
 pub mod HeaviestPaths
 pub mod PathLists
 pub mod PackageContainment

@@ -5,7 +5,7 @@ use Rattle.std.proofs.Common.{if◌then◌else◌, codes, Result, Ok, Err, IfOk}
 use Rattle.std.specs.Option.{option_and_then}
 use Rattle.std.proofs.lemmas.List.{length-map}
 use Rattle.std.proofs.lemmas.Option.{slice_get-map, none-some, option_and_then_some}
-use Rattle.list_lemmas.proofs.Places.{position_from-within}
+use Rattle.list_lemmas.proofs.ElementPositions.{position_from-within}
 use Rattle.aadl_tree.specs.Names.{Identifier, Reference}
 use Rattle.aadl_tree.specs.Declarations.{Declaration, PackageTree}
 use Rattle.aadl_names.specs.ReferenceResolution.{implementation_in, implementation_at, subcomponents_of, referred}

@@ -8,8 +8,8 @@ use Rattle.std.proofs.lemmas.Option.{none-some}
 use Rattle.aadl_tree.specs.Declarations.{Subcomponent, PackageTree}
 use Rattle.aadl_names.specs.ReferenceResolution.{referred}
 use Rattle.aadl_uses.specs.Uses.{sub_at, below, standing}
-use Rattle.aadl_uses.specs.declared.thread_places.SubAt.{SubAt}
-use Rattle.aadl_uses.specs.ThreadPlaces.{name_at, names_along, dotted_names, spelled_path, sub_in, subs_along}
+use Rattle.aadl_uses.specs.declared.thread_locations.SubAt.{SubAt}
+use Rattle.aadl_uses.specs.ThreadLocations.{name_at, names_along, dotted_names, spelled_path, sub_in, subs_along}
 
 -- ---- paths
 -- one more subcomponent is the innermost

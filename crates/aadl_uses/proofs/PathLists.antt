@@ -4,7 +4,7 @@ use Rattle.std.proofs.Common.{refl, sym, ap, ◌∙◌, append_assoc}
 use Rattle.std.proofs.lemmas.List.{take_more, take_all, map-append}
 use Rattle.aadl_uses.specs.proof.ContainmentGraphs.{Graph}
 use Rattle.aadl_uses.specs.proof.MarkedCounts.{IsMarkedAt, AreListed}
-use Rattle.aadl_uses.specs.Threads.{path_before}
+use Rattle.aadl_uses.specs.ThreadsBelow.{path_before}
 
 -- ---- paths behind others
 -- one more

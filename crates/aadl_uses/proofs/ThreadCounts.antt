@@ -19,7 +19,7 @@ use Rattle.aadl_tree.specs.Declarations.{Implementation, Declaration, PackageTre
 use Rattle.aadl_names.specs.ReferenceResolution.{implementation_in, implementation_at, is_thread}
 use Rattle.aadl_uses.specs.Uses.{standing}
 use Rattle.aadl_uses.specs.proof.PackageContainment.{targets_in, containment}
-use Rattle.aadl_uses.specs.Threads.{Lists, MoreThan, IsThreadAt, PathBefore, path_before}
+use Rattle.aadl_uses.specs.ThreadsBelow.{Lists, MoreThan, IsThreadAt, PathBefore, path_before}
 use Rattle.aadl_uses.specs.proof.ThreadCounts.{is_thread_in, is_thread_declaration, thread_marks, AreCounted}
 use Rattle.aadl_uses.proofs.PackageContainment.{standing-same, and_then_same}
 use Rattle.aadl_uses.proofs.Cycles.{kept_as_is, regrouped}

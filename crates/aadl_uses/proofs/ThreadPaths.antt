@@ -5,13 +5,13 @@ use Rattle.std.specs.Option.{option_and_then}
 use Rattle.aadl_tree.specs.Declarations.{PackageTree}
 use Rattle.aadl_uses.specs.Uses.{below, IsInUse}
 use Rattle.aadl_uses.specs.proof.PackageContainment.{containment}
-use Rattle.aadl_uses.specs.Threads.{Lists, IsThreadAt, PathBefore, path_before}
+use Rattle.aadl_uses.specs.ThreadsBelow.{Lists, IsThreadAt, PathBefore, path_before}
 use Rattle.aadl_uses.specs.proof.ThreadCounts.{thread_marks}
 use Rattle.aadl_uses.proofs.PackageContainment.{below-same}
 use Rattle.aadl_uses.proofs.ThreadCounts.{threads_listed}
 use Rattle.aadl_uses.specs.proof.ContainmentGraphs.{Graph, below_in}
 use Rattle.aadl_uses.specs.proof.MarkedCounts.{AreListed, IsMarkedAt}
-use Rattle.aadl_uses.specs.proof.MarkedPaths.{paths_from, IsClosed}
+use Rattle.aadl_uses.specs.proof.PathsToMarked.{paths_from, IsClosed}
 
 -- ---- what is in use
 pub closed_by : (tree : PackageTree ℕ) (root : ℕ) (g : Graph) (used : List ℕ) → g ≡ containment tree

@@ -1,7 +1,7 @@
 -- The first connection into a port, and those behind it.
 use Rattle.std.specs.Prelude.{◌≡◌, ℕ, ◌<◌, List, Option, Some, slice_get}
 use Rattle.std.specs.Option.{option_and_then}
-use Rattle.aadl_names.specs.declared.site.PortPlace.{PortPlace}
+use Rattle.aadl_names.specs.declared.port_place.PortPlace.{PortPlace}
 use Rattle.aadl_uses.specs.declared.connections.Wire.{Wire}
 
 -- the port into which a connection goes, if it is declared

@@ -3,12 +3,12 @@ pub mod ContainmentGraphs
 pub mod RecursionSuspects
 pub mod ContainmentOrders
 pub mod MarkedCounts
-pub mod MarkedPaths
+pub mod PathsToMarked
 pub mod PathWeights
 pub mod PackageContainment
 pub mod ThreadCounts
-pub mod Recursion
+pub mod FirstRecursion
 pub mod ImplementationTypes
-pub mod PortNumbers
+pub mod NumbersByPort
 pub mod FirstConnections
 pub mod DeclarationWires

@@ -2,7 +2,7 @@
 ghost use Rattle.std.specs.Prelude.{◌<◌, ◌↔◌, ℕ, length, IfOk, OnOk, Contains};
 ghost use Rattle.aadl_uses.specs.proof.ContainmentGraphs.{AreAdded, IsReached, IsWithin};
 
-use crate::graph::Containment;
+use crate::containment::Containment;
 use indexmap::IndexSet;
 use std::alloc::{AllocError, Global};
 

@@ -1,8 +1,8 @@
 //! The connections of one declaration, found by the ports into which they go.
 ghost use Rattle.std.specs.Prelude.{◌≡◌, ◌↔◌, None, Some, IfOk, OnOk, IsTrue, if◌then◌else◌};
 ghost use Rattle.std.specs.Option.{option_or};
-ghost use Rattle.aadl_names.specs.declared.site.PortPlace.{PortPlace};
-ghost use Rattle.aadl_uses.specs.proof.PortNumbers.{is_site, number_of};
+ghost use Rattle.aadl_names.specs.declared.port_place.PortPlace.{PortPlace};
+ghost use Rattle.aadl_uses.specs.proof.NumbersByPort.{is_site, number_of};
 ghost use Rattle.aadl_uses.specs.FirstConnections as spec;
 ghost use Rattle.aadl_uses.specs.proof.FirstConnections as inner;
 
@@ -37,9 +37,9 @@ impl Drop for Connections {
 
 impl Model for Connections {
     ghost use Rattle.std.specs.Prelude.{◌≡◌, List};
-    ghost use Rattle.aadl_names.specs.declared.site.PortPlace.{PortPlace};
+    ghost use Rattle.aadl_names.specs.declared.port_place.PortPlace.{PortPlace};
     ghost use Rattle.aadl_uses.specs.declared.connections.Wire.{Wire};
-    ghost use Rattle.aadl_uses.specs.proof.PortNumbers.{number_of};
+    ghost use Rattle.aadl_uses.specs.proof.NumbersByPort.{number_of};
     ghost use Rattle.aadl_uses.specs.FirstConnections as spec;
     ghost use Rattle.aadl_uses.specs.proof.FirstConnections as inner;
 

@@ -3,9 +3,9 @@ ghost use Rattle.std.specs.Prelude.{◌<◌, ◌↔◌, ℕ, Contains, IfOk, len
 ghost use Rattle.aadl_tree.specs.proof.PackageViews.{placed};
 ghost use Rattle.aadl_uses.specs.Uses.{IsInUse};
 ghost use Rattle.aadl_uses.specs.proof.PackageContainment.{containment};
-ghost use Rattle.aadl_uses.specs.Threads.{Lists, IsThreadAt, PathBefore};
+ghost use Rattle.aadl_uses.specs.ThreadsBelow.{Lists, IsThreadAt, PathBefore};
 ghost use Rattle.aadl_uses.specs.proof.ContainmentOrders.{IsOrder};
-ghost use Rattle.aadl_uses.specs.proof.MarkedPaths.{paths_from};
+ghost use Rattle.aadl_uses.specs.proof.PathsToMarked.{paths_from};
 
 use crate::{Paths, Uses, paths_below};
 use indexmap::IndexSet;

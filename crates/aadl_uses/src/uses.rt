@@ -15,14 +15,14 @@ ghost use Rattle.aadl_uses.specs.proof.PackageContainment.{targets_in};
 ghost use Rattle.aadl_uses.specs.proof.ImplementationTypes.{type_in, type_number_at};
 ghost use Rattle.aadl_uses.specs.Uses.{sub_at, below, IsInUse, IsRecursive};
 ghost use Rattle.aadl_uses.specs.proof.ThreadCounts.{is_thread_in, is_thread_declaration, thread_marks, AreCounted};
-ghost use Rattle.aadl_uses.specs.Threads.{IsThreadAt, PathBefore, MoreThan};
+ghost use Rattle.aadl_uses.specs.ThreadsBelow.{IsThreadAt, PathBefore, MoreThan};
 ghost use Rattle.aadl_uses.specs.proof.ContainmentOrders.{IsOrder};
 ghost use Rattle.pals_base.specs.declared.limits.TheConstants.{COMPONENTS};
 
-use crate::types::types_of;
+use crate::implementation_types::types_of;
 use crate::{Containment, counts_below, order, reached};
 use aadl_names::Names;
-use aadl_names::numbered::{implementation_at, subcomponent_at, type_numbered};
+use aadl_names::declarations_by_number::{implementation_at, subcomponent_at, type_numbered};
 use aadl_tree::{Category, Declaration, Feature, Implementation, PackageTree, Subcomponent};
 use indexmap::IndexSet;
 use pals_base::Items;

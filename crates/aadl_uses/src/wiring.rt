@@ -9,7 +9,7 @@ ghost use Rattle.aadl_uses.specs.Wiring as spec;
 ghost use Rattle.aadl_uses.specs.proof.DeclarationWires.{wires_in};
 
 use crate::connections::{Connections, Wire};
-use crate::end_sites::site_of;
+use crate::port_places::site_of;
 use crate::uses::Uses;
 use aadl_tree::{Connection, Declaration};
 use pals_base::Items;

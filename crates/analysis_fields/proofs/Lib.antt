@@ -1,4 +1,4 @@
 pub mod ReplicaFaultFacts
-pub mod FaultPlaces
+pub mod ReplicaFaultPlaces
 pub mod FormulaLevels
 pub mod ProcessorFacts

@@ -20,11 +20,11 @@ use Rattle.pals_model.specs.declared.design.DesignParts.{DesignParts}
 use Rattle.pals_model.specs.NamesInTexts.{node_named}
 use Rattle.scenario_values.specs.declared.fault.ScenarioFault.{ScenarioFault}
 use Rattle.scenario_values.specs.declared.fault.ScenarioFault.TheVariants.{Unknown, OutOfRange}
-use Rattle.scenario_values.specs.Outcomes.{◌>>=◌, only_if, through}
+use Rattle.scenario_values.specs.ResultCombinators.{◌>>=◌, only_if, through}
 use Rattle.scenario_values.specs.FaultPlaces.{inside}
 use Rattle.scenario_values.specs.FieldValues.{entries, text, whole}
-use Rattle.scenario_values.proofs.SuccessfulOutcomes.{ok_same, ok_bind, ok_given, ok_only_if, through_keeps}
-use Rattle.scenario_values.proofs.SuccessfulOutcomes.{whole_within}
+use Rattle.scenario_values.proofs.SuccessfulResults.{ok_same, ok_bind, ok_given, ok_only_if, through_keeps}
+use Rattle.scenario_values.proofs.SuccessfulResults.{whole_within}
 use Rattle.scenario_values.specs.NameLookup.{node_no, node_at}
 use Rattle.scenario_values.proofs.NameSearch.{within}
 use Rattle.analysis_fields.specs.proof.AnalysisFacts.{IsProcessorOf}

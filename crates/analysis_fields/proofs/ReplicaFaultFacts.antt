@@ -15,14 +15,14 @@ use Rattle.pals_model.specs.declared.design.DesignParts.{DesignParts}
 use Rattle.pals_model.specs.ComponentInputs.{rate_of}
 use Rattle.scenario_values.specs.declared.fault.ScenarioFault.{ScenarioFault}
 use Rattle.scenario_values.specs.declared.fault.ScenarioFault.TheVariants.{WrongKind, Unknown, OutOfRange}
-use Rattle.scenario_values.specs.Outcomes.{◌>>=◌, only_if, through}
+use Rattle.scenario_values.specs.ResultCombinators.{◌>>=◌, only_if, through}
 use Rattle.scenario_values.specs.FaultPlaces.{inside}
 use Rattle.scenario_values.specs.FieldValues.{elements, text, whole, is_whole, port_value}
-use Rattle.scenario_values.proofs.SuccessfulOutcomes.{ok_same, ok_bind, ok_only_if, through_keeps, whole_within}
+use Rattle.scenario_values.proofs.SuccessfulResults.{ok_same, ok_bind, ok_only_if, through_keeps, whole_within}
 use Rattle.scenario_values.specs.NameLookup.{node_no, link_no, node_at, link_at}
 use Rattle.analysis_fields.specs.proof.AnalysisFacts.{IsFaultOf}
-use Rattle.analysis_fields.specs.declared.faults.FaultEnds.{FaultEnds}
-use Rattle.analysis_fields.specs.declared.faults.RoundFault.{RoundFault}
+use Rattle.analysis_fields.specs.declared.replica_faults.FaultEnds.{FaultEnds}
+use Rattle.analysis_fields.specs.declared.replica_faults.RoundFault.{RoundFault}
 use Rattle.analysis_fields.specs.declared.limits.TheConstants.{REPLICAS}
 use Rattle.analysis_fields.specs.Replicas.{is_among, source_in, copies_at, kind_at, with_fault_value, fault_values}
 use Rattle.analysis_fields.specs.Replicas.{replica_at, link_from, ends_of, fault_behind, fault_of, fault_from, fault_in}

@@ -8,10 +8,10 @@ use Rattle.pals_model.specs.declared.design.Link.{Link}
 use Rattle.pals_model.specs.declared.design.DesignParts.{DesignParts}
 use Rattle.pals_model.specs.ComponentInputs.{rate_of}
 use Rattle.pals_model.specs.NamesInTexts.{node_named}
-use Rattle.pals_runs.specs.declared.pairs.Pair.{Pair}
+use Rattle.pals_runs.specs.declared.analysis_inputs.Pair.{Pair}
 use Rattle.scenario_values.specs.declared.fault.ScenarioFault.{ScenarioFault}
 use Rattle.scenario_values.specs.declared.fault.ScenarioFault.TheVariants.{OutOfRange}
-use Rattle.scenario_values.specs.Outcomes.{◌>>=◌, only_if, through}
+use Rattle.scenario_values.specs.ResultCombinators.{◌>>=◌, only_if, through}
 use Rattle.scenario_values.specs.FaultPlaces.{inside}
 use Rattle.scenario_values.specs.FieldValues.{entries, text}
 use Rattle.scenario_values.specs.NameLookup.{node_no, node_at}

@@ -9,12 +9,12 @@ use Rattle.pals_base.specs.declared.values.NodeNo.{NodeNo}
 use Rattle.pals_base.specs.declared.limits.TheConstants.{HOUR}
 use Rattle.pals_base.specs.Names.{is_word}
 use Rattle.pals_model.specs.declared.design.DesignParts.{DesignParts}
-use Rattle.pals_runs.specs.Journal.{node_word}
+use Rattle.pals_runs.specs.JournalLines.{node_word}
 use Rattle.scenario_values.specs.declared.fault.ScenarioFault.{ScenarioFault}
 use Rattle.scenario_values.specs.declared.fault.ScenarioFault.TheVariants.{Field, WrongKind, OutOfRange}
 use Rattle.analysis_fields.specs.declared.limits.TheConstants.{PROCESSORS}
 use Rattle.analysis_fields.specs.declared.processors.Processor.{Processor}
-use Rattle.scenario_values.specs.Outcomes.{◌>>=◌, given, only_if, through}
+use Rattle.scenario_values.specs.ResultCombinators.{◌>>=◌, given, only_if, through}
 use Rattle.scenario_values.specs.FaultPlaces.{inside}
 use Rattle.scenario_values.specs.FieldValues.{elements, entries, text, whole, is_whole}
 use Rattle.scenario_values.specs.NameLookup.{node_no, node_at}

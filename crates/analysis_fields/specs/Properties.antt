@@ -16,7 +16,7 @@ use Rattle.scenario_values.specs.declared.fault.ScenarioFault.{ScenarioFault}
 use Rattle.scenario_values.specs.declared.fault.ScenarioFault.TheVariants.{WrongKind, Unknown, OutOfRange}
 use Rattle.analysis_fields.specs.declared.formulas.FormulaWord.{FormulaWord}
 use Rattle.analysis_fields.specs.declared.limits.TheConstants.{PROPERTIES, FORMS, LEVELS}
-use Rattle.scenario_values.specs.Outcomes.{◌>>=◌, given, only_if, through}
+use Rattle.scenario_values.specs.ResultCombinators.{◌>>=◌, given, only_if, through}
 use Rattle.scenario_values.specs.FaultPlaces.{inside}
 use Rattle.analysis_fields.specs.PropertyValues.{PropertyValue}
 use Rattle.scenario_values.specs.FieldValues.{values_in, elements, entries, text, number, is_whole}

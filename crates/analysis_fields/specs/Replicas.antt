@@ -15,11 +15,11 @@ use Rattle.pals_model.specs.ComponentInputs.{rate_of}
 use Rattle.pals_model.specs.PortKinds.{out_kind}
 use Rattle.scenario_values.specs.declared.fault.ScenarioFault.{ScenarioFault}
 use Rattle.scenario_values.specs.declared.fault.ScenarioFault.TheVariants.{WrongKind, Unknown, OutOfRange}
-use Rattle.analysis_fields.specs.declared.faults.FaultEnds.{FaultEnds}
-use Rattle.analysis_fields.specs.declared.faults.FaultPlace.{FaultPlace}
-use Rattle.analysis_fields.specs.declared.faults.RoundFault.{RoundFault}
+use Rattle.analysis_fields.specs.declared.replica_faults.FaultEnds.{FaultEnds}
+use Rattle.analysis_fields.specs.declared.replica_faults.FaultPlace.{FaultPlace}
+use Rattle.analysis_fields.specs.declared.replica_faults.RoundFault.{RoundFault}
 use Rattle.analysis_fields.specs.declared.limits.TheConstants.{REPLICAS}
-use Rattle.scenario_values.specs.Outcomes.{◌>>=◌, only_if, through}
+use Rattle.scenario_values.specs.ResultCombinators.{◌>>=◌, only_if, through}
 use Rattle.scenario_values.specs.FaultPlaces.{inside}
 use Rattle.scenario_values.specs.FieldValues.{elements, text, whole, is_whole, port_value}
 use Rattle.scenario_values.specs.NameLookup.{node_no, link_no, node_at, link_at}

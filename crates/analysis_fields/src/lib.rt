@@ -3,7 +3,7 @@
 //! its module, in `specs`.
 #![tactic(auto)]
 
-mod faults;
+mod replica_faults;
 mod formulas;
 mod limits;
 mod plants;
@@ -11,7 +11,7 @@ mod processors;
 mod properties;
 mod replicas;
 
-pub use faults::{RoundFault, read_faults};
+pub use replica_faults::{RoundFault, read_faults};
 pub use plants::read_plants;
 pub use processors::{Processor, read_processors};
 pub use properties::{Property, read_properties};

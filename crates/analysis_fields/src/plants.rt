@@ -2,7 +2,7 @@
 ghost use Rattle.std.specs.Prelude.{◌≡◌, IfOk, IfErr, count_by, map};
 ghost use Rattle.std.specs.List.{list_all};
 ghost use Rattle.serde_json.specs.View.{view};
-ghost use Rattle.scenario_values.specs.Outcomes.{Answers};
+ghost use Rattle.scenario_values.specs.ResultCombinators.{Answers};
 ghost use Rattle.scenario_values.specs.FieldValues.{entry_of};
 ghost use Rattle.pals_model.specs.NamesInTexts.{node_named};
 ghost use Rattle.analysis_fields.specs.Plants.{controller_in, named_in, is_number, names_node, shares, is_between};

@@ -3,7 +3,7 @@ ghost use Rattle.std.specs.Prelude.{◌≡◌, ◌≤◌, [], IfOk, length, map}
 ghost use Rattle.std.specs.List.{list_all};
 ghost use Rattle.serde_json.specs.View.{view};
 ghost use Rattle.pals_base.specs.declared.limits.TheConstants.{COMPONENTS};
-ghost use Rattle.scenario_values.specs.Outcomes.{Answers, Makes, Shows, through};
+ghost use Rattle.scenario_values.specs.ResultCombinators.{Answers, Makes, Shows, through};
 ghost use Rattle.scenario_values.specs.FaultPlaces.{place_text};
 ghost use Rattle.scenario_values.specs.FieldValues.{entry_of};
 ghost use Rattle.analysis_fields.specs.Processors.{with_member, with_members, nodes_of, is_text, processor_parts};

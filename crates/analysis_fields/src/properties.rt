@@ -3,7 +3,7 @@ ghost use Rattle.std.specs.Prelude.{◌≡◌, map};
 ghost use Rattle.std.specs.List.{list_all};
 ghost use Rattle.serde_json.specs.View.{view};
 ghost use Rattle.pals_base.specs.Names.{is_word};
-ghost use Rattle.scenario_values.specs.Outcomes.{Answers};
+ghost use Rattle.scenario_values.specs.ResultCombinators.{Answers};
 ghost use Rattle.scenario_values.specs.FieldValues.{entry_of};
 ghost use Rattle.analysis_fields.specs.Properties.{property_in, properties_in};
 
@@ -34,13 +34,13 @@ impl Drop for Property {
 
 impl Model for Property {
     ghost use Rattle.analysis_fields.specs.PropertyValues.{PropertyValue};
-    ghost use Rattle.analysis_fields.specs.proof.PropertyCodes.{property_code};
+    ghost use Rattle.analysis_fields.specs.proof.PropertyEncoding.{property_code};
 
     ghost Value = { PropertyValue };
 
     ghost coded = { property_code };
 
-    ghost use Rattle.pals_runs.specs.proof.FormulaOf.{formula_of};
+    ghost use Rattle.pals_runs.specs.proof.FormulasOfForms.{formula_of};
 
     ghost view = { λ property. record { name = property.name; form = formula_of property.form } };
 }

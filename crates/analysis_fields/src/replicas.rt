@@ -1,7 +1,7 @@
 //! Replicas.
 ghost use Rattle.std.specs.Prelude.{◌≡◌, ◌∷◌, ◌++◌, []};
 ghost use Rattle.serde_json.specs.View.{view};
-ghost use Rattle.scenario_values.specs.Outcomes.{Answers, Shows};
+ghost use Rattle.scenario_values.specs.ResultCombinators.{Answers, Shows};
 ghost use Rattle.analysis_fields.specs.Replicas.{is_among, with_replica, replicas_in};
 
 use pals_base::{Items, NodeNo};

@@ -2,14 +2,14 @@
 use Rattle.std.proofs.Common.{◌≡◌, ◌∙◌, ◌++◌, ℕ, suc, ◌+◌, List, [], sym, ap, subst, slice_get, add-one}
 use Rattle.pals_base.specs.declared.values.PortValue.{PortValue}
 use Rattle.pals_model.specs.declared.design.DesignParts.{DesignParts}
-use Rattle.pals_model.specs.declared.rounds.Env.{Env}
+use Rattle.pals_model.specs.declared.inputs_and_parts.Env.{Env}
 use Rattle.pals_model.specs.ComponentInputs.{values_at}
-use Rattle.pals_model.specs.Rules.{IsDesign}
+use Rattle.pals_model.specs.DesignRules.{IsDesign}
 use Rattle.pals_model.specs.RoundTexts.{text_of, row_lines}
-use Rattle.pals_runs.specs.declared.pairs.Pair.{Pair}
+use Rattle.pals_runs.specs.declared.analysis_inputs.Pair.{Pair}
 use Rattle.plant_fuse.specs.proof.Fusibility.{IsFirstBad}
 use Rattle.plant_fuse.specs.FusedComposition.{ArePairs, Inputs, IsFused}
-use Rattle.plant_fuse.specs.proof.State.{FuseState, begun, IsAdvanced}
+use Rattle.plant_fuse.specs.proof.FuseState.{FuseState, begun, IsAdvanced}
 use Rattle.plant_fuse.specs.FusedText.{freport, IsFusedReport}
 use Rattle.plant_fuse.proofs.Solutions.{solution_exists}
 use Rattle.plant_fuse.proofs.StateSolutions.{StandsAt, begins, stands_next, leaves_parts}

@@ -3,6 +3,6 @@ pub mod LineBlocks
 pub mod WatchedRounds
 pub mod FilledTables
 pub mod VotedRows
-pub mod VotedFaults
+pub mod AllowedVoteFaults
 pub mod FusedRows
 pub mod OutvotedFaults

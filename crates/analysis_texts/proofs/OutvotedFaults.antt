@@ -8,10 +8,10 @@ use Rattle.std.proofs.Math.ListN.{get_or-map}
 use Rattle.pals_base.specs.StepSequences.{upwards}
 use Rattle.pals_base.specs.declared.values.NodeNo.{NodeNo}
 use Rattle.pals_model.specs.declared.design.DesignParts.{DesignParts}
-use Rattle.pals_model.specs.declared.rounds.Env.{Env}
+use Rattle.pals_model.specs.declared.inputs_and_parts.Env.{Env}
 use Rattle.pals_model.specs.RoundTexts.{report}
-use Rattle.pals_model.specs.Rules.{IsDesign}
-use Rattle.analysis_fields.specs.declared.faults.RoundFault.{RoundFault}
+use Rattle.pals_model.specs.DesignRules.{IsDesign}
+use Rattle.analysis_fields.specs.declared.replica_faults.RoundFault.{RoundFault}
 use Rattle.analysis_fields.specs.proof.AnalysisFacts.{IsFaultOf}
 use Rattle.analysis_fields.specs.Replicas.{is_among}
 use Rattle.triple_vote.specs.OutvotedFaults.{AreOutvoted}
@@ -19,7 +19,7 @@ use Rattle.triple_vote.specs.Replicas.{is_replicated}
 use Rattle.triple_vote.specs.VotedText.{vreport, thrice}
 use Rattle.triple_vote.proofs.VotedReports.{report_is_thrice, thrice_without_replicas}
 use Rattle.analysis_texts.specs.VotedReplicas.{replicated_in, faults_of}
-use Rattle.analysis_texts.proofs.VotedFaults.{faults_keep}
+use Rattle.analysis_texts.proofs.AllowedVoteFaults.{faults_keep}
 
 -- a component without replicas has no faults
 no_faults : (design : DesignParts) (faults : List RoundFault) → All (IsFaultOf design []) faults → faults ≡ []

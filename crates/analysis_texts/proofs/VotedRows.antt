@@ -6,10 +6,10 @@ use Rattle.pals_base.specs.declared.values.PortValue.{PortValue}
 use Rattle.pals_model.specs.declared.design.Component.{Component}
 use Rattle.pals_model.specs.declared.design.Tap.{Tap}
 use Rattle.pals_model.specs.declared.design.DesignParts.{DesignParts}
-use Rattle.pals_model.specs.declared.rounds.Env.{Env}
+use Rattle.pals_model.specs.declared.inputs_and_parts.Env.{Env}
 use Rattle.pals_model.specs.ComponentInputs.{values_at}
 use Rattle.pals_model.specs.RoundTexts.{line_end, text_of, round_line, component_line}
-use Rattle.pals_runs.specs.declared.pairs.VoteFault.{VoteFault}
+use Rattle.pals_runs.specs.declared.analysis_inputs.VoteFault.{VoteFault}
 use Rattle.triple_vote.specs.Replicas.{Voted, is_replicated, copies_of, frame_at, vcomp, vshown}
 use Rattle.triple_vote.specs.proof.VotedStates.{VotedState, vadvanced}
 use Rattle.triple_vote.specs.VotedText.{replica_name, shown_line, vrow_lines, voted_lines, vreport}

@@ -8,18 +8,18 @@ use Rattle.std.proofs.lemmas.List.{length-map, get_or-map, take_more, map-append
 use Rattle.std.proofs.lemmas.Simd.{map-map}
 use Rattle.pals_base.specs.declared.values.Frame.{Frame}
 use Rattle.pals_model.specs.declared.design.DesignParts.{DesignParts}
-use Rattle.pals_model.specs.declared.rounds.Env.{Env}
+use Rattle.pals_model.specs.declared.inputs_and_parts.Env.{Env}
 use Rattle.pals_model.specs.RoundTexts.{line_end, text_of, round_line}
 use Rattle.pals_runs.specs.Formula.{Formula}
-use Rattle.pals_runs.specs.Journal.{spaced}
+use Rattle.pals_runs.specs.JournalLines.{spaced}
 use Rattle.analysis_fields.specs.PropertyValues.{PropertyValue}
 use Rattle.run_monitor.specs.FormulaSemantics.{holds}
 use Rattle.run_monitor.specs.WatchText.{names_of, formulas_of, verdict_line, watched_lines, violation_text, last_line}
 use Rattle.run_monitor.specs.WatchText.{watched_rows, watch_text}
-use Rattle.run_monitor.specs.Violations.{history, verdicts, violation, is_violated}
+use Rattle.run_monitor.specs.FalseProperties.{history, verdicts, violation, is_violated}
 use Rattle.run_monitor.specs.proof.SeveralMonitors.{MonitorsState, HasWatched}
-use Rattle.run_monitor.specs.declared.violation.FalseProperty.{FalseProperty}
-use Rattle.run_monitor.proofs.Violations.{violated_is_first, others_hold}
+use Rattle.run_monitor.specs.declared.false_property.FalseProperty.{FalseProperty}
+use Rattle.run_monitor.proofs.FirstFalseProperty.{violated_is_first, others_hold}
 use Rattle.run_monitor.proofs.PropertyRows.{rows_go_on}
 use Rattle.run_monitor.proofs.HistoryGrowth.{history_has_rounds}
 use Rattle.analysis_texts.specs.WatchedProperties.{named, formulas}

@@ -1,6 +1,6 @@
 -- Processors of a scenario, as round budgets see them.
 use Rattle.std.specs.Prelude.{ℕ, codes, decimal, Bool, List, [], ◌∷◌}
-use Rattle.pals_runs.specs.Journal.{spaced}
+use Rattle.pals_runs.specs.JournalLines.{spaced}
 use Rattle.analysis_fields.specs.declared.processors.Processor.{Processor as Described}
 use Rattle.round_budget.specs.BudgetText.{Processor, fit_word}
 use Rattle.round_budget.specs.Budgets.{numbers}

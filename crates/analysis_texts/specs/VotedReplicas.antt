@@ -3,8 +3,8 @@ use Rattle.std.specs.Prelude.{ℕ, nat_eq, Bool, List, length, map, filter}
 use Rattle.pals_base.specs.declared.values.NodeNo.{NodeNo}
 use Rattle.pals_base.specs.StepSequences.{upwards}
 use Rattle.pals_model.specs.declared.design.DesignParts.{DesignParts}
-use Rattle.pals_runs.specs.declared.pairs.VoteFault.{VoteFault}
-use Rattle.analysis_fields.specs.declared.faults.RoundFault.{RoundFault}
+use Rattle.pals_runs.specs.declared.analysis_inputs.VoteFault.{VoteFault}
+use Rattle.analysis_fields.specs.declared.replica_faults.RoundFault.{RoundFault}
 use Rattle.analysis_fields.specs.Replicas.{is_among}
 
 -- for each component of a design whether it is among those that have replicas

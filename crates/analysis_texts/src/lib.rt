@@ -1,8 +1,8 @@
 //! The texts of the commands that look at a design round by round.
 #![tactic(auto)]
 
-mod faults;
-mod names;
+mod faults_by_round;
+mod replica_names;
 mod plants;
 mod processors;
 mod properties;

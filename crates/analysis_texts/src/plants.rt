@@ -1,10 +1,10 @@
 //! The rounds of plants without delay.
 ghost use Rattle.std.specs.Prelude.{◌≡◌, ◌++◌, [], IfOk, OnOk, slice_get};
-ghost use Rattle.pals_model.specs.Rules.{IsDesign};
+ghost use Rattle.pals_model.specs.DesignRules.{IsDesign};
 ghost use Rattle.pals_model.specs.RoundTexts.{text_of, row_lines, report};
 ghost use Rattle.pals_report.specs.proof.TapPlaces.{tap_places};
 ghost use Rattle.plant_fuse.specs.FusedComposition.{ArePairs};
-ghost use Rattle.plant_fuse.specs.proof.State.{begun, IsAdvanced};
+ghost use Rattle.plant_fuse.specs.proof.FuseState.{begun, IsAdvanced};
 ghost use Rattle.plant_fuse.specs.FusedText.{IsFusedReport};
 
 use pals_base::{Items, NoMemory, PortValue};

@@ -1,11 +1,11 @@
 //! The rounds of watched properties.
 ghost use Rattle.std.specs.Prelude.{◌≡◌, ◌++◌, [], ◌+◌, ◌<◌, List, length, IfOk, IfSome, OnOk};
 ghost use Rattle.pals_base.specs.declared.values.Frame.{Frame};
-ghost use Rattle.pals_model.specs.declared.rounds.Env.{Env};
+ghost use Rattle.pals_model.specs.declared.inputs_and_parts.Env.{Env};
 ghost use Rattle.pals_model.specs.Composition.{comp};
 ghost use Rattle.pals_model.specs.ComponentInputs.{values_at};
 ghost use Rattle.pals_model.specs.RoundTexts.{text_of, line_end};
-ghost use Rattle.run_monitor.specs.Violations.{history, verdicts, is_violated};
+ghost use Rattle.run_monitor.specs.FalseProperties.{history, verdicts, is_violated};
 ghost use Rattle.run_monitor.specs.WatchText.{names_of, verdict_line, watched_lines, violation_text, last_line};
 ghost use Rattle.run_monitor.specs.WatchText.{watch_text};
 ghost use Rattle.pals_runs.specs.Formula.{Formula};

@@ -3,9 +3,9 @@ ghost use Rattle.std.specs.Prelude.{◌≡◌, ◌++◌, ◌<◌, ◌^◌, ℕ, 
 ghost use Rattle.pals_base.specs.StepSequences.{upwards};
 ghost use Rattle.pals_base.specs.declared.values.PortValue.{PortValue};
 ghost use Rattle.pals_model.specs.declared.design.Tap.{Tap};
-ghost use Rattle.pals_model.specs.Rules.{IsDesign};
+ghost use Rattle.pals_model.specs.DesignRules.{IsDesign};
 ghost use Rattle.pals_model.specs.RoundTexts.{text_of, report};
-ghost use Rattle.pals_runs.specs.declared.pairs.VoteFault.{VoteFault};
+ghost use Rattle.pals_runs.specs.declared.analysis_inputs.VoteFault.{VoteFault};
 ghost use Rattle.analysis_fields.specs.proof.AnalysisFacts.{IsFaultOf};
 ghost use Rattle.triple_vote.specs.proof.VoteLaws.{IsFault};
 ghost use Rattle.triple_vote.specs.Replicas.{is_replicated, frame_at, vopening};
@@ -15,8 +15,8 @@ ghost use Rattle.triple_vote.specs.OutvotedFaults.{AreOutvoted};
 ghost use Rattle.analysis_texts.specs.VotedReplicas.{replicated_in, faults_of};
 ghost use Rattle.analysis_texts.specs.proof.ReplicaLines.{names_of, all_names, all_lines};
 
-use crate::faults::by_round;
-use crate::names::{replica_names, replicated};
+use crate::faults_by_round::by_round;
+use crate::replica_names::{replica_names, replicated};
 use analysis_fields::RoundFault;
 use pals_base::{Items, NoMemory, NodeNo, PortValue, Text, Tuple};
 use pals_model::{Component, Design, DesignParts, Env};

@@ -1,11 +1,11 @@
 pub mod StructViews
-pub mod OperandChains
-pub mod SumLevels
-pub mod ExpressionLevels
-pub mod SingleNames
-pub mod ActionLevels
+pub mod SeveralOperands
+pub mod ResolvedSums
+pub mod ResolvedExpressions
+pub mod SingleQualifiers
+pub mod ResolvedActions
 pub mod StateReachability
 pub mod TableCells
 pub mod TransitionTables
-pub mod LoopResults
+pub mod MappedLists
 pub mod StateFindings

@@ -5,17 +5,17 @@ use Rattle.std.specs.Prelude.{flat_map}
 use Rattle.std.specs.List.{enumerate_from}
 use Rattle.std.proofs.lemmas.List.{append-nil}
 use Rattle.std.proofs.lemmas.Grind.{flat_map-append}
-use Rattle.list_lemmas.proofs.Lists.{enumerate_from-push, length-take_within}
+use Rattle.list_lemmas.proofs.ListOperations.{enumerate_from-push, length-take_within}
 use Rattle.pals_base.specs.declared.behaviour.BehaviourParts.{BehaviourParts}
 use Rattle.pals_base.specs.PlainTrees.{Edge}
 use Rattle.aadl_tree.specs.Annexes.{Transition, AnnexTree}
 use Rattle.annex_resolve.specs.declared.scope.Scope.{Scope}
-use Rattle.annex_resolve.specs.declared.behaviour.DeclaredValues.{DeclaredValues}
+use Rattle.annex_resolve.specs.declared.declared_values.DeclaredValues.{DeclaredValues}
 use Rattle.annex_resolve.specs.declared.states.StateAt.{StateAt}
 use Rattle.annex_resolve.specs.declared.violation.Violation.{Violation}
 use Rattle.annex_resolve.specs.Behaviours.{states_of, transitions_of, edge_of, parts_by, behaviour_of}
 use Rattle.annex_resolve.specs.Behaviours.{transition_findings, rule_findings, annex_findings}
-use Rattle.annex_resolve.proofs.SumLevels.{take_next}
+use Rattle.annex_resolve.proofs.ResolvedSums.{take_next}
 
 numbered_next : {A B : Type 0} (f : ℕ × A → List B) (xs : List A) (i : ℕ) (x : A) → i < length xs → x ≡ get_or xs i x
     → flat_map f (enumerate_from 0 (take (i + 1) xs)) ≡ flat_map f (enumerate_from 0 (take i xs)) ++ f (i, x)

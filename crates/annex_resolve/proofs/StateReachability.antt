@@ -9,7 +9,7 @@ use Rattle.list_lemmas.proofs.Numbers.{nat_eq-self}
 use Rattle.pals_base.specs.declared.behaviour.BehaviourParts.{BehaviourParts}
 use Rattle.pals_base.specs.PlainTrees.{Edge}
 use Rattle.pals_base.specs.SingleStep.{is_complete, leaving}
-use Rattle.pals_base.specs.Rules.{IsWay, IsAcyclic}
+use Rattle.pals_base.specs.BehaviourRules.{IsWay, IsAcyclic}
 use Rattle.pals_base.proofs.WaysAndCycles.{incomplete_within}
 use Rattle.annex_resolve.specs.CycleRules.{leads, reaches, is_on_cycle}
 

@@ -7,17 +7,17 @@ use Rattle.pals_base.specs.declared.behaviour.StateDecl.{StateDecl}
 use Rattle.pals_base.specs.declared.behaviour.BehaviourParts.{BehaviourParts}
 use Rattle.pals_base.specs.declared.behaviour.Kind.TheVariants.{Boolean}
 use Rattle.pals_base.specs.SingleStep.{is_complete, leaving}
-use Rattle.pals_base.specs.Rules.{dispatch_count}
+use Rattle.pals_base.specs.BehaviourRules.{dispatch_count}
 use Rattle.pals_base.specs.StepSequences.{upwards}
 use Rattle.aadl_tree.specs.Names.{Identifier, same_name, identifiers, listed_in}
 use Rattle.aadl_tree.specs.Annexes.{StateDeclaration, Guard, dispatch, otherwise, when, Transition, AnnexTree}
 use Rattle.aadl_tree.specs.Actions.{Block}
 use Rattle.annex_resolve.specs.declared.scope.Scope.{Scope}
-use Rattle.annex_resolve.specs.declared.behaviour.DeclaredValues.{DeclaredValues}
+use Rattle.annex_resolve.specs.declared.declared_values.DeclaredValues.{DeclaredValues}
 use Rattle.annex_resolve.specs.declared.states.StateAt.{StateAt}
-use Rattle.annex_resolve.specs.declared.ways.Departure.{Departure}
-use Rattle.annex_resolve.specs.declared.ways.GuardKind.{GuardKind}
-use Rattle.annex_resolve.specs.declared.ways.GuardKind.TheVariants.{Dispatch, Otherwise, Always, Guarded}
+use Rattle.annex_resolve.specs.declared.departures.Departure.{Departure}
+use Rattle.annex_resolve.specs.declared.departures.GuardKind.{GuardKind}
+use Rattle.annex_resolve.specs.declared.departures.GuardKind.TheVariants.{Dispatch, Otherwise, Always, Guarded}
 use Rattle.annex_resolve.specs.declared.violation.Violation.{Violation}
 use Rattle.annex_resolve.specs.declared.violation.TheConstants.{NO_INITIAL, DISPATCH_COUNT, NO_OTHERWISE}
 use Rattle.annex_resolve.specs.declared.violation.TheConstants.{CYCLE_WITHOUT_COMPLETE}

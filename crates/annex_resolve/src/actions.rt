@@ -1,7 +1,7 @@
 //! Actions: what is wrong with them, and the trees in which names are numbers. They recur as deep as
 //! the actions are.
 ghost use Rattle.std.specs.Prelude.{◌≡◌, ◌+◌, ◌≤◌, IfOk, option_copied, option_map};
-ghost use Rattle.pals_base.specs.proof.SourceTrees.{tree_of, action_of as act_tree};
+ghost use Rattle.pals_base.specs.proof.TreeViews.{tree_of, action_of as act_tree};
 ghost use Rattle.pals_base.specs.declared.limits.TheConstants.{NESTED_TURNS};
 ghost use Rattle.aadl_tree.specs.proof.PlaceMaps.{kept_place};
 ghost use Rattle.aadl_tree.specs.proof.ExpressionViews.{expression_view};
@@ -17,7 +17,7 @@ ghost use Rattle.annex_resolve.specs.proof.ResolutionResults.{ReadsAction, Reads
 use crate::expressions::{kind_of, resolve_whole};
 use crate::loops::{count_turns, is_too_long, signed, together};
 use crate::scope::{DeclaredName, Meaning, Scope};
-use crate::types::kind_named;
+use crate::type_names::kind_named;
 use crate::violation::{BAD_TYPE, LOOP_TOO_LONG, Violation, add_if};
 use aadl_tree::{Action, Actions, Block, Choice, Expression, Loop, push_exact};
 use pals_base::{Act, Branch, Expr, Items, Kind, NoMemory};

@@ -2,7 +2,7 @@
 ghost use Rattle.std.specs.Prelude.{◌≡◌, ◌++◌, IfOk, OnOk, Some, option_map, option_copied};
 ghost use Rattle.pals_base.specs.declared.behaviour.Kind.TheVariants.{Integer, Boolean};
 ghost use Rattle.pals_base.specs.PlainTrees.{Literal, Chain, Then, NoMore};
-ghost use Rattle.pals_base.specs.proof.SourceTrees.{tree_of, operands_along};
+ghost use Rattle.pals_base.specs.proof.TreeViews.{tree_of, operands_along};
 ghost use Rattle.aadl_tree.specs.Expressions.{named};
 ghost use Rattle.aadl_tree.specs.proof.PlaceMaps.{kept_place};
 ghost use Rattle.aadl_tree.specs.proof.NameViews.{identifier_view};

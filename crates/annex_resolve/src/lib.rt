@@ -3,22 +3,22 @@
 #![tactic(auto)]
 
 pub mod actions;
-pub mod behaviour;
+pub mod declared_values;
 pub mod cycles;
 pub mod expressions;
 pub mod laws;
 pub mod loops;
-pub mod rules;
+pub mod annex;
 pub mod scope;
 pub mod states;
 pub mod transitions;
-pub mod types;
+pub mod type_names;
 pub mod violation;
-pub mod ways;
+pub mod departures;
 
 pub use actions::resolve_block;
-pub use behaviour::DeclaredValues;
+pub use declared_values::DeclaredValues;
 pub use expressions::{Typed, expect, fits, resolve_whole};
-pub use rules::resolve_annex;
+pub use annex::resolve_annex;
 pub use scope::{DeclaredName, Meaning, Scope};
 pub use violation::{Violation, add_if};

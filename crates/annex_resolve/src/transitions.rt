@@ -1,6 +1,6 @@
 //! The transitions of an annex.
 ghost use Rattle.std.specs.Prelude.{◌≡◌, ◌++◌, IfOk, OnOk, option_map, map, flat_map};
-ghost use Rattle.pals_base.specs.proof.SourceTrees.{trigger_of as trigger_tree};
+ghost use Rattle.pals_base.specs.proof.TreeViews.{trigger_of as trigger_tree};
 ghost use Rattle.aadl_tree.specs.proof.PlaceMaps.{kept_place};
 ghost use Rattle.aadl_tree.specs.proof.ActionViews.{block_view};
 ghost use Rattle.aadl_tree.specs.proof.DeclarationViews.{guard_view, transition_view};

@@ -3,14 +3,14 @@ use Rattle.std.proofs.Common.{◌≡◌, inl, inr, ℕ, ◌<◌, List}
 use Rattle.pals_runs.specs.declared.commands.Command.{Command}
 use Rattle.bundle_designs.specs.RefusedTexts.{IsTextRefused}
 use Rattle.bundle_designs.specs.BundleMeanings.{IsPackageRefused}
-use Rattle.pals_top.specs.Refusals.{IsBundleRefused}
-use Rattle.pals_top.specs.ScenarioFaults.{HasScenarioFault}
+use Rattle.pals_top.specs.RefusalAnswers.{IsBundleRefused}
+use Rattle.pals_top.specs.BundleScenarios.{HasScenarioFault}
 use Rattle.pals_top.specs.Print.{IsPrintAnswer}
 use Rattle.pals_top.specs.Check.{IsCheckAnswer}
-use Rattle.pals_top.specs.AnalysisKinds.{Analysis}
+use Rattle.pals_top.specs.AnalysisCommands.{Analysis}
 use Rattle.pals_top.specs.AnalysisAnswers.{command_of, IsAnalysisAnswer}
-use Rattle.answer_laws.specs.proof.BundleMeanings.{HasTree, MeansDesign, MeansScenario}
-use Rattle.answer_laws.proofs.UniquenessLaws.{OneDesign}
+use Rattle.answer_laws.specs.proof.BundleContents.{HasTree, MeansDesign, MeansScenario}
+use Rattle.answer_laws.proofs.UniquenessPremises.{OneDesign}
 use Rattle.answer_laws.proofs.UniqueDesigns.{read_or_refused, package_refused}
 use Rattle.answer_laws.proofs.BundleScenarios.{meant_or_refused}
 use Rattle.answer_laws.proofs.UniqueResults.{analysis_status}

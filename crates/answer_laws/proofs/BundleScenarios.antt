@@ -6,11 +6,11 @@ use Rattle.pals_runs.specs.declared.commands.Command.{Command}
 use Rattle.scenario_values.specs.declared.fault.ScenarioFault.{ScenarioFault}
 use Rattle.scenario_json.specs.declared.scenario.Scenario.{Scenario}
 use Rattle.scenario_json.specs.Scenarios.{Means}
-use Rattle.pals_report.specs.ScenarioFaults.{scenario_fault_line}
+use Rattle.pals_report.specs.ScenarioFaultLines.{scenario_fault_line}
 use Rattle.bundle_designs.specs.BundleMeanings.{IsAccepted}
-use Rattle.pals_top.specs.ScenarioFaults.{HasScenario, HasScenarioFault}
+use Rattle.pals_top.specs.BundleScenarios.{HasScenario, HasScenarioFault}
 use Rattle.answer_laws.proofs.UniqueScenarios.{same_scenario, same_fault, scenario_or_fault}
-use Rattle.answer_laws.proofs.UniquenessLaws.{OneDesign}
+use Rattle.answer_laws.proofs.UniquenessPremises.{OneDesign}
 use Rattle.answer_laws.proofs.UniqueDesigns.{one_accepted}
 
 module _ (one_design : OneDesign) (root bundle : List ℕ) (command : Command) where

@@ -2,12 +2,12 @@
 use Rattle.std.proofs.Common.{◌≡◌, ◌∙◌, ◌⊎◌, ◌↔◌, inl, inr, ℕ, nat_eq, Bool, true, false, List, refl, sym, subst}
 use Rattle.std.specs.Prelude.{MatchBool}
 use Rattle.std.proofs.lemmas.Bool.{eqb-true}
-use Rattle.pals_top.specs.ExecutionKinds.{Execution, TimedWorld, LooseWorld, Run, Audit, Budget}
+use Rattle.pals_top.specs.ExecutionCommands.{Execution, TimedWorld, LooseWorld, Run, Audit, Budget}
 use Rattle.pals_top.specs.ExecutionAnswers.{command_of, IsScenarioRefusedIn, IsExecuted, IsExecutionAnswer}
-use Rattle.answer_laws.specs.proof.BundleMeanings.{HasTree, MeansDesign, MeansScenario, HasLongCode, LacksScenario}
-use Rattle.answer_laws.specs.proof.BundleMeanings.{GivesStatus}
+use Rattle.answer_laws.specs.proof.BundleContents.{HasTree, MeansDesign, MeansScenario, HasLongCode, LacksScenario}
+use Rattle.answer_laws.specs.proof.BundleContents.{GivesStatus}
 use Rattle.pals_top.specs.proof.PrivateFunctions.{is_run}
-use Rattle.answer_laws.proofs.UniquenessLaws.{OneDesign, ExecutionLaws}
+use Rattle.answer_laws.proofs.UniquenessPremises.{OneDesign, ExecutionLaws}
 use Rattle.answer_laws.proofs.AnswerStatuses.{no_tree, no_design, refused_tree, has_tree}
 use Rattle.answer_laws.proofs.BundleScenarios.{meant_or_refused}
 use Rattle.answer_laws.proofs.UniqueResults.{IsMade, execution_status, no_refused_run, apart}

@@ -7,24 +7,24 @@ use Rattle.pals_runs.specs.declared.commands.Command.TheVariants.{Print, Check, 
 use Rattle.pals_runs.specs.declared.commands.Command.TheVariants.{Vote, Fuse, Budget}
 use Rattle.scenario_json.specs.declared.scenario.Scenario.{Scenario}
 use Rattle.scenario_json.specs.Scenarios.{Means}
-use Rattle.pals_report.specs.ScenarioFaults.{scenario_fault_line}
+use Rattle.pals_report.specs.ScenarioFaultLines.{scenario_fault_line}
 use Rattle.design_codes.specs.OverlongCodes.{AreShort, IsFirstTooLong}
 use Rattle.world_texts.specs.RingTexts.{ring_text}
 use Rattle.pals_top.specs.declared.status.TheConstants.{DONE, TEXT_REFUSED, SCENARIO_REFUSED, CODE_TOO_LONG}
-use Rattle.pals_top.specs.AnalysisKinds.{Analysis}
-use Rattle.pals_top.specs.AnalysisKinds as analysis
-use Rattle.pals_top.specs.ExecutionKinds.{Execution}
-use Rattle.pals_top.specs.ExecutionKinds as execution
+use Rattle.pals_top.specs.AnalysisCommands.{Analysis}
+use Rattle.pals_top.specs.AnalysisCommands as analysis
+use Rattle.pals_top.specs.ExecutionCommands.{Execution}
+use Rattle.pals_top.specs.ExecutionCommands as execution
 use Rattle.pals_top.specs.CommandWords.{HasForm}
-use Rattle.pals_top.specs.ScenarioFaults.{HasScenarioFault}
+use Rattle.pals_top.specs.BundleScenarios.{HasScenarioFault}
 use Rattle.pals_top.specs.AnalysisAnswers.{command_of as analysis_command, IsAnalysisAnswer}
 use Rattle.pals_top.specs.ExecutionAnswers.{command_of as execution_command, code_fault_line, IsExecutionAnswer}
 use Rattle.pals_top.specs.proof.CodedBundles.{HasEvents}
 use Rattle.scenario_laws.specs.proof.ScenarioOrFault.{HasScenario, HasFault}
-use Rattle.answer_laws.specs.proof.BundleMeanings.{HasTree}
+use Rattle.answer_laws.specs.proof.BundleContents.{HasTree}
 use Rattle.pals_top.specs.proof.PrivateFunctions.{is_run}
 use Rattle.answer_laws.specs.proof.ExistingAnswers.{IsAnswerTo, HasAnswer, HasOneAnswer}
-use Rattle.answer_laws.proofs.ExistenceLaws.{ExistenceLaws}
+use Rattle.answer_laws.proofs.ExistencePremises.{ExistenceLaws}
 use Rattle.answer_laws.proofs.ExistingTrees.{IsRefused, tree_or_refused}
 use Rattle.answer_laws.proofs.ExistingDesigns.{HasDesign, HasRefusal, design_or_refused}
 use Rattle.answer_laws.proofs.ExistingReports.{has_report}

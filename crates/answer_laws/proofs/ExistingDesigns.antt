@@ -5,16 +5,16 @@ use Rattle.annex_resolve.specs.declared.violation.Violation.{Violation}
 use Rattle.aadl_instance.specs.FlattenedDesign.{Parts, IsFlat}
 use Rattle.model_violations.specs.Violations.{shown_by, AreViolations}
 use Rattle.pals_model.specs.declared.design.DesignParts.{DesignParts}
-use Rattle.pals_model.specs.Rules.{IsDesign}
+use Rattle.pals_model.specs.DesignRules.{IsDesign}
 use Rattle.pals_model.specs.RoundTexts.{line_end, text_of as lines_text}
 use Rattle.pals_report.specs.PackageFaultLines.{flat_fault_line}
-use Rattle.pals_report.specs.Violations.{violation_lines}
+use Rattle.pals_report.specs.ViolationLines.{violation_lines}
 use Rattle.bundle_designs.specs.BundleMeanings.{IsRefusedIn, IsAccepted}
 use Rattle.pals_top.specs.declared.status.TheConstants.{TEXT_REFUSED, DESIGN_REFUSED}
-use Rattle.pals_top.specs.Refusals.{IsBundleRefused}
+use Rattle.pals_top.specs.RefusalAnswers.{IsBundleRefused}
 use Rattle.design_laws.specs.proof.PackageOutcomes.{HasFirstFault, HasInstance}
-use Rattle.answer_laws.specs.proof.BundleMeanings.{HasTree}
-use Rattle.answer_laws.proofs.ExistenceLaws.{ExistenceLaws}
+use Rattle.answer_laws.specs.proof.BundleContents.{HasTree}
+use Rattle.answer_laws.proofs.ExistencePremises.{ExistenceLaws}
 use Rattle.answer_laws.proofs.ExistingTrees.{IsRefused, tree_or_refused}
 
 -- a design that keeps the rules, and a scenario's bytes behind its text

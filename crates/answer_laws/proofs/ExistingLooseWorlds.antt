@@ -4,15 +4,15 @@ use Rattle.std.specs.Prelude.{All}
 use Rattle.pals_model.specs.declared.design.DesignParts.{DesignParts}
 use Rattle.pals_model.specs.RoundTexts.{line_end, text_of, report}
 use Rattle.pals_runs.specs.declared.journal.JournalEntry.{JournalEntry}
-use Rattle.pals_runs.specs.Journal.{entry_line}
+use Rattle.pals_runs.specs.JournalLines.{entry_line}
 use Rattle.scenario_json.specs.declared.scenario.Scenario.{Scenario}
 use Rattle.bus_machine.specs.States.{BusState, finished_by_all}
 use Rattle.bus_machine.specs.WorldTexts.{worldtext}
-use Rattle.loose_world.specs.declared.events.LooseEnd.{LooseEnd}
-use Rattle.loose_world.specs.declared.events.LooseEnd.TheVariants as end
+use Rattle.loose_world.specs.declared.loose_run.LooseEnd.{LooseEnd}
+use Rattle.loose_world.specs.declared.loose_run.LooseEnd.TheVariants as end
 use Rattle.loose_world.specs.LooseRuns.{IsLooseIn}
 use Rattle.loose_world.specs.proof.EventsAsSteps.{StepsTo}
-use Rattle.pals_report.specs.EventFaults.{event_fault_line}
+use Rattle.pals_report.specs.EventFaultLines.{event_fault_line}
 use Rattle.pals_top.specs.declared.status.TheConstants.{DONE, SCENARIO_REFUSED, STOPPED}
 use Rattle.pals_top.specs.LooseWorlds.{run_of, IsWorldAnswer}
 use Rattle.answer_laws.proofs.LooseWorldEnds.{each_list_ends}

@@ -1,18 +1,18 @@
 -- For each command, a lemma that it makes a status and a text of a design and its scenario.
 use Rattle.std.proofs.Common.{ℕ, List, refl, subst}
 use Rattle.pals_model.specs.declared.design.DesignParts.{DesignParts}
-use Rattle.pals_model.specs.Rules.{IsDesign}
+use Rattle.pals_model.specs.DesignRules.{IsDesign}
 use Rattle.scenario_json.specs.declared.scenario.Scenario.{Scenario}
 use Rattle.scenario_json.specs.proof.ScenarioFacts.{IsScenarioOf}
 use Rattle.scenario_laws.specs.proof.EventsAndTraces.{AreLooseEvents}
 use Rattle.plant_fuse.specs.FusedComposition.{ArePairs}
-use Rattle.pals_runs.specs.declared.pairs.Pair.{Pair}
+use Rattle.pals_runs.specs.declared.analysis_inputs.Pair.{Pair}
 use Rattle.plant_fuse.specs.FusedText.{IsFusedReport}
 use Rattle.plant_fuse.specs.proof.FusedLaws.{ReportExists}
 use Rattle.plant_fuse.proofs.ReportsWithoutPairs.{report_without_pairs}
 use Rattle.analysis_texts.proofs.OutvotedFaults.{rows_outvoted, rows_alone}
-use Rattle.pals_top.specs.AnalysisKinds.{Analysis, Sync, Watch, Vote, Fuse}
-use Rattle.pals_top.specs.ExecutionKinds.{Execution, TimedWorld, LooseWorld, Run, Audit, Budget}
+use Rattle.pals_top.specs.AnalysisCommands.{Analysis, Sync, Watch, Vote, Fuse}
+use Rattle.pals_top.specs.ExecutionCommands.{Execution, TimedWorld, LooseWorld, Run, Audit, Budget}
 use Rattle.pals_top.specs.AnalysisAnswers.{Makes as analyses}
 use Rattle.pals_top.specs.ExecutionAnswers.{Makes as executes}
 use Rattle.pals_top.specs.proof.CodedBundles.{HasEvents}
@@ -20,7 +20,7 @@ use Rattle.pals_top.specs.TimedWorlds.{world_of}
 use Rattle.pals_top.proofs.Audits.{audit_of}
 use Rattle.pals_top.proofs.TimelyProcessors.{all_in_time}
 use Rattle.pals_top.proofs.LooseWorlds.{rules_of}
-use Rattle.answer_laws.proofs.ExistenceLaws.{ExistenceLaws}
+use Rattle.answer_laws.proofs.ExistencePremises.{ExistenceLaws}
 use Rattle.answer_laws.proofs.ExistingLayouts.{has_codes}
 use Rattle.answer_laws.proofs.ExistingRuns.{run_answer}
 use Rattle.answer_laws.proofs.ExistingLooseWorlds.{world_answer}

@@ -9,7 +9,7 @@ use Rattle.pals_clock.specs.Clock.{ClockState}
 use Rattle.pals_clock.specs.declared.clock.Clocks.{Clocks}
 use Rattle.pals_clock.specs.declared.clock.Clocks.TheVariants.{Meet, Lists}
 use Rattle.pals_model.specs.declared.design.DesignParts.{DesignParts}
-use Rattle.pals_model.specs.Rules.{IsDesign}
+use Rattle.pals_model.specs.DesignRules.{IsDesign}
 use Rattle.pals_model.specs.RoundTexts.{line_end, report}
 use Rattle.pals_report.specs.VerdictLines.{clock_end_line}
 use Rattle.pals_runs.specs.declared.journal.JournalEntry.{JournalEntry}

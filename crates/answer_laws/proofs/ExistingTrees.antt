@@ -1,16 +1,16 @@
 -- The design text of a bundle has a tree, or is refused.
 use Rattle.std.proofs.Common.{◌≡◌, ◌⊎◌, inl, inr, ℕ, List, ◌++◌, refl}
-use Rattle.aadl_parse.specs.declared.fault.TextFault.{TextFault}
-use Rattle.aadl_parse.specs.declared.fault.TextFault.TheVariants.{Lex, Syntax, TooDeep, Memory}
+use Rattle.aadl_parse.specs.declared.text_fault.TextFault.{TextFault}
+use Rattle.aadl_parse.specs.declared.text_fault.TextFault.TheVariants.{Lex, Syntax, TooDeep, Memory}
 use Rattle.aadl_parse.specs.ParseResults.{IsFaultOfText}
 use Rattle.pals_model.specs.RoundTexts.{line_end}
-use Rattle.pals_report.specs.TextFaults.{text_fault_line, no_divider_line}
+use Rattle.pals_report.specs.TextFaultLines.{text_fault_line, no_divider_line}
 use Rattle.bundle_designs.specs.Bundles.{IsSplit, HasNoDivider}
 use Rattle.bundle_designs.specs.RefusedTexts.{IsTextRefused}
 use Rattle.aadl_grammar.specs.proof.TextOutcomes.{HasTree as HasTreeOf, HasLexFault, Stops, NestsTooDeep}
-use Rattle.answer_laws.specs.proof.BundleMeanings.{HasTree}
+use Rattle.answer_laws.specs.proof.BundleContents.{HasTree}
 use Rattle.answer_laws.proofs.BundleSplits.{split_or_not}
-use Rattle.answer_laws.proofs.ExistenceLaws.{ExistenceLaws}
+use Rattle.answer_laws.proofs.ExistencePremises.{ExistenceLaws}
 
 abbrev pub IsRefused : List ℕ → Type 0
 IsRefused bundle = (text : List ℕ) × IsTextRefused bundle text

@@ -15,12 +15,12 @@ use Rattle.pals_model.specs.ComponentInputs.{rate_of}
 use Rattle.pals_model.specs.proof.FittingValues.{PortFits, TupleFits}
 use Rattle.scenario_values.specs.declared.fault.ScenarioFault.{ScenarioFault}
 use Rattle.scenario_values.specs.declared.fault.ScenarioFault.TheVariants.{WrongKind, OutOfRange}
-use Rattle.scenario_values.specs.Outcomes.{◌>>=◌, only_if, through}
+use Rattle.scenario_values.specs.ResultCombinators.{◌>>=◌, only_if, through}
 use Rattle.scenario_values.specs.FaultPlaces.{inside}
 use Rattle.scenario_values.specs.FieldValues.{elements, text, whole, is_whole, port_value}
-use Rattle.scenario_values.proofs.SuccessfulOutcomes.{ok_same, ok_bind, ok_only_if, through_keeps}
-use Rattle.analysis_fields.specs.declared.faults.FaultEnds.{FaultEnds}
-use Rattle.analysis_fields.specs.declared.faults.RoundFault.{RoundFault}
+use Rattle.scenario_values.proofs.SuccessfulResults.{ok_same, ok_bind, ok_only_if, through_keeps}
+use Rattle.analysis_fields.specs.declared.replica_faults.FaultEnds.{FaultEnds}
+use Rattle.analysis_fields.specs.declared.replica_faults.RoundFault.{RoundFault}
 use Rattle.analysis_fields.specs.Replicas.{copies_at, kind_in, kind_at, with_fault_value, fault_values, ends_of}
 use Rattle.analysis_fields.specs.Replicas.{fault_behind, fault_of, fault_from, fault_in, is_same_place, with_fault}
 use Rattle.analysis_fields.specs.Replicas.{faults_in}

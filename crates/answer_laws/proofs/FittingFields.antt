@@ -9,14 +9,14 @@ use Rattle.pals_model.specs.declared.design.DesignParts.{DesignParts}
 use Rattle.pals_clock.specs.declared.clock.Clocks.{Clocks}
 use Rattle.pals_runs.specs.declared.commands.Command.{Command}
 use Rattle.pals_runs.specs.declared.events.Event.{Event}
-use Rattle.pals_runs.specs.declared.pairs.Pair.{Pair}
-use Rattle.analysis_fields.specs.declared.faults.RoundFault.{RoundFault}
+use Rattle.pals_runs.specs.declared.analysis_inputs.Pair.{Pair}
+use Rattle.analysis_fields.specs.declared.replica_faults.RoundFault.{RoundFault}
 use Rattle.analysis_fields.specs.declared.processors.Processor.{Processor}
 use Rattle.analysis_fields.specs.PropertyValues.{PropertyValue}
 use Rattle.scenario_values.specs.declared.fault.ScenarioFault.{ScenarioFault}
-use Rattle.scenario_values.specs.Outcomes.{◌>>=◌}
+use Rattle.scenario_values.specs.ResultCombinators.{◌>>=◌}
 use Rattle.scenario_values.specs.FieldValues.{entries}
-use Rattle.scenario_values.proofs.SuccessfulOutcomes.{ok_same, ok_bind}
+use Rattle.scenario_values.proofs.SuccessfulResults.{ok_same, ok_bind}
 use Rattle.scenario_json.specs.declared.scenario.Scenario.{Scenario}
 use Rattle.scenario_json.specs.Scenarios.{is_field, only_known, rounds_in, inputs_field, events_field, clocks_field}
 use Rattle.scenario_json.specs.Scenarios.{delays_field, trace_field, properties_field, replicas_field, faults_field}

@@ -14,20 +14,20 @@ use Rattle.pals_base.specs.declared.values.PortValue.{PortValue}
 use Rattle.pals_base.specs.declared.values.PortValue.TheVariants.{Absent, Present}
 use Rattle.pals_base.specs.Expressions.{truth}
 use Rattle.pals_model.specs.declared.design.DesignParts.{DesignParts}
-use Rattle.pals_model.specs.declared.rounds.Env.{Env}
+use Rattle.pals_model.specs.declared.inputs_and_parts.Env.{Env}
 use Rattle.pals_model.specs.ComponentInputs.{root_inputs}
 use Rattle.pals_model.specs.PortKinds.{root_kind}
 use Rattle.pals_model.proofs.FirstElements.{found_at}
 use Rattle.scenario_values.specs.declared.fault.ScenarioFault.TheVariants.{WrongKind, Unknown}
-use Rattle.scenario_values.specs.Outcomes.{◌>>=◌, given, through}
+use Rattle.scenario_values.specs.ResultCombinators.{◌>>=◌, given, through}
 use Rattle.scenario_values.specs.FaultPlaces.{inside}
 use Rattle.scenario_values.specs.FieldValues.{elements, entries, number, present, port_value}
 use Rattle.scenario_values.specs.NameLookup.{root_at}
-use Rattle.scenario_values.proofs.SuccessfulOutcomes.{ok_same, ok_bind, ok_given, through_keeps}
-use Rattle.scenario_json.specs.Inputs.{with_value, value_list, with_input, inputs_in}
+use Rattle.scenario_values.proofs.SuccessfulResults.{ok_same, ok_bind, ok_given, through_keeps}
+use Rattle.scenario_json.specs.InputsAndDelays.{with_value, value_list, with_input, inputs_in}
 use Rattle.scenario_json.specs.Scenarios.{field}
 use Rattle.pals_model.specs.proof.FittingValues.{PortFits, TupleFits, EnvFits}
-use Rattle.pals_model.proofs.KindLists.{index_fits, set_keeps}
+use Rattle.pals_model.proofs.AllElements.{index_fits, set_keeps}
 use Rattle.pals_model.proofs.KindsOfExpressions.{truth_fits}
 use Rattle.pals_model.proofs.KindsOfRounds.{place_of_column}
 

@@ -1,6 +1,6 @@
 pub mod BundleSplits
 pub mod UniqueScenarios
-pub mod UniquenessLaws
+pub mod UniquenessPremises
 pub mod UniqueDesigns
 pub mod BundleScenarios
 pub mod UniqueLooseWorlds
@@ -19,8 +19,8 @@ pub mod RunAnswers
 mod FittingInputs
 mod FittingFaults
 mod FittingFields
-mod BooleanRuns
-mod ExistenceLaws
+mod BooleansInRuns
+mod ExistencePremises
 mod ExistingTrees
 mod ExistingDesigns
 mod ExistingReports

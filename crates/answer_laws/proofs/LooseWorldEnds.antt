@@ -13,8 +13,8 @@ use Rattle.bus_machine.specs.States.{Run, BusState, opening}
 use Rattle.bus_machine.specs.Machine.{BusEvent, is_allowed, after, IsStep}
 use Rattle.bus_machine.specs.Replay.{entries}
 use Rattle.pals_bus.specs.LooseEvents.{loose_event}
-use Rattle.loose_world.specs.declared.events.LooseEnd.{LooseEnd}
-use Rattle.loose_world.specs.declared.events.LooseEnd.TheVariants as end
+use Rattle.loose_world.specs.declared.loose_run.LooseEnd.{LooseEnd}
+use Rattle.loose_world.specs.declared.loose_run.LooseEnd.TheVariants as end
 use Rattle.loose_world.specs.LooseRuns.{IsFaultOf, IsLooseIn}
 use Rattle.loose_world.specs.MachineSteps.{AllStep, ComesTo}
 use Rattle.loose_world.specs.proof.EventsAsSteps.{StepsTo}

@@ -7,13 +7,13 @@ use Rattle.pals_io.specs.SourcesAndSinks.{SourceView}
 use Rattle.pals_runs.specs.declared.commands.Command.{Command}
 use Rattle.pals_runs.specs.declared.commands.Command.TheVariants.{Print, Check, Sync, World, Run, Audit, Watch, Vote}
 use Rattle.pals_runs.specs.declared.commands.Command.TheVariants.{Fuse, Budget}
-use Rattle.pals_top.specs.Refusals.{IsBundleRefused}
+use Rattle.pals_top.specs.RefusalAnswers.{IsBundleRefused}
 use Rattle.pals_top.specs.Print.{IsPrintAnswer}
 use Rattle.pals_top.specs.Check.{IsCheckAnswer}
-use Rattle.pals_top.specs.AnalysisKinds.{Analysis}
-use Rattle.pals_top.specs.AnalysisKinds as analysis
-use Rattle.pals_top.specs.ExecutionKinds.{Execution}
-use Rattle.pals_top.specs.ExecutionKinds as execution
+use Rattle.pals_top.specs.AnalysisCommands.{Analysis}
+use Rattle.pals_top.specs.AnalysisCommands as analysis
+use Rattle.pals_top.specs.ExecutionCommands.{Execution}
+use Rattle.pals_top.specs.ExecutionCommands as execution
 use Rattle.pals_top.specs.AnalysisAnswers.{IsAnalysisAnswer}
 use Rattle.pals_top.specs.ExecutionAnswers.{IsExecutionAnswer}
 use Rattle.pals_top.specs.ProgramInput.{Reading}

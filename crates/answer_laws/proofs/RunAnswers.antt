@@ -14,21 +14,21 @@ use Rattle.scenario_json.specs.Scenarios.{fields_in, scen, Means}
 use Rattle.scenario_laws.specs.proof.ScenarioSuitability.{ScenariosSuit}
 use Rattle.bus_machine.specs.proof.MachineLaws.{IsRunOf}
 use Rattle.bus_machine.specs.States.{finished_by_all}
-use Rattle.run_laws.specs.ReportVerdicts.{lines_of}
+use Rattle.run_laws.specs.TextLines.{lines_of}
 use Rattle.run_laws.specs.TraceVerdicts.{verdict}
 use Rattle.run_laws.proofs.FinalStops.{told as stop_is_last}
 use Rattle.run_laws.specs.proof.TimelyRuns.{InTime, NoneStops, BoundsAreInTime, EndsAreOne, AllPicked, PickedAreDone}
 use Rattle.run_texts.specs.RunTexts.{journal_text}
-use Rattle.pals_top.specs.ExecutionKinds as execution
+use Rattle.pals_top.specs.ExecutionCommands as execution
 use Rattle.pals_top.specs.ExecutionAnswers.{IsCodeTooLong, IsExecutionAnswer}
 use Rattle.pals_top.specs.LooseWorlds.{run_of}
 use Rattle.pals_top.specs.Run.{IsRunAnswer}
-use Rattle.pals_top.specs.ScenarioFaults.{HasScenario}
-use Rattle.answer_laws.specs.proof.BundleMeanings.{MeansScenario, HasLongCode}
+use Rattle.pals_top.specs.BundleScenarios.{HasScenario}
+use Rattle.answer_laws.specs.proof.BundleContents.{MeansScenario, HasLongCode}
 use Rattle.answer_laws.specs.proof.RunAnswers.{IsRunStatus, IsInTime, OneAnswerInTime, NoneIsStopped, IsSynchronous}
 use Rattle.answer_laws.specs.proof.RunAnswers.{DoneInTime, AnswersAsSync, DoneWithinBounds, DoneTracesAreSound}
 use Rattle.answer_laws.specs.proof.RunAnswers.{IsStoppedTrace, StoppedTracesAreSound}
-use Rattle.answer_laws.proofs.UniquenessLaws.{OneDesign, KeepsRules}
+use Rattle.answer_laws.proofs.UniquenessPremises.{OneDesign, KeepsRules}
 use Rattle.answer_laws.proofs.UniqueDesigns.{accepted_or_refused}
 use Rattle.answer_laws.proofs.BundleScenarios.{one_meaning, meant_or_refused}
 use Rattle.answer_laws.proofs.UniqueExecutionAnswers.{long_code, long_or_short, one_code_fault}

@@ -4,7 +4,7 @@ use Rattle.pals_base.specs.declared.limits.TheConstants.{BUNDLE_BYTES}
 use Rattle.pals_io.specs.SourcesAndSinks.{SourceView}
 use Rattle.pals_runs.specs.declared.commands.Command.{Command}
 use Rattle.pals_top.specs.ProgramInput.{Reading}
-use Rattle.pals_top.specs.AnswerTexts.{read_fault_line, too_long_line}
+use Rattle.pals_top.specs.CommonAnswerTexts.{read_fault_line, too_long_line}
 use Rattle.pals_top.specs.Answers.{IsCommandAnswer, IsSourceAnswer}
 use Rattle.answer_laws.proofs.UniqueCallAnswers.{too_long_by, all_read, too_long, not_counted}
 

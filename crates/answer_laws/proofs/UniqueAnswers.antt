@@ -9,20 +9,20 @@ use Rattle.aadl_tree.specs.Declarations.{PackageTree}
 use Rattle.aadl_tree.specs.Canon.{canon}
 use Rattle.pals_report.specs.CheckReports.{IsCheckReport}
 use Rattle.scenario_json.specs.declared.scenario.Scenario.{Scenario}
-use Rattle.pals_top.specs.Refusals.{IsBundleRefused}
-use Rattle.pals_top.specs.ScenarioFaults.{HasScenarioFault}
+use Rattle.pals_top.specs.RefusalAnswers.{IsBundleRefused}
+use Rattle.pals_top.specs.BundleScenarios.{HasScenarioFault}
 use Rattle.bundle_designs.specs.CanonicalTexts.{IsPrinted}
 use Rattle.pals_top.specs.Print.{IsPrintAnswer}
 use Rattle.pals_top.specs.Check.{IsChecked, IsCheckAnswer}
-use Rattle.pals_top.specs.AnalysisKinds.{Analysis}
-use Rattle.pals_top.specs.AnalysisKinds as analysis
-use Rattle.pals_top.specs.ExecutionKinds.{Execution}
-use Rattle.pals_top.specs.ExecutionKinds as execution
+use Rattle.pals_top.specs.AnalysisCommands.{Analysis}
+use Rattle.pals_top.specs.AnalysisCommands as analysis
+use Rattle.pals_top.specs.ExecutionCommands.{Execution}
+use Rattle.pals_top.specs.ExecutionCommands as execution
 use Rattle.pals_top.specs.AnalysisAnswers.{command_of, Makes, IsAnalysed, IsAnalysisAnswer}
 use Rattle.pals_top.specs.ExecutionAnswers.{command_of as execution_command, IsExecutionAnswer}
 use Rattle.pals_top.specs.Answers.{IsCommandAnswer}
 use Rattle.pals_top.specs.proof.PrivateFunctions.{is_run}
-use Rattle.answer_laws.proofs.UniquenessLaws.{OneDesign, OneFault, AnalysisLaws, ExecutionLaws}
+use Rattle.answer_laws.proofs.UniquenessPremises.{OneDesign, OneFault, AnalysisLaws, ExecutionLaws}
 use Rattle.answer_laws.proofs.UniqueDesigns.{one_tree, read_or_refused, one_refused_text, one_accepted}
 use Rattle.answer_laws.proofs.UniqueDesigns.{accepted_or_refused, package_or_text, one_refused_package}
 use Rattle.answer_laws.proofs.UniqueScenarios.{one_report}

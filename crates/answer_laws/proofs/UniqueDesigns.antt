@@ -10,17 +10,17 @@ use Rattle.aadl_instance.specs.FlattenedDesign.{Parts}
 use Rattle.annex_resolve.specs.declared.violation.Violation.{Violation}
 use Rattle.model_violations.specs.Violations.{shown_by, AreViolations}
 use Rattle.aadl_names.specs.declared.fault.PackageFault.{PackageFault}
-use Rattle.pals_report.specs.TextFaults.{text_fault_line}
+use Rattle.pals_report.specs.TextFaultLines.{text_fault_line}
 use Rattle.pals_report.specs.PackageFaultLines.{flat_fault_line}
-use Rattle.pals_report.specs.Violations.{violation_lines}
+use Rattle.pals_report.specs.ViolationLines.{violation_lines}
 use Rattle.design_laws.specs.PackageDesigns as laws
 use Rattle.design_laws.proofs.UniqueDesigns.{one_instance, one_list, no_list}
 use Rattle.bundle_designs.specs.ParsedBundles.{IsParsed}
 use Rattle.bundle_designs.specs.RefusedTexts.{IsUndivided, IsUnread, IsTextRefused}
 use Rattle.bundle_designs.specs.BundleMeanings.{IsFaulty, HasViolations, IsRefusedIn, IsAccepted, IsPackageRefused}
-use Rattle.pals_top.specs.Refusals.{IsBundleRefused}
+use Rattle.pals_top.specs.RefusalAnswers.{IsBundleRefused}
 use Rattle.answer_laws.proofs.BundleSplits.{one_split, divided}
-use Rattle.answer_laws.proofs.UniquenessLaws.{OneDesign, OneFault}
+use Rattle.answer_laws.proofs.UniquenessPremises.{OneDesign, OneFault}
 
 -- ---- two trees of one bundle
 pub one_text : (bundle a b s t : List ℕ) (u v : PackageTree ℕ) → IsParsed bundle a s u → IsParsed bundle b t v → a ≡ b

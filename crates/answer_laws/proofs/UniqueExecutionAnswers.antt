@@ -8,12 +8,12 @@ use Rattle.step_code.specs.CappedWeights.{capped}
 use Rattle.design_codes.specs.OverlongCodes.{length_of, AreShort, IsFirstTooLong}
 use Rattle.scenario_json.specs.declared.scenario.Scenario.{Scenario}
 use Rattle.bundle_designs.specs.BundleMeanings.{IsAccepted}
-use Rattle.pals_top.specs.ExecutionKinds.{Execution}
+use Rattle.pals_top.specs.ExecutionCommands.{Execution}
 use Rattle.pals_top.specs.ExecutionAnswers.{command_of, Makes, IsExecuted, IsScenarioRefusedIn, IsCodeTooLong}
 use Rattle.pals_top.specs.ExecutionAnswers.{code_fault_line}
-use Rattle.answer_laws.specs.proof.BundleMeanings.{HasLongCode}
+use Rattle.answer_laws.specs.proof.BundleContents.{HasLongCode}
 use Rattle.pals_top.specs.proof.PrivateFunctions.{is_run}
-use Rattle.answer_laws.proofs.UniquenessLaws.{OneDesign, ExecutionLaws}
+use Rattle.answer_laws.proofs.UniquenessPremises.{OneDesign, ExecutionLaws}
 use Rattle.answer_laws.proofs.UniqueDesigns.{one_accepted}
 use Rattle.answer_laws.proofs.BundleScenarios.{one_meaning, one_scenario_fault, meant_or_refused}
 use Rattle.answer_laws.proofs.UniqueResults.{Agree, one_execution}

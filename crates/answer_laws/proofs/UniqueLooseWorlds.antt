@@ -5,13 +5,13 @@ use Rattle.pals_model.specs.declared.design.DesignParts.{DesignParts}
 use Rattle.pals_model.specs.RoundTexts.{line_end, text_of, report}
 use Rattle.pals_runs.specs.declared.events.Event.{Event}
 use Rattle.pals_runs.specs.declared.journal.JournalEntry.{JournalEntry}
-use Rattle.pals_runs.specs.Journal.{entry_line}
+use Rattle.pals_runs.specs.JournalLines.{entry_line}
 use Rattle.scenario_json.specs.declared.scenario.Scenario.{Scenario}
 use Rattle.bus_machine.specs.States.{Run, BusState, opening, finished_by_all}
 use Rattle.bus_machine.specs.WorldTexts.{worldtext}
-use Rattle.pals_report.specs.EventFaults.{event_fault_line}
-use Rattle.loose_world.specs.declared.events.LooseEnd.{LooseEnd}
-use Rattle.loose_world.specs.declared.events.LooseEnd.TheVariants as end
+use Rattle.pals_report.specs.EventFaultLines.{event_fault_line}
+use Rattle.loose_world.specs.declared.loose_run.LooseEnd.{LooseEnd}
+use Rattle.loose_world.specs.declared.loose_run.LooseEnd.TheVariants as end
 use Rattle.loose_world.specs.MachineSteps.{AllStep, StepsToStop, StepsToFault}
 use Rattle.loose_world.specs.proof.EventsAsSteps.{StepsTo}
 use Rattle.loose_world.specs.proof.UniqueEnds.{IsOneLeft, AreOneEnd, OneEnd}

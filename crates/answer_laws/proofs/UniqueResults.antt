@@ -3,18 +3,18 @@ use Rattle.std.proofs.Common.{◌≡◌, ◌∙◌, ◌⊎◌, inl, inr, ℕ, �
 use Rattle.std.specs.Prelude.{if◌then◌else◌}
 use Rattle.std.proofs.lemmas.Bool.{true≢false}
 use Rattle.pals_model.specs.declared.design.DesignParts.{DesignParts}
-use Rattle.pals_model.specs.Rules.{IsDesign}
+use Rattle.pals_model.specs.DesignRules.{IsDesign}
 use Rattle.plant_fuse.specs.FusedComposition.{ArePairs}
 use Rattle.plant_fuse.specs.proof.FusedLaws.{ReportIsOne}
 use Rattle.scenario_json.specs.declared.scenario.Scenario.{Scenario}
-use Rattle.pals_top.specs.AnalysisKinds.{Analysis, Sync, Watch, Vote, Fuse}
-use Rattle.pals_top.specs.ExecutionKinds.{Execution, TimedWorld, LooseWorld, Run, Audit, Budget}
+use Rattle.pals_top.specs.AnalysisCommands.{Analysis, Sync, Watch, Vote, Fuse}
+use Rattle.pals_top.specs.ExecutionCommands.{Execution, TimedWorld, LooseWorld, Run, Audit, Budget}
 use Rattle.pals_top.specs.AnalysisAnswers.{Makes as analyses}
 use Rattle.pals_top.specs.ExecutionAnswers.{command_of, Makes as executes}
 use Rattle.design_codes.specs.Behaviours.{behaviours}
 use Rattle.pals_top.specs.Budget.{processors_of}
 use Rattle.pals_top.specs.proof.PrivateFunctions.{is_run}
-use Rattle.answer_laws.proofs.UniquenessLaws.{ExecutionLaws}
+use Rattle.answer_laws.proofs.UniquenessPremises.{ExecutionLaws}
 use Rattle.pals_top.specs.TimedWorlds.{world_of}
 use Rattle.answer_laws.proofs.UniqueTimedWorlds.{one_timed}
 use Rattle.answer_laws.proofs.UniqueLooseWorlds.{end_of, one_world}

@@ -12,7 +12,7 @@ use Rattle.run_laws.proofs.TimelyWorlds.{lists_go_right}
 use Rattle.run_laws.specs.Worlds.{World, opening_world, world_after}
 use Rattle.run_laws.specs.EventFaults.{fault_of, IsWithin}
 use Rattle.run_laws.specs.EventLists.{world_left}
-use Rattle.pals_report.specs.EventFaults.{event_fault_line}
+use Rattle.pals_report.specs.EventFaultLines.{event_fault_line}
 use Rattle.world_texts.specs.WorldTexts.{IsToldWorld}
 use Rattle.pals_top.specs.declared.status.TheConstants.{DONE, SCENARIO_REFUSED}
 use Rattle.pals_top.specs.TimedWorlds.{HasTimedFault}

@@ -1,5 +1,5 @@
 -- What the theorem of the program does not rest on: definitions of contracts below it, of laws, and of proofs.
-pub mod BundleMeanings
+pub mod BundleContents
 pub mod RunAnswers
 pub mod ExistingAnswers
-pub mod BooleanRuns
+pub mod BooleansInRuns

@@ -10,7 +10,7 @@ ghost use Rattle.scenario_json.specs.Scenarios.{Means};
 ghost use Rattle.pals_report.specs.CheckReports.{IsCheckReport};
 ghost use Rattle.bundle_designs.specs.Bundles.{IsSplit, HasNoDivider};
 ghost use Rattle.bundle_designs.specs.BundleMeanings.{IsFaulty, HasViolations, IsAccepted};
-ghost use Rattle.pals_top.specs.Refusals.{IsBundleRefused};
+ghost use Rattle.pals_top.specs.RefusalAnswers.{IsBundleRefused};
 
 use design_laws::first_faults::one_fault;
 use design_laws::packages::one_design;

@@ -1,10 +1,10 @@
 //! What values the rounds of a scenario have. Each law is the contract of a function that does nothing.
-ghost use Rattle.answer_laws.specs.proof.BooleanRuns.{MessagesOfScenariosFit, PartsOfScenariosFit, ScenariosFit};
-ghost use Rattle.answer_laws.specs.proof.BooleanRuns.{StatesOfScenariosFit, FaultsOfScenariosFit, ShownOfScenariosFit};
-ghost use Rattle.answer_laws.specs.proof.BooleanRuns.{VotesOfScenariosFit, BusesOfScenariosFit, FusedOfScenariosFit};
+ghost use Rattle.answer_laws.specs.proof.BooleansInRuns.{MessagesOfScenariosFit, PartsOfScenariosFit, ScenariosFit};
+ghost use Rattle.answer_laws.specs.proof.BooleansInRuns.{StatesOfScenariosFit, FaultsOfScenariosFit, ShownOfScenariosFit};
+ghost use Rattle.answer_laws.specs.proof.BooleansInRuns.{VotesOfScenariosFit, BusesOfScenariosFit, FusedOfScenariosFit};
 
-use crate::accepted::accepted_designs_keep_their_rules;
-use scenario_laws::plants::pairs_can_be_fused;
+use crate::accepted_designs::accepted_designs_keep_their_rules;
+use scenario_laws::plant_laws::pairs_can_be_fused;
 
 /// Where a bundle means a design and a scenario, each Boolean of each round is 0 or 1: what the scenario
 /// gives, for root in ports and as faults, each variable, each held input, each place of a message and

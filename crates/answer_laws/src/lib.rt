@@ -2,11 +2,11 @@
 //! of the several answers of a run, and of the values that rounds have.
 #![tactic(auto)]
 
-pub mod accepted;
-pub mod answers;
+pub mod accepted_designs;
+pub mod decided_answers;
 pub mod bundles;
 pub mod existence;
 pub mod kinds;
 pub mod runs;
-pub mod sources;
+pub mod calls;
 pub mod statuses;

@@ -1,17 +1,17 @@
 //! What `run` answers. Each law is the contract of a function that does nothing.
 ghost use Rattle.std.specs.Prelude.{◌↔◌, ℕ, Bool, List};
 ghost use Rattle.pals_runs.specs.declared.commands.Command.TheVariants as command;
-ghost use Rattle.pals_top.specs.ExecutionKinds as execution;
+ghost use Rattle.pals_top.specs.ExecutionCommands as execution;
 ghost use Rattle.pals_top.specs.ExecutionAnswers.{IsExecutionAnswer};
-ghost use Rattle.answer_laws.specs.proof.BundleMeanings.{MeansScenario, HasLongCode};
+ghost use Rattle.answer_laws.specs.proof.BundleContents.{MeansScenario, HasLongCode};
 ghost use Rattle.answer_laws.specs.proof.RunAnswers.{AnswersAsSync, DoneInTime, DoneTracesAreSound, DoneWithinBounds};
 ghost use Rattle.answer_laws.specs.proof.RunAnswers.{IsRunStatus, NoneIsStopped, OneAnswerInTime};
 ghost use Rattle.answer_laws.specs.proof.RunAnswers.{StoppedTracesAreSound};
 
-use crate::accepted::accepted_designs_keep_their_rules;
+use crate::accepted_designs::accepted_designs_keep_their_rules;
 use design_laws::packages::one_design;
 use run_laws::laws::runs_in_time;
-use scenario_laws::facts::scenarios_suit;
+use scenario_laws::scenario_suitability::scenarios_suit;
 
 /// `run` answers 0, 6 or 7 exactly where the bundle means a scenario and no step code is too long.
 pub fn statuses_of_runs()

@@ -3,12 +3,12 @@
 ghost use Rattle.std.specs.Prelude.{◌≡◌, ◌↔◌, ◌⊎◌, ◌<◌, ℕ, false, List};
 ghost use Rattle.pals_top.specs.Print.{IsPrintAnswer};
 ghost use Rattle.pals_top.specs.Check.{IsCheckAnswer};
-ghost use Rattle.pals_top.specs.AnalysisKinds.{Analysis};
-ghost use Rattle.pals_top.specs.ExecutionKinds.{Execution};
+ghost use Rattle.pals_top.specs.AnalysisCommands.{Analysis};
+ghost use Rattle.pals_top.specs.ExecutionCommands.{Execution};
 ghost use Rattle.pals_top.specs.AnalysisAnswers.{command_of, IsAnalysisAnswer};
 ghost use Rattle.pals_top.specs.ExecutionAnswers.{command_of as execution_command, IsExecutionAnswer};
-ghost use Rattle.answer_laws.specs.proof.BundleMeanings.{HasTree, MeansDesign, MeansScenario, HasLongCode};
-ghost use Rattle.answer_laws.specs.proof.BundleMeanings.{LacksScenario, GivesStatus};
+ghost use Rattle.answer_laws.specs.proof.BundleContents.{HasTree, MeansDesign, MeansScenario, HasLongCode};
+ghost use Rattle.answer_laws.specs.proof.BundleContents.{LacksScenario, GivesStatus};
 ghost use Rattle.pals_top.specs.proof.PrivateFunctions.{is_run};
 
 use design_laws::packages::one_design;

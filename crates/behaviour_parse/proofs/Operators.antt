@@ -24,11 +24,11 @@ use Rattle.aadl_tree.specs.proof.PlaceMaps.{kept_place}
 use Rattle.aadl_tree.specs.declared.limits.TheConstants.{GREATEST_NESTING}
 use Rattle.aadl_grammar.specs.proof.Symbols as s
 use Rattle.aadl_grammar.specs.proof.ParseTable.{on}
-use Rattle.aadl_grammar.specs.proof.Machine.{Stack, takes, move, depth, fate}
+use Rattle.aadl_grammar.specs.proof.StackMachine.{Stack, takes, move, depth, fate}
 use Rattle.aadl_grammar.specs.proof.ParserAnswers.{Reads}
-use Rattle.aadl_grammar.proofs.SymbolRows.{takes_row, begins_past}
+use Rattle.aadl_grammar.proofs.SymbolMoves.{takes_row, begins_past}
 use Rattle.aadl_grammar.proofs.PartSequences.{marked, respelled, regroup, shorter}
-use Rattle.behaviour_parse.specs.proof.RelationOperators.{Joins}
+use Rattle.behaviour_parse.specs.proof.LogicOperators.{Joins}
 
 pub multiplies : (o : MultiplyOperator) → move s.factors (mark (e.multiply_mark o)) ≡ takes (s.factor ∷ s.factors ∷ [])
 unfolding move

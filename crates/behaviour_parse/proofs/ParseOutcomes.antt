@@ -11,15 +11,15 @@ use Rattle.aadl_tree.specs.Annexes.{AnnexTree, annex_tree_parts}
 use Rattle.aadl_tree.specs.Grammar.{IsBehaviour, place}
 use Rattle.aadl_tree.specs.proof.GrammarTrees.{end_of}
 use Rattle.aadl_tree.specs.GrammarTrees.{IsBehaviourOf}
-use Rattle.aadl_grammar.specs.proof.Machine.{fate, annex_body, syntax_at}
+use Rattle.aadl_grammar.specs.proof.StackMachine.{fate, annex_body, syntax_at}
 use Rattle.aadl_grammar.proofs.Fates.Answers.{answers_text, answers_fault, answers_depth}
 use Rattle.aadl_grammar.proofs.UniquePlacedTrees.All.{one_placed_behaviour}
 use Rattle.aadl_grammar.proofs.Fates.GrammarLanguages.{behaviours}
 use Rattle.aadl_grammar.proofs.Fates.OneTerminalFates.{fate_end, fate_left}
-use Rattle.aadl_grammar.specs.declared.fault.ParseFault.{ParseFault}
-use Rattle.aadl_grammar.specs.declared.fault.ParseFault.TheVariants.{Memory, Syntax, TooDeep}
+use Rattle.aadl_grammar.specs.declared.parse_fault.ParseFault.{ParseFault}
+use Rattle.aadl_grammar.specs.declared.parse_fault.ParseFault.TheVariants.{Memory, Syntax, TooDeep}
 use Rattle.aadl_grammar.specs.declared.terminal.Terminal.{Terminal}
-use Rattle.aadl_grammar.specs.proof.Terminals.{spots_of}
+use Rattle.aadl_grammar.specs.proof.TerminalSpots.{spots_of}
 use Rattle.aadl_grammar.specs.proof.ParserAnswers.{FailsAs, Reads}
 use Rattle.behaviour_parse.specs.proof.ParseOutcomes.{IsOnlyBehaviourOf, IsFaultOfBehaviour}
 

@@ -26,9 +26,9 @@ use Rattle.aadl_tree.specs.proof.PlaceMaps.{kept_place}
 use Rattle.aadl_tree.proofs.ActionViews.{view-out-choice}
 use Rattle.aadl_grammar.specs.proof.Symbols as s
 use Rattle.aadl_grammar.specs.proof.Symbols.{a_whole, the, Symbol}
-use Rattle.aadl_grammar.specs.proof.Machine.{Stack, takes, move, depth, syntax_at, fate}
+use Rattle.aadl_grammar.specs.proof.StackMachine.{Stack, takes, move, depth, syntax_at, fate}
 use Rattle.aadl_grammar.specs.proof.ParserAnswers.{At, AtMark, Begins, IsMarked, Misses, Reads}
-use Rattle.aadl_grammar.proofs.SymbolRows.{enters_as, takes_row, refuses_unless}
+use Rattle.aadl_grammar.proofs.SymbolMoves.{enters_as, takes_row, refuses_unless}
 use Rattle.aadl_grammar.proofs.PartSequences.{then, marked, respelled, regroup}
 use Rattle.behaviour_parse.specs.declared.actions.LoopHead.{LoopHead}
 use Rattle.behaviour_parse.specs.proof.ActionParts.{head_parts, choice_parts}

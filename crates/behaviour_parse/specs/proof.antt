@@ -1,4 +1,4 @@
 -- What the theorem of the program does not rest on: definitions of contracts below it, of laws, and of proofs.
-pub mod RelationOperators
+pub mod LogicOperators
 pub mod ActionParts
 pub mod ParseOutcomes

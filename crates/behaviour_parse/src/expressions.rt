@@ -9,7 +9,7 @@ ghost use Rattle.aadl_tree.specs.proof.PlaceMaps.{kept_place};
 ghost use Rattle.aadl_grammar.specs.proof.Symbols as s;
 ghost use Rattle.aadl_grammar.specs.proof.ParseTable.{rows};
 ghost use Rattle.aadl_grammar.specs.proof.ParserAnswers.{here, AtMark, MissAll, Parses, AnyRoom, Room};
-ghost use Rattle.behaviour_parse.specs.proof.RelationOperators.{Joins};
+ghost use Rattle.behaviour_parse.specs.proof.LogicOperators.{Joins};
 
 use aadl_grammar::{ParseFault, Parsed, Reader, narrow};
 use aadl_tree::{

@@ -15,10 +15,10 @@ use Rattle.pals_base.specs.Actions.{Effect, act, acts, act_first, for_each, numb
 use Rattle.pals_base.specs.Actions.{without_loop}
 use Rattle.pals_base.specs.PlainTrees.{Actions, For}
 use Rattle.pals_base.specs.Expressions.{on_value}
-use Rattle.pals_base.specs.proof.SourceTrees.{action_of, actions_along, branches_along}
-use Rattle.pals_base.proofs.SourceTrees.{action_of-If, action_of-For}
-use Rattle.behaviour_sem.specs.declared.stop.EarlyEnd.{EarlyEnd}
-use Rattle.behaviour_sem.specs.declared.stop.EarlyEnd.TheVariants as stop
+use Rattle.pals_base.specs.proof.TreeViews.{action_of, actions_along, branches_along}
+use Rattle.pals_base.proofs.TreeViews.{action_of-If, action_of-For}
+use Rattle.behaviour_sem.specs.declared.early_end.EarlyEnd.{EarlyEnd}
+use Rattle.behaviour_sem.specs.declared.early_end.EarlyEnd.TheVariants as stop
 use Rattle.behaviour_sem.specs.proof.ReadableFrames.{frame_of}
 use Rattle.behaviour_sem.specs.proof.StepOutcomes.{Left, Chose}
 

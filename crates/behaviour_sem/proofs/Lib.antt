@@ -1,4 +1,4 @@
 pub mod ActionTrees
 pub mod StateIndependence
-pub mod TransitionSteps
+pub mod TransitionsAndInputs
 pub mod StepEnds

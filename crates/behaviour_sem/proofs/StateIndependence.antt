@@ -13,7 +13,7 @@ use Rattle.pals_base.specs.PlainTrees.{Expression, Literal, Variable, PortRead, 
 use Rattle.pals_base.specs.PlainTrees.{NoMore, Then, Action, Assign, Emit, If, For, Actions, Nothing, Do, Branches}
 use Rattle.pals_base.specs.PlainTrees.{NoBranch, Where, Trigger, Dispatch, Always, When}
 use Rattle.behaviour_sem.specs.proof.ReadableFrames.{frame_of}
-use Rattle.behaviour_sem.specs.proof.ActionRuns.{effect}
+use Rattle.behaviour_sem.specs.proof.ActionExecution.{effect}
 
 -- equal goings on
 pub on_value-same : {A B : Type 0} (r : Result A Trap) (f g : A → Result B Trap) → ((v : A) → f v ≡ g v)

@@ -6,7 +6,7 @@ use Rattle.pals_base.specs.declared.values.Frame.{Frame}
 use Rattle.pals_base.specs.declared.values.PortValue.{PortValue}
 use Rattle.pals_base.specs.declared.behaviour.BehaviourParts.{BehaviourParts}
 use Rattle.pals_base.specs.SingleStep.{Fired, fire, holding, silence, is_present, reaction, unless_halted, outcome}
-use Rattle.behaviour_sem.specs.proof.StepParts.{reacted}
+use Rattle.behaviour_sem.specs.proof.PartialSteps.{reacted}
 
 -- a frame with these held inputs, and outputs
 abbrev pub with_held : Frame → List ℤ → List PortValue → Fired

@@ -2,11 +2,11 @@
 ghost use Rattle.std.specs.Prelude.{◌≡◌, length, slice_set};
 ghost use Rattle.pals_base.specs.Actions.{act, acts};
 ghost use Rattle.pals_base.specs.PlainTrees.{For};
-ghost use Rattle.pals_base.specs.proof.SourceTrees.{action_of, actions_along, branches_along};
-ghost use Rattle.behaviour_sem.specs.proof.ActionRuns.{Runs, RunsFirst, turn};
+ghost use Rattle.pals_base.specs.proof.TreeViews.{action_of, actions_along, branches_along};
+ghost use Rattle.behaviour_sem.specs.proof.ActionExecution.{Runs, RunsFirst, turn};
 
 use crate::expressions::{StepInputs, eval, holds};
-use crate::stop::EarlyEnd;
+use crate::early_end::EarlyEnd;
 use pals_base::{Act, Branch, PortValue};
 
 /// Does actions one after the other. A stop leaves the variables and outputs as they then are, and

@@ -5,7 +5,7 @@
 mod actions;
 mod expressions;
 mod step;
-mod stop;
+mod early_end;
 mod transitions;
 
 pub use step::{fire, fire_into};

@@ -2,10 +2,10 @@
 ghost use Rattle.std.specs.Prelude.{◌≡◌, IfOk, OnOk, None, length, map, replicate, slice_index_or};
 ghost use Rattle.pals_base.specs.SingleStep.{fire, held_of, holding, is_present};
 ghost use Rattle.behaviour_sem.specs.proof.StepOutcomes.{Left};
-ghost use Rattle.behaviour_sem.specs.proof.StepParts.{reacted};
+ghost use Rattle.behaviour_sem.specs.proof.PartialSteps.{reacted};
 
 use crate::expressions::StepInputs;
-use crate::stop::EarlyEnd;
+use crate::early_end::EarlyEnd;
 use crate::transitions::{StepState, react};
 use pals_base::{Behaviour, Frame, Items, NoMemory, PortValue, TryClone};
 use std::alloc::{AllocError, Global};

@@ -1,14 +1,14 @@
 //! Transitions: from a complete state to the next.
 ghost use Rattle.std.specs.Prelude.{◌≡◌, length, slice_get, Some};
 ghost use Rattle.pals_base.specs.SingleStep.{completes, opens, along, settled};
-ghost use Rattle.pals_base.specs.proof.SourceTrees.{trigger_of};
+ghost use Rattle.pals_base.specs.proof.TreeViews.{trigger_of};
 ghost use Rattle.behaviour_sem.specs.proof.ReadableFrames.{seen, fresh};
 ghost use Rattle.behaviour_sem.specs.proof.TransitionMoves.{goes, move, dispatch_from};
-ghost use Rattle.behaviour_sem.specs.proof.StepParts.{Leads, reacted};
+ghost use Rattle.behaviour_sem.specs.proof.PartialSteps.{Leads, reacted};
 
 use crate::actions::run_all;
 use crate::expressions::{StepInputs, eval, holds};
-use crate::stop::EarlyEnd;
+use crate::early_end::EarlyEnd;
 use pals_base::{Behaviour, Guard, PortValue, StateDecl, Transition, Trap};
 
 /// Where a step under way stands: the state that it reached, and the variables.

@@ -10,7 +10,7 @@ use Rattle.design_laws.specs.PackageDesigns.{IsDesignIn}
 use Rattle.pals_model.specs.declared.design.DesignParts.{DesignParts}
 use Rattle.pals_model.specs.RoundTexts.{line_end, text_of as lines_text}
 use Rattle.pals_report.specs.PackageFaultLines.{flat_fault_line}
-use Rattle.pals_report.specs.Violations.{violation_lines}
+use Rattle.pals_report.specs.ViolationLines.{violation_lines}
 use Rattle.bundle_designs.specs.ParsedBundles.{IsParsed}
 use Rattle.aadl_names.specs.declared.fault.PackageFault.TheVariants as flat
 

@@ -1,10 +1,10 @@
 -- A bundle whose design text is refused.
 use Rattle.std.specs.Prelude.{◌≡◌, ◌≢◌, ℕ, List, ◌++◌, ◌⊎◌}
-use Rattle.aadl_parse.specs.declared.fault.TextFault.{TextFault}
-use Rattle.aadl_parse.specs.declared.fault.TextFault.TheVariants.{Memory}
+use Rattle.aadl_parse.specs.declared.text_fault.TextFault.{TextFault}
+use Rattle.aadl_parse.specs.declared.text_fault.TextFault.TheVariants.{Memory}
 use Rattle.aadl_parse.specs.ParseResults.{IsFaultOfText}
 use Rattle.pals_model.specs.RoundTexts.{line_end}
-use Rattle.pals_report.specs.TextFaults.{text_fault_line, no_divider_line}
+use Rattle.pals_report.specs.TextFaultLines.{text_fault_line, no_divider_line}
 use Rattle.bundle_designs.specs.Bundles.{IsSplit, HasNoDivider}
 
 -- No line divides the bundle, and the text says so.

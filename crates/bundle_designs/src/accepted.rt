@@ -5,7 +5,7 @@ ghost use Rattle.design_laws.specs.PackageDesigns.{IsDesignIn};
 ghost use Rattle.bundle_designs.specs.BundleMeanings.{IsAccepted};
 ghost use Rattle.bundle_designs.specs.proof.Refusals.{IsPackageRefusal, IsRefusal};
 
-use crate::parsed::{ParsedBundle, parse_bundle};
+use crate::parsed_bundle::{ParsedBundle, parse_bundle};
 use crate::refusal::Refusal;
 use crate::refused_design::{refused_instance, refused_package};
 use aadl_instance::flatten;

@@ -6,13 +6,13 @@
 
 mod accepted;
 mod bundle;
-mod parsed;
-mod printed;
+mod parsed_bundle;
+mod canonical_text;
 mod refusal;
 mod refused_design;
 mod refused_text;
 
 pub use accepted::{Accepted, accept};
 pub use bundle::split;
-pub use printed::print_bundle;
+pub use canonical_text::print_bundle;
 pub use refusal::Refusal;

@@ -3,7 +3,7 @@ ghost use Rattle.std.specs.Prelude.{◌≡◌, ◌≢◌, ◌++◌, IfOk, OnOk};
 ghost use Rattle.aadl_names.specs.declared.fault.PackageFault.{PackageFault};
 ghost use Rattle.pals_model.specs.RoundTexts.{line_end, text_of as lines_text};
 ghost use Rattle.pals_report.specs.PackageFaultLines.{flat_fault_line};
-ghost use Rattle.pals_report.specs.Violations.{violation_lines};
+ghost use Rattle.pals_report.specs.ViolationLines.{violation_lines};
 
 use aadl_instance::PackageFault;
 use annex_resolve::Violation;

@@ -1,8 +1,8 @@
 //! The texts that say why the design text of a bundle is refused.
 ghost use Rattle.std.specs.Prelude.{◌≡◌, ◌≢◌, ◌++◌, IfOk, OnOk};
-ghost use Rattle.aadl_parse.specs.declared.fault.TextFault.{TextFault};
+ghost use Rattle.aadl_parse.specs.declared.text_fault.TextFault.{TextFault};
 ghost use Rattle.pals_model.specs.RoundTexts.{line_end};
-ghost use Rattle.pals_report.specs.TextFaults.{text_fault_line, no_divider_line};
+ghost use Rattle.pals_report.specs.TextFaultLines.{text_fault_line, no_divider_line};
 
 use aadl_parse::TextFault;
 use pals_base::NoMemory;

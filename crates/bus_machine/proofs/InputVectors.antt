@@ -5,7 +5,7 @@ use Rattle.std.specs.Prelude.{position, zip, slice_index_or, if◌then◌else◌
 use Rattle.std.proofs.lemmas.List.{length-map}
 use Rattle.std.proofs.lemmas.Bool.{and_parts, eqb-true, ne_eqb, false≢true}
 use Rattle.std.proofs.lemmas.Option.{slice_get-map, get_or_from_slice_get, slice_get_within, slice_get-get_or}
-use Rattle.list_lemmas.proofs.Places.{slice_get-zip}
+use Rattle.list_lemmas.proofs.ElementPositions.{slice_get-zip}
 use Rattle.list_lemmas.proofs.Options.{option_map-parts}
 use Rattle.pals_base.specs.declared.values.PortValue.{PortValue}
 use Rattle.pals_base.specs.declared.values.PortValue.TheVariants.{Absent}
@@ -28,7 +28,7 @@ use Rattle.bus_machine.specs.Nodes.{NodeState, message_in, brought, vectors_of}
 use Rattle.bus_machine.specs.NodeEvents.{lacks, missing, slot_at}
 use Rattle.bus_machine.specs.States.{Run}
 use Rattle.bus_machine.specs.Agreement.{SlotAgrees}
-use Rattle.bus_machine.proofs.Lists.{none_found}
+use Rattle.bus_machine.proofs.ListsAndFlights.{none_found}
 
 -- ---- one in port
 feed_brings : (rate root : ℕ) (values : List PortValue) (slot : Option (List PortValue)) (f : Option Feed)

@@ -1,5 +1,5 @@
-pub mod CounterMachine
-pub mod Lists
+pub mod StoppedCounterRuns
+pub mod ListsAndFlights
 pub mod InputVectors
 pub mod NodeAgreement
 pub mod AgreementChanges

@@ -19,12 +19,12 @@ use Rattle.pals_base.proofs.UpwardNumbers.{map_upwards_more}
 use Rattle.pals_model.specs.declared.design.Component.{Component}
 use Rattle.pals_model.specs.declared.design.Link.{Link}
 use Rattle.pals_model.specs.declared.design.Tap.{Tap}
-use Rattle.pals_model.specs.declared.rounds.Part.{Part}
+use Rattle.pals_model.specs.declared.inputs_and_parts.Part.{Part}
 use Rattle.pals_model.specs.ComponentInputs.{values_at, feed}
 use Rattle.pals_model.specs.Composition.{comp, state, msg, part, taps_of, own_steps_so_far}
 use Rattle.pals_model.specs.proof.CompositionLaws.{own_steps}
 use Rattle.pals_model.specs.proof.CompositionLaws.Steps.{stepped_on}
-use Rattle.pals_model.specs.Rules.{IsDesign}
+use Rattle.pals_model.specs.DesignRules.{IsDesign}
 use Rattle.pals_model.proofs.StepLaws.{round_begins, round_goes_on, round_ends}
 use Rattle.pals_model.proofs.ShapeLaws.{feed_has_vectors}
 use Rattle.pals_model.proofs.CompositionLaws.{state_goes_on, message_from_source, part_from_steps}
@@ -38,7 +38,7 @@ use Rattle.bus_machine.specs.NodeEvents.{sent_from, after_send, message_from}
 use Rattle.bus_machine.specs.States.{Run}
 use Rattle.bus_machine.specs.Agreement.{IsAtRest, IsUnderWay, IsInRound, IsHeld, PhaseAgrees, PartsAgree, NodeAgrees}
 use Rattle.bus_machine.specs.Agreement.{reached}
-use Rattle.bus_machine.proofs.Lists.{cut_places}
+use Rattle.bus_machine.proofs.ListsAndFlights.{cut_places}
 use Rattle.bus_machine.proofs.InputVectors.{SlotsAgree, vectors_agree}
 
 abbrev as_stepped : Frame → List (List PortValue) → Stepped

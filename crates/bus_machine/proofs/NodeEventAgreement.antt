@@ -6,18 +6,18 @@ use Rattle.std.specs.List.{enumerate_from}
 use Rattle.std.proofs.lemmas.Bool.{eqb-true, false≢true}
 use Rattle.std.proofs.lemmas.List.Elements.{All-append, All-replicate}
 use Rattle.std.proofs.lemmas.Option.{slice_get_within, get_or_from_slice_get}
-use Rattle.list_lemmas.proofs.Lists.{length-map_enumerate_from}
+use Rattle.list_lemmas.proofs.ListOperations.{length-map_enumerate_from}
 use Rattle.bus_machine.proofs.NodeQuantities.{sent_most}
 use Rattle.list_lemmas.proofs.Options.{option_map-none}
 use Rattle.pals_base.specs.declared.values.PortValue.{PortValue}
 use Rattle.pals_base.specs.declared.values.NodeNo.{NodeNo}
 use Rattle.pals_model.specs.declared.design.Component.{Component}
 use Rattle.pals_model.specs.declared.design.Link.{Link}
-use Rattle.pals_model.specs.declared.flight.FlightCopy.{FlightCopy}
+use Rattle.pals_model.specs.declared.flight_copy.FlightCopy.{FlightCopy}
 use Rattle.pals_model.specs.Delays.{delay_of}
 use Rattle.pals_model.specs.ComponentInputs.{values_at}
 use Rattle.pals_model.specs.Composition.{msg}
-use Rattle.pals_model.specs.Rules.{IsComponent}
+use Rattle.pals_model.specs.DesignRules.{IsComponent}
 use Rattle.pals_model.proofs.FirstElements.{at_element}
 use Rattle.pals_runs.specs.declared.journal.Phase.{Phase}
 use Rattle.pals_runs.specs.declared.journal.Phase.TheVariants.{Waiting, Running, Between, Holding, Done}
@@ -31,7 +31,7 @@ use Rattle.bus_machine.specs.MissedStarts.{missing_link, link_into, sent_rounds,
 use Rattle.bus_machine.specs.Machine.{after_start, on_step, flight_after_send, after_send}
 use Rattle.bus_machine.specs.Agreement.{SlotAgrees, IsCopy, Agrees}
 use Rattle.bus_machine.specs.proof.MachineLaws.{IsRunOf}
-use Rattle.bus_machine.proofs.Lists.{numbered_at}
+use Rattle.bus_machine.proofs.ListsAndFlights.{numbered_at}
 use Rattle.bus_machine.proofs.InputVectors.{SlotsAgree}
 use Rattle.bus_machine.proofs.NodeAgreement.{starts, steps_on, finishes, finish_keeps, sends, MaySend, may_send_of}
 use Rattle.bus_machine.proofs.NodeAgreement.{sends_message}

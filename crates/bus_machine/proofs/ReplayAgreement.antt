@@ -15,11 +15,11 @@ use Rattle.pals_base.specs.declared.values.LinkNo.{LinkNo}
 use Rattle.pals_base.specs.StepSequences.{upwards}
 use Rattle.pals_model.specs.declared.design.Component.{Component}
 use Rattle.pals_model.specs.declared.design.Link.{Link}
-use Rattle.pals_model.specs.declared.flight.FlightCopy.{FlightCopy}
+use Rattle.pals_model.specs.declared.flight_copy.FlightCopy.{FlightCopy}
 use Rattle.pals_model.specs.Flights.{oldest, without_oldest}
 use Rattle.pals_model.specs.PortKinds.{ins_in}
 use Rattle.pals_model.specs.Composition.{msg}
-use Rattle.pals_model.specs.Rules.{IsLink, LinkPrecedes, port_place}
+use Rattle.pals_model.specs.DesignRules.{IsLink, LinkPrecedes, port_place}
 use Rattle.pals_model.proofs.FirstElements.{at_element}
 use Rattle.pals_model.proofs.CompositionLaws.{state_begins}
 use Rattle.pals_runs.specs.declared.journal.Phase.{Phase}
@@ -40,7 +40,7 @@ use Rattle.bus_machine.specs.Machine.{after_arrive, after, is_allowed}
 use Rattle.bus_machine.specs.Replay.{opens, goes_on}
 use Rattle.bus_machine.specs.Agreement.{IsInRound, PhaseAgrees, NodeAgrees, SlotAgrees, IsCopy, Agrees}
 use Rattle.bus_machine.specs.proof.MachineLaws.{IsRunOf, OpeningAgrees, StepKeepsAgreement, ReplayAgrees}
-use Rattle.bus_machine.proofs.Lists.{All-without_oldest, oldest_is_one}
+use Rattle.bus_machine.proofs.ListsAndFlights.{All-without_oldest, oldest_is_one}
 use Rattle.bus_machine.proofs.InputVectors.{SlotsAgree, length_sources}
 use Rattle.bus_machine.proofs.AgreementChanges.{with_stop_agrees, with_flight_agrees, with_node_agrees, slots_of}
 use Rattle.bus_machine.proofs.NodeEventAgreement.{one_copy, start_keeps, step_keeps, finish_keeps_all, send_keeps}

@@ -5,7 +5,7 @@ use Rattle.std.specs.List.{enumerate_from}
 use Rattle.pals_base.specs.declared.values.NodeNo.{NodeNo}
 use Rattle.pals_base.specs.declared.values.LinkNo.{LinkNo}
 use Rattle.pals_model.specs.declared.design.Link.{Link}
-use Rattle.pals_model.specs.declared.flight.FlightCopy.{FlightCopy}
+use Rattle.pals_model.specs.declared.flight_copy.FlightCopy.{FlightCopy}
 use Rattle.pals_model.specs.ComponentInputs.{values_at}
 use Rattle.pals_model.specs.Delays.{delay_of}
 use Rattle.pals_model.specs.Flights.{without_oldest}

@@ -4,11 +4,11 @@ use Rattle.std.specs.Prelude.{if◌then◌else◌, List, [], ◌∷◌, map, Opt
 use Rattle.pals_base.specs.PeriodBound.{alarm}
 use Rattle.pals_runs.specs.declared.journal.Phase.{Phase}
 use Rattle.pals_runs.specs.declared.journal.Phase.TheVariants.{Waiting, Running, Between, Holding, Done}
-use Rattle.bus_machine.specs.declared.action.NodeAction.{NodeAction}
-use Rattle.bus_machine.specs.declared.action.Next.{Next}
+use Rattle.bus_machine.specs.declared.node_action.NodeAction.{NodeAction}
+use Rattle.bus_machine.specs.declared.node_action.Next.{Next}
 use Rattle.bus_machine.specs.declared.plan.Plan.{Plan}
 use Rattle.bus_machine.specs.Nodes.{NodeState, round_of}
-use Rattle.bus_machine.specs.declared.action.NodeAction.TheVariants as action
+use Rattle.bus_machine.specs.declared.node_action.NodeAction.TheVariants as action
 
 -- from which reading on it may be done
 abbrev pub target : Plan → NodeAction → ℕ

@@ -3,14 +3,14 @@ use Rattle.std.specs.Prelude.{ℕ, ◌/◌, nat_eq, nat_lt, Bool, false, if◌th
 use Rattle.std.specs.Prelude.{length, map, fold, max, flat_map, count_by, Option, Some, None, slice_get}
 use Rattle.pals_base.specs.StepSequences.{upwards}
 use Rattle.pals_model.specs.declared.design.DesignParts.{DesignParts}
-use Rattle.pals_model.specs.declared.rounds.Env.{Env}
-use Rattle.pals_model.specs.declared.rounds.Part.{Part}
+use Rattle.pals_model.specs.declared.inputs_and_parts.Env.{Env}
+use Rattle.pals_model.specs.declared.inputs_and_parts.Part.{Part}
 use Rattle.pals_model.specs.ComponentInputs.{rate_of, links_from}
 use Rattle.pals_model.specs.PortKinds.{out_kind}
 use Rattle.pals_model.specs.Composition.{msg, part}
 use Rattle.pals_model.specs.RoundTexts.{text_of, tuple_text, row_lines}
 use Rattle.pals_runs.specs.declared.events.Event.{Event}
-use Rattle.pals_runs.specs.Journal.{link_word, spaced}
+use Rattle.pals_runs.specs.JournalLines.{link_word, spaced}
 use Rattle.bus_machine.specs.States.{link_at}
 use Rattle.pals_runs.specs.declared.events.Event.TheVariants as event
 

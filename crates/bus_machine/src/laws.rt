@@ -1,8 +1,8 @@
 //! Laws of the machine. The functions do nothing: their contracts are the laws.
 ghost use Rattle.bus_machine.specs.proof.MachineLaws.{OpeningAgrees, StepKeepsAgreement, ReplayAgrees};
 ghost use Rattle.bus_machine.specs.proof.TargetExamples.{NodesHaveTargets};
-ghost use Rattle.bus_machine.specs.proof.CounterMachine.{counters, early_arrival, early_lines, lost_message};
-ghost use Rattle.bus_machine.specs.proof.CounterMachine.{lost_lines, Tells};
+ghost use Rattle.bus_machine.specs.proof.StoppedCounterRuns.{counters, early_arrival, early_lines, lost_message};
+ghost use Rattle.bus_machine.specs.proof.StoppedCounterRuns.{lost_lines, Tells};
 
 /// Two counters, the second of which has not started when the first one's message arrives: the run
 /// stops early.

@@ -2,9 +2,9 @@
 //! with the synchronous composition; and how a journal tells it. Definitions and their laws alone.
 #![tactic(auto)]
 
-pub mod action;
+pub mod node_action;
 pub mod laws;
 pub mod plan;
 
-pub use action::{Next, NodeAction};
+pub use node_action::{Next, NodeAction};
 pub use plan::{Input, Plan};

@@ -11,4 +11,4 @@ mod designs;
 #[cfg(test)]
 mod nodes;
 #[cfg(test)]
-mod work;
+mod late_jobs;

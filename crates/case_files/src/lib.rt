@@ -21,7 +21,7 @@
 
 mod answers;
 pub mod designs;
-mod makings;
+mod case_texts;
 
 pub use answers::{Answers, asked, check, check_answer, word};
-pub use makings::text_of;
+pub use case_texts::text_of;

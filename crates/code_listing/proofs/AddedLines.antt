@@ -7,7 +7,7 @@ use Rattle.std.proofs.lemmas.List.Elements.{All-more}
 use Rattle.std.proofs.lemmas.List.FromFn.{length-enumerate_from, get_or-enumerate_from}
 use Rattle.std.proofs.lemmas.Slice.Zip.{length-zip, get_or-zip}
 use Rattle.std.proofs.lemmas.Grind.{flat_map-append}
-use Rattle.list_lemmas.proofs.Lists.{flat_map-take_more}
+use Rattle.list_lemmas.proofs.ListOperations.{flat_map-take_more}
 use Rattle.pals_base.specs.declared.behaviour.BehaviourParts.{BehaviourParts}
 use Rattle.pals_model.specs.RoundTexts.{line_end, text_of}
 use Rattle.pals_report.specs.proof.PartialWrites.{BeginsWith}

@@ -1,12 +1,12 @@
 pub mod AddedLines
-pub mod LineWords
+pub mod LinesAndWords
 pub mod SpelledNumbers
-pub mod RunsOfLines
+pub mod LineGroups
 pub mod PlainNames
 pub mod PortNames
 pub mod ToldInstrs
 pub mod ToldComponents
 pub mod ToldComponentBlocks
 pub mod ToldLinks
-pub mod WholeLines
+pub mod UnbrokenLines
 pub mod ToldListings

@@ -10,13 +10,13 @@ use Rattle.pals_base.specs.declared.behaviour.VarDecl.{VarDecl}
 use Rattle.pals_base.specs.declared.behaviour.StateDecl.{StateDecl}
 use Rattle.pals_base.specs.declared.behaviour.BehaviourParts.{BehaviourParts}
 use Rattle.pals_base.specs.Names.{is_word}
-use Rattle.pals_base.specs.Rules.{IsBehaviour, has_word}
+use Rattle.pals_base.specs.BehaviourRules.{IsBehaviour, has_word}
 use Rattle.pals_model.specs.NamesInTexts.{port_name}
 use Rattle.pals_model.specs.RoundTexts.{state_name}
 use Rattle.pals_model.proofs.FirstElements.{at_element}
 use Rattle.pals_model.proofs.WordBytes.{all_pass}
 use Rattle.code_listing.specs.Listings.{slot_word, slot_name}
-use Rattle.code_listing.proofs.LineWords.{is_plain, word_plain, decimal_plain}
+use Rattle.code_listing.proofs.LinesAndWords.{is_plain, word_plain, decimal_plain}
 
 -- ---- names that a behaviour declares
 pub record HasPlainNames (b : BehaviourParts) : Type 0 where

@@ -7,18 +7,18 @@ use Rattle.std.specs.List.{list_all}
 use Rattle.std.proofs.lemmas.Bool.{and_parts}
 use Rattle.std.proofs.lemmas.List.Folds.{list_all-append}
 use Rattle.std.proofs.lemmas.Option.{slice_get-map, slice_get_cases}
-use Rattle.list_lemmas.proofs.Places.{slice_get-append_left, slice_get-map_parts}
+use Rattle.list_lemmas.proofs.ElementPositions.{slice_get-append_left, slice_get-map_parts}
 use Rattle.list_lemmas.proofs.ElementPairs.{same_place}
 use Rattle.pals_base.specs.declared.behaviour.PortDecl.{PortDecl}
 use Rattle.pals_base.specs.declared.behaviour.VarDecl.{VarDecl}
 use Rattle.pals_base.specs.declared.behaviour.BehaviourParts.{BehaviourParts}
 use Rattle.pals_base.specs.Names.{is_word, AreDistinct}
-use Rattle.pals_base.specs.Rules.{IsBehaviour, value_names}
+use Rattle.pals_base.specs.BehaviourRules.{IsBehaviour, value_names}
 use Rattle.pals_model.specs.declared.design.Component.{Component}
 use Rattle.pals_model.specs.declared.design.DesignParts.{DesignParts}
 use Rattle.pals_model.specs.NamesInTexts.{port_name, in_port_name, target_name}
 use Rattle.pals_model.specs.PortKinds.{ins_in, outs_in}
-use Rattle.pals_model.specs.Rules.{IsDesign, IsSource, IsTarget}
+use Rattle.pals_model.specs.DesignRules.{IsDesign, IsSource, IsTarget}
 use Rattle.pals_model.proofs.FirstElements.{at_element}
 use Rattle.pals_model.proofs.ShapeLaws.{component_at, is_behaviour}
 use Rattle.pals_model.proofs.WordBytes.{IsWithout, all_pass, word_without, splits_at_last}

@@ -7,19 +7,19 @@ use Rattle.std.proofs.lemmas.List.Elements.{All-head, All-tail}
 use Rattle.std.proofs.lemmas.List.Folds.{list_all-append}
 use Rattle.std.proofs.lemmas.Option.{slice_get-map}
 use Rattle.std.specs.Option.{option_map}
-use Rattle.list_lemmas.proofs.Places.{slice_get-map_parts}
+use Rattle.list_lemmas.proofs.ElementPositions.{slice_get-map_parts}
 use Rattle.list_lemmas.proofs.ElementPairs.{same_place}
 use Rattle.pals_base.specs.declared.behaviour.PortDecl.{PortDecl}
 use Rattle.pals_base.specs.declared.behaviour.StateDecl.{StateDecl}
 use Rattle.pals_base.specs.declared.behaviour.BehaviourParts.{BehaviourParts}
 use Rattle.pals_base.specs.PeriodBound.{sent_steps, release_offset}
 use Rattle.pals_base.specs.SingleStep.{may_begin}
-use Rattle.pals_base.specs.Rules.{IsBehaviour}
+use Rattle.pals_base.specs.BehaviourRules.{IsBehaviour}
 use Rattle.pals_model.specs.declared.design.Component.{Component}
 use Rattle.pals_model.specs.declared.design.DesignParts.{DesignParts}
 use Rattle.pals_model.specs.RoundTexts.{state_name}
-use Rattle.pals_model.specs.Rules.{IsComponent}
-use Rattle.pals_runs.specs.Journal.{spaced}
+use Rattle.pals_model.specs.DesignRules.{IsComponent}
+use Rattle.pals_runs.specs.JournalLines.{spaced}
 use Rattle.step_code.specs.declared.instr.CodeParts.{CodeParts}
 use Rattle.step_code.specs.PathWeights.{weight_of}
 use Rattle.step_code.specs.CappedWeights.{capped}
@@ -27,10 +27,10 @@ use Rattle.code_listing.specs.Listings.{number_line, port_line, variable_line, s
 use Rattle.code_listing.specs.Listings.{instr_lines, initial_line, component_lines, lines_of_all}
 use Rattle.code_listing.specs.NumberRanges.{NumbersFit}
 use Rattle.code_listing.specs.proof.ToldDesigns.{state_names, told_component, told_components, IsCodeOf}
-use Rattle.code_listing.proofs.LineWords.{is_plain, same_words, path_plain}
+use Rattle.code_listing.proofs.LinesAndWords.{is_plain, same_words, path_plain}
 use Rattle.code_listing.proofs.PlainNames.{HasPlainNames, names_are_plain, state_plain}
-use Rattle.code_listing.proofs.RunsOfLines.{begins, EndsAt, no_end, parted, all_begin, none_begins, run_parted}
-use Rattle.code_listing.proofs.RunsOfLines.{items_told, cons_told}
+use Rattle.code_listing.proofs.LineGroups.{begins, EndsAt, no_end, parted, all_begin, none_begins, run_parted}
+use Rattle.code_listing.proofs.LineGroups.{items_told, cons_told}
 use Rattle.code_listing.proofs.ToldComponents.{number_told, IsFit, port_told, variable_told, states_told}
 use Rattle.code_listing.proofs.ToldInstrs.{instrs_told}
 

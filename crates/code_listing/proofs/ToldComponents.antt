@@ -13,7 +13,7 @@ use Rattle.pals_base.specs.declared.behaviour.StateDecl.{StateDecl}
 use Rattle.code_listing.specs.Listings.{kind_word, number_line, port_line, variable_line, state_line, state_lines}
 use Rattle.code_listing.specs.NumberRanges.{FirstFits, EntryFits, EntriesFit}
 use Rattle.code_listing.specs.proof.ToldDesigns.{state_names}
-use Rattle.code_listing.proofs.LineWords.{is_plain, same_words, decimal_plain, signed_plain}
+use Rattle.code_listing.proofs.LinesAndWords.{is_plain, same_words, decimal_plain, signed_plain}
 use Rattle.code_listing.proofs.SpelledNumbers.{signed_spelled, signed_is}
 
 -- ---- single lines

@@ -8,7 +8,7 @@ use Rattle.pals_base.specs.declared.behaviour.BehaviourParts.{BehaviourParts}
 use Rattle.step_code.specs.declared.instr.Instr.{Instr}
 use Rattle.code_listing.specs.Listings.{mnemonic, operands, instr_line, instr_lines}
 use Rattle.code_listing.specs.NumberRanges.{InstrFits}
-use Rattle.code_listing.proofs.LineWords.{is_plain, ArePlain, same_words, decimal_plain, signed_plain}
+use Rattle.code_listing.proofs.LinesAndWords.{is_plain, ArePlain, same_words, decimal_plain, signed_plain}
 use Rattle.code_listing.proofs.PlainNames.{HasPlainNames, port_plain, state_plain, slot_plain}
 use Rattle.code_listing.proofs.SpelledNumbers.{spelled, spelled_is, signed_spelled, signed_is}
 use Rattle.step_code.specs.declared.instr.Instr.TheVariants as instr

@@ -18,12 +18,12 @@ use Rattle.pals_model.specs.declared.design.Tap.{Tap}
 use Rattle.pals_model.specs.declared.design.DesignParts.{DesignParts}
 use Rattle.pals_model.specs.ComponentInputs.{rate_of, rate_in}
 use Rattle.pals_model.specs.NamesInTexts.{port_name, in_port_name, target_name, link_name}
-use Rattle.pals_model.specs.Rules.{IsDesign, IsComponent, IsSource, IsTarget, IsLink, IsFeed, IsTap}
+use Rattle.pals_model.specs.DesignRules.{IsDesign, IsComponent, IsSource, IsTarget, IsLink, IsFeed, IsTap}
 use Rattle.pals_model.proofs.FirstElements.{at_element}
-use Rattle.pals_runs.specs.Journal.{spaced}
+use Rattle.pals_runs.specs.JournalLines.{spaced}
 use Rattle.pals_report.specs.CheckReports.{adaptor_text, and_adaptor, out_port_name, source_name, link_line, feed_line}
 use Rattle.pals_report.specs.CheckReports.{tap_line}
-use Rattle.code_listing.proofs.LineWords.{is_plain, ArePlain, same_words, word_plain, path_plain, decimal_plain}
+use Rattle.code_listing.proofs.LinesAndWords.{is_plain, ArePlain, same_words, word_plain, path_plain, decimal_plain}
 use Rattle.code_listing.proofs.PlainNames.{names_are_plain, port_plain}
 use Rattle.code_listing.proofs.PortNames.{outs_of, ins_of, ported, full_name, source_named, target_named, outs_apart}
 use Rattle.code_listing.proofs.PortNames.{ins_apart, IsThere, source_there, target_there, ports_told}

@@ -9,21 +9,21 @@ use Rattle.pals_base.specs.declared.values.Gamma.{Gamma}
 use Rattle.pals_model.specs.declared.design.Component.{Component}
 use Rattle.pals_model.specs.declared.design.DesignParts.{DesignParts}
 use Rattle.pals_model.specs.RoundTexts.{text_of}
-use Rattle.pals_model.specs.Rules.{IsComponent, IsLink, IsFeed, IsTap, IsGamma}
-use Rattle.pals_runs.specs.Journal.{spaced}
+use Rattle.pals_model.specs.DesignRules.{IsComponent, IsLink, IsFeed, IsTap, IsGamma}
+use Rattle.pals_runs.specs.JournalLines.{spaced}
 use Rattle.step_code.specs.declared.instr.CodeParts.{CodeParts}
 use Rattle.pals_report.specs.CheckReports.{link_line, feed_line, tap_line}
 use Rattle.code_listing.specs.Listings.{range_line}
 use Rattle.code_listing.specs.NumberRanges.{NumbersFit, AllFit}
 use Rattle.code_listing.specs.proof.ToldDesigns.{ToldComponent, told_component, told_components, told, IsCodeOf}
 use Rattle.code_listing.specs.proof.ToldDesigns.{AreListed, ListingTells}
-use Rattle.code_listing.proofs.LineWords.{is_plain, same_lines, same_words, decimal_plain}
+use Rattle.code_listing.proofs.LinesAndWords.{is_plain, same_lines, same_words, decimal_plain}
 use Rattle.code_listing.proofs.PortNames.{Ported, names_of, ported, outs_of, ins_of}
-use Rattle.code_listing.proofs.RunsOfLines.{none_begins, run_parted, items_told, cons_told}
+use Rattle.code_listing.proofs.LineGroups.{none_begins, run_parted, items_told, cons_told}
 use Rattle.code_listing.proofs.ToldComponentBlocks.{EndsComponents, AreSound, IsSound, all_told}
 use Rattle.code_listing.proofs.ToldLinks.{AreAlike, link_told, feed_told, tap_told}
-use Rattle.code_listing.proofs.WholeLines.{behind_feeds, behind_links, behind_components, lines_in_order, in_order}
-use Rattle.code_listing.proofs.WholeLines.{listing_has_lines}
+use Rattle.code_listing.proofs.UnbrokenLines.{behind_feeds, behind_links, behind_components, lines_in_order, in_order}
+use Rattle.code_listing.proofs.UnbrokenLines.{listing_has_lines}
 
 -- ---- the bounds
 bound_told : (word : List ℕ) (m n : ℕ) → is_plain word ≡ true → m < 2 ^ 64 → n < 2 ^ 64

@@ -1,5 +1,5 @@
 pub mod NamedAssociations
 pub mod TimesWithinAnHour
 pub mod SingleTexts
-pub mod NumberedLists
-pub mod ComponentProperties
+pub mod EnumeratedLists
+pub mod PropertiesByNumber

@@ -10,9 +10,9 @@ use Rattle.aadl_tree.specs.declared.values.Association.{Association as source}
 use Rattle.aadl_tree.specs.Values.{Association, Associations, association, associate}
 use Rattle.aadl_tree.specs.proof.NameViews.{name_view, path_view}
 use Rattle.aadl_tree.specs.proof.ValueViews.{value_view, association_view}
-use Rattle.aadl_names.specs.declared.holder.PropertyName.{PropertyName}
+use Rattle.aadl_names.specs.declared.property_holder.PropertyName.{PropertyName}
 use Rattle.aadl_tree.specs.Declarations.{Implementation, PackageTree}
-use Rattle.aadl_names.specs.Properties.{counts, is_named, name_of, association_named}
+use Rattle.aadl_names.specs.RecognisedProperties.{counts, is_named, name_of, association_named}
 use Rattle.aadl_names.specs.ReferenceResolution.{implementation_at, type_number, type_numbered}
 use Rattle.aadl_uses.specs.proof.ImplementationTypes.{type_number_at}
 use Rattle.component_checks.specs.PropertyLookup.{type_lists, own_lists, root_lists, first_in}

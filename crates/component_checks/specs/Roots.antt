@@ -4,10 +4,10 @@ use Rattle.std.specs.Option.{option_and_then, is_some}
 use Rattle.pals_base.specs.declared.values.Gamma.{Gamma}
 use Rattle.aadl_tree.specs.Values.{Association}
 use Rattle.aadl_tree.specs.Declarations.{Implementation, PackageTree}
-use Rattle.aadl_names.specs.declared.holder.PropertyName.{PropertyName}
-use Rattle.aadl_names.specs.declared.holder.PropertyName.TheVariants.{Period, Skew, Execution, Network}
+use Rattle.aadl_names.specs.declared.property_holder.PropertyName.{PropertyName}
+use Rattle.aadl_names.specs.declared.property_holder.PropertyName.TheVariants.{Period, Skew, Execution, Network}
 use Rattle.aadl_names.specs.ReferenceResolution.{implementation_at}
-use Rattle.aadl_names.specs.Properties.{association_at}
+use Rattle.aadl_names.specs.RecognisedProperties.{association_at}
 use Rattle.annex_resolve.specs.declared.violation.Violation.{Violation}
 use Rattle.annex_resolve.specs.Scopes.{found_if}
 use Rattle.component_checks.specs.DesignNumbers.{within_hour, range_within, skew_of, range_of, gamma_by}

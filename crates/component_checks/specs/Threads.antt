@@ -4,11 +4,11 @@ use Rattle.std.specs.Option.{option_and_then}
 use Rattle.aadl_tree.specs.Names.{Reference, same_name}
 use Rattle.aadl_tree.specs.Values.{Association}
 use Rattle.aadl_tree.specs.Declarations.{Subcomponent, PackageTree}
-use Rattle.aadl_names.specs.declared.holder.PropertyName.TheVariants.{Period, Dispatch}
+use Rattle.aadl_names.specs.declared.property_holder.PropertyName.TheVariants.{Period, Dispatch}
 use Rattle.aadl_names.specs.Spelling.{spelled_reference}
-use Rattle.aadl_names.specs.Properties.{association_value, reference_of}
-use Rattle.aadl_uses.specs.declared.thread_places.SubAt.{SubAt}
-use Rattle.aadl_uses.specs.declared.thread_places.ThreadAt.{ThreadAt}
+use Rattle.aadl_names.specs.RecognisedProperties.{association_value, reference_of}
+use Rattle.aadl_uses.specs.declared.thread_locations.SubAt.{SubAt}
+use Rattle.aadl_uses.specs.declared.thread_locations.ThreadAt.{ThreadAt}
 use Rattle.annex_resolve.specs.declared.violation.Violation.{Violation}
 use Rattle.annex_resolve.specs.Scopes.{found_if}
 use Rattle.component_checks.specs.DesignNumbers.{within_hour, rate_of}

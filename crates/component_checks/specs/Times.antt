@@ -4,12 +4,12 @@ use Rattle.std.specs.Prelude.{if◌then◌else◌}
 use Rattle.std.specs.Option.{option_and_then}
 use Rattle.pals_base.specs.declared.limits.TheConstants.{HOUR}
 use Rattle.aadl_tree.specs.Values.{Value, Association, Associations}
-use Rattle.aadl_names.specs.declared.holder.PropertyName.{PropertyName}
-use Rattle.aadl_names.specs.declared.holder.PropertyName.TheVariants.{Period, Dispatch, Timing, Adaptor, Skew}
-use Rattle.aadl_names.specs.declared.holder.PropertyName.TheVariants.{Execution, Network, Initial}
-use Rattle.aadl_names.specs.declared.holder.PropertyHolder.{PropertyHolder}
-use Rattle.aadl_names.specs.Properties.{association_at, association_value, listed, counts, is_named, name_of}
-use Rattle.aadl_names.specs.Properties.{recognised, time_of, range_of}
+use Rattle.aadl_names.specs.declared.property_holder.PropertyName.{PropertyName}
+use Rattle.aadl_names.specs.declared.property_holder.PropertyName.TheVariants.{Period, Dispatch, Timing, Adaptor, Skew}
+use Rattle.aadl_names.specs.declared.property_holder.PropertyName.TheVariants.{Execution, Network, Initial}
+use Rattle.aadl_names.specs.declared.property_holder.PropertyHolder.{PropertyHolder}
+use Rattle.aadl_names.specs.RecognisedProperties.{association_at, association_value, listed, counts, is_named, name_of}
+use Rattle.aadl_names.specs.RecognisedProperties.{recognised, time_of, range_of}
 use Rattle.annex_resolve.specs.declared.violation.Violation.{Violation}
 use Rattle.annex_resolve.specs.Scopes.{found_if}
 use Rattle.annex_resolve.specs.declared.violation.TheConstants.{NUMBER_TOO_BIG}

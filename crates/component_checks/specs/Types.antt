@@ -8,9 +8,9 @@ use Rattle.aadl_tree.specs.Names.{Identifier, identifiers, listed_in}
 use Rattle.aadl_tree.specs.Values.{Association}
 use Rattle.aadl_tree.specs.Declarations.{Feature}
 use Rattle.aadl_tree.specs.Annexes.{VariableDeclaration, AnnexTree}
-use Rattle.aadl_names.specs.declared.holder.PropertyName.TheVariants.{Initial}
+use Rattle.aadl_names.specs.declared.property_holder.PropertyName.TheVariants.{Initial}
 use Rattle.aadl_names.specs.PackageFaults.{goes_in}
-use Rattle.aadl_names.specs.Properties.{association_at, association_value, association_named, name_of, only_text}
+use Rattle.aadl_names.specs.RecognisedProperties.{association_at, association_value, association_named, name_of, only_text}
 use Rattle.annex_resolve.specs.declared.violation.Violation.{Violation}
 use Rattle.annex_resolve.specs.declared.violation.TheConstants.{BAD_TYPE}
 use Rattle.annex_resolve.specs.Scopes.{found_if}

@@ -4,12 +4,12 @@ ghost use Rattle.annex_resolve.specs.Scopes.{found_if};
 ghost use Rattle.component_checks.specs.Rates.{is_digit, is_first_digit, place_number, adaptor_named, kind_suits};
 ghost use Rattle.component_checks.specs.Rates.{is_right};
 
-use crate::rates::name_and_number;
+use crate::periods::name_and_number;
 use annex_resolve::Violation;
 use annex_resolve::violation::{
     ADAPTOR_OUT_OF_RANGE, NO_ADAPTOR, RATES_DONT_DIVIDE, STRAY_ADAPTOR,
 };
-use pals_base::adaptors::{divides_or_divided, is_allowed, suits_kind};
+use pals_base::allowed_adaptors::{divides_or_divided, is_allowed, suits_kind};
 use pals_base::{Adaptor, Items, Kind, NoMemory, Text, TryClone};
 use std::alloc::Global;
 

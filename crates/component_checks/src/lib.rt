@@ -4,23 +4,23 @@
 #![tactic(auto)]
 
 pub mod adaptors;
-pub mod carried;
-pub mod carried_lists;
-pub mod numbers;
+pub mod chain_properties;
+pub mod chain_property_lists;
+pub mod design_numbers;
 pub mod properties;
 pub mod property_lookup;
 pub mod quotes;
-pub mod rates;
+pub mod periods;
 pub mod roots;
 pub mod threads;
-pub mod timed;
-pub mod timed_lists;
+pub mod component_properties;
+pub mod component_property_lists;
 pub mod times;
 pub mod types;
-pub mod words;
+pub mod word_values;
 
 pub use adaptors::{Carrier, adaptor_named};
-pub use carried::ChainProperties;
-pub use numbers::{gamma_by, range_of, rate_of, skew_of};
+pub use chain_properties::ChainProperties;
+pub use design_numbers::{gamma_by, range_of, rate_of, skew_of};
 pub use properties::Properties;
-pub use rates::{add_bound_findings, add_period_findings};
+pub use periods::{add_bound_findings, add_period_findings};

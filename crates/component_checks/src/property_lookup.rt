@@ -4,14 +4,14 @@ ghost use Rattle.aadl_tree.specs.proof.PlaceMaps.{kept_place};
 ghost use Rattle.aadl_tree.specs.proof.PackageViews.{placed};
 ghost use Rattle.aadl_tree.specs.proof.ValueViews.{association_view, associations_view};
 ghost use Rattle.aadl_tree.specs.proof.DeclarationViews.{subcomponent_view};
-ghost use Rattle.aadl_names.specs.Properties.{name_of, counts, is_named, association_named};
+ghost use Rattle.aadl_names.specs.RecognisedProperties.{name_of, counts, is_named, association_named};
 ghost use Rattle.aadl_names.specs.ReferenceResolution.{type_numbered};
 ghost use Rattle.aadl_uses.specs.proof.ImplementationTypes.{type_number_at};
 ghost use Rattle.component_checks.specs.PropertyLookup as spec;
 
 use aadl_names::PropertyName;
 use aadl_names::name_comparison::is_spelled;
-use aadl_names::numbered::{subcomponent_at, type_numbered};
+use aadl_names::declarations_by_number::{subcomponent_at, type_numbered};
 use aadl_tree::{Association, PackageTree, Subcomponent};
 use aadl_uses::{SubAt, Uses};
 

@@ -13,7 +13,7 @@ use crate::threads::{add_named, root_period};
 use crate::times::{range_within, shown, time_within};
 use crate::{add_bound_findings, gamma_by};
 use aadl_names::PropertyName;
-use aadl_names::numbered::implementation_at;
+use aadl_names::declarations_by_number::implementation_at;
 use aadl_tree::{Association, PackageTree};
 use aadl_uses::Uses;
 use annex_resolve::Violation;

@@ -6,12 +6,12 @@ ghost use Rattle.aadl_tree.specs.proof.PlaceMaps.{kept_place};
 ghost use Rattle.aadl_tree.specs.proof.NameViews.{identifier_view};
 ghost use Rattle.aadl_tree.specs.proof.ValueViews.{figure_view, quantity_view, value_view, association_view};
 ghost use Rattle.aadl_tree.specs.proof.ValueViews.{associations_view};
-ghost use Rattle.aadl_names.specs.Properties as properties;
+ghost use Rattle.aadl_names.specs.RecognisedProperties as properties;
 ghost use Rattle.component_checks.specs.DesignNumbers.{within_hour, range_within};
 ghost use Rattle.component_checks.specs.Times as spec;
 
 use aadl_names::name_comparison::is_spelled;
-use aadl_names::units::unit_of;
+use aadl_names::time_units::unit_of;
 use aadl_names::{PropertyHolder, PropertyName};
 use aadl_tree::{Association, Identifier, Quantity, Sign, UnsignedNumber, Value};
 use annex_resolve::Violation;
@@ -49,7 +49,7 @@ fn product(number: u64, unit: u64) -> u128
 }
 
 // A number with its unit, where it is a time.
-#[tactic(auto, unfolding(aadl_names::specs::Properties::time_in))]
+#[tactic(auto, unfolding(aadl_names::specs::RecognisedProperties::time_in))]
 fn time_in(x: &Quantity) -> Option<u128>
     ensures { result ≡ properties.time_in (quantity_view kept_place x.now) }
 {

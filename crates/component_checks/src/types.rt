@@ -6,7 +6,7 @@ ghost use Rattle.aadl_tree.specs.proof.NameViews.{identifiers_view, reference_vi
 ghost use Rattle.aadl_tree.specs.proof.ValueViews.{value_view, values_view, association_view};
 ghost use Rattle.aadl_tree.specs.Values.{list};
 ghost use Rattle.aadl_tree.specs.proof.DeclarationViews.{feature_view, variable_view, annex_tree_view};
-ghost use Rattle.aadl_names.specs.Properties.{only_text, text_of};
+ghost use Rattle.aadl_names.specs.RecognisedProperties.{only_text, text_of};
 ghost use Rattle.annex_resolve.specs.ExpressionTypes.{kind_in};
 ghost use Rattle.component_checks.specs.Types as spec;
 
@@ -16,7 +16,7 @@ use aadl_names::PropertyName;
 use aadl_tree::{
     AnnexTree, Association, Direction, Feature, Identifiers, Reference, Value, VariableDeclaration,
 };
-use annex_resolve::types::kind_named;
+use annex_resolve::type_names::kind_named;
 use annex_resolve::violation::BAD_TYPE;
 use annex_resolve::{Violation, add_if, expect};
 use pals_base::{Items, Kind, NoMemory};

@@ -8,10 +8,10 @@ use Rattle.pals_model.specs.declared.design.Link.{Link}
 use Rattle.pals_model.specs.declared.design.Feed.{Feed}
 use Rattle.pals_model.specs.declared.design.Tap.{Tap}
 use Rattle.pals_model.specs.declared.design.DesignParts.{DesignParts}
-use Rattle.pals_model.specs.Rules.{IsDesign}
-use Rattle.pals_model.specs.Rules as model
+use Rattle.pals_model.specs.DesignRules.{IsDesign}
+use Rattle.pals_model.specs.DesignRules as model
 use Rattle.aadl_tree.specs.Declarations.{PackageTree}
-use Rattle.aadl_uses.specs.ThreadPlaces.{thread_at}
+use Rattle.aadl_uses.specs.ThreadLocations.{thread_at}
 use Rattle.aadl_instance.specs.FlattenedDesign.{Parts, IsFlat}
 use Rattle.aadl_instance.specs.Instances.{chain_at}
 use Rattle.component_checks.specs.Threads.{thread_rate, greatest_rate}

@@ -3,22 +3,22 @@ use Rattle.std.proofs.Common.{◌≡◌, ◌∙◌, ℕ, ◌≤◌, max, List, [
 use Rattle.std.proofs.Common.{subst}
 use Rattle.std.proofs.lemmas.Option.{same_Some}
 use Rattle.std.specs.Prelude.{slice_get}
-use Rattle.list_lemmas.proofs.Lists.{append_is_nil_right}
+use Rattle.list_lemmas.proofs.ListOperations.{append_is_nil_right}
 use Rattle.pals_base.specs.PeriodBound.{least_period}
 use Rattle.pals_base.specs.declared.behaviour.BehaviourParts.{BehaviourParts}
 use Rattle.pals_model.specs.declared.design.Component.{Component}
 use Rattle.pals_model.specs.declared.design.DesignParts.{DesignParts}
-use Rattle.pals_model.specs.Rules.{IsDesign}
-use Rattle.pals_model.specs.Rules as model
+use Rattle.pals_model.specs.DesignRules.{IsDesign}
+use Rattle.pals_model.specs.DesignRules as model
 use Rattle.aadl_tree.specs.Declarations.{Implementation, implementation, PackageTree}
 use Rattle.aadl_tree.specs.proof.GrammarTrees.{IsGiven}
 use Rattle.aadl_names.specs.PackageFaults.{package_faults}
-use Rattle.aadl_uses.specs.declared.thread_places.ThreadAt.{ThreadAt}
+use Rattle.aadl_uses.specs.declared.thread_locations.ThreadAt.{ThreadAt}
 use Rattle.component_checks.specs.Rates.{bound_findings}
 use Rattle.design_laws.proofs.BoundsAndRates.{leaves_time}
 use Rattle.component_checks.specs.Threads.{root_period, thread_rate, greater_rate, greatest_rate}
 use Rattle.component_checks.specs.Roots.{root_gamma, at_root, place_of, missing_findings, order_findings}
-use Rattle.aadl_names.specs.declared.holder.PropertyName.TheVariants.{Period}
+use Rattle.aadl_names.specs.declared.property_holder.PropertyName.TheVariants.{Period}
 use Rattle.aadl_instance.specs.FlattenedDesign.{Parts, IsFlat}
 use Rattle.design_laws.specs.proof.PackageNames.{NamesDiffer, AreNamed}
 use Rattle.model_violations.specs.Violations.{Shown, shown_by, rates_of, AreViolations}
@@ -26,7 +26,7 @@ use Rattle.design_laws.specs.proof.AcceptedInstances.{IsShown, NothingFound, Has
 use Rattle.design_laws.specs.InstanceDesigns.{put_first, all_of, component_by, thread_behaviour, component_in}
 use Rattle.design_laws.specs.InstanceDesigns.{IsDesignOf}
 use Rattle.design_laws.proofs.FaultlessParts.{all_parts}
-use Rattle.design_laws.proofs.NoFindings.{nothing_found}
+use Rattle.design_laws.proofs.NoViolations.{nothing_found}
 use Rattle.design_laws.specs.PackageDesigns.{IsDesignIn}
 use Rattle.design_laws.proofs.WordNames.{has_words}
 

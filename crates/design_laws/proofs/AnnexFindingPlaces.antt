@@ -19,15 +19,15 @@ use Rattle.aadl_tree.specs.Declarations.{Implementation, PackageTree}
 use Rattle.aadl_names.specs.declared.fault.PackageFault.{PackageFault}
 use Rattle.aadl_names.specs.declared.fault.PackageFault.TheVariants.{Unknown, Twice}
 use Rattle.aadl_names.specs.Spelling.{spelled_name}
-use Rattle.aadl_names.specs.Behaviours.{states_of}
+use Rattle.aadl_names.specs.BehaviourAnnexes.{states_of}
 use Rattle.aadl_names.specs.AnnexNames.{Known}
 use Rattle.aadl_names.specs.PackageFaults.{is_among, known_in, state_uses, guard_uses, effect_uses, transition_uses}
 use Rattle.aadl_names.specs.PackageFaults.{behaviour_faults}
 use Rattle.aadl_names.proofs.ListMembers.{is_here}
 use Rattle.design_laws.proofs.FindingPlaces.{Clear, clear_none, clear_one, clear_front, clear_back, clear_tail}
 use Rattle.design_laws.proofs.FindingPlaces.{clear_append, clear_flat, clear_unless, clear_four, clear_turned}
-use Rattle.design_laws.proofs.ExpressionNames.{expression_clear}
-use Rattle.design_laws.proofs.ActionNames.{block_clear}
+use Rattle.design_laws.proofs.ExpressionFindingPlaces.{expression_clear}
+use Rattle.design_laws.proofs.ActionFindingPlaces.{block_clear}
 use Rattle.design_laws.proofs.PossibleNameFaults.{of_identifier, of_identifiers, of_association, of_associations}
 use Rattle.design_laws.proofs.PossibleNameFaults.{of_variable, of_state, of_tree, of_content, of_annex}
 

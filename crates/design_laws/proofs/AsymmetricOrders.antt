@@ -3,7 +3,7 @@ use Rattle.std.proofs.Common.{◌≡◌, ◌⊎◌, inl, inr, ℕ, nat_eq, nat_l
 use Rattle.std.proofs.Common.{subst, arith}
 use Rattle.std.proofs.lemmas.Bool.{false≢true, ltb-true, eqb-true}
 use Rattle.list_lemmas.proofs.Booleans.{or_and_cases}
-use Rattle.aadl_uses.specs.Threads.{path_before, PathBefore}
+use Rattle.aadl_uses.specs.ThreadsBelow.{path_before, PathBefore}
 use Rattle.aadl_chains.specs.Links.{Ends, same_path, TargetBefore, PortBefore}
 
 not_both_less : (x y : ℕ) → nat_lt x y ≡ true → nat_lt y x ≡ true → ⊥

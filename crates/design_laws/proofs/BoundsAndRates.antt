@@ -9,7 +9,7 @@ use Rattle.std.proofs.lemmas.Option.{cond_some}
 use Rattle.pals_base.specs.declared.values.Gamma.{Gamma}
 use Rattle.pals_base.specs.declared.limits.TheConstants.{HOUR, RATE}
 use Rattle.pals_base.specs.PeriodBound.{least_period}
-use Rattle.pals_model.specs.Rules.{IsGamma}
+use Rattle.pals_model.specs.DesignRules.{IsGamma}
 use Rattle.component_checks.specs.DesignNumbers.{not_zero, in_order, skew_of, range_of, divides, is_rate, rate_of}
 use Rattle.component_checks.specs.DesignNumbers.{gamma_by}
 use Rattle.component_checks.specs.Rates.{bound_findings, period_findings, name_and_number}

@@ -5,15 +5,15 @@ use Rattle.std.specs.Prelude.{slice_get, option_map}
 use Rattle.std.specs.Option.{option_and_then, is_some}
 use Rattle.std.proofs.lemmas.Bool.{false≢true}
 use Rattle.std.proofs.lemmas.Option.{option_and_then_some}
-use Rattle.list_lemmas.proofs.Places.{flat_map-nil_at}
-use Rattle.list_lemmas.proofs.Lists.{append_is_nil_right, append_is_nil_left}
+use Rattle.list_lemmas.proofs.ElementPositions.{flat_map-nil_at}
+use Rattle.list_lemmas.proofs.ListOperations.{append_is_nil_right, append_is_nil_left}
 use Rattle.list_lemmas.proofs.Options.{option_map-parts}
 use Rattle.pals_base.specs.declared.behaviour.Kind.{Kind}
 use Rattle.pals_base.specs.declared.behaviour.Kind.TheVariants.{Integer, Boolean}
 use Rattle.aadl_tree.specs.Names.{Identifier, same_name}
 use Rattle.aadl_tree.specs.Declarations.{Feature, Subcomponent, ConnectionEnd, Implementation, PackageTree}
-use Rattle.aadl_names.specs.declared.site.PortPlace.{PortPlace}
-use Rattle.aadl_names.specs.declared.site.PortPlace.TheVariants.{Own, Inner}
+use Rattle.aadl_names.specs.declared.port_place.PortPlace.{PortPlace}
+use Rattle.aadl_names.specs.declared.port_place.PortPlace.TheVariants.{Own, Inner}
 use Rattle.aadl_names.specs.ReferenceResolution.{implementation_at, subcomponents_of, referred, target_of, ports_of}
 use Rattle.aadl_names.specs.ReferenceResolution.{ports_at, port_named, sub_named, inner_ports, inner_site, site_by}
 use Rattle.aadl_names.specs.ReferenceResolution.{site}
@@ -25,10 +25,10 @@ use Rattle.annex_resolve.specs.ExpressionTypes.{kind_in, same_kind, fits}
 use Rattle.design_laws.proofs.EmptyFindingLists.{none_at, is_right}
 use Rattle.component_checks.specs.Types.{port_findings}
 use Rattle.model_violations.specs.Carriers.{carries}
-use Rattle.model_violations.specs.Connections.{site_port, site_kind, kind_at, ends_findings, delay_findings}
-use Rattle.model_violations.specs.Connections.{connection_findings, connections_findings}
+use Rattle.model_violations.specs.ConnectionFindings.{site_port, site_kind, kind_at, ends_findings, delay_findings}
+use Rattle.model_violations.specs.ConnectionFindings.{connection_findings, connections_findings}
 use Rattle.model_violations.specs.UsedDeclarations.{IsUse}
-use Rattle.model_violations.specs.Declarations.{thread_findings}
+use Rattle.model_violations.specs.DeclarationFindings.{thread_findings}
 use Rattle.model_violations.specs.Violations.{shown_by, used_findings, carriers_of}
 use Rattle.design_laws.specs.proof.PortKinds.{port_kind}
 use Rattle.design_laws.proofs.FaultlessParts.{declared_at, implementation_clean, stands_at, is_used}

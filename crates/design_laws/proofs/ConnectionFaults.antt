@@ -3,13 +3,13 @@ use Rattle.std.proofs.Common.{◌≡◌, ◌↔◌, ℕ, zero, suc, Bool, false,
 use Rattle.std.proofs.Common.{Contains, Option, Some, None, refl, sym, subst, ◌∙◌}
 use Rattle.std.proofs.lemmas.Option.{none-some, same_Some, slice_get_within}
 use Rattle.list_lemmas.proofs.Elements.{Contains-nil}
-use Rattle.list_lemmas.proofs.Places.{slice_get-from_Contains, Contains-from_slice_get}
+use Rattle.list_lemmas.proofs.ElementPositions.{slice_get-from_Contains, Contains-from_slice_get}
 use Rattle.aadl_tree.specs.declared.declarations.Direction.{Direction}
 use Rattle.aadl_tree.specs.declared.declarations.Direction.TheVariants as directions
 use Rattle.aadl_tree.specs.Declarations.{Connection, Implementation, PackageTree}
 use Rattle.aadl_names.specs.declared.fault.PackageFault.{PackageFault}
-use Rattle.aadl_names.specs.declared.site.PortPlace.{PortPlace}
-use Rattle.aadl_names.specs.proof.FindingSoFar.{found}
+use Rattle.aadl_names.specs.declared.port_place.PortPlace.{PortPlace}
+use Rattle.aadl_names.specs.proof.FirstFaultSoFar.{found}
 use Rattle.aadl_names.specs.ReferenceResolution.{implementation_at, connections_of}
 use Rattle.aadl_uses.specs.proof.PackageContainment.{containment, FirstIn}
 use Rattle.aadl_uses.specs.Uses.{IsInUse}
@@ -20,11 +20,11 @@ use Rattle.aadl_uses.specs.Wiring.{wire_of, wires_of, wires_at}
 use Rattle.aadl_uses.proofs.FirstConnectionTables.{is_second-tells, no_second}
 use Rattle.aadl_uses.specs.proof.ContainmentOrders.{IsOrder}
 use Rattle.aadl_chains.specs.proof.PortsJoinedOutside.{opposite, LeadsFrom, leads_from}
-use Rattle.aadl_chains.proofs.OutsideByConnection.{leads_to, leads_found}
+use Rattle.aadl_chains.proofs.JoinedOutsideByConnection.{leads_to, leads_found}
 use Rattle.aadl_chains.specs.Chains.{IsEndFault}
 use Rattle.aadl_chains.specs.proof.DeclaredConnections.{AreDeclared}
 use Rattle.aadl_chains.specs.proof.ConnectionsOnChains.{IsOnWay}
-use Rattle.aadl_chains.specs.proof.Findings.{IsFoundAt, IsFoundIn, dead_end, second}
+use Rattle.aadl_chains.specs.proof.FoundFaults.{IsFoundAt, IsFoundIn, dead_end, second}
 use Rattle.aadl_chains.proofs.EndFaults.{both_found, nothing_at, ways_tell, no_source, no_target, end_fault}
 use Rattle.aadl_chains.proofs.EndFaults.{found_fault}
 use Rattle.design_laws.proofs.FindingSearches.{Finds, none_found, alike_found, Below, found_below, first_in}

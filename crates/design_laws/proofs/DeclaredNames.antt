@@ -16,7 +16,7 @@ use Rattle.aadl_tree.specs.Declarations.{Declaration, PackageTree, category_mark
 use Rattle.aadl_tree.specs.Declarations.{subcomponent_parts, connection_parts, ending_parts, type_parts}
 use Rattle.aadl_tree.specs.Declarations.{implementation_name_parts, implementation_parts, declaration_parts, with_parts}
 use Rattle.aadl_tree.specs.Declarations.{package_parts}
-use Rattle.aadl_names.specs.Behaviours.{behaviours, variables_of, states_of}
+use Rattle.aadl_names.specs.BehaviourAnnexes.{behaviours, variables_of, states_of}
 use Rattle.design_laws.proofs.PlacedNames.{Rise, rise_front, rise_back, rise_tail, rise_section, Placed, placed_front}
 use Rattle.design_laws.proofs.PlacedNames.{placed_back, placed_tail, placed_section, placed_append, placed_flat}
 use Rattle.design_laws.proofs.PlacedNames.{placed_identifier, placed_identifiers, listed, placed_declared}

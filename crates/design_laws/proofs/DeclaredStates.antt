@@ -6,7 +6,7 @@ use Rattle.std.specs.List.{list_any, list_all, position_or_len, enumerate_from}
 use Rattle.std.specs.Option.{unwrap_or}
 use Rattle.std.proofs.lemmas.Bool.{false≢true, lt-ltb, and_from}
 use Rattle.std.proofs.lemmas.List.Recursion.{is_position_or_len}
-use Rattle.list_lemmas.proofs.Lists.{append_is_nil_right, append_is_nil_left}
+use Rattle.list_lemmas.proofs.ListOperations.{append_is_nil_right, append_is_nil_left}
 use Rattle.list_lemmas.proofs.Elements.{list_any-map, AllByRecursion-weaker}
 use Rattle.aadl_tree.specs.Names.{Identifier, same_name}
 use Rattle.aadl_tree.specs.Annexes.{Transition, AnnexTree}
@@ -14,15 +14,15 @@ use Rattle.aadl_tree.specs.Declarations.{Declaration, Implementation, implementa
 use Rattle.aadl_names.specs.declared.fault.PackageFault.{PackageFault}
 use Rattle.aadl_names.specs.declared.fault.PackageFault.TheVariants.{Unknown, WrongKind}
 use Rattle.aadl_names.specs.AnnexNames.{Known}
-use Rattle.aadl_names.specs.Behaviours as names
+use Rattle.aadl_names.specs.BehaviourAnnexes as names
 use Rattle.aadl_names.specs.ReferenceResolution.{is_thread}
-use Rattle.aadl_names.specs.DuplicatesBySpace.{twice_names}
+use Rattle.aadl_names.specs.DuplicatesByNamespace.{twice_names}
 use Rattle.aadl_names.specs.PackageFaults.{is_among, known_in, state_uses, guard_uses, effect_uses, transition_uses}
 use Rattle.aadl_names.specs.PackageFaults.{behaviour_faults, annex_faults, declaration_faults, wrong_names}
 use Rattle.aadl_names.specs.PackageFaults.{package_faults}
 use Rattle.annex_resolve.specs.declared.states.StateAt.{StateAt}
 use Rattle.annex_resolve.specs.Behaviours.{states_of, first_number, state_number, transitions_of}
-use Rattle.design_laws.specs.proof.AnnexNames.{is_declared}
+use Rattle.design_laws.specs.proof.FittingAnnexNames.{is_declared}
 use Rattle.design_laws.proofs.EmptyFindingLists.{none_at}
 use Rattle.design_laws.proofs.PairwiseDistinctNames.{same_turned, all_none}
 use Rattle.design_laws.proofs.PartitionedPairs.{all_true}

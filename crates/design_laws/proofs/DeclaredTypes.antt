@@ -10,26 +10,26 @@ use Rattle.std.proofs.lemmas.List.{length-map}
 use Rattle.std.proofs.lemmas.Option.{slice_get-map}
 use Rattle.std.proofs.lemmas.Slice.Eq.{bytes_eq-Decides}
 use Rattle.list_lemmas.proofs.Elements.{AllByRecursion-weaker, AllByRecursion-append, AllByRecursion-map}
-use Rattle.list_lemmas.proofs.Lists.{append_is_nil_right, append_is_nil_left}
+use Rattle.list_lemmas.proofs.ListOperations.{append_is_nil_right, append_is_nil_left}
 use Rattle.pals_base.specs.declared.behaviour.Kind.{Kind}
 use Rattle.pals_base.specs.declared.behaviour.Kind.TheVariants.{Integer, Boolean}
 use Rattle.pals_base.specs.declared.behaviour.BehaviourParts.{BehaviourParts}
 use Rattle.pals_base.specs.Kinds.{allows, literal_kinds}
-use Rattle.pals_base.specs.Rules.{has_first}
+use Rattle.pals_base.specs.BehaviourRules.{has_first}
 use Rattle.aadl_tree.specs.Names.{Identifier, same_name, identifiers, listed_in}
 use Rattle.aadl_tree.specs.Values.{Association}
 use Rattle.aadl_tree.specs.Annexes.{VariableDeclaration, AnnexTree}
 use Rattle.aadl_tree.specs.Declarations.{Feature}
-use Rattle.aadl_names.specs.declared.holder.PropertyName.TheVariants.{Initial}
-use Rattle.aadl_names.specs.Properties.{association_at, association_value, association_named, name_of, only_text}
+use Rattle.aadl_names.specs.declared.property_holder.PropertyName.TheVariants.{Initial}
+use Rattle.aadl_names.specs.RecognisedProperties.{association_at, association_value, association_named, name_of, only_text}
 use Rattle.annex_resolve.specs.declared.violation.TheConstants.{BAD_TYPE}
 use Rattle.annex_resolve.specs.declared.scope.DeclaredName.{DeclaredName}
 use Rattle.annex_resolve.specs.ExpressionTypes.{kind_named, kind_in, fits}
-use Rattle.design_laws.specs.proof.AnnexNames.{FitsMeaning, FitsScope}
+use Rattle.design_laws.specs.proof.FittingAnnexNames.{FitsMeaning, FitsScope}
 use Rattle.design_laws.proofs.EmptyFindingLists.{is_right}
 use Rattle.component_checks.specs.Types.{is_in, port_findings, name_findings, is_truth, text_kind, first_findings}
 use Rattle.component_checks.specs.Types.{variable_findings, variables_findings}
-use Rattle.model_violations.specs.declared.declared.Declared.{Declared}
+use Rattle.model_violations.specs.declared.declared_ports.Declared.{Declared}
 use Rattle.model_violations.specs.PortsAndVariables.{port_of, ins_in, outs_in, value_of, value_in, first_of}
 use Rattle.model_violations.specs.PortsAndVariables.{variable_of, variables_in, variables_of, or_integer, named_of}
 use Rattle.model_violations.specs.PortsAndVariables.{var_of, in_entry, out_entry, variable_entry, scope_by}

@@ -12,18 +12,18 @@ use Rattle.list_lemmas.proofs.Numbers.{le_from_not_lt}
 use Rattle.pals_base.specs.declared.limits.TheConstants.{PORTS, VARIABLES, STATES, COMPONENTS, PATH_BYTES}
 use Rattle.pals_base.specs.declared.behaviour.BehaviourParts.{BehaviourParts}
 use Rattle.pals_base.specs.Names.{is_path}
-use Rattle.pals_base.specs.Rules.{IsBehaviour}
+use Rattle.pals_base.specs.BehaviourRules.{IsBehaviour}
 use Rattle.pals_model.specs.declared.design.Component.{Component}
-use Rattle.pals_model.specs.Rules as model
+use Rattle.pals_model.specs.DesignRules as model
 use Rattle.aadl_tree.specs.Annexes.{VariableDeclaration, StateDeclaration, AnnexTree}
 use Rattle.aadl_tree.specs.Declarations.{Implementation, PackageTree}
-use Rattle.aadl_names.specs.Behaviours as names
+use Rattle.aadl_names.specs.BehaviourAnnexes as names
 use Rattle.aadl_names.specs.ReferenceResolution.{implementation_at, ports_of}
 use Rattle.aadl_uses.specs.Uses.{standing}
-use Rattle.aadl_uses.specs.Threads.{IsThreadOf, IsThreadAt, PathBefore}
-use Rattle.aadl_names.specs.Behaviours.{first_behaviour}
-use Rattle.aadl_uses.specs.ThreadPlaces.{spelled_path, thread_at}
-use Rattle.aadl_instance.specs.ThreadParts.{count_in, variable_count, state_count}
+use Rattle.aadl_uses.specs.ThreadsBelow.{IsThreadOf, IsThreadAt, PathBefore}
+use Rattle.aadl_names.specs.BehaviourAnnexes.{first_behaviour}
+use Rattle.aadl_uses.specs.ThreadLocations.{spelled_path, thread_at}
+use Rattle.aadl_instance.specs.BehaviourSizes.{count_in, variable_count, state_count}
 use Rattle.aadl_instance.specs.FlattenedDesign.{Parts, IsFlat}
 use Rattle.annex_resolve.specs.ExpressionTypes.{kind_named}
 use Rattle.annex_resolve.specs.Behaviours.{state_at, states_in, states_of, declared, behaviour_of}
@@ -31,7 +31,7 @@ use Rattle.component_checks.specs.Roots.{root_findings}
 use Rattle.component_checks.specs.Threads.{thread_rate, thread_findings, greater_rate, greatest_rate}
 use Rattle.model_violations.specs.PortsAndVariables.{ins_in, outs_in, first_of, variable_of, variables_in, variables_of}
 use Rattle.model_violations.specs.PortsAndVariables.{named_of, var_of, values_of, scope_of}
-use Rattle.model_violations.specs.Threads.{first_annex, behaviour_by, behaviour_in}
+use Rattle.model_violations.specs.ThreadBehaviours.{first_annex, behaviour_by, behaviour_in}
 use Rattle.model_violations.proofs.CollectingLoops.{ports_both}
 use Rattle.design_laws.specs.proof.PackageNames.{AreNamed}
 use Rattle.design_laws.proofs.PartitionedPairs.{pairs_from, all_unmapped}

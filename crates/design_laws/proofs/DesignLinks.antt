@@ -15,16 +15,16 @@ use Rattle.pals_model.specs.declared.design.Feed.{Feed}
 use Rattle.pals_model.specs.declared.design.Tap.{Tap}
 use Rattle.pals_model.specs.declared.design.DesignParts.{DesignParts}
 use Rattle.pals_model.specs.PortKinds.{feed_kind}
-use Rattle.pals_model.specs.Rules as model
+use Rattle.pals_model.specs.DesignRules as model
 use Rattle.aadl_tree.specs.Declarations.{Feature, PackageTree}
-use Rattle.aadl_uses.specs.ThreadPlaces.{thread_at}
+use Rattle.aadl_uses.specs.ThreadLocations.{thread_at}
 use Rattle.aadl_chains.specs.Chains.{Port, Leads}
 use Rattle.aadl_chains.specs.Links.{Ends, TargetBefore, PortBefore}
 use Rattle.aadl_instance.specs.FlattenedDesign.{Parts, IsFlat}
 use Rattle.aadl_chains.specs.Links as walks
 use Rattle.aadl_instance.specs.Instances.{port_name, chain_at}
 use Rattle.annex_resolve.specs.ExpressionTypes.{kind_in}
-use Rattle.model_violations.specs.Chains.{link_findings, feed_findings}
+use Rattle.model_violations.specs.ChainFindings.{link_findings, feed_findings}
 use Rattle.design_laws.specs.proof.PackageNames.{AreNamed}
 use Rattle.design_laws.proofs.PairwiseDistinctNames.{all_none}
 use Rattle.design_laws.proofs.PartitionedPairs.{pairs_from, all_unmapped}

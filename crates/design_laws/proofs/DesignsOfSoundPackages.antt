@@ -3,9 +3,9 @@
 use Rattle.std.proofs.Common.{ℕ, subst}
 use Rattle.std.proofs.Props.{props}
 use Rattle.std.proofs.Math.Logic.{∥∥₁_elim}
-use Rattle.pals_base.specs.Rules.{IsAcyclic}
+use Rattle.pals_base.specs.BehaviourRules.{IsAcyclic}
 use Rattle.pals_model.specs.declared.design.DesignParts.{DesignParts}
-use Rattle.pals_model.specs.Rules.{IsDesign}
+use Rattle.pals_model.specs.DesignRules.{IsDesign}
 use Rattle.aadl_tree.specs.Declarations.{PackageTree}
 use Rattle.design_laws.specs.proof.PackageNames.{AreNamed}
 use Rattle.model_violations.specs.Violations.{Shown}

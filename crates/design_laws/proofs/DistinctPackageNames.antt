@@ -8,8 +8,8 @@ use Rattle.std.proofs.lemmas.List.{map-append}
 use Rattle.std.proofs.lemmas.List.Kept.{AllPairs-cons}
 use Rattle.std.proofs.lemmas.List.Elements.{All-from_recursion}
 use Rattle.list_lemmas.proofs.Elements.{AllByRecursion-weaker}
-use Rattle.list_lemmas.proofs.Lists.{append_is_nil_right, append_is_nil_left}
-use Rattle.list_lemmas.proofs.Places.{flat_map-nil_at}
+use Rattle.list_lemmas.proofs.ListOperations.{append_is_nil_right, append_is_nil_left}
+use Rattle.list_lemmas.proofs.ElementPositions.{flat_map-nil_at}
 use Rattle.list_lemmas.proofs.Numbers.{ne_from_lt}
 use Rattle.aadl_tree.specs.SpellingParts.{Part}
 use Rattle.aadl_tree.specs.Names.{Identifier}
@@ -18,14 +18,14 @@ use Rattle.aadl_tree.specs.Declarations.{Feature, Subcomponent, Connection, Type
 use Rattle.aadl_tree.specs.Declarations.{Declaration, type, implementation, PackageTree, declaration_parts}
 use Rattle.aadl_tree.specs.Declarations.{package_parts}
 use Rattle.aadl_tree.specs.proof.GrammarTrees.{IsGiven}
-use Rattle.aadl_names.specs.declared.entry.SpelledName.{SpelledName}
+use Rattle.aadl_names.specs.declared.spelled_name.SpelledName.{SpelledName}
 use Rattle.aadl_names.specs.Spelling.{entry_of}
-use Rattle.aadl_names.specs.Behaviours.{behaviours, variables_of, states_of}
+use Rattle.aadl_names.specs.BehaviourAnnexes.{behaviours, variables_of, states_of}
 use Rattle.aadl_names.specs.ReferenceResolution.{is_thread, type_in, type_numbered, type_number, features_of, ports_of}
 use Rattle.aadl_names.specs.DuplicateNames.{twice}
-use Rattle.aadl_names.specs.DuplicatesBySpace.{port_entries, variable_entries, state_entries, twice_in_behaviour}
-use Rattle.aadl_names.specs.DuplicatesBySpace.{twice_in_first, member_entries, twice_in, type_entry}
-use Rattle.aadl_names.specs.DuplicatesBySpace.{implementation_entry, twice_names}
+use Rattle.aadl_names.specs.DuplicatesByNamespace.{port_entries, variable_entries, state_entries, twice_in_behaviour}
+use Rattle.aadl_names.specs.DuplicatesByNamespace.{twice_in_first, member_entries, twice_in, type_entry}
+use Rattle.aadl_names.specs.DuplicatesByNamespace.{implementation_entry, twice_names}
 use Rattle.aadl_names.specs.PackageFaults.{wrong_names, package_faults}
 use Rattle.aadl_names.specs.proof.PlaceOrder.{places_of}
 use Rattle.aadl_names.proofs.PlaceOrder.{places_rise}

@@ -4,7 +4,7 @@ use Rattle.std.proofs.lemmas.List.{length-map}
 use Rattle.aadl_tree.specs.Declarations.{PackageTree}
 use Rattle.aadl_names.specs.declared.fault.PackageFault.TheVariants.{TooMany}
 use Rattle.aadl_uses.specs.proof.PackageContainment.{containment, targets_in}
-use Rattle.aadl_uses.specs.Threads.{Lists, IsThreadAt, PathBefore}
+use Rattle.aadl_uses.specs.ThreadsBelow.{Lists, IsThreadAt, PathBefore}
 use Rattle.aadl_uses.specs.proof.ThreadCounts.{thread_marks}
 use Rattle.aadl_uses.proofs.PackageContainment.{within}
 use Rattle.aadl_uses.proofs.ThreadCounts.{threads_listed}
@@ -19,14 +19,14 @@ use Rattle.aadl_chains.specs.proof.PortsJoinedInside.{is_thread_at}
 use Rattle.aadl_chains.proofs.LinkLimits.{one_each}
 use Rattle.aadl_instance.specs.proof.Limits.{name_of}
 use Rattle.aadl_instance.proofs.Roots.{is_root_at, root_declared, root_no_thread}
-use Rattle.aadl_instance.proofs.FaultLines.{silent_five, all_silent, limit_fault, root_fault, root_silent}
+use Rattle.aadl_instance.proofs.FaultPrecedence.{silent_five, all_silent, limit_fault, root_fault, root_silent}
 use Rattle.design_laws.proofs.ContainmentOrders.{order}
 use Rattle.design_laws.proofs.ListedPaths.{paths}
 use Rattle.design_laws.proofs.SoundPackages.{IsSound}
-use Rattle.design_laws.proofs.FirstFaultLines.{each_package_begins}
+use Rattle.design_laws.proofs.FirstFaultChecks.{each_package_begins}
 use Rattle.design_laws.specs.proof.PackageOutcomes.{HasFirstFault, HasInstance}
-use Rattle.design_laws.proofs.LinksAndFeeds.{links, feeds}
-use Rattle.design_laws.proofs.Taps.{taps}
+use Rattle.design_laws.proofs.ListedLinks.{links, feeds}
+use Rattle.design_laws.proofs.ListedTaps.{taps}
 use Rattle.design_laws.proofs.PassedLimits.{FirstOrNone, first}
 
 module _ (tree : PackageTree ℕ) (name : List ℕ) (is : IsSound tree name) where

@@ -5,7 +5,7 @@ use Rattle.std.specs.Prelude.{flat_map, slice_get}
 use Rattle.std.specs.List.{list_any, enumerate_from}
 use Rattle.std.proofs.lemmas.Option.{same_Some, option_and_then_some}
 use Rattle.std.proofs.lemmas.Bool.{or_left, or_right, and_from as both}
-use Rattle.list_lemmas.proofs.Lists.{append_is_nil_right, append_is_nil_left}
+use Rattle.list_lemmas.proofs.ListOperations.{append_is_nil_right, append_is_nil_left}
 use Rattle.list_lemmas.proofs.Numbers.{nat_eq-self}
 use Rattle.aadl_tree.specs.Declarations.{Declaration, type, TypeDeclaration, Implementation, implementation}
 use Rattle.aadl_tree.specs.Declarations.{PackageTree}
@@ -22,9 +22,9 @@ use Rattle.model_violations.specs.IgnoredProperties.{is_number, is_root_type}
 use Rattle.component_checks.specs.Roots.{root_findings}
 use Rattle.component_checks.specs.Threads.{greatest_rate, thread_findings}
 use Rattle.model_violations.specs.Carriers.{carries}
-use Rattle.model_violations.specs.Chains.{link_findings, feed_findings, tap_findings}
+use Rattle.model_violations.specs.ChainFindings.{link_findings, feed_findings, tap_findings}
 use Rattle.model_violations.specs.UsedDeclarations.{IsUse, uses_type, type_used}
-use Rattle.model_violations.specs.Declarations.{type_findings, implementation_findings, declaration_findings}
+use Rattle.model_violations.specs.DeclarationFindings.{type_findings, implementation_findings, declaration_findings}
 use Rattle.model_violations.specs.Violations.{Shown, rates_of, carriers_of, chain_findings, used_findings, findings}
 
 -- ---- no fault

@@ -7,7 +7,7 @@ use Rattle.list_lemmas.proofs.Elements.{Contains-nil}
 use Rattle.aadl_tree.specs.SpellingParts.{Part, Section, section_mark, empty_section, plain, may}
 use Rattle.aadl_tree.specs.Declarations.{section_parts}
 use Rattle.aadl_names.specs.declared.fault.PackageFault.{PackageFault}
-use Rattle.aadl_names.specs.FirstFindings.{place_of}
+use Rattle.aadl_names.specs.FirstFaults.{place_of}
 use Rattle.aadl_names.proofs.ListMembers.{only_here}
 use Rattle.aadl_names.specs.proof.PlaceOrder.{places_of}
 use Rattle.design_laws.proofs.PlacedNames.{Rise, rise_front, rise_back, in_front, in_back}

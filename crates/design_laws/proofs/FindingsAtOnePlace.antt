@@ -5,11 +5,11 @@ use Rattle.aadl_tree.specs.GrammarTrees.{IsTreeOf}
 use Rattle.aadl_names.specs.declared.fault.PackageFault.{PackageFault}
 use Rattle.aadl_names.specs.declared.fault.PackageFault.TheVariants.{NoRoot, Unknown, Twice, WrongKind, Recursive}
 use Rattle.aadl_names.specs.declared.fault.PackageFault.TheVariants.{DeadEnd, TwoSources, TooMany, Memory}
-use Rattle.aadl_names.specs.FirstFindings.{place_of, number_of}
+use Rattle.aadl_names.specs.FirstFaults.{place_of, number_of}
 use Rattle.aadl_names.specs.PackageFaults.{package_faults}
 use Rattle.aadl_names.proofs.PlaceOrder.{places_rise}
 use Rattle.design_laws.proofs.PlacedNames.{Rise}
-use Rattle.design_laws.proofs.CoveredFindings.{IsWrongKind, Covered, covered_append}
+use Rattle.design_laws.proofs.NameFaultCoverage.{IsWrongKind, Covered, covered_append}
 use Rattle.design_laws.proofs.PossibleNameFaults.{possible}
 use Rattle.design_laws.proofs.FoundNameFaults.{wrong_covered}
 use Rattle.design_laws.proofs.RepeatedDeclarations.{twice_covered}

@@ -14,19 +14,19 @@ use Rattle.aadl_tree.specs.Declarations.{Feature, Subcomponent, ConnectionEnd, C
 use Rattle.aadl_tree.specs.Declarations.{Implementation, Declaration, type, implementation, PackageTree}
 use Rattle.aadl_names.specs.declared.fault.PackageFault.{PackageFault}
 use Rattle.aadl_names.specs.declared.fault.PackageFault.TheVariants.{Twice}
-use Rattle.aadl_names.specs.declared.holder.PropertyHolder.{PropertyHolder}
-use Rattle.aadl_names.specs.declared.holder.PropertyHolder.TheVariants as holders
-use Rattle.aadl_names.specs.declared.site.PortPlace.{PortPlace}
-use Rattle.aadl_names.specs.Behaviours.{behaviour_in, behaviours}
+use Rattle.aadl_names.specs.declared.property_holder.PropertyHolder.{PropertyHolder}
+use Rattle.aadl_names.specs.declared.property_holder.PropertyHolder.TheVariants as holders
+use Rattle.aadl_names.specs.declared.port_place.PortPlace.{PortPlace}
+use Rattle.aadl_names.specs.BehaviourAnnexes.{behaviour_in, behaviours}
 use Rattle.aadl_names.specs.ReferenceResolution.{target_of, is_thread}
-use Rattle.aadl_names.specs.Properties.{listed, association_name, association_at, counts, counted, misshapen}
-use Rattle.aadl_names.specs.Properties.{association_entry, shape_fault, property_entries, list_faults}
+use Rattle.aadl_names.specs.RecognisedProperties.{listed, association_name, association_at, counts, counted, misshapen}
+use Rattle.aadl_names.specs.RecognisedProperties.{association_entry, shape_fault, property_entries, list_faults}
 use Rattle.aadl_names.specs.PackageFaults as p
 use Rattle.aadl_names.proofs.ListMembers.{is_here, among_all}
-use Rattle.design_laws.proofs.CoveredFindings.{from_filter, from_filter_map, Covered, covered_among, covered_none}
-use Rattle.design_laws.proofs.CoveredFindings.{covered_itself, covered_kind, covered_wrong, covered_kinds}
-use Rattle.design_laws.proofs.CoveredFindings.{covered_append, covered_front, covered_back, covered_if, covered_each}
-use Rattle.design_laws.proofs.CoveredFindings.{covered_flat, named_map, covered_twice}
+use Rattle.design_laws.proofs.NameFaultCoverage.{from_filter, from_filter_map, Covered, covered_among, covered_none}
+use Rattle.design_laws.proofs.NameFaultCoverage.{covered_itself, covered_kind, covered_wrong, covered_kinds}
+use Rattle.design_laws.proofs.NameFaultCoverage.{covered_append, covered_front, covered_back, covered_if, covered_each}
+use Rattle.design_laws.proofs.NameFaultCoverage.{covered_flat, named_map, covered_twice}
 use Rattle.design_laws.proofs.PossibleNameFaults.{of_identifier, of_identifiers, of_association, of_associations}
 use Rattle.design_laws.proofs.PossibleNameFaults.{of_variable, of_state, of_tree, of_content, of_annex, of_feature}
 use Rattle.design_laws.proofs.PossibleNameFaults.{of_subcomponent, of_connection, none_of, of_type, of_implementation}

@@ -9,9 +9,9 @@ use Rattle.std.proofs.lemmas.Bool.{false≢true, and_parts as parts}
 use Rattle.std.proofs.lemmas.List.{reverse-append}
 use Rattle.std.proofs.lemmas.List.Elements.{All-map, All-weaker}
 use Rattle.std.proofs.lemmas.Option.{same_Some, option_and_then_some}
-use Rattle.list_lemmas.proofs.Lists.{append_is_nil_right, append_is_nil_left}
-use Rattle.list_lemmas.proofs.Places.{slice_get-last}
-use Rattle.pals_base.specs.Rules.{IsBehaviour}
+use Rattle.list_lemmas.proofs.ListOperations.{append_is_nil_right, append_is_nil_left}
+use Rattle.list_lemmas.proofs.ElementPositions.{slice_get-last}
+use Rattle.pals_base.specs.BehaviourRules.{IsBehaviour}
 use Rattle.aadl_tree.specs.declared.declarations.Category.{Category}
 use Rattle.aadl_tree.specs.declared.declarations.Category.TheVariants as categories
 use Rattle.aadl_tree.specs.Declarations.{Declaration, type, Implementation, implementation, Subcomponent, PackageTree}
@@ -20,19 +20,19 @@ use Rattle.aadl_names.specs.ReferenceResolution.{type_numbered, type_number, por
 use Rattle.aadl_names.specs.PackageFaults.{package_faults}
 use Rattle.aadl_names.specs.Spelling.{spelled_implementation}
 use Rattle.aadl_uses.specs.Uses.{sub_at, below, standing, component_at}
-use Rattle.aadl_uses.specs.Threads.{IsThreadAt}
-use Rattle.aadl_uses.specs.declared.thread_places.SubAt.{SubAt}
-use Rattle.aadl_uses.specs.ThreadPlaces.{sub_in, subs_along, thread_at}
+use Rattle.aadl_uses.specs.ThreadsBelow.{IsThreadAt}
+use Rattle.aadl_uses.specs.declared.thread_locations.SubAt.{SubAt}
+use Rattle.aadl_uses.specs.ThreadLocations.{sub_in, subs_along, thread_at}
 use Rattle.aadl_instance.specs.FlattenedDesign.{Parts, IsFlat}
 use Rattle.component_checks.specs.PropertyLookup.{sub_of, innermost}
 use Rattle.component_checks.specs.Types.{port_findings}
 use Rattle.model_violations.specs.ChainEnds.{component_of}
-use Rattle.model_violations.specs.Threads as threads
+use Rattle.model_violations.specs.ThreadBehaviours as threads
 use Rattle.design_laws.specs.proof.PackageNames.{HasWords, NamesDiffer, AreNamed}
 use Rattle.design_laws.proofs.PairwiseDistinctNames.{where_true}
 use Rattle.design_laws.specs.proof.ThreadBehaviours.{Behaves}
 use Rattle.model_violations.specs.UsedDeclarations.{IsUse}
-use Rattle.model_violations.specs.Declarations.{thread_findings}
+use Rattle.model_violations.specs.DeclarationFindings.{thread_findings}
 use Rattle.model_violations.specs.Violations.{shown_by, used_findings}
 use Rattle.design_laws.specs.InstanceDesigns.{thread_behaviour, HasRules}
 use Rattle.design_laws.proofs.FaultlessParts.{names_clean, declared_at, implementation_clean, type_clean, stands_at}

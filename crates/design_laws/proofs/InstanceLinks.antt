@@ -12,19 +12,19 @@ use Rattle.pals_model.specs.declared.design.Tap.{Tap}
 use Rattle.pals_model.specs.declared.design.DesignParts.{DesignParts}
 use Rattle.pals_model.specs.ComponentInputs.{rate_in, rate_of}
 use Rattle.pals_model.specs.PortKinds.{ins_in, outs_in, in_kind, out_kind, kind_of}
-use Rattle.pals_model.specs.Rules as model
+use Rattle.pals_model.specs.DesignRules as model
 use Rattle.aadl_tree.specs.Declarations.{Feature, PackageTree}
 use Rattle.aadl_names.specs.ReferenceResolution.{connections_of}
-use Rattle.aadl_uses.specs.Threads.{IsThreadAt}
+use Rattle.aadl_uses.specs.ThreadsBelow.{IsThreadAt}
 use Rattle.aadl_chains.specs.Chains.{Port, Place, Leads, port_of, is_in, IsStart, IsEnd}
-use Rattle.aadl_instance.specs.declared.parts.ChainEnd.TheVariants.{Thread, Root}
+use Rattle.aadl_instance.specs.declared.chain.ChainEnd.TheVariants.{Thread, Root}
 use Rattle.aadl_chains.specs.Links.{Ends, Carries}
 use Rattle.aadl_instance.specs.FlattenedDesign.{Parts, IsFlat}
 use Rattle.aadl_chains.specs.Links as walks
 use Rattle.aadl_instance.specs.Instances.{node_at, port_number, port_name, end_by, end_in, chain_at}
 use Rattle.annex_resolve.specs.ExpressionTypes.{kind_in}
 use Rattle.model_violations.specs.Carriers.{connection_of, adaptor_text}
-use Rattle.model_violations.specs.Chains.{rated}
+use Rattle.model_violations.specs.ChainFindings.{rated}
 use Rattle.component_checks.specs.Rates.{adaptor_named}
 use Rattle.design_laws.proofs.AllowedAdaptors.{Fits, fits}
 use Rattle.model_violations.specs.PortsAndVariables.{or_integer}

@@ -1,20 +1,20 @@
 -- The ports that reach threads, in an order of declarations.
 use Rattle.std.proofs.Common.{◌≡◌, ℕ, zero, suc, ◌+◌, ◌<◌, ◌≤◌, Bool, true, false, List, [], length, slice_get, Option}
 use Rattle.std.proofs.Common.{Some, None, refl, subst, arith}
-use Rattle.list_lemmas.proofs.Places.{slice_get-some, Contains-from_slice_get}
+use Rattle.list_lemmas.proofs.ElementPositions.{slice_get-some, Contains-from_slice_get}
 use Rattle.aadl_tree.specs.declared.declarations.Direction.{Direction}
 use Rattle.aadl_tree.specs.Declarations.{PackageTree}
 use Rattle.aadl_uses.specs.proof.PackageContainment.{containment}
 use Rattle.aadl_uses.specs.declared.connections.Wire.{Wire}
 use Rattle.aadl_uses.specs.Wiring.{wires_at}
 use Rattle.aadl_uses.specs.proof.ContainmentOrders.{IsOrder}
-use Rattle.aadl_chains.specs.declared.ports.PortAt.{PortAt}
-use Rattle.aadl_chains.specs.proof.Ports.{with_port}
+use Rattle.aadl_chains.specs.declared.port_set.PortAt.{PortAt}
+use Rattle.aadl_chains.specs.proof.PortSets.{with_port}
 use Rattle.aadl_chains.specs.proof.PortsJoinedInside.{is_thread_at, inner_end, outer_end, port_at, joined_by, AreJoined}
 use Rattle.aadl_chains.specs.proof.PortsJoinedInside.{IsJoined, IsInside}
-use Rattle.aadl_chains.proofs.InsideByConnection.{one_joined, none_joined, FrontJoined, none_yet, one_more, all_joined}
-use Rattle.aadl_chains.proofs.InsideByConnection.{thread_joined}
-use Rattle.aadl_chains.proofs.InsideByDeclaration.{FrontInside, no_front, front_more, front_past, front_all}
+use Rattle.aadl_chains.proofs.JoinedInsideByConnection.{one_joined, none_joined, FrontJoined, none_yet, one_more, all_joined}
+use Rattle.aadl_chains.proofs.JoinedInsideByConnection.{thread_joined}
+use Rattle.aadl_chains.proofs.JoinedInsideByDeclaration.{FrontInside, no_front, front_more, front_past, front_all}
 
 module _ (tree : PackageTree ℕ) (d : Direction) where
   -- ---- a connection

@@ -24,7 +24,7 @@ pub mod SoundRates
 pub mod PathTexts
 pub mod MatchedLists
 pub mod DesignComponents
-pub mod NoFindings
+pub mod NoViolations
 pub mod ShownInstances
 pub mod UniqueLists
 pub mod AsymmetricOrders
@@ -43,12 +43,12 @@ pub mod DesignLinks
 pub mod AcceptedInstances
 pub mod DesignsOfSoundPackages
 pub mod FindingPlaces
-pub mod ExpressionNames
-pub mod ActionNames
+pub mod ExpressionFindingPlaces
+pub mod ActionFindingPlaces
 pub mod PossibleNameFaults
 pub mod AnnexFindingPlaces
 pub mod PackageFindingPlaces
-pub mod CoveredFindings
+pub mod NameFaultCoverage
 pub mod FoundNameFaults
 pub mod RepeatedDeclarations
 pub mod FindingsAtOnePlace
@@ -66,11 +66,11 @@ mod Recursion
 mod InwardPorts
 mod OutwardPorts
 mod ConnectionFaults
-mod FirstFaultLines
+mod FirstFaultChecks
 mod IncomingLinks
-mod LinksAndFeeds
+mod ListedLinks
 mod TerminatingDescent
-mod Taps
+mod ListedTaps
 mod PassedLimits
 pub mod ExistingInstances
 mod MemoryFreeLists

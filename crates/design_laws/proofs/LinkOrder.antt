@@ -9,13 +9,13 @@ use Rattle.list_lemmas.proofs.Numbers.{ne_from_lt}
 use Rattle.list_lemmas.proofs.Booleans.{or_and_cases}
 use Rattle.pals_base.specs.declared.limits.TheConstants.{PORTS}
 use Rattle.pals_model.specs.declared.design.DesignParts.{DesignParts}
-use Rattle.pals_model.specs.Rules as model
+use Rattle.pals_model.specs.DesignRules as model
 use Rattle.aadl_tree.specs.Declarations.{Feature, Implementation, PackageTree}
 use Rattle.aadl_names.specs.Spelling.{entry_of}
 use Rattle.aadl_names.specs.ReferenceResolution.{implementation_at, ports_at, ports_of}
-use Rattle.aadl_names.specs.DuplicatesBySpace.{port_entries, member_entries}
+use Rattle.aadl_names.specs.DuplicatesByNamespace.{port_entries, member_entries}
 use Rattle.aadl_uses.specs.Uses.{component_at}
-use Rattle.aadl_uses.specs.Threads.{IsThreadAt, path_before}
+use Rattle.aadl_uses.specs.ThreadsBelow.{IsThreadAt, path_before}
 use Rattle.aadl_chains.specs.Chains.{Port, port_of, is_in}
 use Rattle.aadl_chains.specs.Links.{OtherTarget, Ends, same_path, TargetBefore}
 use Rattle.aadl_instance.specs.FlattenedDesign.{Parts, IsFlat}

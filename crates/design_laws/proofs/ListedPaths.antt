@@ -2,12 +2,12 @@
 use Rattle.std.proofs.Common.{◌≡◌, ◌⊎◌, inl, inr, ℕ, zero, suc, ◌+◌, ◌<◌, ◌≤◌, Bool, false, List, ◌∷◌, ◌++◌, length}
 use Rattle.std.proofs.Common.{map, Option, Some, None, slice_get, get_or, refl, ap, subst, sym, ◌∙◌, arith}
 use Rattle.std.proofs.lemmas.Bool.{cases_lt}
-use Rattle.list_lemmas.proofs.Places.{slice_get-from_Contains}
+use Rattle.list_lemmas.proofs.ElementPositions.{slice_get-from_Contains}
 use Rattle.aadl_uses.specs.proof.ContainmentGraphs.{Graph, targets_in, below_in, IsWithin}
 use Rattle.aadl_uses.specs.proof.ContainmentOrders.{IsSequence}
 use Rattle.aadl_uses.specs.proof.MarkedCounts.{AreListed, own_paths}
-use Rattle.aadl_uses.specs.Threads.{path_before}
-use Rattle.aadl_uses.proofs.SubcomponentCounts.{Begun, own_listed, listed_more, listed_same, all_listed}
+use Rattle.aadl_uses.specs.ThreadsBelow.{path_before}
+use Rattle.aadl_uses.proofs.MarkedCounts.{Begun, own_listed, listed_more, listed_same, all_listed}
 use Rattle.design_laws.proofs.ContainmentExistence.{IsAcyclic, HasPaths}
 use Rattle.design_laws.proofs.ContainmentOrders.{order}
 

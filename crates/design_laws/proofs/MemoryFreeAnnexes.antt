@@ -9,7 +9,7 @@ use Rattle.aadl_names.specs.declared.role.Role.{Role}
 use Rattle.aadl_names.specs.declared.role.Usage.{Usage}
 use Rattle.aadl_names.specs.declared.role.Usage.TheVariants.{Set, Send}
 use Rattle.aadl_names.specs.AnnexNames as u
-use Rattle.aadl_names.specs.Behaviours.{states_of}
+use Rattle.aadl_names.specs.BehaviourAnnexes.{states_of}
 use Rattle.aadl_names.specs.PackageFaults as p
 use Rattle.design_laws.proofs.MemoryFreeLists.{AreNamed, none, both, each, either, kind, unknown, second}
 

@@ -12,14 +12,14 @@ use Rattle.aadl_tree.specs.Declarations.{Implementation, Declaration, type, impl
 use Rattle.aadl_names.specs.declared.fault.PackageFault.{PackageFault}
 use Rattle.aadl_names.specs.declared.fault.PackageFault.TheVariants.{NoRoot, Recursive, DeadEnd, TwoSources, TooMany}
 use Rattle.aadl_names.specs.declared.fault.PackageFault.TheVariants.{Memory}
-use Rattle.aadl_names.specs.declared.holder.PropertyHolder.{PropertyHolder}
-use Rattle.aadl_names.specs.declared.holder.PropertyHolder.TheVariants as holders
-use Rattle.aadl_names.specs.declared.site.PortPlace.{PortPlace}
-use Rattle.aadl_names.specs.Behaviours.{behaviours, variables_in}
-use Rattle.aadl_names.specs.Properties.{listed, association_at, counts, misshapen, shape_fault, property_entries}
-use Rattle.aadl_names.specs.Properties.{list_faults}
+use Rattle.aadl_names.specs.declared.property_holder.PropertyHolder.{PropertyHolder}
+use Rattle.aadl_names.specs.declared.property_holder.PropertyHolder.TheVariants as holders
+use Rattle.aadl_names.specs.declared.port_place.PortPlace.{PortPlace}
+use Rattle.aadl_names.specs.BehaviourAnnexes.{behaviours, variables_in}
+use Rattle.aadl_names.specs.RecognisedProperties.{listed, association_at, counts, misshapen, shape_fault, property_entries}
+use Rattle.aadl_names.specs.RecognisedProperties.{list_faults}
 use Rattle.aadl_names.specs.ReferenceResolution.{is_thread, target_of, ports_of}
-use Rattle.aadl_names.specs.DuplicatesBySpace as s
+use Rattle.aadl_names.specs.DuplicatesByNamespace as s
 use Rattle.aadl_names.specs.PackageFaults as p
 use Rattle.aadl_uses.specs.Uses.{IsRecursive}
 use Rattle.aadl_chains.specs.Chains.{IsEndFault}

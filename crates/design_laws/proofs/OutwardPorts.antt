@@ -2,7 +2,7 @@
 use Rattle.std.proofs.Common.{◌≡◌, ◌⊎◌, ◌↔◌, inl, inr, ℕ, zero, suc, ◌+◌, ◌-◌, ◌≤◌, Bool, true, false, nat_eq, List, []}
 use Rattle.std.proofs.Common.{length, slice_get, Contains, Option, Some, None, refl, subst, arith}
 use Rattle.std.specs.List.{list_any}
-use Rattle.list_lemmas.proofs.Places.{slice_get-some}
+use Rattle.list_lemmas.proofs.ElementPositions.{slice_get-some}
 use Rattle.aadl_tree.specs.declared.declarations.Direction.{Direction}
 use Rattle.aadl_tree.specs.Declarations.{PackageTree}
 use Rattle.aadl_uses.specs.proof.PackageContainment.{containment}
@@ -11,12 +11,12 @@ use Rattle.aadl_uses.specs.declared.connections.Wire.{Wire}
 use Rattle.aadl_uses.specs.Wiring.{wires_at}
 use Rattle.aadl_uses.specs.proof.ContainmentOrders.{IsOrder}
 use Rattle.aadl_uses.proofs.ContainmentSequences.{of_any, not_of_any}
-use Rattle.aadl_chains.specs.declared.ports.PortAt.{PortAt}
-use Rattle.aadl_chains.specs.proof.Ports.{with_port}
+use Rattle.aadl_chains.specs.declared.port_set.PortAt.{PortAt}
+use Rattle.aadl_chains.specs.proof.PortSets.{with_port}
 use Rattle.aadl_chains.specs.proof.PortsJoinedInside.{IsInside}
 use Rattle.aadl_chains.specs.proof.PortsJoinedOutside.{opposite, led_by, IsLed, AreLedIfUsed, IsOutside}
-use Rattle.aadl_chains.proofs.OutsideByConnection.{FrontLed, none_yet, one_led, none_led, one_more, all_led}
-use Rattle.aadl_chains.proofs.OutsideByDeclaration.{BackLed, no_back, back_next, back_all}
+use Rattle.aadl_chains.proofs.JoinedOutsideByConnection.{FrontLed, none_yet, one_led, none_led, one_more, all_led}
+use Rattle.aadl_chains.proofs.JoinedOutsideByDeclaration.{BackLed, no_back, back_next, back_all}
 
 pub is_used : (tree : PackageTree ℕ) (root : ℕ) (used : List ℕ) → ((n : ℕ) → Contains used n ↔ IsInUse tree root n)
     → (n : ℕ) → IsInUse tree root n ⊎ (IsInUse tree root n → ⊥)

@@ -10,10 +10,10 @@ use Rattle.std.proofs.lemmas.Bool.Decides.{nat_tests}
 use Rattle.std.proofs.lemmas.Slice.Eq.{bytes_eq-Decides}
 use Rattle.list_lemmas.proofs.Elements.{AllByRecursion-weaker}
 use Rattle.list_lemmas.proofs.Booleans.{or_false_left, or_false_right}
-use Rattle.list_lemmas.proofs.Lists.{append_is_nil_left, append_is_nil_right}
+use Rattle.list_lemmas.proofs.ListOperations.{append_is_nil_left, append_is_nil_right}
 use Rattle.aadl_names.specs.declared.fault.PackageFault.{PackageFault}
 use Rattle.aadl_names.specs.declared.fault.PackageFault.TheVariants.{Twice}
-use Rattle.aadl_names.specs.declared.entry.SpelledName.{SpelledName}
+use Rattle.aadl_names.specs.declared.spelled_name.SpelledName.{SpelledName}
 use Rattle.aadl_names.specs.DuplicateNames.{again, twice}
 use Rattle.design_laws.proofs.PlacedNames.{Pairs}
 

@@ -14,18 +14,18 @@ use Rattle.list_lemmas.proofs.Elements.{Contains-nil, Contains-cons_cases}
 use Rattle.list_lemmas.proofs.Booleans.{or_and_right}
 use Rattle.list_lemmas.proofs.Numbers.{nat_lt-self}
 use Rattle.aadl_uses.specs.Uses.{component_at}
-use Rattle.aadl_uses.specs.Threads.{Lists, MoreThan, IsThreadOf, IsThreadAt, PathBefore, path_before}
+use Rattle.aadl_uses.specs.ThreadsBelow.{Lists, MoreThan, IsThreadOf, IsThreadAt, PathBefore, path_before}
 use Rattle.aadl_uses.proofs.ThreadCounts.{more_threads}
 use Rattle.aadl_uses.specs.proof.MarkedCounts.{Among}
 use Rattle.aadl_chains.specs.proof.LimitedCounts.{Distinct}
 use Rattle.aadl_chains.specs.Links.{Ends, IsLink, same_path, TargetBefore, OtherTarget}
 use Rattle.aadl_chains.proofs.LimitedCounts.{no_more}
-use Rattle.aadl_uses.specs.ThreadPlaces.{ThreadWith, spelled_path}
-use Rattle.aadl_instance.specs.ThreadParts.{variable_count, state_count}
+use Rattle.aadl_uses.specs.ThreadLocations.{ThreadWith, spelled_path}
+use Rattle.aadl_instance.specs.BehaviourSizes.{variable_count, state_count}
 use Rattle.aadl_instance.specs.declared.limits.Limit.{Limit}
 use Rattle.aadl_instance.specs.declared.limits.Limit.TheVariants.{Components, Links, Ports, Variables, States, Path}
 use Rattle.aadl_instance.specs.proof.Limits.{line_of, IsPassed}
-use Rattle.aadl_instance.proofs.FaultLines.{limit_lines}
+use Rattle.aadl_instance.proofs.FaultPrecedence.{limit_lines}
 
 told_more : (a b : ℕ) → (a < b) ⊎ (a < b → ⊥)
 told_more a b = by (cases_lt a b)

@@ -17,10 +17,10 @@ use Rattle.pals_base.specs.Names.{is_word_byte, is_led_by_letter, is_word, is_do
 use Rattle.aadl_tree.specs.Declarations.{Subcomponent, Connection, Implementation, PackageTree}
 use Rattle.aadl_names.specs.Spelling.{entry_of}
 use Rattle.aadl_names.specs.ReferenceResolution.{implementation_at, subcomponents_of, referred, ports_of}
-use Rattle.aadl_names.specs.DuplicatesBySpace.{port_entries, member_entries}
+use Rattle.aadl_names.specs.DuplicatesByNamespace.{port_entries, member_entries}
 use Rattle.aadl_uses.specs.Uses.{sub_at, below, standing}
-use Rattle.aadl_uses.specs.Threads.{path_before}
-use Rattle.aadl_uses.specs.ThreadPlaces.{name_at, names_along, dotted_names, spelled_path}
+use Rattle.aadl_uses.specs.ThreadsBelow.{path_before}
+use Rattle.aadl_uses.specs.ThreadLocations.{name_at, names_along, dotted_names, spelled_path}
 use Rattle.design_laws.specs.proof.PackageNames.{IsNamed, HasWords, NamesDiffer}
 use Rattle.design_laws.proofs.PlacedNames.{Pairs}
 use Rattle.design_laws.proofs.PairwiseDistinctNames.{one_name, Differs}

@@ -11,7 +11,7 @@ use Rattle.std.proofs.lemmas.List.Sums.{length-filter}
 use Rattle.std.proofs.lemmas.Option.{same_Some, slice_get-get_or}
 use Rattle.list_lemmas.proofs.Numbers.{nat_eq-self}
 use Rattle.list_lemmas.proofs.ElementPairs.{AllPairs-slice_get}
-use Rattle.aadl_uses.specs.Threads.{PathBefore, path_before}
+use Rattle.aadl_uses.specs.ThreadsBelow.{PathBefore, path_before}
 use Rattle.aadl_chains.specs.Links.{same_path}
 use Rattle.aadl_instance.specs.Instances.{node_at}
 use Rattle.design_laws.proofs.InstanceBehaviours.{first_is}

@@ -11,7 +11,7 @@ use Rattle.aadl_tree.specs.Declarations.{Declaration, type, implementation, Pack
 use Rattle.aadl_names.specs.declared.fault.PackageFault.{PackageFault}
 use Rattle.aadl_names.specs.declared.fault.PackageFault.TheVariants.{Twice}
 use Rattle.aadl_names.specs.Spelling.{spelled_implementation}
-use Rattle.aadl_names.specs.Properties.{listed, association_name, association_at}
+use Rattle.aadl_names.specs.RecognisedProperties.{listed, association_name, association_at}
 use Rattle.aadl_names.specs.PackageFaults.{behaviour_faults, unknown_reference, unknown_end}
 
 abbrev pub of_identifier : Identifier ℕ → List PackageFault

@@ -5,24 +5,24 @@ use Rattle.std.specs.List.{filter_map}
 use Rattle.std.proofs.lemmas.Option.{same_Some}
 use Rattle.std.proofs.lemmas.List.Elements.{Contains-append_left, Contains-append_right}
 use Rattle.list_lemmas.proofs.Elements.{Contains-nil}
-use Rattle.list_lemmas.proofs.Places.{Contains-from_slice_get}
+use Rattle.list_lemmas.proofs.ElementPositions.{Contains-from_slice_get}
 use Rattle.aadl_tree.specs.Names.{Identifier, identifiers, listed_in}
 use Rattle.aadl_tree.specs.Annexes.{VariableDeclaration, StateDeclaration, AnnexTree}
 use Rattle.aadl_tree.specs.Declarations.{Feature, Subcomponent, Connection, TypeDeclaration, Implementation}
 use Rattle.aadl_tree.specs.Declarations.{Declaration, type, implementation, PackageTree}
 use Rattle.aadl_names.specs.declared.fault.PackageFault.{PackageFault}
 use Rattle.aadl_names.specs.declared.fault.PackageFault.TheVariants.{Twice}
-use Rattle.aadl_names.specs.declared.entry.SpelledName.{SpelledName}
+use Rattle.aadl_names.specs.declared.spelled_name.SpelledName.{SpelledName}
 use Rattle.aadl_names.specs.Spelling.{entry_of, spelled_implementation}
-use Rattle.aadl_names.specs.Behaviours.{behaviours, variables_of, states_of}
+use Rattle.aadl_names.specs.BehaviourAnnexes.{behaviours, variables_of, states_of}
 use Rattle.aadl_names.specs.ReferenceResolution.{is_thread, type_in, type_numbered, type_number, features_of, ports_of}
-use Rattle.aadl_names.specs.DuplicatesBySpace.{port_entries, variable_entries, state_entries, twice_in_behaviour}
-use Rattle.aadl_names.specs.DuplicatesBySpace.{twice_in_first, member_entries, twice_in, type_entry}
-use Rattle.aadl_names.specs.DuplicatesBySpace.{implementation_entry, twice_names}
+use Rattle.aadl_names.specs.DuplicatesByNamespace.{port_entries, variable_entries, state_entries, twice_in_behaviour}
+use Rattle.aadl_names.specs.DuplicatesByNamespace.{twice_in_first, member_entries, twice_in, type_entry}
+use Rattle.aadl_names.specs.DuplicatesByNamespace.{implementation_entry, twice_names}
 use Rattle.aadl_names.specs.PackageFaults.{behaviour_faults, unknown_reference, unknown_end}
 use Rattle.aadl_names.proofs.ListMembers.{is_here, among_all, from_all}
-use Rattle.design_laws.proofs.CoveredFindings.{Covered, covered_none, covered_append, covered_if, covered_each, Named}
-use Rattle.design_laws.proofs.CoveredFindings.{named_append, named_map, named_filter_map, covered_twice}
+use Rattle.design_laws.proofs.NameFaultCoverage.{Covered, covered_none, covered_append, covered_if, covered_each, Named}
+use Rattle.design_laws.proofs.NameFaultCoverage.{named_append, named_map, named_filter_map, covered_twice}
 use Rattle.design_laws.proofs.FoundNameFaults.{behaviour_has}
 use Rattle.design_laws.proofs.PossibleNameFaults.{of_identifier, of_identifiers, of_associations, of_variable, of_state}
 use Rattle.design_laws.proofs.PossibleNameFaults.{of_tree, of_annex, of_feature, of_subcomponent, of_connection}

@@ -2,9 +2,9 @@
 use Rattle.std.proofs.Common.{◌≡◌, ◌∙◌, ℕ, List, map, sym, ap, subst}
 use Rattle.std.specs.Prelude.{All}
 use Rattle.aadl_tree.specs.Declarations.{PackageTree}
-use Rattle.aadl_uses.specs.declared.thread_places.ThreadAt.{ThreadAt}
-use Rattle.aadl_uses.specs.ThreadPlaces.{thread_at}
-use Rattle.aadl_instance.specs.declared.parts.Chain.{Chain}
+use Rattle.aadl_uses.specs.declared.thread_locations.ThreadAt.{ThreadAt}
+use Rattle.aadl_uses.specs.ThreadLocations.{thread_at}
+use Rattle.aadl_instance.specs.declared.chain.Chain.{Chain}
 use Rattle.aadl_instance.specs.Instances.{chain_at}
 use Rattle.design_laws.specs.proof.PackageNames.{AreNamed}
 use Rattle.model_violations.specs.Violations.{Shown, shown_by}
@@ -15,7 +15,7 @@ use Rattle.design_laws.proofs.InstanceBehaviours as ruling
 use Rattle.design_laws.proofs.InstanceBehaviours.{ThreadLaw}
 use Rattle.std.proofs.Props.{props}
 use Rattle.std.proofs.Math.Logic.{∥∥₁_elim}
-use Rattle.pals_base.specs.Rules.{IsAcyclic}
+use Rattle.pals_base.specs.BehaviourRules.{IsAcyclic}
 
 -- ---- an instance is shown by its flattened design
 pub shown_is : (tree : PackageTree ℕ) (s : Shown) → (i : IsShown tree s) → s ≡ shown_by tree i.parts

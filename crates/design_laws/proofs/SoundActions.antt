@@ -29,7 +29,7 @@ use Rattle.annex_resolve.specs.ResolvedTrees.{block_of}
 use Rattle.annex_resolve.specs.ActionFindings.{turns, together, is_too_long, is_integer, branch_findings}
 use Rattle.annex_resolve.specs.ActionFindings.{action_findings, actions_findings, mores_findings, elsifs_findings}
 use Rattle.annex_resolve.specs.ActionFindings.{otherwise_findings, block_findings}
-use Rattle.design_laws.specs.proof.AnnexNames.{FitsMeaning, FitsScope}
+use Rattle.design_laws.specs.proof.FittingAnnexNames.{FitsMeaning, FitsScope}
 use Rattle.design_laws.proofs.EmptyFindingLists.{nothing_left, not_wrong, is_right}
 use Rattle.design_laws.proofs.LoopScopes.{inner_fits}
 use Rattle.design_laws.proofs.TypedExpressions.{Has, is_truth, expression_sound}

@@ -3,18 +3,18 @@ use Rattle.std.proofs.Common.{◌≡◌, ◌∙◌, ℕ, Bool, true, false, List
 use Rattle.std.specs.Prelude.{IsTrue}
 use Rattle.std.specs.Option.{option_and_then}
 use Rattle.std.proofs.lemmas.List.Elements.{recursion_from_All}
-use Rattle.list_lemmas.proofs.Lists.{append_is_nil_right}
+use Rattle.list_lemmas.proofs.ListOperations.{append_is_nil_right}
 use Rattle.pals_base.specs.declared.behaviour.Kind.{Kind}
 use Rattle.pals_base.specs.AllowedAdaptors.{divides_or_divided, is_allowed, suits_kind}
 use Rattle.pals_base.specs.Names.{is_word}
 use Rattle.pals_model.specs.declared.design.DesignParts.{DesignParts}
 use Rattle.pals_model.specs.ComponentInputs.{rate_of}
-use Rattle.pals_model.specs.Rules as model
+use Rattle.pals_model.specs.DesignRules as model
 use Rattle.aadl_tree.specs.Declarations.{Feature, Connection, PackageTree}
 use Rattle.aadl_names.specs.ReferenceResolution.{ports_at, type_number}
 use Rattle.aadl_uses.specs.Uses.{component_at}
-use Rattle.aadl_uses.specs.Threads.{IsThreadAt}
-use Rattle.aadl_uses.specs.ThreadPlaces.{thread_at}
+use Rattle.aadl_uses.specs.ThreadsBelow.{IsThreadAt}
+use Rattle.aadl_uses.specs.ThreadLocations.{thread_at}
 use Rattle.aadl_chains.specs.Chains.{Port, port_of, is_in}
 use Rattle.aadl_chains.specs.Links.{Ends}
 use Rattle.aadl_instance.specs.FlattenedDesign.{Parts, IsFlat}
@@ -22,7 +22,7 @@ use Rattle.aadl_chains.specs.Links as walks
 use Rattle.aadl_instance.specs.Instances.{node_at, port_number, port_name, end_in, chain_at}
 use Rattle.annex_resolve.specs.ExpressionTypes.{kind_in}
 use Rattle.model_violations.specs.Carriers.{adaptor_text}
-use Rattle.model_violations.specs.Chains.{timing_findings, adaptor_findings, on_carrier, link_findings, feed_findings}
+use Rattle.model_violations.specs.ChainFindings.{timing_findings, adaptor_findings, on_carrier, link_findings, feed_findings}
 use Rattle.model_violations.specs.ChainEnds.{end_name, end_kind, end_rate}
 use Rattle.component_checks.specs.Rates.{adaptor_named, kind_suits}
 use Rattle.design_laws.specs.proof.PackageNames.{HasWords}

@@ -9,22 +9,22 @@ use Rattle.std.proofs.lemmas.Bool.Decides.{nat_tests}
 use Rattle.std.proofs.lemmas.List.{reverse-reverse}
 use Rattle.std.proofs.lemmas.Option.{option_and_then_some}
 use Rattle.list_lemmas.proofs.Elements.{AllByRecursion-append}
-use Rattle.list_lemmas.proofs.Places.{flat_map-nil_at}
-use Rattle.list_lemmas.proofs.Lists.{append_is_nil_right, append_is_nil_left}
+use Rattle.list_lemmas.proofs.ElementPositions.{flat_map-nil_at}
+use Rattle.list_lemmas.proofs.ListOperations.{append_is_nil_right, append_is_nil_left}
 use Rattle.list_lemmas.proofs.Numbers.{nat_eq-swapped, nat_eq-self}
 use Rattle.pals_base.specs.declared.values.Gamma.{Gamma}
 use Rattle.pals_base.specs.PeriodBound.{least_period}
-use Rattle.pals_model.specs.Rules.{IsGamma}
+use Rattle.pals_model.specs.DesignRules.{IsGamma}
 use Rattle.aadl_tree.specs.declared.declarations.Category.{Category}
 use Rattle.aadl_tree.specs.Values.{Association}
 use Rattle.aadl_tree.specs.Declarations.{Subcomponent, Declaration, type, TypeDeclaration, Implementation}
 use Rattle.aadl_tree.specs.Declarations.{implementation, PackageTree}
-use Rattle.aadl_names.specs.declared.holder.PropertyName.{PropertyName}
-use Rattle.aadl_names.specs.declared.holder.PropertyName.TheVariants.{Period, Skew, Execution, Network}
-use Rattle.aadl_names.specs.declared.holder.PropertyHolder.TheVariants as holders
-use Rattle.aadl_names.specs.FirstFindings.{wrong_if}
-use Rattle.aadl_names.specs.Behaviours.{behaviours}
-use Rattle.aadl_names.specs.Properties.{recognised, list_faults}
+use Rattle.aadl_names.specs.declared.property_holder.PropertyName.{PropertyName}
+use Rattle.aadl_names.specs.declared.property_holder.PropertyName.TheVariants.{Period, Skew, Execution, Network}
+use Rattle.aadl_names.specs.declared.property_holder.PropertyHolder.TheVariants as holders
+use Rattle.aadl_names.specs.FirstFaults.{wrong_if}
+use Rattle.aadl_names.specs.BehaviourAnnexes.{behaviours}
+use Rattle.aadl_names.specs.RecognisedProperties.{recognised, list_faults}
 use Rattle.aadl_names.specs.ReferenceResolution.{implementation_in, implementation_at, subcomponents_of, type_in}
 use Rattle.aadl_names.specs.ReferenceResolution.{type_numbered, type_number, referred, target_of, is_root}
 use Rattle.aadl_names.specs.PackageFaults.{may_contain, names_faults, subcomponent_faults, connection_faults}
@@ -32,8 +32,8 @@ use Rattle.aadl_names.specs.PackageFaults.{heading_faults, variables_faults, str
 use Rattle.aadl_names.specs.PackageFaults.{annex_faults, is_same_number, package_faults}
 use Rattle.aadl_names.specs.PackageFaults as naming
 use Rattle.aadl_uses.specs.Uses.{sub_at, below, standing}
-use Rattle.aadl_uses.specs.declared.thread_places.SubAt.{SubAt}
-use Rattle.aadl_uses.specs.ThreadPlaces.{sub_in, subs_along, thread_at}
+use Rattle.aadl_uses.specs.declared.thread_locations.SubAt.{SubAt}
+use Rattle.aadl_uses.specs.ThreadLocations.{sub_in, subs_along, thread_at}
 use Rattle.aadl_instance.specs.FlattenedDesign.{Parts, IsFlat}
 use Rattle.annex_resolve.specs.Scopes.{found_if}
 use Rattle.design_laws.proofs.EmptyFindingLists.{is_right, not_wrong}
@@ -54,10 +54,10 @@ use Rattle.component_checks.specs.Roots.{missing_findings, is_zero, is_reversed,
 use Rattle.component_checks.specs.Roots.{order_findings, root_findings}
 use Rattle.model_violations.specs.IgnoredProperties.{is_number, is_root_type}
 use Rattle.model_violations.specs.Carriers.{carries}
-use Rattle.model_violations.specs.Connections.{connections_findings}
+use Rattle.model_violations.specs.ConnectionFindings.{connections_findings}
 use Rattle.model_violations.specs.UsedDeclarations.{IsUse}
-use Rattle.model_violations.specs.Declarations.{sub_findings}
-use Rattle.model_violations.specs.Declarations as uses
+use Rattle.model_violations.specs.DeclarationFindings.{sub_findings}
+use Rattle.model_violations.specs.DeclarationFindings as uses
 use Rattle.model_violations.specs.Violations.{shown_by, used_findings, carriers_of}
 use Rattle.design_laws.proofs.FaultlessParts.{names_clean, declared_at, implementation_clean, type_clean, is_used}
 use Rattle.design_laws.proofs.InstanceBehaviours.{first_is}

@@ -2,19 +2,19 @@
 use Rattle.std.proofs.Common.{◌≡◌, ℕ, true, [], Option, Some, None, refl, ap}
 use Rattle.std.specs.Prelude.{flat_map, slice_get, All}
 use Rattle.std.proofs.lemmas.List.Elements.{All-nil}
-use Rattle.list_lemmas.proofs.Lists.{append_is_nil_right, append_is_nil_left}
-use Rattle.pals_base.specs.Rules.{IsBehaviour}
+use Rattle.list_lemmas.proofs.ListOperations.{append_is_nil_right, append_is_nil_left}
+use Rattle.pals_base.specs.BehaviourRules.{IsBehaviour}
 use Rattle.aadl_tree.specs.Annexes.{AnnexTree}
 use Rattle.aadl_tree.specs.Declarations.{Declaration, type, Implementation, implementation, PackageTree}
 use Rattle.aadl_names.specs.ReferenceResolution.{is_thread, features_of, type_in, type_numbered, type_number, ports_of}
 use Rattle.aadl_names.specs.PackageFaults.{package_faults}
-use Rattle.annex_resolve.specs.declared.behaviour.DeclaredValues.{DeclaredValues}
+use Rattle.annex_resolve.specs.declared.declared_values.DeclaredValues.{DeclaredValues}
 use Rattle.annex_resolve.specs.declared.scope.Scope.{Scope}
 use Rattle.annex_resolve.specs.Behaviours.{annex_findings, behaviour_of}
-use Rattle.design_laws.specs.proof.AnnexNames.{IsReady}
+use Rattle.design_laws.specs.proof.FittingAnnexNames.{IsReady}
 use Rattle.component_checks.specs.Types.{port_findings, variables_findings}
 use Rattle.model_violations.specs.PortsAndVariables.{ins_in, outs_in, variables_of, values_of, scope_of}
-use Rattle.model_violations.specs.Threads.{first_annex, annex_rules, behaviour_by, implementation_findings}
+use Rattle.model_violations.specs.ThreadBehaviours.{first_annex, annex_rules, behaviour_by, implementation_findings}
 use Rattle.design_laws.specs.proof.PackageNames.{HasWords, NamesDiffer}
 use Rattle.design_laws.specs.proof.ThreadBehaviours.{Behaves}
 use Rattle.design_laws.proofs.ThreadNames.{IsPort, values_apart, values_words, states_apart, states_words}

@@ -7,18 +7,18 @@ use Rattle.std.specs.Option.{option_and_then, option_or, is_some}
 use Rattle.std.proofs.lemmas.Bool.{false≢true, le-leb, and_from, not-false, or_parts}
 use Rattle.std.proofs.lemmas.Bool.Decides.{nat_tests}
 use Rattle.std.proofs.lemmas.Option.{same_Some}
-use Rattle.list_lemmas.proofs.Lists.{append_is_nil_left}
+use Rattle.list_lemmas.proofs.ListOperations.{append_is_nil_left}
 use Rattle.pals_base.specs.declared.limits.TheConstants.{HOUR}
 use Rattle.aadl_tree.specs.declared.declarations.Category.{Category}
 use Rattle.aadl_tree.specs.Values.{Association, Associations}
-use Rattle.aadl_names.specs.declared.holder.PropertyName.{PropertyName}
-use Rattle.aadl_names.specs.declared.holder.PropertyName.TheVariants.{Period, Dispatch, Skew, Execution, Network}
-use Rattle.aadl_names.specs.declared.holder.PropertyHolder.{PropertyHolder}
-use Rattle.aadl_names.specs.declared.holder.PropertyHolder.TheVariants as holders
-use Rattle.aadl_names.specs.FirstFindings.{wrong_if}
-use Rattle.aadl_names.specs.Properties.{association_at, association_value, listed, counts, is_named, association_named}
-use Rattle.aadl_names.specs.Properties.{name_of, recognised, time_of, range_of, has_shape, misshapen, shape_fault}
-use Rattle.aadl_names.specs.Properties.{property_entries, list_faults}
+use Rattle.aadl_names.specs.declared.property_holder.PropertyName.{PropertyName}
+use Rattle.aadl_names.specs.declared.property_holder.PropertyName.TheVariants.{Period, Dispatch, Skew, Execution, Network}
+use Rattle.aadl_names.specs.declared.property_holder.PropertyHolder.{PropertyHolder}
+use Rattle.aadl_names.specs.declared.property_holder.PropertyHolder.TheVariants as holders
+use Rattle.aadl_names.specs.FirstFaults.{wrong_if}
+use Rattle.aadl_names.specs.RecognisedProperties.{association_at, association_value, listed, counts, is_named, association_named}
+use Rattle.aadl_names.specs.RecognisedProperties.{name_of, recognised, time_of, range_of, has_shape, misshapen, shape_fault}
+use Rattle.aadl_names.specs.RecognisedProperties.{property_entries, list_faults}
 use Rattle.aadl_names.specs.ReferenceResolution.{is_thread}
 use Rattle.aadl_names.specs.DuplicateNames.{twice}
 use Rattle.design_laws.proofs.EmptyFindingLists.{not_wrong}

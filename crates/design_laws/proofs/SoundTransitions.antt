@@ -7,21 +7,21 @@ use Rattle.std.specs.Option.{unwrap_or}
 use Rattle.std.proofs.lemmas.Bool.{false≢true, eqb-true, and_from, and_parts, not-false, or_parts}
 use Rattle.std.proofs.lemmas.List.{length-map}
 use Rattle.std.proofs.lemmas.Option.{slice_get-map}
-use Rattle.list_lemmas.proofs.Places.{slice_get-some}
+use Rattle.list_lemmas.proofs.ElementPositions.{slice_get-some}
 use Rattle.pals_base.specs.declared.behaviour.BehaviourParts.{BehaviourParts}
 use Rattle.pals_base.specs.PlainTrees as plain
 use Rattle.pals_base.specs.Kinds.{are_sound}
 use Rattle.pals_base.specs.SingleStep.{completes, is_complete, is_dispatch, leaving}
-use Rattle.pals_base.specs.Rules.{has_condition, is_edge, dispatch_count, is_always, ends_unguarded, has_ways}
-use Rattle.pals_base.specs.Rules.{IsAcyclic}
+use Rattle.pals_base.specs.BehaviourRules.{has_condition, is_edge, dispatch_count, is_always, ends_unguarded, has_ways}
+use Rattle.pals_base.specs.BehaviourRules.{IsAcyclic}
 use Rattle.pals_base.specs.StepSequences.{upwards}
 use Rattle.pals_base.proofs.WaysAndCycles.{incomplete_within}
 use Rattle.aadl_tree.specs.Annexes.{Guard, dispatch, otherwise, when, Transition}
 use Rattle.aadl_tree.specs.Actions.{Block}
 use Rattle.annex_resolve.specs.declared.scope.Scope.{Scope}
 use Rattle.annex_resolve.specs.declared.states.StateAt.{StateAt}
-use Rattle.annex_resolve.specs.declared.ways.Departure.{Departure}
-use Rattle.annex_resolve.specs.declared.ways.GuardKind.{GuardKind}
+use Rattle.annex_resolve.specs.declared.departures.Departure.{Departure}
+use Rattle.annex_resolve.specs.declared.departures.GuardKind.{GuardKind}
 use Rattle.annex_resolve.specs.declared.violation.TheConstants.{DISPATCH_COUNT, NO_OTHERWISE, CYCLE_WITHOUT_COMPLETE}
 use Rattle.annex_resolve.specs.Scopes.{found_if}
 use Rattle.annex_resolve.specs.CycleRules.{is_on_cycle}
@@ -31,7 +31,7 @@ use Rattle.annex_resolve.specs.Behaviours.{ways_from, is_otherwise, is_guarded, 
 use Rattle.annex_resolve.specs.Behaviours.{cycles_of}
 use Rattle.annex_resolve.proofs.TableCells.{mapped_at}
 use Rattle.annex_resolve.proofs.StateReachability.{way_reaches}
-use Rattle.design_laws.specs.proof.AnnexNames.{FitsScope, is_declared}
+use Rattle.design_laws.specs.proof.FittingAnnexNames.{FitsScope, is_declared}
 use Rattle.design_laws.proofs.EmptyFindingLists.{nothing_left, not_wrong, none_at, all_upwards, filter-map}
 use Rattle.design_laws.proofs.SoundActions.{test_sound, block_sound}
 

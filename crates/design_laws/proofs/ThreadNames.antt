@@ -11,18 +11,18 @@ use Rattle.pals_base.specs.declared.behaviour.PortDecl.{PortDecl}
 use Rattle.pals_base.specs.declared.behaviour.VarDecl.{VarDecl}
 use Rattle.pals_base.specs.declared.behaviour.StateDecl.{StateDecl}
 use Rattle.pals_base.specs.Names.{is_word, AreDistinct}
-use Rattle.pals_base.specs.Rules.{has_word}
+use Rattle.pals_base.specs.BehaviourRules.{has_word}
 use Rattle.aadl_tree.specs.Names.{Identifier, same_name, identifiers, listed_in}
 use Rattle.aadl_tree.specs.Annexes.{VariableDeclaration, StateDeclaration, AnnexTree}
 use Rattle.aadl_tree.specs.Declarations.{Feature}
-use Rattle.aadl_names.specs.declared.entry.SpelledName.{SpelledName}
+use Rattle.aadl_names.specs.declared.spelled_name.SpelledName.{SpelledName}
 use Rattle.aadl_names.specs.Spelling.{entry_of}
-use Rattle.aadl_names.specs.DuplicatesBySpace.{port_entries, variable_entries, state_entries}
-use Rattle.aadl_names.specs.Behaviours as names
+use Rattle.aadl_names.specs.DuplicatesByNamespace.{port_entries, variable_entries, state_entries}
+use Rattle.aadl_names.specs.BehaviourAnnexes as names
 use Rattle.annex_resolve.specs.declared.states.StateAt.{StateAt}
 use Rattle.annex_resolve.specs.Behaviours.{state_at, states_in, states_of, declared}
 use Rattle.component_checks.specs.Types.{is_in}
-use Rattle.model_violations.specs.declared.declared.Declared.{Declared}
+use Rattle.model_violations.specs.declared.declared_ports.Declared.{Declared}
 use Rattle.model_violations.specs.PortsAndVariables.{port_of, ins_in, outs_in, variables_in, variables_of, named_of}
 use Rattle.model_violations.specs.PortsAndVariables.{var_of}
 use Rattle.design_laws.specs.proof.PackageNames.{IsNamed, Differ}

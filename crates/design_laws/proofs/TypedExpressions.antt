@@ -36,7 +36,7 @@ use Rattle.annex_resolve.specs.ExpressionTypes.{relation_types, expression_types
 use Rattle.annex_resolve.specs.ResolvedTrees.{multiply_op, sign_op, relation_op, logic_op, negated_by, truth_of}
 use Rattle.annex_resolve.specs.ResolvedTrees.{primary_of, factor_of, term_of, factors_of, sum_of, terms_of, relation_of}
 use Rattle.annex_resolve.specs.ResolvedTrees.{expression_of, relations_of}
-use Rattle.design_laws.specs.proof.AnnexNames.{FitsMeaning, FitsScope}
+use Rattle.design_laws.specs.proof.FittingAnnexNames.{FitsMeaning, FitsScope}
 use Rattle.design_laws.proofs.EmptyFindingLists.{nothing_left, is_right}
 
 -- an expression may have the type that it was found to have

@@ -4,13 +4,13 @@ use Rattle.std.proofs.Common.{refl, sym, ap, ap₂, subst, arith}
 use Rattle.std.specs.Prelude.{slice_get, codes}
 use Rattle.std.proofs.lemmas.Bool.{cases_order}
 use Rattle.std.proofs.lemmas.Option.{same_Some}
-use Rattle.list_lemmas.proofs.Places.{Contains-from_slice_get}
+use Rattle.list_lemmas.proofs.ElementPositions.{Contains-from_slice_get}
 use Rattle.aadl_tree.specs.Names.{Identifier}
 use Rattle.aadl_tree.specs.Declarations.{Subcomponent, Connection, Declaration, type, implementation, PackageTree}
 use Rattle.aadl_tree.specs.Declarations.{package_parts}
 use Rattle.aadl_names.specs.declared.fault.PackageFault.{PackageFault}
 use Rattle.aadl_names.specs.declared.fault.PackageFault.TheVariants.{Twice, Recursive, DeadEnd, TwoSources, TooMany}
-use Rattle.aadl_names.specs.FirstFindings.{place_of, number_of, IsFirstByLine}
+use Rattle.aadl_names.specs.FirstFaults.{place_of, number_of, IsFirstByLine}
 use Rattle.aadl_names.specs.ReferenceResolution.{implementation_in, subcomponents_of, connections_of}
 use Rattle.aadl_uses.specs.Uses.{IsRecursive}
 use Rattle.aadl_chains.specs.Chains.{IsEndFault}

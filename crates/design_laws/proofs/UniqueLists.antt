@@ -2,7 +2,7 @@
 use Rattle.std.proofs.Common.{◌≡◌, ◌⊎◌, inl, inr, ℕ, zero, suc, ◌<◌, List, [], ◌∷◌, length, get_or, AllPairs, All}
 use Rattle.std.proofs.Common.{Contains, sym, subst, arith}
 use Rattle.list_lemmas.proofs.Elements.{Contains-nil}
-use Rattle.aadl_uses.specs.Threads.{Lists}
+use Rattle.aadl_uses.specs.ThreadsBelow.{Lists}
 
 module _ {X : Type 0} where
   in_head : (x : X) (xs : List X) → Contains (x ∷ xs) x

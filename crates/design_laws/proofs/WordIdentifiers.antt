@@ -34,7 +34,7 @@ use Rattle.aadl_tree.specs.proof.DeclarationViews.{declaration_view}
 use Rattle.aadl_tree.specs.Annexes.{AnnexTree, VariableDeclaration, StateDeclaration}
 use Rattle.aadl_tree.specs.Declarations.{Feature, Subcomponent, TypeDeclaration, Implementation, type, implementation}
 use Rattle.aadl_tree.specs.proof.PackageViews.{placed}
-use Rattle.aadl_names.specs.Behaviours.{behaviour_in, behaviours, variables_of, states_of}
+use Rattle.aadl_names.specs.BehaviourAnnexes.{behaviour_in, behaviours, variables_of, states_of}
 use Rattle.design_laws.specs.proof.PackageNames.{IsNamed, HasWords}
 
 -- ---- what the lexer takes for a word is one

@@ -32,7 +32,7 @@ use Rattle.aadl_tree.specs.Declarations.{implementation, PackageTree, section_pa
 use Rattle.aadl_tree.specs.Declarations.{connection_parts, type_parts, ending_parts, implementation_name_parts}
 use Rattle.aadl_tree.specs.Declarations.{implementation_parts, declaration_parts, with_parts, package_parts}
 use Rattle.aadl_tree.specs.GrammarTrees.{IsTreeOf}
-use Rattle.aadl_names.specs.Behaviours.{behaviours, variables_of, states_of}
+use Rattle.aadl_names.specs.BehaviourAnnexes.{behaviours, variables_of, states_of}
 use Rattle.design_laws.specs.proof.PackageNames.{IsNamed, HasWords}
 use Rattle.design_laws.proofs.WordIdentifiers.{same_words}
 

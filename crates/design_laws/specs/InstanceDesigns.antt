@@ -3,23 +3,23 @@ use Rattle.std.specs.Prelude.{ℕ, ◌≡◌, List, [], ◌∷◌, map, Option, 
 use Rattle.std.specs.Option.{option_and_then}
 use Rattle.pals_base.specs.declared.values.Adaptor.{Adaptor}
 use Rattle.pals_base.specs.declared.behaviour.BehaviourParts.{BehaviourParts}
-use Rattle.pals_base.specs.Rules.{IsBehaviour}
+use Rattle.pals_base.specs.BehaviourRules.{IsBehaviour}
 use Rattle.pals_model.specs.declared.design.Component.{Component}
 use Rattle.pals_model.specs.declared.design.Link.{Link}
 use Rattle.pals_model.specs.declared.design.Feed.{Feed}
 use Rattle.pals_model.specs.declared.design.Tap.{Tap}
 use Rattle.pals_model.specs.declared.design.DesignParts.{DesignParts}
 use Rattle.aadl_tree.specs.Declarations.{Connection, PackageTree}
-use Rattle.aadl_uses.specs.declared.thread_places.ThreadAt.{ThreadAt}
-use Rattle.aadl_instance.specs.declared.parts.Chain.{Chain}
-use Rattle.aadl_instance.specs.declared.parts.ChainEnd.{ChainEnd}
-use Rattle.aadl_instance.specs.declared.parts.ChainEnd.TheVariants.{Thread, Root}
+use Rattle.aadl_uses.specs.declared.thread_locations.ThreadAt.{ThreadAt}
+use Rattle.aadl_instance.specs.declared.chain.Chain.{Chain}
+use Rattle.aadl_instance.specs.declared.chain.ChainEnd.{ChainEnd}
+use Rattle.aadl_instance.specs.declared.chain.ChainEnd.TheVariants.{Thread, Root}
 use Rattle.component_checks.specs.Rates.{adaptor_named}
 use Rattle.component_checks.specs.Threads.{root_period, thread_rate}
 use Rattle.component_checks.specs.Roots.{root_gamma}
 use Rattle.model_violations.specs.Carriers.{connection_of, adaptor_text}
 use Rattle.model_violations.specs.ChainEnds.{component_of}
-use Rattle.model_violations.specs.Threads.{behaviour_in}
+use Rattle.model_violations.specs.ThreadBehaviours.{behaviour_in}
 use Rattle.model_violations.specs.IgnoredProperties.{ignored_names}
 use Rattle.model_violations.specs.Violations.{Shown}
 

@@ -1,5 +1,5 @@
 -- What the theorem of the program does not rest on: definitions of contracts below it, of laws, and of proofs.
-pub mod AnnexNames
+pub mod FittingAnnexNames
 pub mod PackageNames
 pub mod ThreadBehaviours
 pub mod AcceptedInstances

@@ -4,7 +4,7 @@ ghost use Rattle.aadl_tree.specs.Declarations.{PackageTree, Implementation, impl
 ghost use Rattle.aadl_names.specs.PackageFaults.{package_faults};
 ghost use Rattle.aadl_names.specs.ReferenceResolution.{is_thread, ports_of};
 ghost use Rattle.component_checks.specs.Types.{port_findings};
-ghost use Rattle.model_violations.specs.Threads.{implementation_findings};
+ghost use Rattle.model_violations.specs.ThreadBehaviours.{implementation_findings};
 ghost use Rattle.design_laws.specs.proof.PackageNames.{HasWords, NamesDiffer};
 ghost use Rattle.design_laws.specs.proof.ThreadBehaviours.{Behaves};
 

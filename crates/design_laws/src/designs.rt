@@ -2,7 +2,7 @@
 ghost use Rattle.std.specs.Prelude.{◌≡◌, ℕ};
 ghost use Rattle.aadl_tree.specs.Declarations.{PackageTree};
 ghost use Rattle.pals_model.specs.declared.design.DesignParts.{DesignParts};
-ghost use Rattle.pals_model.specs.Rules.{IsDesign};
+ghost use Rattle.pals_model.specs.DesignRules.{IsDesign};
 ghost use Rattle.design_laws.specs.proof.PackageNames.{AreNamed};
 ghost use Rattle.model_violations.specs.Violations.{Shown};
 ghost use Rattle.design_laws.specs.proof.AcceptedInstances.{IsShown, NothingFound, HasDesign};

@@ -3,7 +3,7 @@ ghost use Rattle.std.specs.Prelude.{◌≡◌, ℕ, List, Contains};
 ghost use Rattle.aadl_tree.specs.Declarations.{PackageTree};
 ghost use Rattle.aadl_tree.specs.GrammarTrees.{IsTreeOf};
 ghost use Rattle.aadl_names.specs.declared.fault.PackageFault.{PackageFault};
-ghost use Rattle.aadl_names.specs.FirstFindings.{place_of, number_of};
+ghost use Rattle.aadl_names.specs.FirstFaults.{place_of, number_of};
 ghost use Rattle.aadl_names.specs.PackageFaults.{package_faults};
 ghost use Rattle.aadl_instance.specs.Faults.{IsFault};
 

@@ -13,4 +13,4 @@ pub mod first_faults;
 pub mod names;
 pub mod packages;
 pub mod rates;
-pub mod threads;
+pub mod instances;

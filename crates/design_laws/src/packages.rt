@@ -3,7 +3,7 @@
 ghost use Rattle.std.specs.Prelude.{◌≡◌, ◌≤◌, ℕ, List, []};
 ghost use Rattle.pals_base.specs.PeriodBound.{least_period};
 ghost use Rattle.pals_model.specs.declared.design.DesignParts.{DesignParts};
-ghost use Rattle.pals_model.specs.Rules.{IsDesign, greatest_rate};
+ghost use Rattle.pals_model.specs.DesignRules.{IsDesign, greatest_rate};
 ghost use Rattle.aadl_tree.specs.declared.package.PackageTree as source;
 ghost use Rattle.aadl_tree.specs.Declarations.{PackageTree};
 ghost use Rattle.aadl_tree.specs.proof.GrammarTrees.{IsGiven};

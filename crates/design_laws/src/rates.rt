@@ -6,7 +6,7 @@ ghost use Rattle.pals_base.specs.declared.values.Gamma.{Gamma};
 ghost use Rattle.pals_base.specs.declared.limits.TheConstants.{RATE};
 ghost use Rattle.pals_base.specs.AllowedAdaptors.{divides_or_divided, is_allowed};
 ghost use Rattle.pals_base.specs.PeriodBound.{least_period};
-ghost use Rattle.pals_model.specs.Rules.{IsGamma};
+ghost use Rattle.pals_model.specs.DesignRules.{IsGamma};
 ghost use Rattle.component_checks.specs.DesignNumbers.{skew_of, range_of, rate_of, gamma_by};
 ghost use Rattle.component_checks.specs.Rates.{adaptor_named, period_findings, pair_findings, bound_findings};
 ghost use Rattle.component_checks.specs.Rates.{kind_suits};

@@ -3,7 +3,7 @@ pub mod Groups
 pub mod Means
 pub mod PresentNumbers
 pub mod Quotient
-pub mod AdaptedPlaces
+pub mod AdaptedTuples
 pub mod SilenceAndLatest
 pub mod NumberSources
-pub mod SpreadPlaces
+pub mod SpreadValues

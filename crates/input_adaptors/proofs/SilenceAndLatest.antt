@@ -11,7 +11,7 @@ use Rattle.pals_base.specs.declared.values.PortValue.TheVariants.{Absent, Presen
 use Rattle.pals_base.specs.declared.values.Adaptor.{Adaptor}
 use Rattle.pals_base.specs.declared.values.Adaptor.TheVariants.{Repeat, First, Last, At, Latest, Max, Min, Average}
 use Rattle.pals_base.specs.Adaptors.{joined, present, of_present, latest_of, greatest_of, least_of, average_of}
-use Rattle.input_adaptors.specs.proof.PlacesFromGroups.{IsLatest, MakesNumber}
+use Rattle.input_adaptors.specs.proof.SourceGroups.{IsLatest, MakesNumber}
 use Rattle.input_adaptors.proofs.Extremes.{Contains-present}
 
 -- ---- none present

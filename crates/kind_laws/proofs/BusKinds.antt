@@ -10,16 +10,16 @@ use Rattle.pals_base.specs.StepSequences.{Stepped, upwards}
 use Rattle.pals_model.specs.declared.design.Component.{Component}
 use Rattle.pals_model.specs.declared.design.Link.{Link}
 use Rattle.pals_model.specs.declared.design.DesignParts.{DesignParts}
-use Rattle.pals_model.specs.declared.flight.FlightCopy.{FlightCopy}
-use Rattle.pals_model.specs.declared.rounds.Env.{Env}
+use Rattle.pals_model.specs.declared.flight_copy.FlightCopy.{FlightCopy}
+use Rattle.pals_model.specs.declared.inputs_and_parts.Env.{Env}
 use Rattle.pals_model.specs.ComponentInputs.{values_at, feed, inputs_in}
 use Rattle.pals_model.specs.Composition.{comp, state, msg, part}
-use Rattle.pals_model.specs.Rules.{IsDesign}
+use Rattle.pals_model.specs.DesignRules.{IsDesign}
 use Rattle.pals_model.specs.proof.FittingValues.{PortFits, TupleFits, PortsFit, FrameFits, link_kind, EnvFits}
 use Rattle.pals_model.specs.proof.CompositionLaws.Kinds.{PartFits}
 use Rattle.pals_model.proofs.CompositionLaws.{links_begin_absent}
 use Rattle.pals_model.proofs.ShapeLaws.{is_behaviour, state_has_shape}
-use Rattle.pals_model.proofs.KindLists.{index_fits}
+use Rattle.pals_model.proofs.AllElements.{index_fits}
 use Rattle.pals_model.proofs.KindsOfSteps.{frames_fit}
 use Rattle.pals_model.proofs.KindsOfRounds.{states_fit, messages_fit, parts_fit}
 use Rattle.pals_runs.specs.declared.journal.Phase.{Phase}

@@ -14,20 +14,20 @@ use Rattle.pals_base.specs.StepSequences.{upwards, column}
 use Rattle.pals_model.specs.declared.design.Component.{Component}
 use Rattle.pals_model.specs.declared.design.Link.{Link}
 use Rattle.pals_model.specs.declared.design.DesignParts.{DesignParts}
-use Rattle.pals_model.specs.declared.rounds.Env.{Env}
+use Rattle.pals_model.specs.declared.inputs_and_parts.Env.{Env}
 use Rattle.pals_model.specs.declared.sources.PortSource.{PortSource}
 use Rattle.pals_model.specs.ComponentInputs.{rate_of, root_of, values_at, link_goes_to, feed_goes_to, from_feed}
 use Rattle.pals_model.specs.ComponentInputs.{from_link, source_of, sources_of, read_feed, read_link, reading, inputs_of}
 use Rattle.pals_model.specs.PortKinds.{kind_of, in_kind, root_kind}
-use Rattle.pals_model.specs.Rules.{IsDesign, IsLink, IsFeed}
+use Rattle.pals_model.specs.DesignRules.{IsDesign, IsLink, IsFeed}
 use Rattle.pals_model.specs.proof.FittingValues.{PortFits, TupleFits, PortsFit, link_kind, EnvFits}
 use Rattle.pals_model.proofs.FirstElements.{found_at, at_element}
 use Rattle.pals_model.proofs.RootInputLaws.{feed_has_root, feeds_have_root_kind}
-use Rattle.pals_model.proofs.KindLists.{index_fits}
+use Rattle.pals_model.proofs.AllElements.{index_fits}
 use Rattle.pals_model.proofs.KindsOfAdaptors.{absent_fits, adapt_fits}
 use Rattle.pals_model.proofs.KindsOfRounds.{place_of_column}
 use Rattle.plant_fuse.proofs.FunctionTables.{map_map}
-use Rattle.triple_vote.proofs.NumberedLists.{table-at}
+use Rattle.triple_vote.proofs.TabulatedLists.{table-at}
 use Rattle.kind_laws.proofs.Lists.{upwards_all}
 
 abbrev pub MessagesFit : DesignParts → List (List PortValue) → Type 0

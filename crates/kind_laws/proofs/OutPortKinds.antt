@@ -12,15 +12,15 @@ use Rattle.pals_base.specs.declared.behaviour.Kind.TheVariants.{Integer}
 use Rattle.pals_base.specs.declared.behaviour.PortDecl.{PortDecl}
 use Rattle.pals_base.specs.declared.behaviour.BehaviourParts.{BehaviourParts}
 use Rattle.pals_base.specs.SingleStep.{fire, HasShape}
-use Rattle.pals_base.specs.Rules.{IsBehaviour}
+use Rattle.pals_base.specs.BehaviourRules.{IsBehaviour}
 use Rattle.pals_base.specs.StepSequences.{outputs, column, cut, steps}
 use Rattle.pals_base.proofs.StepTermination.{fires_well}
 use Rattle.pals_model.specs.PortKinds.{kind_of}
 use Rattle.pals_model.specs.proof.FittingValues.{PortFits, TupleFits, PortsFit, FrameFits}
-use Rattle.pals_model.proofs.KindLists.{map_all, every}
+use Rattle.pals_model.proofs.AllElements.{map_all, every}
 use Rattle.pals_model.proofs.KindsOfSteps.{firing_fits, outputs_fit}
 use Rattle.pals_model.proofs.KindsOfAdaptors.{absent_fits}
-use Rattle.triple_vote.proofs.NumberedLists.{table-at}
+use Rattle.triple_vote.proofs.TabulatedLists.{table-at}
 
 -- ---- a port
 -- each value is a number

@@ -21,22 +21,22 @@ use Rattle.pals_model.specs.declared.design.Component.{Component}
 use Rattle.pals_model.specs.declared.design.Link.{Link}
 use Rattle.pals_model.specs.declared.design.Tap.{Tap}
 use Rattle.pals_model.specs.declared.design.DesignParts.{DesignParts}
-use Rattle.pals_model.specs.declared.rounds.Env.{Env}
+use Rattle.pals_model.specs.declared.inputs_and_parts.Env.{Env}
 use Rattle.pals_model.specs.ComponentInputs.{rate_of, values_at, inputs_of}
 use Rattle.pals_model.specs.PortKinds.{out_kind}
 use Rattle.pals_model.specs.Composition.{no_frame}
-use Rattle.pals_model.specs.Rules.{IsDesign}
+use Rattle.pals_model.specs.DesignRules.{IsDesign}
 use Rattle.pals_model.specs.proof.FittingValues.{PortFits, TupleFits, PortsFit, FrameFits, link_kind, EnvFits}
 use Rattle.pals_model.proofs.ShapeLaws.{is_behaviour, steps_keep_shape}
-use Rattle.pals_model.proofs.KindLists.{index_fits, find_fits}
+use Rattle.pals_model.proofs.AllElements.{index_fits, find_fits}
 use Rattle.pals_model.proofs.KindsOfSteps.{frames_fit, initial_fits}
 use Rattle.pals_model.proofs.KindsOfAdaptors.{absent_fits}
-use Rattle.pals_runs.specs.declared.pairs.VoteFault.{VoteFault}
+use Rattle.pals_runs.specs.declared.analysis_inputs.VoteFault.{VoteFault}
 use Rattle.triple_vote.specs.Votes.{same_port, vote, votes}
 use Rattle.triple_vote.specs.Replicas.{is_replicated, copies_of, receivers_in, Voted, frame_at, heard_by, first_frame}
 use Rattle.triple_vote.specs.Replicas.{first_tuple, vopening, steps_in, replica_steps, tuple_at, is_fault, fault_or}
 use Rattle.triple_vote.specs.Replicas.{own_message, sent_to, vote_of, receives_on, vnext, vcomp, vshown_by, vshown}
-use Rattle.triple_vote.proofs.NumberedLists.{length-upwards, table-at, found}
+use Rattle.triple_vote.proofs.TabulatedLists.{length-upwards, table-at, found}
 use Rattle.triple_vote.proofs.ReplicaRounds.{has_first, has_three}
 use Rattle.kind_laws.specs.proof.VotedKinds.{FaultFits, FaultsFit, VotesFit, ShownFit}
 use Rattle.kind_laws.proofs.Lists.{upwards_all, either_fits}

@@ -10,7 +10,7 @@ use Rattle.std.proofs.lemmas.List.Elements.{filter-append, All-nil, All-cons}
 use Rattle.std.proofs.lemmas.List.Folds.{find_at}
 use Rattle.std.proofs.lemmas.List.Sums.{length-filter, split_at_first, passes_at_first, fails_before_first}
 use Rattle.std.proofs.lemmas.Option.{slice_get_within, get_or_from_slice_get, same_Some}
-use Rattle.link_buffers.specs.declared.queue.DueEntry.{DueEntry}
+use Rattle.link_buffers.specs.declared.due_queue.DueEntry.{DueEntry}
 use Rattle.link_buffers.specs.proof.Flights.{IsFirst, least}
 use Rattle.link_buffers.specs.proof.Queues.{comes_before, is_entry, with_entry, without_entry}
 use Rattle.link_buffers.proofs.FirstItems.{without_any}

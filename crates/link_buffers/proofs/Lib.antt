@@ -2,7 +2,7 @@ pub mod FirstItems
 pub mod MovedItems
 pub mod PartitionPoints
 pub mod Rings
-pub mod PassingFronts
+pub mod PartitionedLists
 pub mod DueOrder
-pub mod EntryPlaces
+pub mod EntryPositions
 pub mod BufferLaws

@@ -3,7 +3,7 @@ ghost use Rattle.std.specs.Prelude.{◌≤◌, Bool, length};
 ghost use Rattle.std.specs.List.Sorted.{IsPartitionedBy};
 ghost use Rattle.link_buffers.specs.proof.Halving.{IsTest, IsFirstToFail};
 
-use crate::middle::standing_at;
+use crate::ring_middle::standing_at;
 use circular_buffer::HeapCircularBuffer;
 
 /// How many items pass a test that none passes behind one that fails it: the place of the first that

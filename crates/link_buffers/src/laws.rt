@@ -1,9 +1,9 @@
 //! Laws of flights and of queues. The functions do nothing: their contracts hold at every list of
 //! copies or entries.
 ghost use Rattle.std.specs.Prelude.{◌≡◌, ◌≤◌, ℕ, false, List, [], ◌∷◌, All, Contains, count_by};
-ghost use Rattle.pals_model.specs.declared.flight.FlightCopy.{FlightCopy};
+ghost use Rattle.pals_model.specs.declared.flight_copy.FlightCopy.{FlightCopy};
 ghost use Rattle.pals_model.specs.Flights.{is_of, oldest, without_oldest};
-ghost use Rattle.link_buffers.specs.declared.queue.DueEntry.{DueEntry};
+ghost use Rattle.link_buffers.specs.declared.due_queue.DueEntry.{DueEntry};
 ghost use Rattle.link_buffers.specs.proof.Flights.{IsFirst, least};
 ghost use Rattle.link_buffers.specs.proof.Queues.{is_entry, with_entry, without_entry};
 

@@ -5,12 +5,12 @@
 pub mod flight;
 mod halving;
 pub mod laws;
-mod middle;
-pub mod queue;
+mod ring_middle;
+pub mod due_queue;
 mod ring;
 pub mod slot;
 
 pub use flight::Flight;
 pub use pals_model::FlightCopy;
-pub use queue::{DueEntry, DueQueue};
+pub use due_queue::{DueEntry, DueQueue};
 pub use slot::Slot;

@@ -1,7 +1,7 @@
 pub mod Booleans
 pub mod Numbers
-pub mod Lists
-pub mod Places
+pub mod ListOperations
+pub mod ElementPositions
 pub mod Elements
 pub mod ElementPairs
 pub mod Options

@@ -11,10 +11,10 @@ use Rattle.pals_base.specs.StepSequences.{upwards}
 use Rattle.pals_model.specs.declared.design.Component.{Component}
 use Rattle.pals_model.specs.declared.design.Tap.{Tap}
 use Rattle.pals_model.specs.declared.design.DesignParts.{DesignParts}
-use Rattle.pals_model.specs.declared.rounds.Part.{Part}
+use Rattle.pals_model.specs.declared.inputs_and_parts.Part.{Part}
 use Rattle.pals_model.specs.Composition.{part}
 use Rattle.pals_model.specs.RoundTexts.{part_lines, tap_lines, row_lines, round_line, text_of, report, composed_lines}
-use Rattle.pals_model.specs.Rules.{IsDesign, IsTap}
+use Rattle.pals_model.specs.DesignRules.{IsDesign, IsTap}
 use Rattle.pals_runs.specs.declared.events.Event.{Event}
 use Rattle.bus_machine.specs.Plans.{component_at, no_component}
 use Rattle.bus_machine.specs.Nodes.{NodeState}
@@ -25,7 +25,7 @@ use Rattle.bus_machine.specs.WorldTexts.{finished_by, part_shown, rounds_shown, 
 use Rattle.pals_bus.specs.BusValues.{BusValue}
 use Rattle.loose_world.specs.proof.FinishedRows.{part_of_round, finished, finished_lines, common_lines}
 use Rattle.loose_world.specs.proof.UndergoneEvents.{IsLeftBy}
-use Rattle.loose_world.proofs.EventCounts.{rounds_are_finished}
+use Rattle.loose_world.proofs.RoundCounts.{rounds_are_finished}
 use Rattle.loose_world.proofs.UndergoneEvents.{events_replay}
 
 -- ---- numbers from one on

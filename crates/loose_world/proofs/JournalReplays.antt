@@ -5,9 +5,9 @@ use Rattle.pals_runs.specs.declared.events.Event.{Event}
 use Rattle.bus_machine.specs.States.{Run}
 use Rattle.bus_machine.specs.proof.MachineLaws.{IsRunOf}
 use Rattle.pals_bus.specs.BusValues.{BusValue}
-use Rattle.pals_bus.specs.proof.BusPartValues.{opening_bus}
-use Rattle.loose_world.specs.declared.events.LooseEnd.{LooseEnd}
-use Rattle.loose_world.specs.declared.events.LooseEnd.TheVariants as end
+use Rattle.pals_bus.specs.proof.NodeAndCodeValues.{opening_bus}
+use Rattle.loose_world.specs.declared.loose_run.LooseEnd.{LooseEnd}
+use Rattle.loose_world.specs.declared.loose_run.LooseEnd.TheVariants as end
 use Rattle.loose_world.specs.LooseRuns.{AllHappen, RunsLoosely}
 use Rattle.loose_world.specs.proof.UndergoneEvents.{IsReplayed}
 use Rattle.loose_world.proofs.UndergoneEvents.{undergoes_loose, left_by_loose, stays_replayed, events_replay}

@@ -5,7 +5,7 @@ pub mod LooseRuns
 pub mod UndergoneEvents
 pub mod StepCounts
 pub mod SentLines
-pub mod EventCounts
+pub mod RoundCounts
 pub mod FinishedRows
 pub mod SentCopies
 pub mod ReportedWorlds

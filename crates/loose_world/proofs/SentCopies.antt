@@ -11,7 +11,7 @@ use Rattle.std.proofs.lemmas.List.Elements.{Contains-get_or}
 use Rattle.pals_base.specs.declared.values.NodeNo.{NodeNo}
 use Rattle.pals_model.specs.declared.design.Link.{Link}
 use Rattle.pals_model.specs.declared.design.DesignParts.{DesignParts}
-use Rattle.pals_model.specs.declared.flight.FlightCopy.{FlightCopy}
+use Rattle.pals_model.specs.declared.flight_copy.FlightCopy.{FlightCopy}
 use Rattle.pals_model.specs.Composition.{msg}
 use Rattle.pals_model.specs.Delays.{delay_of}
 use Rattle.pals_model.specs.Flights.{is_of, oldest}
@@ -29,17 +29,17 @@ use Rattle.bus_machine.specs.Agreement.{IsCopy, Agrees}
 use Rattle.bus_machine.specs.proof.MachineLaws.{IsRunOf}
 use Rattle.bus_machine.specs.WorldTexts.{sender, sends_of, sent_line, sent_lines}
 use Rattle.bus_machine.proofs.ReplayAgreement.{step_keeps_agreement}
-use Rattle.bus_machine.proofs.Lists.{numbered_at, oldest_is_one}
+use Rattle.bus_machine.proofs.ListsAndFlights.{numbered_at, oldest_is_one}
 use Rattle.bus_machine.proofs.NodeAgreement.{MaySend}
 use Rattle.bus_machine.proofs.AgreementChanges.{node_set}
 use Rattle.pals_report.specs.SentLines.{sent_line as line}
 use Rattle.pals_bus.specs.BusValues.{BusValue, Happens}
-use Rattle.pals_bus.specs.proof.BusPartValues.{opening_bus}
+use Rattle.pals_bus.specs.proof.NodeAndCodeValues.{opening_bus}
 use Rattle.loose_world.specs.SentLines.{message_lines, copy_lines, sent_lines as shown_lines}
 use Rattle.loose_world.specs.LooseRuns.{InTurn, told_by}
 use Rattle.loose_world.specs.proof.UndergoneEvents.{Undergoes, IsLeftBy, IsReplayed}
 use Rattle.loose_world.specs.proof.EventSenders.{senders, HasSent}
-use Rattle.loose_world.proofs.EventCounts.{sent_more, nothing_sent, rounds_are_sent}
+use Rattle.loose_world.proofs.RoundCounts.{sent_more, nothing_sent, rounds_are_sent}
 use Rattle.loose_world.proofs.SentLines.{round_lines, event_lines, and_sender, one_event}
 use Rattle.loose_world.proofs.StepCounts.{sender_before, sender_is_there}
 use Rattle.loose_world.proofs.UndergoneEvents.{makes_send, stays_replayed, opens_replayed, events_replay}

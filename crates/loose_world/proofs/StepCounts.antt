@@ -9,7 +9,7 @@ use Rattle.list_lemmas.proofs.Numbers.{add_zero_from}
 use Rattle.pals_base.specs.declared.values.NodeNo.{NodeNo}
 use Rattle.pals_base.specs.declared.values.LinkNo.{LinkNo}
 use Rattle.pals_base.specs.declared.values.PortValue.{PortValue}
-use Rattle.pals_model.specs.declared.rounds.Part.{Part}
+use Rattle.pals_model.specs.declared.inputs_and_parts.Part.{Part}
 use Rattle.pals_model.specs.ComponentInputs.{rate_of, rate_in, values_at}
 use Rattle.pals_runs.specs.declared.journal.Phase.{Phase}
 use Rattle.pals_runs.specs.declared.journal.Phase.TheVariants.{Waiting, Running, Between, Holding, Done}
@@ -30,7 +30,7 @@ use Rattle.bus_machine.specs.Agreement.{PhaseAgrees, Agrees}
 use Rattle.bus_machine.specs.proof.MachineLaws.{IsRunOf}
 use Rattle.bus_machine.proofs.NodeAgreement.{finish_keeps, MaySend, may_send_of}
 use Rattle.bus_machine.proofs.AgreementChanges.{is_component}
-use Rattle.loose_world.specs.proof.EventCounts.{steps_in_hand, steps_finished, IsCounted}
+use Rattle.loose_world.specs.proof.StepAndSendCounts.{steps_in_hand, steps_finished, IsCounted}
 use Rattle.loose_world.specs.proof.UndergoneEvents.{event_of}
 
 -- ---- the two quantities

@@ -13,7 +13,7 @@ use Rattle.bus_machine.specs.proof.MachineLaws.{IsRunOf}
 use Rattle.bus_machine.specs.Replay.{Replays, opens, goes_on, entries}
 use Rattle.bus_machine.proofs.ReplayAgreement.{opening_agrees, step_keeps_agreement}
 use Rattle.pals_bus.specs.BusValues.{BusValue, Happens}
-use Rattle.pals_bus.specs.proof.BusPartValues.{opening_bus}
+use Rattle.pals_bus.specs.proof.NodeAndCodeValues.{opening_bus}
 use Rattle.pals_bus.specs.LooseEvents.{loose_event, HappensLoose, GoesOn}
 use Rattle.loose_world.specs.LooseRuns.{InTurn, AllHappen}
 use Rattle.loose_world.specs.proof.UndergoneEvents.{event_of, Makes, Undergoes, IsLeftBy, IsReplayed}

@@ -9,9 +9,9 @@ use Rattle.bus_machine.specs.Agreement.{Agrees}
 use Rattle.bus_machine.specs.proof.MachineLaws.{IsRunOf}
 use Rattle.bus_machine.specs.WorldTexts.{sent_lines, world_rows, worldtext}
 use Rattle.pals_bus.specs.BusValues.{BusValue}
-use Rattle.pals_bus.specs.proof.BusPartValues.{opening_bus}
+use Rattle.pals_bus.specs.proof.NodeAndCodeValues.{opening_bus}
 use Rattle.loose_world.specs.proof.FinishedRows.{finished_lines, common_lines}
-use Rattle.loose_world.specs.declared.events.LooseEnd.TheVariants as end
+use Rattle.loose_world.specs.declared.loose_run.LooseEnd.TheVariants as end
 use Rattle.loose_world.specs.LooseRuns.{Tells}
 use Rattle.loose_world.specs.proof.UndergoneEvents.{IsLeftBy, IsReplayed}
 use Rattle.loose_world.proofs.EventSequences.{text_more}

@@ -10,10 +10,10 @@ use Rattle.bus_machine.specs.Machine.{BusEvent}
 use Rattle.pals_bus.specs.BusValues.{BusValue}
 use Rattle.pals_bus.specs.LooseEvents.{loose_event, IsNamedIn, node_of, message_of, HappensLoose, GoesOn, IsRefused}
 use Rattle.loose_world.specs.SentLines.{sent_lines}
-use Rattle.loose_world.specs.declared.events.LooseEnd.{LooseEnd}
+use Rattle.loose_world.specs.declared.loose_run.LooseEnd.{LooseEnd}
 use Rattle.pals_runs.specs.declared.events.Event.TheVariants as event
 use Rattle.pals_runs.specs.declared.events.EventFault.TheVariants as fault
-use Rattle.loose_world.specs.declared.events.LooseEnd.TheVariants as end
+use Rattle.loose_world.specs.declared.loose_run.LooseEnd.TheVariants as end
 
 -- an event of a loose world of a design: no passing of time, and of a node or a link that is there
 pub record IsLooseIn (design : DesignParts) (e : Event) : Type 0 where

@@ -1,6 +1,6 @@
 -- What the theorem of the program does not rest on: definitions of contracts below it, of laws, and of proofs.
 pub mod FinishedRows
-pub mod EventCounts
+pub mod StepAndSendCounts
 pub mod UndergoneEvents
 pub mod EventSenders
 pub mod JournalReplays

@@ -3,13 +3,13 @@
 //! ends in one way; and what events leave on a bus, whatever its clocks read, is the text of their world.
 #![tactic(auto)]
 
-mod events;
-mod journal;
-mod messages;
-mod rounds;
+mod loose_run;
+mod journal_text;
+mod message_text;
+mod row_text;
 pub mod world_laws;
 
-pub use events::{LooseEnd, run_loose, tell_messages};
-pub use journal::add_journal;
-pub use messages::OutLinks;
-pub use rounds::{add_finished, add_finished_by_all};
+pub use loose_run::{LooseEnd, run_loose, tell_messages};
+pub use journal_text::add_journal;
+pub use message_text::OutLinks;
+pub use row_text::{add_finished, add_finished_by_all};

@@ -3,7 +3,7 @@
 use Rattle.std.proofs.Common.{◌≡◌, ◌∙◌, ℕ, ◌+◌, ◌<◌, List, [], ◌∷◌, ◌++◌, length, map, take, drop, get_or, Option, Some}
 use Rattle.std.proofs.Common.{None, refl, sym, ap}
 use Rattle.std.proofs.lemmas.List.{map-append, take-append-drop}
-use Rattle.annex_resolve.proofs.LoopResults.{map_next}
+use Rattle.annex_resolve.proofs.MappedLists.{map_next}
 use Rattle.design_laws.specs.InstanceDesigns.{put_first, all_of}
 
 -- ---- one more part

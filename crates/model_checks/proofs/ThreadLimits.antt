@@ -8,15 +8,15 @@ use Rattle.std.proofs.Props.{props}
 use Rattle.std.proofs.Math.Logic.{∥∥₁_elim}
 use Rattle.std.proofs.lemmas.List.{reverse-append}
 use Rattle.std.proofs.lemmas.List.Elements.{All-map, All-same, All-weaker}
-use Rattle.list_lemmas.proofs.Places.{slice_get-last}
+use Rattle.list_lemmas.proofs.ElementPositions.{slice_get-last}
 use Rattle.aadl_tree.specs.Declarations.{Subcomponent, Implementation, PackageTree}
 use Rattle.aadl_names.specs.ReferenceResolution.{implementation_at, referred, target_of, is_thread}
 use Rattle.aadl_uses.specs.Uses.{sub_at, below, standing, component_at}
-use Rattle.aadl_uses.specs.Threads.{IsThreadAt}
-use Rattle.aadl_uses.specs.declared.thread_places.SubAt.{SubAt}
-use Rattle.aadl_uses.specs.declared.thread_places.ThreadAt.{ThreadAt}
-use Rattle.aadl_uses.specs.ThreadPlaces.{sub_in, subs_along, thread_at}
-use Rattle.aadl_instance.specs.declared.parts.Chain.{Chain}
+use Rattle.aadl_uses.specs.ThreadsBelow.{IsThreadAt}
+use Rattle.aadl_uses.specs.declared.thread_locations.SubAt.{SubAt}
+use Rattle.aadl_uses.specs.declared.thread_locations.ThreadAt.{ThreadAt}
+use Rattle.aadl_uses.specs.ThreadLocations.{sub_in, subs_along, thread_at}
+use Rattle.aadl_instance.specs.declared.chain.Chain.{Chain}
 use Rattle.aadl_instance.specs.FlattenedDesign.{Parts, IsFlat}
 use Rattle.aadl_instance.specs.Instances.{IsInstance}
 use Rattle.component_checks.specs.PropertyLookup.{sub_of, innermost}

@@ -7,7 +7,7 @@ use Rattle.component_checks.specs.Roots.{root_findings}
 use Rattle.component_checks.specs.Threads.{greatest_rate, thread_findings}
 use Rattle.model_violations.specs.Carriers.{carries}
 use Rattle.model_violations.specs.UsedDeclarations.{has, type_used}
-use Rattle.model_violations.specs.Declarations.{declarations_findings}
+use Rattle.model_violations.specs.DeclarationFindings.{declarations_findings}
 use Rattle.model_violations.specs.Violations.{Shown, rates_of, carriers_of, chain_findings, used_findings, findings}
 
 -- ---- tests that agree everywhere are one test

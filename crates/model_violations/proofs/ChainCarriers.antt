@@ -3,8 +3,8 @@ use Rattle.std.proofs.Common.{◌≡◌, ◌∙◌, ℕ, ◌+◌, ◌<◌, nat_e
 use Rattle.std.proofs.Common.{sym, ap}
 use Rattle.std.proofs.lemmas.List.Folds.{list_any-append}
 use Rattle.std.proofs.Math.Bool.{or_assoc, or-false}
-use Rattle.annex_resolve.proofs.LoopResults.{map_next}
-use Rattle.aadl_instance.specs.declared.parts.Chain.{Chain}
+use Rattle.annex_resolve.proofs.MappedLists.{map_next}
+use Rattle.aadl_instance.specs.declared.chain.Chain.{Chain}
 use Rattle.model_violations.specs.Carriers.{carries}
 use Rattle.model_violations.specs.Violations.{place_of}
 

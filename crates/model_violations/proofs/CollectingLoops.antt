@@ -6,9 +6,9 @@ use Rattle.std.specs.List.{filter_map, cons_option}
 use Rattle.std.proofs.lemmas.List.{map-append, length-map}
 use Rattle.std.proofs.lemmas.List.Filters.{length-filter_both}
 use Rattle.std.proofs.lemmas.List.Elements.{filter-append}
-use Rattle.list_lemmas.proofs.Lists.{drop-next}
+use Rattle.list_lemmas.proofs.ListOperations.{drop-next}
 use Rattle.aadl_tree.specs.Declarations.{Feature}
-use Rattle.annex_resolve.proofs.LoopResults.{map_next}
+use Rattle.annex_resolve.proofs.MappedLists.{map_next}
 use Rattle.component_checks.specs.Types.{is_in}
 use Rattle.model_violations.specs.PortsAndVariables.{port_of, ins_in, outs_in}
 

@@ -2,8 +2,8 @@
 use Rattle.std.proofs.Common.{◌≡◌, ◌∙◌, ℕ, ◌+◌, ◌<◌, ◌≤◌, Bool, true, false, cond, List, ◌∷◌, length, map, filter, drop}
 use Rattle.std.proofs.Common.{get_or, Some, None, ap, add-one}
 use Rattle.std.specs.Prelude.{slice_get}
-use Rattle.list_lemmas.proofs.Lists.{drop-next}
-use Rattle.aadl_names.proofs.FindingSoFar.{none_left}
+use Rattle.list_lemmas.proofs.ListOperations.{drop-next}
+use Rattle.aadl_names.proofs.FirstFaultSoFar.{none_left}
 
 tested : {A B : Type 0} (p : B → Bool) (v : A → B) (xs : List A) (i : ℕ) (x : A) (b : Bool) → i < length xs
     → x ≡ get_or xs i x → p (v x) ≡ b

@@ -9,26 +9,26 @@ use Rattle.std.proofs.Props.{props}
 use Rattle.std.proofs.Math.Logic.{∥∥₁_elim}
 use Rattle.std.proofs.lemmas.List.{length-map}
 use Rattle.list_lemmas.proofs.Numbers.{le_from_not_lt}
-use Rattle.list_lemmas.proofs.Places.{position_from-within}
+use Rattle.list_lemmas.proofs.ElementPositions.{position_from-within}
 use Rattle.pals_base.specs.declared.limits.TheConstants.{PORTS, VARIABLES}
 use Rattle.aadl_tree.specs.Annexes.{VariableDeclaration, AnnexTree}
 use Rattle.aadl_tree.specs.Declarations.{Implementation, PackageTree}
 use Rattle.aadl_names.specs.declared.fault.PackageFault.TheVariants.{TooMany}
-use Rattle.aadl_names.specs.Behaviours as names
+use Rattle.aadl_names.specs.BehaviourAnnexes as names
 use Rattle.aadl_names.specs.ReferenceResolution.{is_root, is_thread, first_number, implementation_at, ports_of}
-use Rattle.aadl_names.specs.Behaviours.{first_behaviour}
-use Rattle.aadl_instance.specs.ThreadParts.{count_in, variable_count}
+use Rattle.aadl_names.specs.BehaviourAnnexes.{first_behaviour}
+use Rattle.aadl_instance.specs.BehaviourSizes.{count_in, variable_count}
 use Rattle.aadl_uses.specs.Uses.{standing, component_at, IsInUse}
-use Rattle.aadl_uses.specs.Threads.{IsThreadOf}
-use Rattle.aadl_uses.specs.declared.thread_places.ThreadAt.{ThreadAt}
-use Rattle.aadl_instance.specs.declared.parts.Chain.{Chain}
+use Rattle.aadl_uses.specs.ThreadsBelow.{IsThreadOf}
+use Rattle.aadl_uses.specs.declared.thread_locations.ThreadAt.{ThreadAt}
+use Rattle.aadl_instance.specs.declared.chain.Chain.{Chain}
 use Rattle.aadl_instance.specs.FlattenedDesign.{Parts, IsFlat}
 use Rattle.aadl_instance.specs.Instances.{IsInstance}
 use Rattle.annex_resolve.specs.ExpressionTypes.{kind_named}
 use Rattle.model_violations.specs.PortsAndVariables.{first_of, variable_of, variables_in, variables_of}
-use Rattle.model_violations.specs.Threads.{IsSmall, first_annex}
+use Rattle.model_violations.specs.ThreadBehaviours.{IsSmall, first_annex}
 use Rattle.model_violations.specs.UsedDeclarations.{IsUse}
-use Rattle.model_violations.specs.Declarations.{AreSmall}
+use Rattle.model_violations.specs.DeclarationFindings.{AreSmall}
 
 -- ---- the root is a declaration
 

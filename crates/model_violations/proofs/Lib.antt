@@ -9,5 +9,5 @@ pub mod FindingOrder
 pub mod AllFindings
 pub mod MappedOptions
 pub mod FilteredIndexes
-pub mod PlainRates
+pub mod RatesWithoutAdaptor
 pub mod ConnectionEnds

@@ -6,9 +6,9 @@ use Rattle.aadl_tree.specs.Names.{same_name}
 use Rattle.std.specs.List.{list_any}
 use Rattle.std.specs.Option.{is_some, option_or}
 use Rattle.std.proofs.lemmas.List.Folds.{list_any-append}
-use Rattle.list_lemmas.proofs.Lists.{drop-next}
+use Rattle.list_lemmas.proofs.ListOperations.{drop-next}
 use Rattle.aadl_names.specs.proof.NameTables.{value_of}
-use Rattle.aadl_names.proofs.FindingSoFar.{none_left}
+use Rattle.aadl_names.proofs.FirstFaultSoFar.{none_left}
 use Rattle.model_violations.specs.IgnoredProperties.{behind, all_behind}
 use Rattle.model_violations.specs.proof.KnownDeclarations.{KnowsAll}
 

@@ -3,10 +3,10 @@ use Rattle.std.specs.Prelude.{ℕ, Bool, ◌&&◌, nat_eq, List, codes, Option, 
 use Rattle.std.specs.List.{list_any}
 use Rattle.std.specs.Option.{option_and_then}
 use Rattle.aadl_tree.specs.Declarations.{Connection, PackageTree}
-use Rattle.aadl_names.specs.declared.holder.PropertyName.TheVariants.{Timing, Adaptor}
-use Rattle.aadl_names.specs.Properties.{association_named, association_value, name_of, text_of}
+use Rattle.aadl_names.specs.declared.property_holder.PropertyName.TheVariants.{Timing, Adaptor}
+use Rattle.aadl_names.specs.RecognisedProperties.{association_named, association_value, name_of, text_of}
 use Rattle.aadl_names.specs.ReferenceResolution.{implementation_at, connections_of}
-use Rattle.aadl_instance.specs.declared.parts.ConnAt.{ConnAt}
+use Rattle.aadl_instance.specs.declared.chain.ConnAt.{ConnAt}
 use Rattle.component_checks.specs.Threads.{says}
 
 abbrev pub connection_of : PackageTree ℕ → ConnAt → Option (Connection ℕ)

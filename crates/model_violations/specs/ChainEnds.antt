@@ -5,9 +5,9 @@ use Rattle.std.specs.Option.{option_and_then}
 use Rattle.pals_base.specs.declared.behaviour.Kind.{Kind}
 use Rattle.aadl_tree.specs.Declarations.{Feature, Implementation, PackageTree}
 use Rattle.aadl_names.specs.ReferenceResolution.{ports_at, target_of}
-use Rattle.aadl_uses.specs.declared.thread_places.ThreadAt.{ThreadAt}
-use Rattle.aadl_instance.specs.declared.parts.ChainEnd.{ChainEnd}
-use Rattle.aadl_instance.specs.declared.parts.ChainEnd.TheVariants.{Thread, Root}
+use Rattle.aadl_uses.specs.declared.thread_locations.ThreadAt.{ThreadAt}
+use Rattle.aadl_instance.specs.declared.chain.ChainEnd.{ChainEnd}
+use Rattle.aadl_instance.specs.declared.chain.ChainEnd.TheVariants.{Thread, Root}
 use Rattle.aadl_instance.specs.Instances.{port_name}
 use Rattle.annex_resolve.specs.ExpressionTypes.{kind_in}
 use Rattle.component_checks.specs.PropertyLookup.{innermost}

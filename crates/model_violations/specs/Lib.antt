@@ -1,11 +1,11 @@
 pub mod PortsAndVariables
-pub mod Threads
+pub mod ThreadBehaviours
 pub mod IgnoredProperties
 pub mod UsedDeclarations
-pub mod Declarations
+pub mod DeclarationFindings
 pub mod Violations
 pub mod ChainEnds
 pub mod Carriers
-pub mod Chains
-pub mod Connections
+pub mod ChainFindings
+pub mod ConnectionFindings
 pub mod proof

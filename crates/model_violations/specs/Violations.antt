@@ -2,18 +2,18 @@
 use Rattle.std.specs.Prelude.{ℕ, nat_eq, nat_lt, Bool, ◌&&◌, ◌||◌, List, ◌++◌, map, flat_map, Option}
 use Rattle.std.specs.List.Sorted.{IsSortedBy, IsStableBy}
 use Rattle.aadl_tree.specs.Declarations.{PackageTree}
-use Rattle.aadl_uses.specs.declared.thread_places.ThreadAt.{ThreadAt}
-use Rattle.aadl_instance.specs.declared.parts.Chain.{Chain}
+use Rattle.aadl_uses.specs.declared.thread_locations.ThreadAt.{ThreadAt}
+use Rattle.aadl_instance.specs.declared.chain.Chain.{Chain}
 use Rattle.aadl_instance.specs.FlattenedDesign.{Parts}
 use Rattle.aadl_instance.specs.Instances.{chain_at}
-use Rattle.aadl_uses.specs.ThreadPlaces.{thread_at}
+use Rattle.aadl_uses.specs.ThreadLocations.{thread_at}
 use Rattle.annex_resolve.specs.declared.violation.Violation.{Violation}
 use Rattle.component_checks.specs.Threads.{thread_rate, greatest_rate, thread_findings}
 use Rattle.component_checks.specs.Roots.{root_findings}
 use Rattle.model_violations.specs.Carriers.{carries}
-use Rattle.model_violations.specs.Chains.{link_findings, feed_findings, tap_findings}
+use Rattle.model_violations.specs.ChainFindings.{link_findings, feed_findings, tap_findings}
 use Rattle.model_violations.specs.UsedDeclarations.{IsUse, type_used}
-use Rattle.model_violations.specs.Declarations.{declarations_findings}
+use Rattle.model_violations.specs.DeclarationFindings.{declarations_findings}
 
 -- what an instance shows
 pub record Shown : Type 0 where

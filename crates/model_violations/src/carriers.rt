@@ -7,7 +7,7 @@ ghost use Rattle.component_checks.specs.proof.ChainProperties.{carried_by};
 ghost use Rattle.model_violations.specs.Carriers as spec;
 
 use aadl_instance::ConnAt;
-use aadl_names::numbered::implementation_at;
+use aadl_names::declarations_by_number::implementation_at;
 use aadl_tree::{Connection, PackageTree};
 use component_checks::{ChainProperties, Properties};
 use indexmap::IndexSet;

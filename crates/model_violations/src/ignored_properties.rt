@@ -6,7 +6,7 @@ ghost use Rattle.aadl_tree.specs.proof.PlaceMaps.{kept_place};
 ghost use Rattle.aadl_tree.specs.proof.NameViews.{name_view};
 ghost use Rattle.aadl_tree.specs.proof.ValueViews.{association_view, associations_view};
 ghost use Rattle.aadl_tree.specs.proof.DeclarationViews.{annex_view, variable_view};
-ghost use Rattle.aadl_names.specs.Properties.{name_of, recognised};
+ghost use Rattle.aadl_names.specs.RecognisedProperties.{name_of, recognised};
 ghost use Rattle.aadl_names.specs.Spelling.{spelled_name};
 ghost use Rattle.model_violations.specs.IgnoredProperties as spec;
 

@@ -3,22 +3,22 @@
 #![tactic(auto)]
 
 pub mod carriers;
-pub mod chains;
-pub mod connections;
-pub mod declarations;
-pub mod declared;
-pub mod ignored;
-pub mod ignored_declarations;
+pub mod chain_findings;
+pub mod connection_findings;
+pub mod declaration_findings;
+pub mod declared_ports;
+pub mod ignored_in_package;
+pub mod ignored_in_declaration;
 pub mod ignored_properties;
-pub mod list;
-pub mod order;
-pub mod ports;
+pub mod instance_findings;
+pub mod sorted_findings;
+pub mod chain_ends;
 pub mod spellings;
-pub mod threads;
-pub mod usage;
-pub mod values;
+pub mod thread_behaviour;
+pub mod used_declarations;
+pub mod behaviour_setting;
 pub mod variables;
 
-pub use ignored::ignored_names;
-pub use list::violations;
-pub use threads::resolve_implementation;
+pub use ignored_in_package::ignored_names;
+pub use instance_findings::violations;
+pub use thread_behaviour::resolve_implementation;

@@ -3,7 +3,7 @@ ghost use Rattle.std.specs.Prelude.{◌≡◌, [], IfOk, OnOk};
 ghost use Rattle.model_violations.specs.IgnoredProperties as spec;
 ghost use Rattle.model_violations.specs.proof.KnownDeclarations as inner;
 
-use aadl_names::table::NameTable;
+use aadl_names::name_table::NameTable;
 use pals_base::{Items, NoMemory, Text, TryClone};
 use std::alloc::Global;
 

@@ -6,13 +6,13 @@ ghost use Rattle.aadl_tree.specs.proof.NameViews.{identifier_view};
 ghost use Rattle.aadl_tree.specs.proof.ValueViews.{value_view, values_view};
 ghost use Rattle.aadl_tree.specs.Values.{list};
 ghost use Rattle.aadl_tree.specs.proof.DeclarationViews.{variable_view, annex_tree_view};
-ghost use Rattle.aadl_names.specs.Properties.{only_text, text_of};
+ghost use Rattle.aadl_names.specs.RecognisedProperties.{only_text, text_of};
 ghost use Rattle.model_violations.specs.PortsAndVariables as spec;
 
-use crate::declared::Declared;
+use crate::declared_ports::Declared;
 use aadl_names::PropertyName;
 use aadl_tree::{AnnexTree, Identifier, Value, VariableDeclaration};
-use annex_resolve::types::kind_named;
+use annex_resolve::type_names::kind_named;
 use component_checks::property_lookup::property_in;
 use component_checks::quotes::unquoted;
 use pals_base::{Items, Kind, NoMemory, Text};

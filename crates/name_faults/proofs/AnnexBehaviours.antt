@@ -1,17 +1,17 @@
 -- For `check_behaviours`: the behaviours of an implementation, one annex after the other.
 use Rattle.std.proofs.Common.{◌≡◌, ℕ, ◌+◌, ◌<◌, ◌≤◌, Bool, true, false, List, [], ◌∷◌, ◌++◌, length, drop, get_or, map}
 use Rattle.std.proofs.Common.{Option, refl, sym, ap, ◌∙◌}
-use Rattle.list_lemmas.proofs.Lists.{drop-next}
+use Rattle.list_lemmas.proofs.ListOperations.{drop-next}
 use Rattle.aadl_tree.specs.Names.{Identifier}
 use Rattle.aadl_tree.specs.Annexes.{AnnexTree, AnnexContent, foreign, behaviour, Annex}
 use Rattle.aadl_tree.specs.Declarations.{Implementation, PackageTree}
 use Rattle.aadl_names.specs.declared.fault.PackageFault.{PackageFault}
 use Rattle.aadl_names.specs.declared.fault.PackageFault.TheVariants.{WrongKind}
-use Rattle.aadl_names.specs.Behaviours.{behaviours}
-use Rattle.aadl_names.specs.proof.FindingSoFar.{found}
+use Rattle.aadl_names.specs.BehaviourAnnexes.{behaviours}
+use Rattle.aadl_names.specs.proof.FirstFaultSoFar.{found}
 use Rattle.aadl_names.specs.ReferenceResolution.{is_thread}
 use Rattle.aadl_names.specs.PackageFaults.{behaviour_faults, annex_faults}
-use Rattle.aadl_names.proofs.FindingSoFar.{none_left, found_append}
+use Rattle.aadl_names.proofs.FirstFaultSoFar.{none_left, found_append}
 use Rattle.name_faults.specs.proof.ExpectedBehaviours.{annex_uses, still_expected, behaviours_left}
 
 -- each behaviour that is left is too many

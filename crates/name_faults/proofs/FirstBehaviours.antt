@@ -1,6 +1,6 @@
 -- For `first_behaviour`: the first behaviour among the annexes of an implementation, if there is one.
 use Rattle.std.proofs.Common.{◌≡◌, ℕ, ◌+◌, ◌<◌, ◌≤◌, List, ◌∷◌, length, drop, get_or, map, Option, None, sym, ap, ◌∙◌}
-use Rattle.list_lemmas.proofs.Lists.{drop-next}
+use Rattle.list_lemmas.proofs.ListOperations.{drop-next}
 use Rattle.aadl_tree.specs.declared.annex.AnnexContent as source_content
 use Rattle.aadl_tree.specs.declared.annex.Annex.{Annex}
 use Rattle.aadl_tree.specs.Annexes.{AnnexTree, AnnexContent}
@@ -8,8 +8,8 @@ use Rattle.aadl_tree.specs.Annexes as plain
 use Rattle.aadl_tree.specs.proof.DeclarationViews.{annex_view, content_view}
 use Rattle.aadl_tree.specs.proof.NameViews.{identifier_view}
 use Rattle.aadl_tree.specs.proof.PlaceMaps.{kept_place}
-use Rattle.aadl_names.specs.Behaviours.{behaviours, first_behaviour}
-use Rattle.aadl_names.proofs.FindingSoFar.{none_left}
+use Rattle.aadl_names.specs.BehaviourAnnexes.{behaviours, first_behaviour}
+use Rattle.aadl_names.proofs.FirstFaultSoFar.{none_left}
 
 -- an annex of some content, and others behind it
 abbrev first_with : Annex → AnnexContent ℕ → List (plain.Annex ℕ) → Option (AnnexTree ℕ)

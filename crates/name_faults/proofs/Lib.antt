@@ -2,7 +2,7 @@ pub mod ValueShapes
 pub mod PropertyEntries
 pub mod SingleProperties
 pub mod StructViews
-pub mod NameTables
+pub mod RoleTables
 pub mod PortEntries
 pub mod TypePortNames
 pub mod FirstBehaviours

@@ -3,10 +3,10 @@ use Rattle.std.proofs.Common.{◌≡◌, ℕ, ◌+◌, ◌<◌, ◌≤◌, List,
 use Rattle.std.proofs.Common.{◌∙◌, zero, suc, arith}
 use Rattle.std.specs.Prelude.{slice_get}
 use Rattle.std.specs.List.{flat_map, enumerate_from}
-use Rattle.list_lemmas.proofs.Lists.{drop-next}
+use Rattle.list_lemmas.proofs.ListOperations.{drop-next}
 use Rattle.aadl_names.specs.declared.fault.PackageFault.{PackageFault}
-use Rattle.aadl_names.specs.proof.FindingSoFar.{found}
-use Rattle.aadl_names.proofs.FindingSoFar.{none_left, found_append}
+use Rattle.aadl_names.specs.proof.FirstFaultSoFar.{found}
+use Rattle.aadl_names.proofs.FirstFaultSoFar.{none_left, found_append}
 
 pub next_numbered : {A B : Type 0} (view : A → B) (here : ℕ × B → List PackageFault) (xs : List A) (i : ℕ) (x : A)
     (whole before after : (Option PackageFault))

@@ -1,7 +1,7 @@
 -- What a list of properties declares.
 use Rattle.std.proofs.Common.{◌≡◌, ℕ, Bool, true, false, cond, List, [], ◌∷◌, ◌++◌, map, refl}
 use Rattle.aadl_tree.specs.Values.{Association, Associations, no_associations, associate}
-use Rattle.aadl_names.specs.Properties.{counts, counted, association_entry, property_entries}
+use Rattle.aadl_names.specs.RecognisedProperties.{counts, counted, association_entry, property_entries}
 
 one_more : {A B : Type 0} (f : A → B) (b : Bool) (x : A) (xs : List A)
     → map f (cond b (x ∷ xs) xs) ≡ map f (cond b (x ∷ []) []) ++ map f xs

@@ -8,9 +8,9 @@ use Rattle.aadl_tree.specs.declared.values.Association.{Association}
 use Rattle.aadl_tree.specs.proof.ValueViews.{association_view, associations_view}
 use Rattle.aadl_tree.specs.Values as plain
 use Rattle.aadl_tree.specs.proof.PlaceMaps.{kept_place}
-use Rattle.aadl_names.specs.declared.entry.SpelledName.{SpelledName}
+use Rattle.aadl_names.specs.declared.spelled_name.SpelledName.{SpelledName}
 use Rattle.aadl_names.specs.DuplicateNames.{twice}
-use Rattle.aadl_names.specs.Properties.{counts, association_entry, property_entries}
+use Rattle.aadl_names.specs.RecognisedProperties.{counts, association_entry, property_entries}
 
 never_before : (b : Bool) (n : ℕ) → (b && nat_lt n n) ≡ false
 never_before true n = le-ltb n n (grind arith)

@@ -1,5 +1,5 @@
 -- What the theorem of the program does not rest on: definitions of contracts below it, of laws, and of proofs.
-pub mod Scopes
+pub mod BehaviourScopes
 pub mod OptionalValues
 pub mod TypePortNames
 pub mod ExpectedBehaviours

@@ -1,23 +1,23 @@
 //! What is wrong with the behaviours of an implementation.
-#![tactic(auto, using(aadl_names::proofs::FindingSoFar::found_append))]
+#![tactic(auto, using(aadl_names::proofs::FirstFaultSoFar::found_append))]
 
 ghost use Rattle.std.specs.Prelude.{◌≡◌, OnOk};
 ghost use Rattle.aadl_tree.specs.proof.PackageViews.{placed};
 ghost use Rattle.aadl_tree.specs.proof.DeclarationViews.{annex_tree_view, annex_view, implementation_view};
 ghost use Rattle.aadl_tree.specs.proof.PlaceMaps.{kept_place};
-ghost use Rattle.aadl_names.specs.proof.FindingSoFar.{found};
+ghost use Rattle.aadl_names.specs.proof.FirstFaultSoFar.{found};
 ghost use Rattle.aadl_names.specs.proof.NameTables.{value_of};
-ghost use Rattle.aadl_names.specs.Behaviours.{behaviours};
+ghost use Rattle.aadl_names.specs.BehaviourAnnexes.{behaviours};
 ghost use Rattle.aadl_names.specs.ReferenceResolution.{ports_of, type_number, type_numbered};
 ghost use Rattle.aadl_names.specs.PackageFaults as spec;
-ghost use Rattle.name_faults.specs.proof.Scopes.{known_by};
+ghost use Rattle.name_faults.specs.proof.BehaviourScopes.{known_by};
 ghost use Rattle.name_faults.specs.proof.TypePortNames.{HasRolesOf};
 ghost use Rattle.name_faults.specs.proof.ExpectedBehaviours.{annex_uses, still_expected};
 
 use crate::categories::is_thread;
-use crate::parts::transitions_in;
+use crate::annex_sections::transitions_in;
 use crate::{BehaviourScope, check_transitions, state_names, variable_roles};
-use aadl_names::numbered::type_numbered;
+use aadl_names::declarations_by_number::type_numbered;
 use aadl_names::{Finder, NameTable, Role};
 use aadl_tree::{Annex, AnnexContent, AnnexTree, Implementation, PackageTree};
 use std::alloc::{AllocError, Global};

@@ -1,13 +1,13 @@
 //! What is wrong with the names in declarations, except what is declared twice.
-#![tactic(auto, using(aadl_names::proofs::FindingSoFar::found_append))]
+#![tactic(auto, using(aadl_names::proofs::FirstFaultSoFar::found_append))]
 
 ghost use Rattle.std.specs.Prelude.{◌≡◌, not, Some, OnOk, slice_get};
 ghost use Rattle.aadl_tree.specs.Names.{same_name};
 ghost use Rattle.aadl_tree.specs.proof.PackageViews.{placed};
 ghost use Rattle.aadl_tree.specs.proof.DeclarationViews.{implementation_view, declaration_view};
 ghost use Rattle.aadl_tree.specs.proof.PlaceMaps.{kept_place};
-ghost use Rattle.aadl_names.specs.proof.FindingSoFar.{found};
-ghost use Rattle.aadl_names.specs.FirstFindings.{wrong_if};
+ghost use Rattle.aadl_names.specs.proof.FirstFaultSoFar.{found};
+ghost use Rattle.aadl_names.specs.FirstFaults.{wrong_if};
 ghost use Rattle.aadl_names.specs.Spelling.{spelled_name};
 ghost use Rattle.aadl_names.specs.ReferenceResolution.{implementation_at};
 ghost use Rattle.aadl_names.specs.PackageFaults as spec;

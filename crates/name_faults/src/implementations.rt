@@ -1,20 +1,20 @@
 //! What is wrong with the names in implementations, except what their behaviours do with names.
-#![tactic(auto, using(aadl_names::proofs::FindingSoFar::found_append))]
+#![tactic(auto, using(aadl_names::proofs::FirstFaultSoFar::found_append))]
 
 ghost use Rattle.std.specs.Prelude.{◌≡◌, OnOk};
 ghost use Rattle.aadl_tree.specs.proof.PackageViews.{placed};
 ghost use Rattle.aadl_tree.specs.proof.DeclarationViews.{implementation_view};
 ghost use Rattle.aadl_tree.specs.proof.PlaceMaps.{kept_place};
-ghost use Rattle.aadl_names.specs.proof.FindingSoFar.{found};
+ghost use Rattle.aadl_names.specs.proof.FirstFaultSoFar.{found};
 ghost use Rattle.aadl_names.specs.ReferenceResolution.{type_number, type_numbered};
 ghost use Rattle.aadl_names.specs.PackageFaults as spec;
 ghost use Rattle.name_faults.specs.proof.NumberedImplementations.{StandsAt};
 
 use crate::check_properties;
-use crate::components::{check_subcomponents, same_category};
+use crate::subcomponents::{check_subcomponents, same_category};
 use crate::connections::check_connections;
 use crate::types::check_variables;
-use aadl_names::numbered::type_numbered;
+use aadl_names::declarations_by_number::type_numbered;
 use aadl_names::spelling::spelled_implementation;
 use aadl_names::{Finder, PropertyHolder};
 use aadl_tree::{Category, Implementation, PackageTree};

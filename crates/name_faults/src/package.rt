@@ -1,7 +1,7 @@
 //! The first name that is wrong in a package.
 ghost use Rattle.std.specs.Prelude.{IfOk};
 ghost use Rattle.aadl_tree.specs.proof.PackageViews.{placed};
-ghost use Rattle.aadl_names.specs.FirstFindings.{FirstOf};
+ghost use Rattle.aadl_names.specs.FirstFaults.{FirstOf};
 ghost use Rattle.aadl_names.specs.PackageFaults.{package_faults};
 
 use crate::declarations::check_declarations;

@@ -1,5 +1,5 @@
 //! Lists of properties.
-#![tactic(auto, using(aadl_names::proofs::FindingSoFar::found_append))]
+#![tactic(auto, using(aadl_names::proofs::FirstFaultSoFar::found_append))]
 
 ghost use Rattle.std.specs.Prelude.{◌≡◌, ◌&&◌, ◌++◌, not, OnOk, IfOk, flat_map};
 ghost use Rattle.aadl_tree.specs.Names.{same_name};
@@ -8,16 +8,16 @@ ghost use Rattle.aadl_tree.specs.Values.{associate, no_associations};
 ghost use Rattle.aadl_tree.specs.proof.NameViews.{name_view};
 ghost use Rattle.aadl_tree.specs.proof.ValueViews.{value_view, association_view, associations_view};
 ghost use Rattle.aadl_tree.specs.proof.PlaceMaps.{kept_place};
-ghost use Rattle.aadl_names.specs.proof.FindingSoFar.{found};
-ghost use Rattle.aadl_names.specs.Properties as spec;
-ghost use Rattle.aadl_names.specs.Properties.{property_entries};
+ghost use Rattle.aadl_names.specs.proof.FirstFaultSoFar.{found};
+ghost use Rattle.aadl_names.specs.RecognisedProperties as spec;
+ghost use Rattle.aadl_names.specs.RecognisedProperties.{property_entries};
 ghost use Rattle.aadl_names.specs.Spelling as spelling;
 ghost use Rattle.aadl_names.specs.DuplicateNames.{twice};
 
 use crate::shapes::has_shape;
 use aadl_names::name_comparison::is_spelled;
 use aadl_names::spelling::spelled_name;
-use aadl_names::twice::check_twice;
+use aadl_names::duplicate_names::check_twice;
 use aadl_names::{Finder, PropertyHolder, SpelledName};
 use aadl_tree::{Association, Name, Value};
 use pals_base::Items;

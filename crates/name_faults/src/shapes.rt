@@ -6,11 +6,11 @@ ghost use Rattle.aadl_tree.specs.proof.NameViews.{identifier_view};
 ghost use Rattle.aadl_tree.specs.proof.ValueViews.{figure_view, quantity_view, value_view, values_view};
 ghost use Rattle.aadl_tree.specs.Values.{list};
 ghost use Rattle.aadl_tree.specs.proof.PlaceMaps.{kept_place};
-ghost use Rattle.aadl_names.specs.Properties as spec;
+ghost use Rattle.aadl_names.specs.RecognisedProperties as spec;
 
-use crate::digits::is_number;
+use crate::spelled_numbers::is_number;
 use aadl_names::PropertyName;
-use aadl_names::units::unit_of;
+use aadl_names::time_units::unit_of;
 use aadl_tree::{Identifier, Quantity, Sign, UnsignedNumber, Value};
 
 // Whether it is a unit of time.
@@ -34,7 +34,7 @@ fn is_whole(figure: &UnsignedNumber) -> bool
 }
 
 /// Whether it is a time: a whole number without a sign, and a unit.
-#[tactic(auto, using(crate::proofs::ValueShapes::has_time), unfolding(aadl_names::specs::Properties::time_in))]
+#[tactic(auto, using(crate::proofs::ValueShapes::has_time), unfolding(aadl_names::specs::RecognisedProperties::time_in))]
 pub fn is_time(x: &Quantity) -> bool
     ensures { result ≡ is_some (spec.time_in (quantity_view kept_place x.now)) }
 {

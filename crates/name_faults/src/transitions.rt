@@ -1,17 +1,17 @@
 //! How transitions use names.
-#![tactic(auto, using(aadl_names::proofs::FindingSoFar::found_append))]
+#![tactic(auto, using(aadl_names::proofs::FirstFaultSoFar::found_append))]
 
 ghost use Rattle.std.specs.Prelude.{◌≡◌, OnOk, map, flat_map, option_map};
 ghost use Rattle.aadl_tree.specs.proof.NameViews.{identifier_view};
 ghost use Rattle.aadl_tree.specs.proof.ActionViews.{block_view};
 ghost use Rattle.aadl_tree.specs.proof.DeclarationViews.{guard_view, transition_view};
 ghost use Rattle.aadl_tree.specs.proof.PlaceMaps.{kept_place};
-ghost use Rattle.aadl_names.specs.proof.FindingSoFar.{found};
+ghost use Rattle.aadl_names.specs.proof.FirstFaultSoFar.{found};
 ghost use Rattle.aadl_names.specs.PackageFaults as spec;
-ghost use Rattle.name_faults.specs.proof.Scopes.{known_by, is_state_by};
+ghost use Rattle.name_faults.specs.proof.BehaviourScopes.{known_by, is_state_by};
 
-use crate::scope::BehaviourScope;
-use crate::uses::{check_block, check_expression};
+use crate::behaviour_scope::BehaviourScope;
+use crate::actions_and_expressions::{check_block, check_expression};
 use aadl_names::{Finder, NameTable};
 use aadl_tree::{Block, Guard, Identifier, Transition};
 use std::alloc::AllocError;

@@ -1,15 +1,15 @@
 //! What is wrong with the names in types, and in annexes wherever they stand.
-#![tactic(auto, using(aadl_names::proofs::FindingSoFar::found_append))]
+#![tactic(auto, using(aadl_names::proofs::FirstFaultSoFar::found_append))]
 
 ghost use Rattle.std.specs.Prelude.{◌≡◌, OnOk, map, flat_map};
 ghost use Rattle.aadl_tree.specs.proof.DeclarationViews.{variable_view, annex_view, type_view};
 ghost use Rattle.aadl_tree.specs.proof.PlaceMaps.{kept_place};
-ghost use Rattle.aadl_names.specs.proof.FindingSoFar.{found};
-ghost use Rattle.aadl_names.specs.Behaviours.{variables_in};
+ghost use Rattle.aadl_names.specs.proof.FirstFaultSoFar.{found};
+ghost use Rattle.aadl_names.specs.BehaviourAnnexes.{variables_in};
 ghost use Rattle.aadl_names.specs.PackageFaults as spec;
 
 use crate::check_properties;
-use crate::components::check_ports;
+use crate::subcomponents::check_ports;
 use aadl_names::names::same_word;
 use aadl_names::{Finder, PropertyHolder};
 use aadl_tree::{Annex, AnnexContent, TypeDeclaration, VariableDeclaration};

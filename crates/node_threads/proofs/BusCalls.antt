@@ -12,16 +12,16 @@ use Rattle.pals_node.specs.declared.answers.FinishEnd.{FinishEnd}
 use Rattle.pals_node.specs.declared.answers.SendEnd.{SendEnd}
 use Rattle.bus_machine.specs.States.{Run}
 use Rattle.bus_machine.specs.Machine.{Start, Step, Finish, Send}
-use Rattle.pals_bus.specs.declared.refusals.BusError.{BusError}
-use Rattle.pals_bus.specs.declared.refusals.BusError.TheVariants as fault
+use Rattle.pals_bus.specs.declared.bus_error.BusError.{BusError}
+use Rattle.pals_bus.specs.declared.bus_error.BusError.TheVariants as fault
 use Rattle.pals_bus.specs.BusValues.{BusValue, Happens}
 use Rattle.pals_bus.specs.proof.Answers.{StartsRound, BusStartEnds, StepsOn, FinishesStep, SendsRound}
 use Rattle.pals_bus.specs.proof.DueMessages.{TakesAllDue, DueEnds}
-use Rattle.node_threads.specs.declared.ends.NodeNote.{NodeNote}
+use Rattle.node_threads.specs.declared.node_end.NodeNote.{NodeNote}
 use Rattle.node_threads.specs.proof.SharedCourses.{CourseValue, course_of, IsCourse, IsOpen, IsToStartIn, IsAwaitedIn}
 use Rattle.node_threads.specs.proof.SharedCourses.{Allows}
-use Rattle.node_threads.proofs.LockedSteps.{Goes, goes_same, event_goes}
-use Rattle.node_threads.proofs.DueArrivals.{Still, all_still, none_is_left}
+use Rattle.node_threads.proofs.ChangesUnderLock.{Goes, goes_same, event_goes}
+use Rattle.node_threads.proofs.ArrivalsBeforeStart.{Still, all_still, none_is_left}
 
 -- ---- start
 start_ends : (bus : BusValue) (lists : List ClockState) (notes : List NodeNote) (new : BusValue) (node : NodeNo)

@@ -9,12 +9,12 @@ use Rattle.pals_base.specs.declared.limits.TheConstants.{ROUNDS}
 use Rattle.pals_clock.specs.Clock.{ClockState, unpicked}
 use Rattle.pals_clock.specs.declared.clock.Clocks.{Clocks}
 use Rattle.pals_clock.specs.declared.clock.Clocks.TheVariants.{Meet, Lists}
-use Rattle.pals_model.specs.Rules.{IsDesign}
+use Rattle.pals_model.specs.DesignRules.{IsDesign}
 use Rattle.pals_bus.specs.BusValues.{BusValue}
-use Rattle.pals_bus.specs.proof.BusPartValues.{opening_bus}
+use Rattle.pals_bus.specs.proof.NodeAndCodeValues.{opening_bus}
 use Rattle.pals_bus.proofs.Openings.{map_more}
 use Rattle.run_laws.specs.Runs.{clock_at, no_clock, lists_in, Begin, opens}
-use Rattle.node_threads.specs.declared.ends.NodeNote.TheVariants as note
+use Rattle.node_threads.specs.declared.node_end.NodeNote.TheVariants as note
 use Rattle.node_threads.specs.proof.SharedCourses.{clocks_of, course_of, note_at, IsCourse, AreMany, AreClocksOf}
 use Rattle.node_threads.specs.proof.SharedCourses.{fresh_of}
 

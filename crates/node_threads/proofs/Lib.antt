@@ -1,6 +1,6 @@
-mod LockedSteps
+mod ChangesUnderLock
 mod NextActions
-mod DueArrivals
+mod ArrivalsBeforeStart
 mod BusCalls
 mod NextReadings
 mod SourceWaits

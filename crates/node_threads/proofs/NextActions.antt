@@ -9,8 +9,8 @@ use Rattle.pals_base.specs.declared.limits.TheConstants.{HOUR, RATE, READING, RO
 use Rattle.pals_runs.specs.declared.journal.Phase.{Phase}
 use Rattle.pals_runs.specs.declared.journal.Phase.TheVariants.{Waiting, Running, Between, Holding, Done}
 use Rattle.bus_machine.specs.declared.plan.Plan.{Plan}
-use Rattle.bus_machine.specs.declared.action.NodeAction.{NodeAction}
-use Rattle.bus_machine.specs.declared.action.NodeAction.TheVariants as action
+use Rattle.bus_machine.specs.declared.node_action.NodeAction.{NodeAction}
+use Rattle.bus_machine.specs.declared.node_action.NodeAction.TheVariants as action
 use Rattle.bus_machine.specs.Agreement.{PhaseAgrees, Agrees}
 use Rattle.bus_machine.specs.proof.MachineLaws.{IsRunOf}
 use Rattle.bus_machine.specs.Nodes.{NodeState, round_of}

@@ -16,8 +16,8 @@ use Rattle.pals_clock.proofs.ReachedReadings.{reached_none}
 use Rattle.pals_runs.specs.declared.journal.Phase.{Phase}
 use Rattle.pals_runs.specs.declared.journal.Phase.TheVariants.{Waiting, Running, Between, Holding, Done}
 use Rattle.bus_machine.specs.declared.plan.Plan.{Plan}
-use Rattle.bus_machine.specs.declared.action.NodeAction.{NodeAction}
-use Rattle.bus_machine.specs.declared.action.Next.{Next}
+use Rattle.bus_machine.specs.declared.node_action.NodeAction.{NodeAction}
+use Rattle.bus_machine.specs.declared.node_action.Next.{Next}
 use Rattle.bus_machine.specs.Nodes.{NodeState}
 use Rattle.bus_machine.specs.Plans.{plan_of}
 use Rattle.bus_machine.specs.States.{node_at}
@@ -27,11 +27,11 @@ use Rattle.pals_bus.specs.proof.Meeting.{target_in, HasEnded as HasStopped, Goes
 use Rattle.run_laws.specs.NodeActions.{upcoming}
 use Rattle.run_laws.specs.Runs.{clock_at, no_clock, Shows, Does}
 use Rattle.run_laws.proofs.NodePicks.{runs_agree}
-use Rattle.node_threads.specs.declared.ends.NodeNote.{NodeNote}
+use Rattle.node_threads.specs.declared.node_end.NodeNote.{NodeNote}
 use Rattle.node_threads.specs.proof.SharedCourses.{CourseValue, clocks_of, course_of, EndsAt, IsCourse, IsOpen, IsNext}
 use Rattle.node_threads.specs.proof.SharedCourses.{IsReady}
 use Rattle.node_threads.proofs.NextActions.{target_fits}
-use Rattle.node_threads.proofs.LockedSteps.{Goes, pick_goes}
+use Rattle.node_threads.proofs.ChangesUnderLock.{Goes, pick_goes}
 
 -- ---- what is next
 pub record Comes (plan : Plan) (n : NodeState) (next : Next) : Type 0 where

@@ -7,10 +7,10 @@ use Rattle.std.proofs.lemmas.Option.{same_Some, slice_get_within}
 use Rattle.pals_runs.specs.declared.journal.Phase.{Phase}
 use Rattle.pals_runs.specs.declared.journal.Phase.TheVariants.{Waiting, Running, Between, Holding, Done}
 use Rattle.bus_machine.specs.States.{node_at}
-use Rattle.node_threads.specs.declared.ends.NodeEnd.{NodeEnd}
-use Rattle.node_threads.specs.declared.ends.NodeEnd.TheVariants as end
-use Rattle.node_threads.specs.declared.ends.NodeNote.{NodeNote}
-use Rattle.node_threads.specs.declared.ends.NodeNote.TheVariants as note
+use Rattle.node_threads.specs.declared.node_end.NodeEnd.{NodeEnd}
+use Rattle.node_threads.specs.declared.node_end.NodeEnd.TheVariants as end
+use Rattle.node_threads.specs.declared.node_end.NodeNote.{NodeNote}
+use Rattle.node_threads.specs.declared.node_end.NodeNote.TheVariants as note
 use Rattle.node_threads.specs.proof.SharedCourses.{CourseValue, note_at, IsCourse}
 use Rattle.node_threads.specs.proof.NodeEnds.{EndFits, EndsFit, noted_end, phase_end, stopped_end, closed_end, end_in}
 

@@ -10,7 +10,7 @@ use Rattle.pals_base.proofs.text.Text.TheSendSync.{the_send as text_send, the_sy
 use Rattle.step_code.proofs.code.Code.TheSendSync.{the_send as code_send, the_sync as code_sync}
 use Rattle.link_buffers.proofs.slot.Slot.TheSendSync.{the_send as slot_send}
 use Rattle.link_buffers.proofs.flight.Flight.TheSendSync.{the_send as flight_send}
-use Rattle.link_buffers.proofs.queue.DueQueue.TheSendSync.{the_send as queue_send}
+use Rattle.link_buffers.proofs.due_queue.DueQueue.TheSendSync.{the_send as queue_send}
 use Rattle.pals_bus.proofs.outgoing.Outgoing.TheSendSync.{the_send as outgoing_send}
 use Rattle.pals_bus.proofs.target_list.TargetList.TheSendSync.{the_send as targets_send}
 use Rattle.step_vm.proofs.room.Room.TheSendSync.{the_send as room_send}
@@ -19,9 +19,9 @@ use Rattle.pals_base.proofs.values.PortValue.TheSendSync.{the_field_send as port
 use Rattle.pals_runs.proofs.journal.Phase.TheSendSync.{the_field_send as phase_send}
 use Rattle.pals_runs.proofs.journal.JournalEntry.TheSendSync.{the_field_send as entry_send}
 use Rattle.pals_runs.proofs.journal.Stop.TheSendSync.{the_field_send as stop_send}
-use Rattle.pals_model.proofs.rounds.Part.TheSendSync.{the_field_send as part_send}
-use Rattle.pals_model.proofs.rounds.Env.TheSendSync.{the_field_send as env_send}
-use Rattle.pals_model.proofs.rounds.Delays.TheSendSync.{the_field_send as delays_send}
+use Rattle.pals_model.proofs.inputs_and_parts.Part.TheSendSync.{the_field_send as part_send}
+use Rattle.pals_model.proofs.inputs_and_parts.Env.TheSendSync.{the_field_send as env_send}
+use Rattle.pals_model.proofs.inputs_and_parts.Delays.TheSendSync.{the_field_send as delays_send}
 use Rattle.pals_base.proofs.behaviour.Op.TheSendSync.{the_field_send as op_send, the_field_sync as op_sync}
 use Rattle.pals_base.proofs.behaviour.PortDecl.TheSendSync.{the_field_send as named_send, the_field_sync as named_sync}
 use Rattle.pals_base.proofs.behaviour.VarDecl.TheSendSync.{the_field_send as variable_send}
@@ -29,7 +29,7 @@ use Rattle.pals_base.proofs.behaviour.VarDecl.TheSendSync.{the_field_sync as var
 use Rattle.pals_base.proofs.behaviour.StateDecl.TheSendSync.{the_field_send as state_send, the_field_sync as state_sync}
 use Rattle.pals_base.proofs.values.Gamma.TheSendSync.{the_field_send as gamma_send, the_field_sync as gamma_sync}
 use Rattle.pals_base.proofs.values.Frame.TheSendSync.{the_field_send as frame_send}
-use Rattle.pals_node.proofs.memory.Memory.TheSendSync.{the_field_send as memory_send}
+use Rattle.pals_node.proofs.job_memory.Memory.TheSendSync.{the_field_send as memory_send}
 use Rattle.pals_model.proofs.design.Link.TheSendSync.{the_field_send as link_send, the_field_sync as link_sync}
 use Rattle.pals_model.proofs.design.Feed.TheSendSync.{the_field_send as feed_send, the_field_sync as feed_sync}
 use Rattle.pals_model.proofs.design.Tap.TheSendSync.{the_field_send as tap_send, the_field_sync as tap_sync}
@@ -55,9 +55,9 @@ use Rattle.node_threads.specs.contracts.course.SharedRun.{the_field as course}
 use Rattle.node_threads.specs.contracts.locked.Locked.{the_field as locked}
 use Rattle.node_threads.specs.contracts.sleepers.ThreadSlot.{the_field as seat}
 use Rattle.node_threads.specs.contracts.sleepers.Sleepers.{the_field as sleepers}
-use Rattle.node_threads.specs.contracts.wakes.WakeList.{the_field as wakes}
-use Rattle.node_threads.specs.contracts.bells.WakeSignals.{the_field as bells}
-use Rattle.node_threads.specs.contracts.ends.NodeNote.{the_field as note}
+use Rattle.node_threads.specs.contracts.wake_list.WakeList.{the_field as wakes}
+use Rattle.node_threads.specs.contracts.wake_signals.WakeSignals.{the_field as bells}
+use Rattle.node_threads.specs.contracts.node_end.NodeNote.{the_field as note}
 
 -- ---- what a component does
 -- its expressions and actions hold themselves

@@ -5,7 +5,7 @@ ghost use Rattle.run_laws.specs.Runs.{IsLeast};
 ghost use Rattle.node_threads.specs.proof.SharedCourses.{Stays, IsOpen, IsDone};
 ghost use Rattle.node_threads.specs.proof.Sleepers.{seat_at, Waits};
 
-use crate::bell::Sleeper;
+use crate::sleeper::Sleeper;
 use crate::course::SharedRun;
 use crate::sleepers::Sleepers;
 use crate::under_lock::NextMove;
@@ -41,7 +41,7 @@ impl Locked {
     /// is whom to wake once the lock is free: one thread at most, which tells of the next one in its own
     /// turn, so that they do not all ask for the lock at once. Where a job comes in while others are to
     /// be woken, it is nobody: a thread that is on its way to its turn will tell of the next one.
-    #[tactic(auto, using(crate::proofs::LockedSteps::stays_on))]
+    #[tactic(auto, using(crate::proofs::ChangesUnderLock::stays_on))]
     pub fn turn(&mut self, node: NodeNo, done: Option<Done>) -> (NextMove, Option<Sleeper>)
         ensures { Stays self.old.course self.new.course }
     {
@@ -122,7 +122,7 @@ impl Locked {
     }
 
     // A node's job comes in.
-    #[tactic(auto, using(crate::proofs::LockedSteps::stays_on))]
+    #[tactic(auto, using(crate::proofs::ChangesUnderLock::stays_on))]
     fn finish(&mut self, node: NodeNo, done: Done)
         ensures { Stays self.old.course self.new.course }
     {
@@ -131,7 +131,7 @@ impl Locked {
     }
 
     // A node goes on, and the threads that waited for that are woken.
-    #[tactic(auto, using(crate::proofs::LockedSteps::stays_on))]
+    #[tactic(auto, using(crate::proofs::ChangesUnderLock::stays_on))]
     fn begin(&mut self, node: NodeNo) -> NextMove
         ensures { Stays self.old.course self.new.course }
     {
@@ -168,7 +168,7 @@ impl Locked {
     }
 
     // The nodes whose target the hour has reached, and that send next, do so.
-    #[tactic(auto, using(crate::proofs::LockedSteps::stays_on))]
+    #[tactic(auto, using(crate::proofs::ChangesUnderLock::stays_on))]
     fn send_at_hour(&mut self)
         ensures { Stays self.old.course self.new.course }
     {

@@ -1,19 +1,19 @@
 //! A run of nodes in threads.
 ghost use Rattle.std.specs.Prelude.{◌≡◌, length, vec_len, IfOk};
-ghost use Rattle.pals_bus.specs.proof.BusPartValues.{opening_bus};
+ghost use Rattle.pals_bus.specs.proof.NodeAndCodeValues.{opening_bus};
 ghost use Rattle.node_threads.specs.proof.SharedCourses.{AreClocksOf};
 ghost use Rattle.node_threads.specs.proof.NodeEnds.{IsOutcome};
 
-use crate::bells::WakeSignals;
+use crate::wake_signals::WakeSignals;
 use crate::course::SharedRun;
-use crate::driving::drive_with_spare;
-use crate::ends::NodeEnd;
+use crate::remaining_nodes::drive_with_spare;
+use crate::node_end::NodeEnd;
 use crate::gates::Gate;
 use crate::host::Host;
 use crate::locked::Locked;
-use crate::opening::open_with_spare;
+use crate::opening_course::open_with_spare;
 use crate::sleepers::Sleepers;
-use crate::starters::Starter;
+use crate::thread_starters::Starter;
 use crate::workers::work_all;
 use pals_base::{Items, NoMemory};
 use pals_bus::Bus;

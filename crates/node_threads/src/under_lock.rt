@@ -8,7 +8,7 @@ ghost use Rattle.node_threads.specs.proof.SharedCourses.{IsAwaitedIn, Allows};
 
 use crate::clocks::ClockAnswer;
 use crate::course::SharedRun;
-use crate::ends::NodeNote;
+use crate::node_end::NodeNote;
 use bus_machine::{Next, NodeAction};
 use pals_base::{Nanos, NodeNo};
 use pals_bus::{BusError, BusFinishEnd, BusSendEnd, BusStartEnd, BusStepEnd, DueEnd};

@@ -1,5 +1,5 @@
 pub mod PairwiseRelations
-pub mod SourceTrees
+pub mod TreeViews
 pub mod StepSequences
 pub mod LoopNumbers
 pub mod Division
@@ -8,6 +8,6 @@ pub mod SameTreeLengths
 pub mod UpwardNumbers
 pub mod SettledStates
 pub mod WaysAndCycles
-pub mod ActionsKeepNumbers
+pub mod EffectLengths
 pub mod StepTermination
 pub mod RoundUnderWay

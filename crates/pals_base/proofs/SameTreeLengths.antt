@@ -3,7 +3,7 @@ use Rattle.std.proofs.Common.{◌≡◌, suc, List, [], ◌∷◌, length, refl,
 use Rattle.pals_base.specs.declared.behaviour.Operand.{Operand}
 use Rattle.pals_base.specs.declared.behaviour.Act.{Act}
 use Rattle.pals_base.specs.declared.behaviour.Branch.{Branch}
-use Rattle.pals_base.specs.proof.SourceTrees.{operands_along, actions_along, branches_along}
+use Rattle.pals_base.specs.proof.TreeViews.{operands_along, actions_along, branches_along}
 
 pub same_operands-length : (a b : List Operand) → operands_along a ≡ operands_along b → length a ≡ length b
 same_operands-length [] [] same = refl

@@ -24,12 +24,12 @@ use Rattle.pals_base.specs.SingleStep.{Fired, HasShape, holding, is_present, sil
 use Rattle.pals_base.specs.SingleStep.{leaving, is_dispatch, opens, first_open, along, settled, dispatched, reaction}
 use Rattle.pals_base.specs.SingleStep.{outcome, unless_halted, fire, initial}
 use Rattle.pals_base.specs.Kinds.{are_sound}
-use Rattle.pals_base.specs.Rules.{has_condition, is_edge, dispatch_count, is_always, ends_unguarded, has_ways, IsWay}
-use Rattle.pals_base.specs.Rules.{IsBehaviour}
+use Rattle.pals_base.specs.BehaviourRules.{has_condition, is_edge, dispatch_count, is_always, ends_unguarded, has_ways, IsWay}
+use Rattle.pals_base.specs.BehaviourRules.{IsBehaviour}
 use Rattle.pals_base.specs.proof.SettledStates.{settles}
 use Rattle.pals_base.proofs.SettledStates.{rule_at}
 use Rattle.pals_base.proofs.WaysAndCycles.{incomplete_within, settled_unless_cycle, way_is_short}
-use Rattle.pals_base.proofs.ActionsKeepNumbers.{HasLengths, acts_keeps}
+use Rattle.pals_base.proofs.EffectLengths.{HasLengths, acts_keeps}
 
 -- ---- lists
 

@@ -6,7 +6,7 @@ pub mod Actions
 pub mod SingleStep
 pub mod StepSequences
 pub mod Kinds
-pub mod Rules
+pub mod BehaviourRules
 pub mod Adaptors
 pub mod AllowedAdaptors
 pub mod PeriodBound

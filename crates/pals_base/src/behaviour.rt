@@ -1,5 +1,5 @@
 //! Behaviours of threads: typed machines whose steps are trees of actions and expressions.
-use crate::copy::TryClone;
+use crate::try_clone::TryClone;
 use crate::items::Items;
 use crate::text::Text;
 use crate::values::NoMemory;
@@ -183,7 +183,7 @@ impl Model for Transition {
 
     ghost coded = { edge_code };
 
-    ghost use Rattle.pals_base.specs.proof.SourceTrees.{trigger_of, actions_along};
+    ghost use Rattle.pals_base.specs.proof.TreeViews.{trigger_of, actions_along};
 
     ghost view = { λ t. record { source = t.source; target = t.target; trigger = trigger_of t.guard; actions = actions_along t.acts.items } };
 }
@@ -240,14 +240,14 @@ impl Model for Behaviour {
 
     ghost view = { λ behaviour. arc_value behaviour.parts };
 
-    ghost use Rattle.pals_base.specs.Rules.{IsBehaviour};
+    ghost use Rattle.pals_base.specs.BehaviourRules.{IsBehaviour};
 
     ghost invariant = { λ behaviour. IsBehaviour (arc_value behaviour.parts) };
 }
 
 impl Behaviour {
     ghost use Rattle.std.specs.Prelude.{◌≡◌, IfOk, length};
-    ghost use Rattle.pals_base.specs.Rules.{IsBehaviour};
+    ghost use Rattle.pals_base.specs.BehaviourRules.{IsBehaviour};
 
     /// The behaviour of these parts.
     pub fn new(alloc: Global, parts: BehaviourParts) -> Result<Behaviour, NoMemory>

@@ -1,6 +1,6 @@
 //! The types of expressions, and whether actions are well typed.
 ghost use Rattle.std.specs.Prelude.{◌≡◌, option_copied};
-ghost use Rattle.pals_base.specs.proof.SourceTrees.{tree_of, operands_along};
+ghost use Rattle.pals_base.specs.proof.TreeViews.{tree_of, operands_along};
 ghost use Rattle.pals_base.specs.Kinds.{may_be, only, allows, literal_kinds, port_kinds, variable_kinds, joined};
 ghost use Rattle.pals_base.specs.Kinds.{kinds_of, kinds_along};
 

@@ -2,18 +2,18 @@
 //! mean. The definitions that contracts cite stand in `specs/`.
 #![tactic(auto)]
 
-pub mod adaptors;
+pub mod allowed_adaptors;
 pub mod arithmetic;
 pub mod behaviour;
-pub mod bound;
-pub mod copy;
+pub mod period_bound;
+pub mod try_clone;
 pub mod frame;
 pub mod items;
 pub mod kinds;
 pub mod laws;
 pub mod limits;
 pub mod names;
-pub mod rules;
+pub mod behaviour_rules;
 pub mod same;
 pub mod text;
 pub mod tuples;
@@ -24,7 +24,7 @@ pub use behaviour::{
     Act, Behaviour, BehaviourParts, Branch, Expr, Guard, Kind, Op, Operand, PortDecl, StateDecl,
     Transition, VarDecl,
 };
-pub use copy::TryClone;
+pub use try_clone::TryClone;
 pub use items::Items;
 pub use kinds::Kinds;
 pub use names::HasName;

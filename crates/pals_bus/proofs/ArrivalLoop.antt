@@ -8,7 +8,7 @@ use Rattle.std.proofs.lemmas.Bool.{false≢true}
 use Rattle.std.proofs.lemmas.List.{length-map}
 use Rattle.pals_runs.specs.declared.journal.Arrived.{Arrived}
 use Rattle.pals_runs.specs.declared.journal.Stop.{Stop}
-use Rattle.link_buffers.specs.declared.queue.DueEntry.{DueEntry}
+use Rattle.link_buffers.specs.declared.due_queue.DueEntry.{DueEntry}
 use Rattle.link_buffers.specs.proof.Flights.{FlightState}
 use Rattle.bus_machine.specs.LinkEvents.{is_in_flight}
 use Rattle.bus_machine.specs.States.{BusState, flight_at, link_at}
@@ -17,7 +17,7 @@ use Rattle.bus_machine.specs.Replay.{entries, stop_entry}
 use Rattle.pals_bus.specs.declared.fields.BusFields.{BusFields}
 use Rattle.pals_bus.specs.BusValues.{BusValue, Happens}
 use Rattle.pals_bus.specs.proof.BusInvariant.{Keeps, owed, run_of, state_of, value_of}
-use Rattle.pals_bus.specs.proof.Queues.{is_copy_of}
+use Rattle.pals_bus.specs.proof.DueQueues.{is_copy_of}
 use Rattle.pals_bus.specs.proof.DueMessages.{TakesDue, takes_next, AreLeft}
 use Rattle.pals_bus.proofs.EqualDueReadings.{SameDue, same_dues}
 use Rattle.pals_bus.proofs.DueEntries.{if_some, copy_there, link_there}

@@ -7,7 +7,7 @@ use Rattle.std.proofs.lemmas.List.Sums.{sum_by-set}
 use Rattle.pals_base.specs.declared.values.PortValue.{PortValue}
 use Rattle.pals_base.specs.declared.values.LinkNo.{LinkNo}
 use Rattle.pals_model.specs.declared.design.Component.{Component}
-use Rattle.pals_model.specs.declared.flight.FlightCopy.{FlightCopy}
+use Rattle.pals_model.specs.declared.flight_copy.FlightCopy.{FlightCopy}
 use Rattle.pals_model.specs.Flights.{oldest, without_oldest}
 use Rattle.pals_model.specs.PortKinds.{ins_in}
 use Rattle.pals_runs.specs.declared.journal.Arrived.{Arrived}
@@ -23,10 +23,10 @@ use Rattle.bus_machine.specs.Machine.{Arrive, arrival, early_stop}
 use Rattle.bus_machine.specs.Replay.{Replays, goes_on, stop_entry}
 use Rattle.pals_node.specs.proof.NodeValues.{NodeValue, with_state}
 use Rattle.pals_bus.specs.declared.fields.BusFields.{BusFields}
-use Rattle.pals_bus.specs.proof.BusPartValues.{node_value}
+use Rattle.pals_bus.specs.proof.NodeAndCodeValues.{node_value}
 use Rattle.pals_bus.specs.BusValues.{Happens}
 use Rattle.pals_bus.specs.proof.BusInvariant.{Keeps, owed, run_of, state_of, value_of, copies_in}
-use Rattle.pals_bus.specs.proof.AbsentItems.{no_flight, no_node_value}
+use Rattle.pals_bus.specs.proof.Placeholders.{no_flight, no_node_value}
 use Rattle.pals_bus.specs.proof.NodeLists.{node_of}
 use Rattle.pals_bus.proofs.NodeChanges.{nodes-set, node_is, same_node}
 use Rattle.pals_bus.proofs.FlightRooms.{flight_is, rooms-set}

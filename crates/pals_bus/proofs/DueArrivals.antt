@@ -10,16 +10,16 @@ use Rattle.std.proofs.lemmas.List.Sums.{sum_by-cons}
 use Rattle.std.proofs.lemmas.Grind.{get_or-set_at}
 use Rattle.std.proofs.lemmas.Option.{slice_get_within, get_or_from_slice_get}
 use Rattle.pals_base.specs.declared.values.LinkNo.{LinkNo}
-use Rattle.pals_model.specs.declared.flight.FlightCopy.{FlightCopy}
+use Rattle.pals_model.specs.declared.flight_copy.FlightCopy.{FlightCopy}
 use Rattle.pals_model.specs.Flights.{is_of, oldest, without_oldest}
-use Rattle.link_buffers.specs.declared.queue.DueEntry.{DueEntry}
+use Rattle.link_buffers.specs.declared.due_queue.DueEntry.{DueEntry}
 use Rattle.link_buffers.specs.proof.Queues.{is_entry, is_due_at}
 use Rattle.link_buffers.proofs.DueOrder.{entry_is_itself}
 use Rattle.bus_machine.specs.LinkEvents.{is_in_flight}
 use Rattle.bus_machine.specs.States.{Run, BusState, flight_at, link_at}
 use Rattle.bus_machine.specs.Machine.{Arrive}
 use Rattle.pals_bus.specs.BusValues.{BusValue, Happens}
-use Rattle.pals_bus.specs.proof.Queues.{comes_first, is_copy_of}
+use Rattle.pals_bus.specs.proof.DueQueues.{comes_first, is_copy_of}
 use Rattle.pals_bus.specs.proof.DueMessages.{IsDueTo, IsNextDue, TakesDue, takes_none, takes_next, AreLeft, flying}
 use Rattle.pals_bus.proofs.QueueMessages.{contains_counted, copy_counts, counts, counts_elsewhere, count_oldest}
 use Rattle.pals_bus.proofs.EqualDueReadings.{SameDue, due_of}

@@ -13,8 +13,8 @@ use Rattle.std.proofs.lemmas.Grind.{common_steps}
 use Rattle.std.proofs.lemmas.List.Sums.{sum_by-cons, count_by-le-length, length-filter}
 use Rattle.std.proofs.lemmas.Option.{slice_get-get_or, get_or_from_slice_get}
 use Rattle.pals_model.specs.declared.design.Link.{Link}
-use Rattle.pals_model.specs.declared.flight.FlightCopy.{FlightCopy}
-use Rattle.link_buffers.specs.declared.queue.DueEntry.{DueEntry}
+use Rattle.pals_model.specs.declared.flight_copy.FlightCopy.{FlightCopy}
+use Rattle.link_buffers.specs.declared.due_queue.DueEntry.{DueEntry}
 use Rattle.link_buffers.specs.proof.Queues.{QueueState, is_entry, is_due_at}
 use Rattle.link_buffers.proofs.DueOrder.{entry_from_test}
 use Rattle.bus_machine.specs.LinkEvents.{is_in_flight}
@@ -23,8 +23,8 @@ use Rattle.pals_model.specs.Flights.{is_of}
 use Rattle.pals_bus.specs.declared.fields.BusFields.{BusFields}
 use Rattle.pals_bus.specs.BusValues.{BusValue}
 use Rattle.pals_bus.specs.proof.BusInvariant.{Keeps, value_of}
-use Rattle.pals_bus.specs.proof.AbsentItems.{no_queue}
-use Rattle.pals_bus.specs.proof.Queues.{AreDueEntries, comes_first, is_copy_of}
+use Rattle.pals_bus.specs.proof.Placeholders.{no_queue}
+use Rattle.pals_bus.specs.proof.DueQueues.{AreDueEntries, comes_first, is_copy_of}
 use Rattle.pals_bus.specs.proof.DueMessages.{IsDueTo, HasDue, AreLeft, flying}
 use Rattle.pals_bus.proofs.FlightRooms.{flight_is}
 use Rattle.pals_bus.proofs.QueueChanges.{one_or_none}

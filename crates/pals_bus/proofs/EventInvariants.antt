@@ -4,7 +4,7 @@ use Rattle.std.proofs.Common.{◌≡◌, ◌∙◌, ℕ, ◌+◌, ◌<◌, ◌�
 use Rattle.std.proofs.Common.{subst, arith}
 use Rattle.std.specs.Prelude.{sum_by, slice_set, vec_capacity}
 use Rattle.std.specs.Arc.{arc_value}
-use Rattle.pals_model.specs.declared.flight.FlightCopy.{FlightCopy}
+use Rattle.pals_model.specs.declared.flight_copy.FlightCopy.{FlightCopy}
 use Rattle.pals_runs.specs.declared.journal.Stop.{Stop}
 use Rattle.pals_runs.specs.declared.journal.JournalEntry.{JournalEntry}
 use Rattle.link_buffers.specs.proof.Flights.{FlightState}
@@ -15,10 +15,10 @@ use Rattle.bus_machine.specs.Replay.{Replays, goes_on, entries}
 use Rattle.pals_node.specs.proof.NodeValues.{NodeValue, with_state}
 use Rattle.pals_bus.specs.declared.fields.BusFields.{BusFields}
 use Rattle.pals_bus.specs.BusValues.{BusValue, Happens}
-use Rattle.pals_bus.specs.proof.BusPartValues.{codes_in, node_value}
+use Rattle.pals_bus.specs.proof.NodeAndCodeValues.{codes_in, node_value}
 use Rattle.pals_bus.specs.proof.BusInvariant.{AreNodes, HasRooms, Keeps, copies_in, owed, run_of, state_of, value_of}
 use Rattle.pals_bus.specs.proof.RoundMessages.{NoLessRoom}
-use Rattle.pals_bus.specs.proof.Queues.{AreQueues}
+use Rattle.pals_bus.specs.proof.DueQueues.{AreQueues}
 use Rattle.pals_bus.proofs.NodeChanges.{states, states-set, codes-set, same_node}
 use Rattle.pals_bus.proofs.FlightRooms.{rooms_kept}
 

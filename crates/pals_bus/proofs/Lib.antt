@@ -14,7 +14,7 @@ pub mod BusViews
 pub mod NodeCalls
 pub mod NodeEvents
 pub mod RoundSends
-pub mod CallOutcomes
+pub mod CallResults
 pub mod TakenMessages
 pub mod Arrivals
 pub mod Repeats

@@ -8,18 +8,18 @@ use Rattle.std.proofs.lemmas.List.{append-nil, length-map, length-set, map-appen
 use Rattle.std.proofs.lemmas.List.Elements.{All-nil, All-cons, All-head, All-tail, filter-append}
 use Rattle.std.proofs.lemmas.Grind.{get_or-set_at}
 use Rattle.std.proofs.lemmas.Option.{slice_get_within, get_or_from_slice_get}
-use Rattle.list_lemmas.proofs.Lists.{enumerate_from-append}
+use Rattle.list_lemmas.proofs.ListOperations.{enumerate_from-append}
 use Rattle.pals_base.specs.declared.limits.TheConstants.{PORTS}
 use Rattle.pals_base.specs.declared.values.LinkNo.{LinkNo}
 use Rattle.pals_model.specs.declared.design.Link.{Link}
 use Rattle.pals_model.specs.declared.design.DesignParts.{DesignParts}
-use Rattle.pals_model.specs.Rules.{IsDesign}
+use Rattle.pals_model.specs.DesignRules.{IsDesign}
 use Rattle.link_buffers.specs.proof.Flights.{FlightState}
 use Rattle.link_buffers.specs.proof.Queues.{QueueState}
 use Rattle.bus_machine.specs.States.{no_link}
-use Rattle.pals_bus.specs.proof.AbsentItems.{no_flight, no_queue}
+use Rattle.pals_bus.specs.proof.Placeholders.{no_flight, no_queue}
 use Rattle.pals_bus.specs.proof.RoundMessages.{is_from, HasRoomFor, HasRoomOn}
-use Rattle.pals_bus.specs.proof.Queues.{HasQueueRoomFor, HasQueueRoomOn}
+use Rattle.pals_bus.specs.proof.DueQueues.{HasQueueRoomFor, HasQueueRoomOn}
 use Rattle.pals_bus.specs.proof.LinksFrom.{AreOutgoing, links_from, no_numbers, number_of}
 use Rattle.pals_bus.proofs.QueueSends.{all_the_same}
 

@@ -21,13 +21,13 @@ use Rattle.pals_node.specs.declared.answers.StepEnd.TheVariants as step
 use Rattle.pals_node.specs.declared.answers.FinishEnd.{FinishEnd}
 use Rattle.pals_node.specs.declared.answers.SendEnd.{SendEnd}
 use Rattle.pals_node.specs.declared.answers.SendEnd.TheVariants as send
-use Rattle.pals_bus.specs.declared.refusals.BusError.{BusError}
-use Rattle.pals_bus.specs.declared.refusals.BusError.TheVariants as fault
-use Rattle.pals_bus.specs.declared.refusals.MessageError.{MessageError}
-use Rattle.pals_bus.specs.declared.refusals.MessageError.TheVariants as message
+use Rattle.pals_bus.specs.declared.bus_error.BusError.{BusError}
+use Rattle.pals_bus.specs.declared.bus_error.BusError.TheVariants as fault
+use Rattle.pals_bus.specs.declared.bus_error.MessageError.{MessageError}
+use Rattle.pals_bus.specs.declared.bus_error.MessageError.TheVariants as message
 use Rattle.pals_bus.specs.BusValues.{BusValue, Happens}
 use Rattle.pals_bus.specs.LooseEvents.{IsRefused, loose_event, message_of}
-use Rattle.pals_bus.specs.proof.LooseEnds.{LooseEnds, start_fault, step_fault, finish_fault, send_fault, link_fault}
+use Rattle.pals_bus.specs.proof.LooseFaults.{LooseEnds, start_fault, step_fault, finish_fault, send_fault, link_fault}
 use Rattle.pals_bus.specs.proof.Answers.{StartsRound, BusStartEnds, BusStepEnds, BusFinishEnds, BusSendEnds, LinkEnds}
 use Rattle.pals_bus.proofs.EventEffects.{start_after}
 

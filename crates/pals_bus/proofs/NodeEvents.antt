@@ -22,13 +22,13 @@ use Rattle.pals_node.specs.declared.answers.StartEnd.TheVariants as start
 use Rattle.pals_node.specs.proof.NodeValues.{NodeValue, JobValue, with_state}
 use Rattle.pals_node.specs.proof.Answers.{Starts, StartEnds, Steps, Finishes}
 use Rattle.pals_bus.specs.declared.fields.BusFields.{BusFields}
-use Rattle.pals_bus.specs.proof.BusPartValues.{node_value}
+use Rattle.pals_bus.specs.proof.NodeAndCodeValues.{node_value}
 use Rattle.pals_bus.specs.BusValues.{Happens}
 use Rattle.pals_bus.specs.proof.Answers.{StartsRound, MissesMessage, StepsOn}
 use Rattle.pals_bus.specs.proof.BusInvariant.{HasRooms, Keeps, owed, run_of, state_of, value_of, copies_in}
 use Rattle.pals_bus.specs.proof.RoundMessages.{HasRoomFor}
-use Rattle.pals_bus.specs.proof.Queues.{AreQueues, HasQueueRoomFor}
-use Rattle.pals_bus.specs.proof.AbsentItems.{no_node_value}
+use Rattle.pals_bus.specs.proof.DueQueues.{AreQueues, HasQueueRoomFor}
+use Rattle.pals_bus.specs.proof.Placeholders.{no_node_value}
 use Rattle.pals_bus.proofs.NodeChanges.{nodes-set, node_is, same_node, owed_more, owed_less, owed_finished}
 use Rattle.pals_bus.proofs.FlightRooms.{rooms-set}
 use Rattle.pals_bus.proofs.QueueChanges.{few_into, queues_started, queues-set}

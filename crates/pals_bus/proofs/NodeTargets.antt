@@ -8,7 +8,7 @@ use Rattle.pals_runs.specs.declared.journal.Stop.{Stop}
 use Rattle.pals_bus.specs.declared.fields.BusFields.{BusFields}
 use Rattle.pals_bus.specs.proof.BusInvariant.{Keeps, value_of}
 use Rattle.pals_bus.specs.BusValues.{BusValue}
-use Rattle.pals_bus.specs.proof.AbsentItems.{no_node_value}
+use Rattle.pals_bus.specs.proof.Placeholders.{no_node_value}
 use Rattle.pals_bus.specs.proof.NodeLists.{target_of_node}
 use Rattle.pals_bus.proofs.NodeChanges.{node_is}
 use Rattle.pals_bus.specs.proof.Meeting.{target_in, HasEnded}

@@ -12,11 +12,11 @@ use Rattle.pals_base.specs.declared.limits.TheConstants.{ROUNDS}
 use Rattle.pals_base.specs.StepSequences.{upwards}
 use Rattle.pals_model.specs.declared.design.DesignParts.{DesignParts}
 use Rattle.pals_model.specs.declared.design.Link.{Link}
-use Rattle.pals_model.specs.declared.flight.FlightCopy.{FlightCopy}
-use Rattle.pals_model.specs.declared.rounds.Env.{Env}
-use Rattle.pals_model.specs.declared.rounds.Delays.{Delays}
+use Rattle.pals_model.specs.declared.flight_copy.FlightCopy.{FlightCopy}
+use Rattle.pals_model.specs.declared.inputs_and_parts.Env.{Env}
+use Rattle.pals_model.specs.declared.inputs_and_parts.Delays.{Delays}
 use Rattle.pals_model.specs.Delays.{AreDelays}
-use Rattle.pals_model.specs.Rules.{IsDesign}
+use Rattle.pals_model.specs.DesignRules.{IsDesign}
 use Rattle.pals_runs.specs.declared.journal.JournalEntry.{JournalEntry}
 use Rattle.pals_runs.specs.declared.journal.Stop.{Stop}
 use Rattle.step_code.specs.declared.instr.CodeParts.{CodeParts}
@@ -30,11 +30,11 @@ use Rattle.bus_machine.specs.Replay.{Replays, opens}
 use Rattle.bus_machine.specs.declared.plan.Plan.{Plan}
 use Rattle.pals_node.specs.proof.NodeValues.{NodeValue, Program, program_of, opening_value}
 use Rattle.pals_bus.specs.declared.fields.BusFields.{BusFields}
-use Rattle.pals_bus.specs.proof.BusPartValues.{AreCodes, codes_in, code_at, no_code, opening_bus}
+use Rattle.pals_bus.specs.proof.NodeAndCodeValues.{AreCodes, codes_in, code_at, no_code, opening_bus}
 use Rattle.pals_bus.specs.proof.BusInvariant.{AreNodes, HasRooms, Keeps, copies_in, owed, run_of, state_of, value_of}
 use Rattle.pals_bus.specs.proof.LinksFrom.{AreOutgoing}
-use Rattle.pals_bus.specs.proof.Queues.{AreQueues}
-use Rattle.pals_bus.specs.proof.AbsentItems.{no_flight, no_queue, no_node_value}
+use Rattle.pals_bus.specs.proof.DueQueues.{AreQueues}
+use Rattle.pals_bus.specs.proof.Placeholders.{no_flight, no_queue, no_node_value}
 use Rattle.pals_bus.specs.proof.Openings.{AreOpening}
 use Rattle.pals_bus.proofs.NodeChanges.{states}
 use Rattle.pals_bus.proofs.QueueSends.{queues_open}

@@ -8,13 +8,13 @@ use Rattle.std.proofs.lemmas.List.Sums.{sum_by-drop_more}
 use Rattle.std.proofs.lemmas.Grind.{get_or-set_at}
 use Rattle.pals_base.specs.declared.values.LinkNo.{LinkNo}
 use Rattle.pals_model.specs.declared.design.Link.{Link}
-use Rattle.pals_model.specs.declared.flight.FlightCopy.{FlightCopy}
+use Rattle.pals_model.specs.declared.flight_copy.FlightCopy.{FlightCopy}
 use Rattle.link_buffers.specs.proof.Flights.{FlightState}
 use Rattle.link_buffers.specs.proof.Queues.{QueueState, is_entry}
 use Rattle.bus_machine.specs.States.{no_link}
 use Rattle.pals_node.specs.proof.NodeValues.{NodeValue}
-use Rattle.pals_bus.specs.proof.AbsentItems.{no_node_value, no_flight, no_queue}
-use Rattle.pals_bus.specs.proof.Queues.{AreQueues, AreQueuesAmid, is_awaited, is_between, is_copy_of, with_due}
+use Rattle.pals_bus.specs.proof.Placeholders.{no_node_value, no_flight, no_queue}
+use Rattle.pals_bus.specs.proof.DueQueues.{AreQueues, AreQueuesAmid, is_awaited, is_between, is_copy_of, with_due}
 use Rattle.pals_bus.proofs.QueueMessages.{copy_added, count_none}
 
 -- ---- one message

@@ -9,7 +9,7 @@ use Rattle.std.proofs.lemmas.Grind.{get_or-set_at}
 use Rattle.pals_base.specs.declared.limits.TheConstants.{PORTS}
 use Rattle.pals_base.specs.declared.values.LinkNo.{LinkNo}
 use Rattle.pals_model.specs.declared.design.Link.{Link}
-use Rattle.pals_model.specs.declared.flight.FlightCopy.{FlightCopy}
+use Rattle.pals_model.specs.declared.flight_copy.FlightCopy.{FlightCopy}
 use Rattle.pals_model.specs.Flights.{oldest}
 use Rattle.pals_runs.specs.declared.journal.JournalEntry.TheVariants as entry
 use Rattle.link_buffers.specs.proof.Flights.{FlightState}
@@ -23,8 +23,8 @@ use Rattle.pals_bus.specs.declared.fields.BusFields.{BusFields}
 use Rattle.pals_bus.specs.BusValues.{Happens}
 use Rattle.pals_bus.specs.proof.BusInvariant.{HasRooms, Keeps, owed, run_of, state_of, value_of, copies_in}
 use Rattle.pals_bus.specs.proof.RoundMessages.{with_copy}
-use Rattle.pals_bus.specs.proof.Queues.{AreQueues, is_awaited, with_due}
-use Rattle.pals_bus.specs.proof.AbsentItems.{no_flight, no_queue}
+use Rattle.pals_bus.specs.proof.DueQueues.{AreQueues, is_awaited, with_due}
+use Rattle.pals_bus.specs.proof.Placeholders.{no_flight, no_queue}
 use Rattle.pals_bus.proofs.FlightRooms.{copies-set, flight_is, flight_here}
 use Rattle.pals_bus.proofs.QueueChanges.{IsFewInto, count-less, few_into}
 use Rattle.pals_bus.proofs.QueueMessages.{copy_added}

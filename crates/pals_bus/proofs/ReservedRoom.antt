@@ -12,9 +12,9 @@ use Rattle.bus_machine.specs.States.{no_link}
 use Rattle.pals_bus.specs.declared.fields.BusFields.{BusFields}
 use Rattle.pals_bus.specs.proof.BusInvariant.{Keeps, copies_in}
 use Rattle.pals_bus.specs.proof.RoundMessages.{NoLessRoom}
-use Rattle.pals_bus.specs.proof.Queues.{NoLessQueueRoom, entries_in}
+use Rattle.pals_bus.specs.proof.DueQueues.{NoLessQueueRoom, entries_in}
 use Rattle.pals_bus.proofs.QueueChanges.{queue_more, queues_copies, queues_more}
-use Rattle.pals_bus.specs.proof.AbsentItems.{no_flight, no_queue}
+use Rattle.pals_bus.specs.proof.Placeholders.{no_flight, no_queue}
 use Rattle.pals_bus.proofs.FlightRooms.{no_less-set}
 use Rattle.pals_bus.proofs.EventInvariants.{keeps_room}
 use Rattle.pals_bus.proofs.TakenMessages.{target_within}

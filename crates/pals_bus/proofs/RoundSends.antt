@@ -9,7 +9,7 @@ use Rattle.std.proofs.lemmas.List.{length-map}
 use Rattle.pals_base.specs.declared.values.PortValue.{PortValue}
 use Rattle.pals_base.specs.declared.values.NodeNo.{NodeNo}
 use Rattle.pals_model.specs.declared.design.Link.{Link}
-use Rattle.pals_model.specs.declared.flight.FlightCopy.{FlightCopy}
+use Rattle.pals_model.specs.declared.flight_copy.FlightCopy.{FlightCopy}
 use Rattle.pals_runs.specs.declared.journal.JournalEntry.TheVariants as entry
 use Rattle.bus_machine.specs.Plans.{plan_of}
 use Rattle.bus_machine.specs.Nodes.{round_of}
@@ -20,12 +20,12 @@ use Rattle.bus_machine.specs.Replay.{Replays, goes_on}
 use Rattle.pals_node.specs.proof.NodeValues.{NodeValue}
 use Rattle.pals_node.specs.proof.Answers.{Sends}
 use Rattle.pals_bus.specs.declared.fields.BusFields.{BusFields}
-use Rattle.pals_bus.specs.proof.BusPartValues.{node_value}
+use Rattle.pals_bus.specs.proof.NodeAndCodeValues.{node_value}
 use Rattle.pals_bus.specs.BusValues.{Happens}
 use Rattle.pals_bus.specs.proof.BusInvariant.{Keeps, owed, run_of, state_of, value_of}
 use Rattle.pals_bus.specs.proof.RoundMessages.{is_from, HasRoomFor, AreSent}
-use Rattle.pals_bus.specs.proof.Queues.{AreQueues, AreQueuesAmid}
-use Rattle.pals_bus.specs.proof.AbsentItems.{no_node_value}
+use Rattle.pals_bus.specs.proof.DueQueues.{AreQueues, AreQueuesAmid}
+use Rattle.pals_bus.specs.proof.Placeholders.{no_node_value}
 use Rattle.pals_bus.proofs.NodeChanges.{nodes-set, node_is, same_node, is_unsent, owed_less, owed_sent}
 use Rattle.pals_bus.proofs.FlightRooms.{room_of, rooms-set}
 use Rattle.pals_bus.proofs.QueueChanges.{queues_amid}

@@ -8,18 +8,18 @@ use Rattle.std.proofs.lemmas.Option.{slice_get-get_or}
 use Rattle.pals_base.specs.declared.limits.TheConstants.{HOUR}
 use Rattle.pals_base.specs.declared.values.PortValue.{PortValue}
 use Rattle.pals_base.specs.declared.values.LinkNo.{LinkNo}
-use Rattle.pals_model.specs.declared.flight.FlightCopy.{FlightCopy}
+use Rattle.pals_model.specs.declared.flight_copy.FlightCopy.{FlightCopy}
 use Rattle.pals_model.specs.Delays.{AreDelays, delay_of}
-use Rattle.pals_model.specs.Rules.{IsDesign}
+use Rattle.pals_model.specs.DesignRules.{IsDesign}
 use Rattle.link_buffers.specs.proof.Flights.{FlightState}
 use Rattle.link_buffers.specs.proof.Queues.{QueueState}
 use Rattle.bus_machine.specs.LinkEvents.{sent_copy}
 use Rattle.bus_machine.specs.States.{link_at, no_link}
 use Rattle.pals_bus.specs.declared.fields.BusFields.{BusFields}
 use Rattle.pals_bus.specs.proof.RoundMessages.{is_from, place_of, HasRoomFor, with_copy, AreSent}
-use Rattle.pals_bus.specs.proof.Queues.{AreQueuesAmid, with_due}
+use Rattle.pals_bus.specs.proof.DueQueues.{AreQueuesAmid, with_due}
 use Rattle.pals_bus.specs.proof.LinksFrom.{no_numbers}
-use Rattle.pals_bus.specs.proof.AbsentItems.{no_flight, no_queue, no_link_no}
+use Rattle.pals_bus.specs.proof.Placeholders.{no_flight, no_queue, no_link_no}
 use Rattle.pals_bus.proofs.NextLinks.{IsAt, Reaches, reaches_all, reaches_next}
 use Rattle.pals_bus.proofs.QueueChanges.{amid_other, amid_room}
 use Rattle.pals_bus.proofs.QueueSends.{amid_one}

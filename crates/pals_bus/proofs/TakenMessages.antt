@@ -10,9 +10,9 @@ use Rattle.pals_base.specs.declared.values.PortValue.{PortValue}
 use Rattle.pals_base.specs.declared.values.LinkNo.{LinkNo}
 use Rattle.pals_model.specs.declared.design.DesignParts.{DesignParts}
 use Rattle.pals_model.specs.declared.design.Link.{Link}
-use Rattle.pals_model.specs.declared.flight.FlightCopy.{FlightCopy}
+use Rattle.pals_model.specs.declared.flight_copy.FlightCopy.{FlightCopy}
 use Rattle.pals_model.specs.Flights.{is_of, oldest, without_oldest}
-use Rattle.pals_model.specs.Rules.{IsDesign}
+use Rattle.pals_model.specs.DesignRules.{IsDesign}
 use Rattle.pals_runs.specs.declared.journal.JournalEntry.TheVariants as entry
 use Rattle.link_buffers.specs.proof.Flights.{FlightState}
 use Rattle.link_buffers.specs.proof.Queues.{QueueState}
@@ -26,8 +26,8 @@ use Rattle.pals_bus.specs.declared.fields.BusFields.{BusFields}
 use Rattle.pals_bus.specs.BusValues.{Happens}
 use Rattle.pals_bus.specs.proof.BusInvariant.{Keeps, owed, run_of, state_of, value_of, copies_in}
 use Rattle.pals_bus.specs.proof.RoundMessages.{NoLessRoom}
-use Rattle.pals_bus.specs.proof.Queues.{AreQueues, without_due}
-use Rattle.pals_bus.specs.proof.AbsentItems.{no_flight, no_queue}
+use Rattle.pals_bus.specs.proof.DueQueues.{AreQueues, without_due}
+use Rattle.pals_bus.specs.proof.Placeholders.{no_flight, no_queue}
 use Rattle.pals_bus.proofs.FlightRooms.{copies-set, flight_is, rooms_kept}
 use Rattle.pals_bus.proofs.QueueChanges.{queue_more}
 use Rattle.pals_bus.proofs.QueueMessages.{copy_taken}

@@ -1,17 +1,17 @@
 -- What the theorem of the program does not rest on: definitions of contracts below it, of laws, and of proofs.
-pub mod BusPartValues
-pub mod AbsentItems
+pub mod NodeAndCodeValues
+pub mod Placeholders
 pub mod NodeLists
 pub mod BusInvariant
 pub mod RefusedEvents
 pub mod Answers
-pub mod Queues
+pub mod DueQueues
 pub mod DueMessages
 pub mod RoundMessages
 pub mod FlightMessages
 pub mod LinksFrom
 pub mod Codes
 pub mod Meeting
-pub mod LooseEnds
+pub mod LooseFaults
 pub mod Openings
 pub mod LeastTargets

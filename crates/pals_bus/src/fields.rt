@@ -5,9 +5,9 @@ ghost use Rattle.pals_base.specs.declared.limits.TheConstants.{PORTS};
 ghost use Rattle.pals_model.specs.ComponentInputs.{values_at};
 ghost use Rattle.bus_machine.specs.Nodes.{round_of};
 ghost use Rattle.bus_machine.specs.States.{link_at, node_at};
-ghost use Rattle.pals_bus.specs.proof.AbsentItems.{no_flight, no_queue};
+ghost use Rattle.pals_bus.specs.proof.Placeholders.{no_flight, no_queue};
 ghost use Rattle.pals_bus.specs.proof.BusInvariant.{Keeps, owed, copies_in, state_of};
-ghost use Rattle.pals_bus.specs.proof.Queues.{HasQueueRoomFor};
+ghost use Rattle.pals_bus.specs.proof.DueQueues.{HasQueueRoomFor};
 ghost use Rattle.pals_bus.specs.proof.RoundMessages.{HasRoomFor};
 
 use crate::flights::{reserve_links, reserve_queues};

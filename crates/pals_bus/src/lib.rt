@@ -6,20 +6,20 @@
 mod answers;
 mod arrival;
 mod bus;
-mod due;
-mod faults;
+mod due_messages;
+mod loose_faults;
 mod fields;
 mod flights;
-mod links;
+mod events_of_messages;
 mod loose;
 mod meeting;
 mod node_list;
-mod nodes;
+mod events_of_nodes;
 mod opening;
 mod outgoing;
-mod refusals;
+mod bus_error;
 mod run;
-mod stops;
+mod missed_starts;
 mod target_list;
 
 pub use answers::{LooseFault, Meet};
@@ -28,7 +28,7 @@ pub use fields::BusFields;
 pub use loose::apply_loose;
 pub use node_list::NodeList;
 pub use outgoing::Outgoing;
-pub use refusals::{
+pub use bus_error::{
     BusError, BusFinishEnd, BusSendEnd, BusStartEnd, BusStepEnd, DueEnd, LinkEnd, MessageError,
 };
 pub use target_list::TargetList;

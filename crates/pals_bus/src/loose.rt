@@ -2,11 +2,11 @@
 ghost use Rattle.std.specs.Prelude.{◌≡◌, ◌<◌, length, false, OnOk, IfErr};
 ghost use Rattle.pals_runs.specs.declared.events.Event.TheVariants as event;
 ghost use Rattle.pals_bus.specs.LooseEvents.{IsNamedIn, GoesOn};
-ghost use Rattle.pals_bus.specs.proof.LooseEnds.{LooseEnds};
+ghost use Rattle.pals_bus.specs.proof.LooseFaults.{LooseEnds};
 
 use crate::answers::LooseFault;
 use crate::bus::Bus;
-use crate::faults::{finish_fault, link_fault, send_fault, start_fault, step_fault};
+use crate::loose_faults::{finish_fault, link_fault, send_fault, start_fault, step_fault};
 use pals_base::{LinkNo, NodeNo};
 use pals_runs::Event;
 

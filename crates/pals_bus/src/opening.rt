@@ -1,10 +1,10 @@
 //! What a run begins with.
 ghost use Rattle.std.specs.Prelude.{◌≡◌, ℕ, ◌<◌, ◌≤◌, length, map, slice_index_or, IfOk};
 ghost use Rattle.pals_base.specs.declared.limits.TheConstants.{ROUNDS};
-ghost use Rattle.pals_model.specs.Rules.{IsDesign};
+ghost use Rattle.pals_model.specs.DesignRules.{IsDesign};
 ghost use Rattle.pals_node.specs.proof.NodeValues.{opening_value};
-ghost use Rattle.pals_bus.specs.proof.BusPartValues.{AreCodes};
-ghost use Rattle.pals_bus.specs.proof.AbsentItems.{no_flight, no_node_value, no_queue};
+ghost use Rattle.pals_bus.specs.proof.NodeAndCodeValues.{AreCodes};
+ghost use Rattle.pals_bus.specs.proof.Placeholders.{no_flight, no_node_value, no_queue};
 ghost use Rattle.pals_bus.specs.proof.Openings.{AreOpening};
 
 use crate::node_list::NodeList;

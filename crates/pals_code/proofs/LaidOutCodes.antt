@@ -7,7 +7,7 @@ use Rattle.pals_base.specs.declared.behaviour.BehaviourParts.{BehaviourParts}
 use Rattle.pals_base.specs.StepSequences.{upwards}
 use Rattle.pals_model.specs.declared.design.Component.{Component}
 use Rattle.pals_model.specs.declared.design.DesignParts.{DesignParts}
-use Rattle.pals_model.specs.Rules.{IsDesign}
+use Rattle.pals_model.specs.DesignRules.{IsDesign}
 use Rattle.step_code.specs.declared.instr.CodeParts.{CodeParts}
 use Rattle.step_compiler.specs.BlockLayout.{start_of, entry_of}
 use Rattle.step_compiler.specs.LaidOutCode.{states_of, IsLaidOut, AreLaidOut}

@@ -3,7 +3,7 @@
 #![tactic(auto)]
 
 mod answer;
-mod bundle;
+mod bundle_answer;
 mod laws;
 mod program;
 mod status;

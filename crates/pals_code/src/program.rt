@@ -5,7 +5,7 @@ ghost use Rattle.pals_code.specs.Answers.{root_of, is_plain, reading, IsAnswer, 
 ghost use Rattle.pals_code.specs.proof.AnswerStatuses.{status_of, text_of};
 
 use crate::answer::Answer;
-use crate::bundle::answer_bundle;
+use crate::bundle_answer::answer_bundle;
 use crate::status::{NO_MEMORY, WRITE_FAULT};
 use pals_base::limits::BUNDLE_BYTES;
 use pals_base::{NoMemory, Text};

@@ -6,18 +6,18 @@
 //! [`WriteSink`] stand over std's readers and writers.
 #![tactic(auto)]
 
-mod ends;
+mod stream_errors;
 mod memory_sink;
 mod memory_source;
-mod reader;
+mod read_source;
 mod streams;
 mod transfers;
-mod writer;
+mod write_sink;
 
-pub use ends::{Failed, ReadEnd, WriteFault};
+pub use stream_errors::{Failed, ReadEnd, WriteFault};
 pub use memory_sink::MemSink;
 pub use memory_source::MemSource;
-pub use reader::ReadSource;
+pub use read_source::ReadSource;
 pub use streams::{Sink, Source};
 pub use transfers::{read_all, write_all};
-pub use writer::WriteSink;
+pub use write_sink::WriteSink;

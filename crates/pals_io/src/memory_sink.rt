@@ -3,7 +3,7 @@ ghost use Rattle.std.specs.Prelude.{◌≡◌, ◌↔◌, ◌⊎◌, ◌<◌, �
 ghost use Rattle.pals_io.specs.SourcesAndSinks.{one_more};
 ghost use Rattle.pals_io.specs.proof.MemoryStreams.{count_taken, after_taking, after_failed_write};
 
-use super::ends::Failed;
+use super::stream_errors::Failed;
 use super::streams::Sink;
 use std::alloc::{AllocError, Global};
 use std::marker::Model;

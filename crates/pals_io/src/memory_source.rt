@@ -4,7 +4,7 @@ ghost use Rattle.std.specs.Prelude.{Contains};
 ghost use Rattle.pals_io.specs.SourcesAndSinks.{one_more};
 ghost use Rattle.pals_io.specs.proof.MemoryStreams.{count_given, after_giving, after_failed_read};
 
-use super::ends::Failed;
+use super::stream_errors::Failed;
 use super::streams::Source;
 use std::marker::Model;
 

@@ -3,7 +3,7 @@ ghost use Rattle.std.specs.Prelude.{◌≡◌, ◌<◌, ◌≤◌, length, take,
 ghost use Rattle.pals_io.specs.SourcesAndSinks.{SourceView, SinkView, Gives, after_read_fault, after_taking};
 ghost use Rattle.pals_io.specs.SourcesAndSinks.{after_write_fault};
 
-use super::ends::Failed;
+use super::stream_errors::Failed;
 
 /// A source of bytes.
 pub trait Source {

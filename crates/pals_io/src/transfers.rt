@@ -3,7 +3,7 @@ ghost use Rattle.std.specs.Prelude.{◌≡◌, ◌≤◌, [], vec_len, Err, IfOk
 ghost use Rattle.pals_io.specs.SourcesAndSinks.{GivesAll, GivesWithin, GivesTooMany, FailsWithin, after_taking};
 ghost use Rattle.pals_io.specs.SourcesAndSinks.{TakesPart};
 
-use super::ends::{ReadEnd, WriteFault};
+use super::stream_errors::{ReadEnd, WriteFault};
 use super::streams::{Sink, Source};
 use std::alloc::{AllocError, Global};
 

@@ -20,7 +20,7 @@ use Rattle.pals_base.specs.Kinds.{suits_variable, suits_port, kinds_of, turns, i
 use Rattle.pals_base.specs.Kinds.{branches_are_sound}
 use Rattle.pals_base.specs.PlainTrees.{Action, Assign, Emit, If, For, Actions, Nothing, Do, Branches, NoBranch, Where}
 use Rattle.pals_model.specs.proof.FittingValues.{Fits, PortFits, VarsFit, HeldFit, PortsFit}
-use Rattle.pals_model.proofs.KindLists.{set_keeps, then_ok, on_ok, if_ok}
+use Rattle.pals_model.proofs.AllElements.{set_keeps, then_ok, on_ok, if_ok}
 use Rattle.pals_model.proofs.KindsOfExpressions.{MayBe, allowed_fits, eval_may}
 
 -- the variables that are declared are there and fit, and so do the outputs

@@ -13,7 +13,7 @@ use Rattle.pals_base.specs.declared.behaviour.Kind.TheVariants.{Integer, Boolean
 use Rattle.pals_base.specs.Adaptors.{groups, present, placed, spread, of_present, latest_of, joined, adapt}
 use Rattle.pals_base.specs.AllowedAdaptors.{suits_kind}
 use Rattle.pals_model.specs.proof.FittingValues.{Fits, PortFits, TupleFits}
-use Rattle.pals_model.proofs.KindLists.{index_fits, set_all, map_all, flat_all, every}
+use Rattle.pals_model.proofs.AllElements.{index_fits, set_all, map_all, flat_all, every}
 
 -- ---- numbers: each fits
 integer_fits : (p : PortValue) → PortFits Integer p

@@ -8,7 +8,7 @@ use Rattle.std.proofs.lemmas.Bool.{and_parts, eqb-true}
 use Rattle.std.proofs.lemmas.List.Elements.{All-nil, All-cons, All-append, All-take, All-filter, All-weaker}
 use Rattle.std.proofs.lemmas.List.Elements.{filter_passes}
 use Rattle.std.proofs.lemmas.Option.{slice_get-map, slice_get_within, get_or_from_slice_get}
-use Rattle.list_lemmas.proofs.Places.{slice_get-some}
+use Rattle.list_lemmas.proofs.ElementPositions.{slice_get-some}
 use Rattle.pals_base.specs.declared.values.PortValue.{PortValue}
 use Rattle.pals_base.specs.declared.values.PortValue.TheVariants.{Absent}
 use Rattle.pals_base.specs.declared.behaviour.Kind.{Kind}
@@ -20,13 +20,13 @@ use Rattle.pals_model.specs.declared.design.Component.{Component}
 use Rattle.pals_model.specs.declared.design.Link.{Link}
 use Rattle.pals_model.specs.declared.design.Tap.{Tap}
 use Rattle.pals_model.specs.declared.design.DesignParts.{DesignParts}
-use Rattle.pals_model.specs.declared.rounds.Env.{Env}
+use Rattle.pals_model.specs.declared.inputs_and_parts.Env.{Env}
 use Rattle.pals_model.specs.ComponentInputs.{rate_of, root_of, values_at, link_goes_to, feed_goes_to, from_feed}
 use Rattle.pals_model.specs.ComponentInputs.{from_link, source_of, sources_of, read_feed, read_link, reading, inputs_of}
 use Rattle.pals_model.specs.ComponentInputs.{inputs_in, feed}
 use Rattle.pals_model.specs.PortKinds.{kind_of, in_kind, out_kind, outs_in, root_kind}
 use Rattle.pals_model.specs.Composition.{comp, state, msg, taps_of}
-use Rattle.pals_model.specs.Rules.{IsDesign, IsLink, IsFeed, IsTap}
+use Rattle.pals_model.specs.DesignRules.{IsDesign, IsLink, IsFeed, IsTap}
 use Rattle.pals_model.specs.proof.CompositionLaws.{own_steps}
 use Rattle.pals_model.proofs.CompositionLaws.{state_begins, state_goes_on, message_from_source, part_from_steps}
 use Rattle.pals_model.proofs.CompositionLaws.{links_begin_absent}
@@ -35,7 +35,7 @@ use Rattle.pals_model.proofs.ShapeLaws.{state_has_shape, is_behaviour, component
 use Rattle.pals_model.proofs.FirstElements.{found_at, at_element}
 use Rattle.pals_model.specs.proof.FittingValues.{PortFits, TupleFits, PortsFit, FrameFits, link_kind, EnvFits}
 use Rattle.pals_model.specs.proof.CompositionLaws.Kinds.{StatesFit, MessagesFit, PartFits, PartsFit}
-use Rattle.pals_model.proofs.KindLists.{index_fits, map_all, every}
+use Rattle.pals_model.proofs.AllElements.{index_fits, map_all, every}
 use Rattle.pals_model.proofs.KindsOfSteps.{frames_fit, outputs_fit, initial_fits}
 use Rattle.pals_model.proofs.KindsOfAdaptors.{absent_fits, adapt_fits}
 

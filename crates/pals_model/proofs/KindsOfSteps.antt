@@ -19,14 +19,14 @@ use Rattle.pals_base.specs.SingleStep.{Fired, HasShape, held_of, holding, is_pre
 use Rattle.pals_base.specs.SingleStep.{is_dispatch, opens, first_open, along, settled, dispatched, reaction, outcome}
 use Rattle.pals_base.specs.SingleStep.{unless_halted, fire, initial}
 use Rattle.pals_base.specs.Kinds.{literal_kinds, are_sound}
-use Rattle.pals_base.specs.Rules.{has_first, has_condition, is_edge, IsBehaviour}
+use Rattle.pals_base.specs.BehaviourRules.{has_first, has_condition, is_edge, IsBehaviour}
 use Rattle.pals_base.specs.StepSequences.{frame_after, outputs}
 use Rattle.pals_base.specs.PlainTrees.{Edge}
 use Rattle.pals_base.proofs.StepTermination.{fires_well}
 use Rattle.pals_model.proofs.WordBytes.{all_pass}
 use Rattle.pals_model.specs.proof.FittingValues.{Fits, PortFits, VarsFit, HeldFit, PortsFit, FrameFits}
 use Rattle.pals_model.specs.proof.CompositionLaws.Kinds.{FiringFits}
-use Rattle.pals_model.proofs.KindLists.{find_fits, then_ok, if_ok}
+use Rattle.pals_model.proofs.AllElements.{find_fits, then_ok, if_ok}
 use Rattle.pals_model.proofs.KindsOfExpressions.{allowed_fits, literal_may}
 use Rattle.pals_model.proofs.KindsOfActions.{EffectFits, acts_fit}
 

@@ -1,7 +1,7 @@
 pub mod CompositionLaws
 pub mod CounterRounds
 pub mod SourceTables
-pub mod DistinctNames
+pub mod RootInputNames
 pub mod RootInputValues
 pub mod FirstElements
 pub mod SourceLaws
@@ -13,7 +13,7 @@ pub mod OverwrittenTuples
 pub mod RootInputLaws
 pub mod StepLaws
 pub mod LineLaws
-pub mod KindLists
+pub mod AllElements
 pub mod KindsOfExpressions
 pub mod KindsOfActions
 pub mod KindsOfSteps

@@ -23,18 +23,18 @@ use Rattle.pals_base.specs.declared.behaviour.StateDecl.{StateDecl}
 use Rattle.pals_base.specs.declared.behaviour.BehaviourParts.{BehaviourParts}
 use Rattle.pals_base.specs.Expressions.{is_true}
 use Rattle.pals_base.specs.Names.{is_word}
-use Rattle.pals_base.specs.Rules.{IsBehaviour, has_word}
+use Rattle.pals_base.specs.BehaviourRules.{IsBehaviour, has_word}
 use Rattle.pals_base.specs.StepSequences.{upwards}
 use Rattle.pals_model.specs.declared.design.Component.{Component}
 use Rattle.pals_model.specs.declared.design.Tap.{Tap}
 use Rattle.pals_model.specs.declared.design.DesignParts.{DesignParts}
-use Rattle.pals_model.specs.declared.rounds.Env.{Env}
-use Rattle.pals_model.specs.declared.rounds.Part.{Part}
+use Rattle.pals_model.specs.declared.inputs_and_parts.Env.{Env}
+use Rattle.pals_model.specs.declared.inputs_and_parts.Part.{Part}
 use Rattle.pals_model.specs.Composition.{part}
 use Rattle.pals_model.specs.RoundTexts.{text_of, value_text, port_text, with_commas, tuple_text, state_name, state_text}
 use Rattle.pals_model.specs.RoundTexts.{variable_text, vars_text, component_line, tap_line, round_line, part_lines}
 use Rattle.pals_model.specs.RoundTexts.{tap_lines, composed_lines, report_lines, is_line_feed}
-use Rattle.pals_model.specs.Rules.{IsDesign, IsComponent, IsTap}
+use Rattle.pals_model.specs.DesignRules.{IsDesign, IsComponent, IsTap}
 use Rattle.pals_model.specs.proof.CompositionLaws.Lines.{IsLine, RowHasLines, ReportHasLines, TextSplits, RowSplits}
 use Rattle.pals_model.specs.proof.CompositionLaws.Lines.{ReportSplits}
 use Rattle.pals_model.proofs.FirstElements.{at_element}

@@ -5,19 +5,19 @@ use Rattle.std.specs.Prelude.{bytes_eq, codes}
 use Rattle.std.specs.Option.{option_map}
 use Rattle.std.proofs.lemmas.Slice.Eq.{bytes_eq-Decides}
 use Rattle.std.proofs.lemmas.Option.{slice_get_cases, slice_get-map}
-use Rattle.list_lemmas.proofs.Places.{slice_get-append_left}
+use Rattle.list_lemmas.proofs.ElementPositions.{slice_get-append_left}
 use Rattle.list_lemmas.proofs.ElementPairs.{same_place, AllPairs-slice_get}
 use Rattle.pals_base.specs.declared.behaviour.PortDecl.{PortDecl}
 use Rattle.pals_base.specs.declared.behaviour.VarDecl.{VarDecl}
 use Rattle.pals_base.specs.declared.behaviour.BehaviourParts.{BehaviourParts}
 use Rattle.pals_base.specs.Names.{is_word}
-use Rattle.pals_base.specs.Rules.{IsBehaviour, value_names}
+use Rattle.pals_base.specs.BehaviourRules.{IsBehaviour, value_names}
 use Rattle.pals_model.specs.declared.design.Component.{Component}
 use Rattle.pals_model.specs.declared.design.Link.{Link}
 use Rattle.pals_model.specs.declared.design.DesignParts.{DesignParts}
 use Rattle.pals_model.specs.NamesInTexts.{port_name, in_port_name, target_name, link_name}
 use Rattle.pals_model.specs.PortKinds.{ins_in}
-use Rattle.pals_model.specs.Rules.{IsDesign, IsTarget, IsLink, LinkPrecedes, port_place}
+use Rattle.pals_model.specs.DesignRules.{IsDesign, IsTarget, IsLink, LinkPrecedes, port_place}
 use Rattle.pals_model.specs.proof.CompositionLaws.Names.{NodeIsFound, FoundNodeHasPath, TargetNamesDiffer, LinkIsFound}
 use Rattle.pals_model.specs.proof.CompositionLaws.Names.{FoundLinkHasName}
 use Rattle.pals_model.proofs.FirstElements.{at_element, first_at, found_at}

@@ -16,7 +16,7 @@ use Rattle.list_lemmas.proofs.ElementPairs.{AllPairs-slice_get}
 use Rattle.pals_model.specs.declared.design.Feed.{Feed}
 use Rattle.pals_model.specs.ComponentInputs.{new_names, feed_names, root_inputs, place_of}
 use Rattle.pals_model.specs.PortKinds.{first_kind, feed_kind}
-use Rattle.pals_model.specs.Rules.{AgreeInKind}
+use Rattle.pals_model.specs.DesignRules.{AgreeInKind}
 use Rattle.pals_model.specs.proof.CompositionLaws.RootInputs.{RootInputsDiffer, RootInputsAreFeeds, RootInputsInOrder}
 use Rattle.pals_model.specs.proof.CompositionLaws.RootInputs.{FeedHasRoot, FeedsHaveRootKind}
 use Rattle.pals_model.proofs.WordBytes.{same_bytes, other_bytes}

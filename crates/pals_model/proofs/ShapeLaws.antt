@@ -12,7 +12,7 @@ use Rattle.pals_base.specs.declared.values.PortValue.TheVariants.{Absent}
 use Rattle.pals_base.specs.declared.values.Frame.{Frame}
 use Rattle.pals_base.specs.declared.behaviour.BehaviourParts.{BehaviourParts}
 use Rattle.pals_base.specs.SingleStep.{fire, HasShape}
-use Rattle.pals_base.specs.Rules.{IsBehaviour}
+use Rattle.pals_base.specs.BehaviourRules.{IsBehaviour}
 use Rattle.pals_base.specs.StepSequences.{frame_after, outputs, column, columns, cut, upwards}
 use Rattle.pals_base.proofs.StepTermination.{fires_well, starts_well}
 use Rattle.pals_base.proofs.StepSequences.{length-columns, length-each_column}
@@ -20,12 +20,12 @@ use Rattle.pals_model.specs.declared.design.Component.{Component}
 use Rattle.pals_model.specs.declared.design.Link.{Link}
 use Rattle.pals_model.specs.declared.design.Tap.{Tap}
 use Rattle.pals_model.specs.declared.design.DesignParts.{DesignParts}
-use Rattle.pals_model.specs.declared.rounds.Env.{Env}
+use Rattle.pals_model.specs.declared.inputs_and_parts.Env.{Env}
 use Rattle.pals_model.specs.ComponentInputs.{rate_of, rate_in, values_at, feed, inputs_of, inputs_in, sources_of}
 use Rattle.pals_model.specs.ComponentInputs.{source_of, reading}
 use Rattle.pals_model.specs.PortKinds.{outs_in}
 use Rattle.pals_model.specs.Composition.{comp, state, msg, taps_of}
-use Rattle.pals_model.specs.Rules.{IsDesign, IsComponent, IsLink, IsTap}
+use Rattle.pals_model.specs.DesignRules.{IsDesign, IsComponent, IsLink, IsTap}
 use Rattle.pals_model.specs.proof.CompositionLaws.{own_steps}
 use Rattle.pals_model.specs.proof.CompositionLaws.Shapes.{AreVectors, AreTuples, IsPart, FeedHasVectors, StateHasShape}
 use Rattle.pals_model.specs.proof.CompositionLaws.Shapes.{StepsGiveTuples, MessageHasRate, WaitingMessageHasRate}

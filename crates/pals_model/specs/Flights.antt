@@ -1,7 +1,7 @@
 -- The copies of messages that are under way on a link, in order of adding.
 use Rattle.std.specs.Prelude.{ℕ, nat_eq, Bool, List, ◌++◌, Option, find}
 use Rattle.std.specs.List.{before_first, after_first}
-use Rattle.pals_model.specs.declared.flight.FlightCopy.{FlightCopy}
+use Rattle.pals_model.specs.declared.flight_copy.FlightCopy.{FlightCopy}
 
 -- a copy of the message of this round
 abbrev pub is_of : ℕ → FlightCopy → Bool

@@ -4,6 +4,6 @@ pub mod Composition
 pub mod RoundTexts
 pub mod NamesInTexts
 pub mod Delays
-pub mod Rules
+pub mod DesignRules
 pub mod Flights
 pub mod proof

@@ -100,13 +100,13 @@ impl Model for Design {
 
     ghost view = { λ design. design.parts };
 
-    ghost use Rattle.pals_model.specs.Rules.{IsDesign};
+    ghost use Rattle.pals_model.specs.DesignRules.{IsDesign};
 
     ghost invariant = { λ design. IsDesign design.parts };
 }
 
 impl Design {
-    ghost use Rattle.pals_model.specs.Rules.{IsDesign};
+    ghost use Rattle.pals_model.specs.DesignRules.{IsDesign};
 
     /// The design of these parts. It takes no memory.
     pub fn new(parts: DesignParts) -> Design

@@ -2,17 +2,17 @@
 //! synchronous composition that a design means; and the text of its rounds.
 #![tactic(auto)]
 
-mod copy;
+mod design_clones;
 pub mod design;
-pub mod flight;
+pub mod flight_copy;
 pub mod laws;
-pub mod links;
-pub mod parts;
-pub mod rounds;
+pub mod outgoing_links;
+pub mod design_parts;
+pub mod inputs_and_parts;
 mod same;
 pub mod sources;
 
 pub use design::{Component, Design, DesignParts, Feed, Link, Tap};
-pub use flight::FlightCopy;
-pub use rounds::{Delays, Env, Part};
+pub use flight_copy::FlightCopy;
+pub use inputs_and_parts::{Delays, Env, Part};
 pub use sources::PortSource;

@@ -5,8 +5,8 @@ ghost use Rattle.step_code.specs.proof.CodeRuns.{FitsCode};
 ghost use Rattle.pals_node.specs.proof.NodeValues.{IsResult, job_value};
 ghost use Rattle.pals_node.specs.proof.JobMemories.{HasMemory, IsLeft};
 
-use crate::keys::same_instr;
-use crate::memory::{Memory, memory_for};
+use crate::instruction_key::same_instr;
+use crate::job_memory::{Memory, memory_for};
 use crate::plan::NodePlan;
 use pals_base::{Frame, NoMemory, NodeNo, PortValue, Same, Tuple};
 use std::alloc::Global;

@@ -4,12 +4,12 @@
 #![tactic(auto)]
 
 mod answers;
-mod buffers;
+mod written_tuples;
 mod fields;
 mod inputs;
 mod job;
-mod keys;
-mod memory;
+mod instruction_key;
+mod job_memory;
 mod node;
 mod plan;
 mod targets;

@@ -5,10 +5,10 @@ use Rattle.std.proofs.lemmas.Grind.{flat_map-append}
 use Rattle.pals_model.specs.declared.design.Component.{Component}
 use Rattle.pals_model.specs.declared.design.Tap.{Tap}
 use Rattle.pals_model.specs.declared.design.DesignParts.{DesignParts}
-use Rattle.pals_model.specs.declared.rounds.Env.{Env}
-use Rattle.pals_model.specs.declared.rounds.Part.{Part}
+use Rattle.pals_model.specs.declared.inputs_and_parts.Env.{Env}
+use Rattle.pals_model.specs.declared.inputs_and_parts.Part.{Part}
 use Rattle.pals_model.specs.Composition.{part}
-use Rattle.pals_model.specs.Rules.{IsTap}
+use Rattle.pals_model.specs.DesignRules.{IsTap}
 use Rattle.pals_model.specs.RoundTexts.{text_of, line_end, round_line, part_lines, tap_lines, taps_before, row_lines}
 use Rattle.pals_model.specs.RoundTexts.{composed_lines}
 use Rattle.pals_report.specs.proof.RowLines.{lines_at_place, components_from, taps_from, ArePartsOf}

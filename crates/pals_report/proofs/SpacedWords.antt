@@ -3,7 +3,7 @@ use Rattle.std.proofs.Common.{◌≡◌, ℕ, ◌≤◌, ◌-◌, List, [], ◌�
 use Rattle.std.proofs.Common.{◌∙◌, arith, append_assoc}
 use Rattle.std.specs.List.{flat_map}
 use Rattle.std.proofs.lemmas.List.{append-nil, take_all, take_rest}
-use Rattle.pals_runs.specs.Journal.{spaced}
+use Rattle.pals_runs.specs.JournalLines.{spaced}
 
 -- a space stands before each word but the first
 spaced-cons : {X : Type 0} (f : X → List ℕ) (x : X) (xs : List X)

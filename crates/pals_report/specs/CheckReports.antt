@@ -11,7 +11,7 @@ use Rattle.pals_model.specs.declared.design.Tap.{Tap}
 use Rattle.pals_model.specs.declared.design.DesignParts.{DesignParts}
 use Rattle.pals_model.specs.NamesInTexts.{port_name, target_name, link_name}
 use Rattle.pals_model.specs.RoundTexts.{text_of}
-use Rattle.pals_model.specs.Rules.{greatest_rate}
+use Rattle.pals_model.specs.DesignRules.{greatest_rate}
 use Rattle.bound_checker.specs.ShortestPeriods.{IsLeastMultiple, HasNoMultiple}
 
 -- ---- adaptors, each behind a space

@@ -1,10 +1,10 @@
 pub mod Positions
 pub mod CheckReports
 pub mod PackageFaultLines
-pub mod Violations
-pub mod TextFaults
-pub mod EventFaults
+pub mod ViolationLines
+pub mod TextFaultLines
+pub mod EventFaultLines
 pub mod VerdictLines
-pub mod ScenarioFaults
+pub mod ScenarioFaultLines
 pub mod SentLines
 pub mod proof

@@ -3,7 +3,7 @@ use Rattle.std.specs.Prelude.{ℕ, codes, decimal, List, ◌++◌}
 use Rattle.aadl_names.specs.declared.fault.PackageFault.{PackageFault}
 use Rattle.aadl_names.specs.declared.fault.PackageFault.TheVariants.{NoRoot, Unknown, Twice, WrongKind, Recursive}
 use Rattle.aadl_names.specs.declared.fault.PackageFault.TheVariants.{DeadEnd, TwoSources, TooMany, Memory}
-use Rattle.aadl_names.specs.FirstFindings.{number_of}
+use Rattle.aadl_names.specs.FirstFaults.{number_of}
 use Rattle.pals_report.specs.Positions.{position_text}
 
 -- each word behind a space

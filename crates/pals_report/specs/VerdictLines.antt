@@ -5,7 +5,7 @@ use Rattle.pals_runs.specs.declared.journal.Stop.{Stop}
 use Rattle.pals_runs.specs.declared.verdicts.TraceRule.{TraceRule}
 use Rattle.pals_runs.specs.declared.verdicts.Verdict.{Verdict}
 use Rattle.pals_runs.specs.declared.verdicts.Verdict.TheVariants.{Sound, Wrong}
-use Rattle.pals_runs.specs.Journal.{node_word, link_word, spaced}
+use Rattle.pals_runs.specs.JournalLines.{node_word, link_word, spaced}
 use Rattle.pals_runs.specs.declared.journal.Stop.TheVariants as stop
 use Rattle.pals_runs.specs.declared.verdicts.TraceRule.TheVariants as rule
 

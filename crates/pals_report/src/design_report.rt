@@ -4,7 +4,7 @@ ghost use Rattle.pals_model.specs.RoundTexts.{text_of};
 ghost use Rattle.pals_report.specs.proof.PartialWrites.{BeginsWith};
 ghost use Rattle.pals_report.specs.CheckReports.{check_lines, IsCheckReport};
 
-use crate::lines::{add_components, add_feeds, add_ignored_names, add_links, add_taps};
+use crate::design_lines::{add_components, add_feeds, add_ignored_names, add_links, add_taps};
 use crate::periods::{add_periods, rates};
 use crate::whole_or_none;
 use bound_checker::least_multiple;

@@ -1,10 +1,10 @@
 //! The line of an event that a world refuses.
 ghost use Rattle.std.specs.Prelude.{◌≡◌, [], ◌∷◌, ◌++◌, decimal, OnOk, OnErr, codes};
 ghost use Rattle.pals_model.specs.RoundTexts.{line_end};
-ghost use Rattle.pals_runs.specs.Journal.{node_word, link_word, spaced};
-ghost use Rattle.pals_report.specs.EventFaults.{which_words, event_fault_line};
+ghost use Rattle.pals_runs.specs.JournalLines.{node_word, link_word, spaced};
+ghost use Rattle.pals_report.specs.EventFaultLines.{which_words, event_fault_line};
 
-use crate::words::{LineWord, add_line, link_word, node_word};
+use crate::line_word::{LineWord, add_line, link_word, node_word};
 use pals_base::{LinkNo, Nanos, NoMemory, NodeNo};
 use pals_model::{Design, DesignParts};
 use pals_runs::{EventFault, EventSubject};

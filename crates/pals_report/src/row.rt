@@ -2,13 +2,13 @@
 ghost use Rattle.std.specs.Prelude.{◌≡◌, ◌≤◌, ◌++◌, length, OnOk, OnErr};
 ghost use Rattle.pals_base.specs.declared.limits.TheConstants.{COMPONENTS};
 ghost use Rattle.pals_model.specs.RoundTexts.{text_of, line_end, round_line, row_lines};
-ghost use Rattle.pals_model.specs.Rules.{IsDesign};
+ghost use Rattle.pals_model.specs.DesignRules.{IsDesign};
 ghost use Rattle.pals_report.specs.proof.PartialWrites.{BeginsWith};
 ghost use Rattle.pals_report.specs.proof.TapPlaces.{tap_places};
 ghost use Rattle.pals_report.specs.proof.RowLines.{components_from, taps_from};
 
 use crate::component::add_part_line;
-use crate::parts::RoundParts;
+use crate::round_parts::RoundParts;
 use crate::tap::add_line_at_place;
 use crate::tap_places::TapPlaces;
 use itoa::Buffer;

@@ -1,10 +1,10 @@
 //! The line of a refused scenario.
 ghost use Rattle.std.specs.Prelude.{◌≡◌, [], ◌∷◌, ◌++◌, codes, OnOk, OnErr};
 ghost use Rattle.pals_model.specs.RoundTexts.{line_end};
-ghost use Rattle.pals_runs.specs.Journal.{spaced};
-ghost use Rattle.pals_report.specs.ScenarioFaults.{scenario_fault_line};
+ghost use Rattle.pals_runs.specs.JournalLines.{spaced};
+ghost use Rattle.pals_report.specs.ScenarioFaultLines.{scenario_fault_line};
 
-use crate::words::{LineWord, add_line};
+use crate::line_word::{LineWord, add_line};
 use pals_base::{NoMemory, Text};
 use scenario_values::ScenarioFault;
 

@@ -2,8 +2,8 @@
 ghost use Rattle.std.specs.Prelude.{◌≡◌, ◌++◌, OnOk, OnErr};
 ghost use Rattle.pals_model.specs.RoundTexts.{line_end};
 ghost use Rattle.pals_report.specs.proof.PartialWrites.{BeginsWith};
-ghost use Rattle.pals_report.specs.TextFaults.{lexical_name, lexical_place, fault_name, fault_place, text_line};
-ghost use Rattle.pals_report.specs.TextFaults.{text_fault_line, no_divider_line};
+ghost use Rattle.pals_report.specs.TextFaultLines.{lexical_name, lexical_place, fault_name, fault_place, text_line};
+ghost use Rattle.pals_report.specs.TextFaultLines.{text_fault_line, no_divider_line};
 
 use crate::{Cursor, whole_or_none};
 use aadl_lex::LexFault;

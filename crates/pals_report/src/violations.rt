@@ -3,7 +3,7 @@ ghost use Rattle.std.specs.Prelude.{◌≡◌, ◌++◌, OnOk, OnErr};
 ghost use Rattle.pals_model.specs.RoundTexts.{line_end, text_of};
 ghost use Rattle.pals_report.specs.proof.PartialWrites.{BeginsWith};
 ghost use Rattle.pals_report.specs.PackageFaultLines.{and_word};
-ghost use Rattle.pals_report.specs.Violations.{rule_name, details_text, violation_line, violation_lines};
+ghost use Rattle.pals_report.specs.ViolationLines.{rule_name, details_text, violation_line, violation_lines};
 
 use crate::{Cursor, whole_or_none};
 use annex_resolve::Violation;
@@ -73,7 +73,7 @@ fn add_details(out: &mut Vec<u8>, details: &[u8]) -> Result<(), NoMemory>
 }
 
 // The name of a rule.
-#[tactic(auto, unfolding(crate::specs::Violations::rule_name))]
+#[tactic(auto, unfolding(crate::specs::ViolationLines::rule_name))]
 fn rule_name(number: u32) -> &'static [u8]
     ensures { result.now ≡ rule_name number }
 {

@@ -1,3 +1,3 @@
 pub mod Formula
-pub mod Journal
+pub mod JournalLines
 pub mod proof

@@ -7,12 +7,12 @@ mod commands;
 mod events;
 mod forms;
 mod journal;
-mod pairs;
+mod analysis_inputs;
 mod verdicts;
 
 pub use commands::Command;
 pub use events::{Event, EventFault, EventSubject};
 pub use forms::{Compare, Form};
 pub use journal::{Arrived, Cause, JournalEntry, Phase, Stop};
-pub use pairs::{Pair, VoteFault};
+pub use analysis_inputs::{Pair, VoteFault};
 pub use verdicts::{TraceRule, Verdict};

@@ -4,11 +4,11 @@ use Rattle.pals_model.specs.declared.design.DesignParts.{DesignParts}
 use Rattle.scenario_json.specs.declared.scenario.Scenario.{Scenario}
 use Rattle.scenario_json.specs.Scenarios.{Means}
 use Rattle.bundle_designs.specs.BundleMeanings.{IsAccepted}
-use Rattle.pals_top.specs.AnalysisKinds.{Analysis}
+use Rattle.pals_top.specs.AnalysisCommands.{Analysis}
 use Rattle.pals_top.specs.declared.answer.Answer.{Answer}
 use Rattle.pals_top.specs.AnalysisAnswers.{command_of, Makes, IsAnalysisAnswer}
-use Rattle.pals_top.specs.proof.Statuses.{status_of, text_of}
-use Rattle.pals_top.proofs.ScenarioFaults.{SaysFault}
+use Rattle.pals_top.specs.proof.StatusAndText.{status_of, text_of}
+use Rattle.pals_top.proofs.ScenarioFaultAnswers.{SaysFault}
 
 abbrev IsAnswered : Analysis → List ℕ → List ℕ → Answer → Type 0
 IsAnswered what root bundle a = IsAnalysisAnswer what root bundle (status_of a) (text_of a)

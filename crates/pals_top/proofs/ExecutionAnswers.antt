@@ -11,13 +11,13 @@ use Rattle.design_codes.specs.OverlongCodes.{AreShort, IsFirstTooLong}
 use Rattle.scenario_laws.specs.proof.EventsAndTraces.{EventsAreLoose, EventsAreFew, TracesAreFew, loosely}
 use Rattle.bundle_designs.specs.BundleMeanings.{IsAccepted}
 use Rattle.pals_top.specs.declared.answer.Answer.{Answer}
-use Rattle.pals_top.specs.declared.coded.Coded.{Coded}
-use Rattle.pals_top.specs.ExecutionKinds.{Execution, TimedWorld, LooseWorld, Run, Audit, Budget}
+use Rattle.pals_top.specs.declared.bundle_meaning.Coded.{Coded}
+use Rattle.pals_top.specs.ExecutionCommands.{Execution, TimedWorld, LooseWorld, Run, Audit, Budget}
 use Rattle.pals_top.specs.declared.status.TheConstants.{CODE_TOO_LONG}
 use Rattle.pals_top.specs.ExecutionAnswers.{command_of, code_fault_line, Makes, IsCodeTooLong, IsExecutionAnswer}
 use Rattle.pals_top.specs.proof.CodedBundles.{HasEvents, IsCoded, IsRefused}
-use Rattle.pals_top.specs.proof.Statuses.{status_of, text_of, Says}
-use Rattle.pals_top.proofs.ScenarioFaults.{SaysFault}
+use Rattle.pals_top.specs.proof.StatusAndText.{status_of, text_of, Says}
+use Rattle.pals_top.proofs.ScenarioFaultAnswers.{SaysFault}
 
 -- what a scenario was read for, it keeps
 keeps_events : (what : Execution) (root : List ℕ) (design : DesignParts) (bytes : List ℕ) (scenario : Scenario)

@@ -1,9 +1,9 @@
 mod AnalysisAnswers
-mod Endings
+mod ProgramEndings
 mod ExecutionAnswers
-mod CommandForms
+mod CommandWords
 pub mod LooseWorlds
-mod Refusals
-mod ScenarioFaults
+mod RefusalAnswers
+mod ScenarioFaultAnswers
 pub mod Audits
 pub mod TimelyProcessors

@@ -3,31 +3,31 @@ use Rattle.std.proofs.Common.{◌≡◌, ◌∙◌, inl, inr, ℕ, List, [], ◌
 use Rattle.std.proofs.Common.{subst}
 use Rattle.step_code.specs.declared.instr.CodeParts.{CodeParts}
 use Rattle.pals_model.specs.declared.design.DesignParts.{DesignParts}
-use Rattle.pals_model.specs.Rules.{IsDesign}
+use Rattle.pals_model.specs.DesignRules.{IsDesign}
 use Rattle.pals_model.specs.RoundTexts.{line_end, text_of as lines_text, report}
 use Rattle.pals_runs.specs.declared.events.Event.{Event}
 use Rattle.pals_runs.specs.declared.events.EventFault.{EventFault}
 use Rattle.pals_runs.specs.declared.journal.Stop.{Stop}
-use Rattle.pals_runs.specs.Journal.{entry_line}
+use Rattle.pals_runs.specs.JournalLines.{entry_line}
 use Rattle.bus_machine.specs.proof.MachineLaws.{IsRunOf}
 use Rattle.bus_machine.specs.States.{Run, finished_by_all}
 use Rattle.pals_bus.specs.BusValues.{BusValue, Happens}
-use Rattle.pals_bus.specs.proof.BusPartValues.{opening_bus}
+use Rattle.pals_bus.specs.proof.NodeAndCodeValues.{opening_bus}
 use Rattle.pals_bus.specs.LooseEvents.{HappensLoose}
 use Rattle.scenario_json.specs.declared.scenario.Scenario.{Scenario}
 use Rattle.scenario_json.specs.proof.ScenarioFacts.{IsScenarioOf}
-use Rattle.loose_world.specs.declared.events.LooseEnd.{LooseEnd}
-use Rattle.loose_world.specs.declared.events.LooseEnd.TheVariants as end
+use Rattle.loose_world.specs.declared.loose_run.LooseEnd.{LooseEnd}
+use Rattle.loose_world.specs.declared.loose_run.LooseEnd.TheVariants as end
 use Rattle.loose_world.specs.LooseRuns.{AllHappen, StopsAt, IsRefusedAt, Tells}
 use Rattle.loose_world.specs.proof.FinishedRows.{finished_lines, common_lines}
 use Rattle.loose_world.specs.proof.WorldLaws.{TextIsTold, StopIsTold}
 use Rattle.loose_world.specs.proof.EventsAsSteps.{EventsAreSteps}
-use Rattle.pals_report.specs.EventFaults.{event_fault_line}
+use Rattle.pals_report.specs.EventFaultLines.{event_fault_line}
 use Rattle.pals_top.specs.declared.answer.Answer.{Answer}
 use Rattle.pals_top.specs.proof.PrivateFunctions.{status_at, text_at}
 use Rattle.pals_top.specs.LooseWorlds.{run_of, IsWorldAnswer}
 use Rattle.pals_top.specs.declared.status.TheConstants.{DONE, SCENARIO_REFUSED, STOPPED}
-use Rattle.pals_top.specs.proof.Statuses.{status_of, text_of, Says}
+use Rattle.pals_top.specs.proof.StatusAndText.{status_of, text_of, Says}
 
 -- the bus that a scenario opens
 abbrev opens : DesignParts → Scenario → List CodeParts → BusValue

@@ -3,13 +3,13 @@ use Rattle.std.proofs.Common.{List, All}
 use Rattle.std.proofs.lemmas.List.Elements.{All-map, All-weaker}
 use Rattle.step_code.specs.declared.instr.CodeParts.{CodeParts}
 use Rattle.pals_model.specs.declared.design.DesignParts.{DesignParts}
-use Rattle.pals_model.specs.Rules.{IsDesign}
+use Rattle.pals_model.specs.DesignRules.{IsDesign}
 use Rattle.analysis_fields.specs.declared.processors.Processor.{Processor}
 use Rattle.analysis_fields.specs.proof.AnalysisFacts.{IsProcessorOf}
 use Rattle.analysis_texts.specs.BudgetedProcessors.{processor_of}
 use Rattle.scenario_json.specs.declared.scenario.Scenario.{Scenario}
 use Rattle.scenario_json.specs.proof.ScenarioFacts.{IsScenarioOf}
-use Rattle.round_budget.proofs.Members.{nodes_are_members}
+use Rattle.round_budget.proofs.ProcessorMembers.{nodes_are_members}
 use Rattle.round_budget.proofs.FittingBudgets.{budgeted_by, respond_in_time}
 use Rattle.pals_top.specs.Budget.{FitsInTime, processors_of}
 

@@ -4,10 +4,10 @@ use Rattle.pals_model.specs.declared.design.DesignParts.{DesignParts}
 use Rattle.pals_model.specs.RoundTexts.{report}
 use Rattle.pals_runs.specs.declared.commands.Command.{Command}
 use Rattle.scenario_json.specs.declared.scenario.Scenario.{Scenario}
-use Rattle.pals_top.specs.AnalysisKinds.{Analysis, Sync, Watch, Vote, Fuse}
+use Rattle.pals_top.specs.AnalysisCommands.{Analysis, Sync, Watch, Vote, Fuse}
 use Rattle.pals_top.specs.declared.status.TheConstants.{DONE}
-use Rattle.pals_top.specs.Refusals.{IsBundleRefused}
-use Rattle.pals_top.specs.ScenarioFaults.{HasScenario, IsScenarioRefused}
+use Rattle.pals_top.specs.RefusalAnswers.{IsBundleRefused}
+use Rattle.pals_top.specs.BundleScenarios.{HasScenario, IsScenarioRefused}
 use Rattle.pals_top.specs.Watch.{IsWatched}
 use Rattle.pals_top.specs.Vote.{IsVoted}
 use Rattle.pals_top.specs.Fuse.{IsFusedAnswer}

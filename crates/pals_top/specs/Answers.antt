@@ -5,14 +5,14 @@ use Rattle.pals_runs.specs.declared.commands.Command.TheVariants.{Print, Check, 
 use Rattle.pals_runs.specs.declared.commands.Command.TheVariants.{Vote, Fuse, Budget}
 use Rattle.pals_top.specs.declared.status.TheConstants.{USAGE}
 use Rattle.pals_top.specs.ProgramInput.{Reading, HasRead, IsReadFault}
-use Rattle.pals_top.specs.AnswerTexts.{usage_line}
+use Rattle.pals_top.specs.CommonAnswerTexts.{usage_line}
 use Rattle.pals_top.specs.Print.{IsPrintAnswer}
 use Rattle.pals_top.specs.Check.{IsCheckAnswer}
-use Rattle.pals_top.specs.SelfAnswer.{IsRingAnswer}
+use Rattle.pals_top.specs.SelfRingAnswer.{IsRingAnswer}
 use Rattle.pals_top.specs.AnalysisAnswers.{IsAnalysisAnswer}
 use Rattle.pals_top.specs.ExecutionAnswers.{IsExecutionAnswer}
-use Rattle.pals_top.specs.AnalysisKinds as analysis
-use Rattle.pals_top.specs.ExecutionKinds as execution
+use Rattle.pals_top.specs.AnalysisCommands as analysis
+use Rattle.pals_top.specs.ExecutionCommands as execution
 
 -- The answer of a command to a bundle. No other command reads one.
 abbrev pub IsCommandAnswer : Command → List ℕ → ℕ → List ℕ → Type 0

@@ -4,7 +4,7 @@ use Rattle.pals_model.specs.declared.design.DesignParts.{DesignParts}
 use Rattle.pals_report.specs.CheckReports.{IsCheckReport}
 use Rattle.bundle_designs.specs.BundleMeanings.{IsAccepted}
 use Rattle.pals_top.specs.declared.status.TheConstants.{DONE}
-use Rattle.pals_top.specs.Refusals.{IsBundleRefused}
+use Rattle.pals_top.specs.RefusalAnswers.{IsBundleRefused}
 
 -- the report of the design that the bundle means
 pub record IsChecked (root bundle text : List ℕ) : Type 0 where

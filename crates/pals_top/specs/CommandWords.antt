@@ -6,9 +6,9 @@ use Rattle.std.specs.Prelude.{◌≡◌, ◌≤◌, IsSome}
 use Rattle.pals_runs.specs.declared.commands.Command.{Command}
 use Rattle.pals_runs.specs.declared.commands.Command.TheVariants.{Print, Check, Sync, World, Run, Audit, Ring, Watch}
 use Rattle.pals_runs.specs.declared.commands.Command.TheVariants.{Vote, Fuse, Budget}
-use Rattle.pals_top.specs.declared.words.TheConstants.{RING_NODES, RING_ROUNDS}
-use Rattle.pals_top.specs.declared.words.WordsEnd.{WordsEnd}
-use Rattle.pals_top.specs.declared.words.WordsEnd.TheVariants.{Usage, Memory}
+use Rattle.pals_top.specs.declared.command_line.TheConstants.{RING_NODES, RING_ROUNDS}
+use Rattle.pals_top.specs.declared.command_line.WordsEnd.{WordsEnd}
+use Rattle.pals_top.specs.declared.command_line.WordsEnd.TheVariants.{Usage, Memory}
 
 -- no flag: it does not begin with `-`
 abbrev pub is_plain : List ℕ → Bool

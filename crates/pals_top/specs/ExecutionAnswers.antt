@@ -4,14 +4,14 @@ use Rattle.pals_base.specs.declared.values.NodeNo.{NodeNo}
 use Rattle.pals_model.specs.declared.design.DesignParts.{DesignParts}
 use Rattle.pals_model.specs.RoundTexts.{line_end}
 use Rattle.pals_runs.specs.declared.commands.Command.{Command}
-use Rattle.pals_runs.specs.Journal.{node_word, spaced}
+use Rattle.pals_runs.specs.JournalLines.{node_word, spaced}
 use Rattle.scenario_json.specs.declared.scenario.Scenario.{Scenario}
 use Rattle.design_codes.specs.OverlongCodes.{AreShort, IsFirstTooLong}
 use Rattle.bundle_designs.specs.BundleMeanings.{IsAccepted}
-use Rattle.pals_top.specs.ExecutionKinds.{Execution, TimedWorld, LooseWorld, Run, Audit, Budget}
+use Rattle.pals_top.specs.ExecutionCommands.{Execution, TimedWorld, LooseWorld, Run, Audit, Budget}
 use Rattle.pals_top.specs.declared.status.TheConstants.{CODE_TOO_LONG, SCENARIO_REFUSED}
-use Rattle.pals_top.specs.Refusals.{IsBundleRefused}
-use Rattle.pals_top.specs.ScenarioFaults.{HasScenario, HasScenarioFault}
+use Rattle.pals_top.specs.RefusalAnswers.{IsBundleRefused}
+use Rattle.pals_top.specs.BundleScenarios.{HasScenario, HasScenarioFault}
 use Rattle.pals_top.specs.LooseWorlds.{IsWorldAnswer}
 use Rattle.pals_top.specs.TimedWorlds.{IsTimedAnswer}
 use Rattle.pals_top.specs.Run.{IsRunAnswer}

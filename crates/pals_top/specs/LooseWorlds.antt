@@ -6,12 +6,12 @@ use Rattle.pals_runs.specs.declared.events.Event.{Event}
 use Rattle.pals_runs.specs.declared.events.EventFault.{EventFault}
 use Rattle.pals_runs.specs.declared.journal.JournalEntry.{JournalEntry}
 use Rattle.pals_runs.specs.declared.journal.Stop.{Stop}
-use Rattle.pals_runs.specs.Journal.{entry_line}
+use Rattle.pals_runs.specs.JournalLines.{entry_line}
 use Rattle.scenario_json.specs.declared.scenario.Scenario.{Scenario}
 use Rattle.bus_machine.specs.States.{Run, BusState, opening, finished_by_all}
 use Rattle.bus_machine.specs.WorldTexts.{worldtext}
 use Rattle.loose_world.specs.MachineSteps.{AllStep, StepsToStop, StepsToFault}
-use Rattle.pals_report.specs.EventFaults.{event_fault_line}
+use Rattle.pals_report.specs.EventFaultLines.{event_fault_line}
 use Rattle.pals_top.specs.declared.status.TheConstants.{DONE, SCENARIO_REFUSED, STOPPED}
 
 -- the run that a scenario asks for

@@ -3,7 +3,7 @@ use Rattle.std.specs.Prelude.{◌≡◌, ℕ, ◌≤◌, List, length, ◌⊎◌
 use Rattle.pals_base.specs.declared.limits.TheConstants.{BUNDLE_BYTES}
 use Rattle.pals_io.specs.SourcesAndSinks.{SourceView, GivesAll, GivesTooMany, FailsWithin}
 use Rattle.pals_top.specs.declared.status.TheConstants.{READ_FAULT, TOO_LONG}
-use Rattle.pals_top.specs.AnswerTexts.{read_fault_line, too_long_line}
+use Rattle.pals_top.specs.CommonAnswerTexts.{read_fault_line, too_long_line}
 
 -- what a source shows before the call and after it
 pub record Reading : Type 0 where

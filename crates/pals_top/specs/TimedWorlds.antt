@@ -7,7 +7,7 @@ use Rattle.pals_runs.specs.declared.events.EventFault.{EventFault}
 use Rattle.scenario_json.specs.declared.scenario.Scenario.{Scenario}
 use Rattle.bus_machine.specs.States.{Run}
 use Rattle.run_laws.specs.Worlds.{world_run}
-use Rattle.pals_report.specs.EventFaults.{event_fault_line}
+use Rattle.pals_report.specs.EventFaultLines.{event_fault_line}
 use Rattle.world_texts.specs.WorldTexts.{IsToldWorld, IsFirstFault}
 use Rattle.pals_top.specs.declared.status.TheConstants.{DONE, SCENARIO_REFUSED}
 

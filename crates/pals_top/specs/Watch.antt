@@ -2,7 +2,7 @@
 use Rattle.std.specs.Prelude.{◌≡◌, ℕ, List, if◌then◌else◌}
 use Rattle.pals_model.specs.declared.design.DesignParts.{DesignParts}
 use Rattle.scenario_json.specs.declared.scenario.Scenario.{Scenario}
-use Rattle.run_monitor.specs.Violations.{is_violated}
+use Rattle.run_monitor.specs.FalseProperties.{is_violated}
 use Rattle.run_monitor.specs.WatchText.{watch_text}
 use Rattle.analysis_texts.specs.WatchedProperties.{named, formulas}
 use Rattle.pals_top.specs.declared.status.TheConstants.{DONE, NOT_SO}

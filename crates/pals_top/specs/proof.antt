@@ -2,4 +2,4 @@
 pub mod PrivateFunctions
 pub mod CodedBundles
 pub mod RefusalLines
-pub mod Statuses
+pub mod StatusAndText

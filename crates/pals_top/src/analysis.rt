@@ -2,9 +2,9 @@
 ghost use Rattle.std.specs.Prelude.{◌≡◌, IfOk};
 ghost use Rattle.scenario_json.specs.proof.ScenarioFacts.{IsScenarioOf};
 ghost use Rattle.plant_fuse.specs.FusedComposition.{ArePairs};
-ghost use Rattle.pals_top.specs.AnalysisKinds.{Analysis};
+ghost use Rattle.pals_top.specs.AnalysisCommands.{Analysis};
 ghost use Rattle.pals_top.specs.AnalysisAnswers.{command_of, Makes, IsAnalysisAnswer};
-ghost use Rattle.pals_top.specs.proof.Statuses.{status_of, text_of};
+ghost use Rattle.pals_top.specs.proof.StatusAndText.{status_of, text_of};
 
 use crate::answer::Answer;
 use crate::refused_scenario::refused_scenario;
@@ -13,7 +13,7 @@ use pals_base::{NoMemory, Text};
 use pals_model::Design;
 use pals_runs::Command;
 use scenario_json::{Scenario, read_scenario};
-use scenario_laws::plants::pairs_can_be_fused;
+use scenario_laws::plant_laws::pairs_can_be_fused;
 use std::alloc::Global;
 
 /// A command that is answered from a design and a scenario.

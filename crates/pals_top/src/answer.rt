@@ -3,7 +3,7 @@ ghost use Rattle.std.specs.Prelude.{◌≡◌, if◌then◌else◌, IfOk, OnErr}
 ghost use Rattle.bundle_designs.specs.declared.refusal.Refusal.{Refusal};
 ghost use Rattle.pals_top.specs.proof.RefusalLines.{SaysWhy};
 ghost use Rattle.pals_top.specs.declared.status.TheConstants.{DONE, NOT_SO};
-ghost use Rattle.pals_top.specs.proof.Statuses.{status_of, text_of, Says};
+ghost use Rattle.pals_top.specs.proof.StatusAndText.{status_of, text_of, Says};
 
 use crate::status::{
     CLOCK_ENDED, CODE_TOO_LONG, DESIGN_REFUSED, DONE, NOT_SO, READ_FAULT, SCENARIO_REFUSED,

@@ -1,14 +1,14 @@
 //! The command `audit`: the verdict on a trace.
 ghost use Rattle.std.specs.Prelude.{◌≡◌, ◌≤◌, length, IfOk};
 ghost use Rattle.pals_base.specs.declared.limits.TheConstants.{LIST_ITEMS};
-ghost use Rattle.pals_bus.specs.proof.BusPartValues.{AreCodes};
+ghost use Rattle.pals_bus.specs.proof.NodeAndCodeValues.{AreCodes};
 ghost use Rattle.scenario_json.specs.proof.ScenarioFacts.{IsScenarioOf};
-ghost use Rattle.pals_top.specs.ExecutionKinds.{Audit};
+ghost use Rattle.pals_top.specs.ExecutionCommands.{Audit};
 ghost use Rattle.pals_top.specs.Audit.{IsAudited, SaysVerdict, is_sound};
-ghost use Rattle.pals_top.specs.proof.Statuses.{status_of, text_of};
+ghost use Rattle.pals_top.specs.proof.StatusAndText.{status_of, text_of};
 
 use crate::answer::Answer;
-use crate::coded::{Coded, CodedCommand};
+use crate::bundle_meaning::{Coded, CodedCommand};
 use crate::execution::{ExecutionCommand, keeps_rules};
 use pals_base::{Items, NoMemory, Text};
 use pals_model::Design;

@@ -1,15 +1,15 @@
 //! The command `budget`: whether processors have time for the steps of their components.
 ghost use Rattle.std.specs.Prelude.{IfOk};
-ghost use Rattle.pals_bus.specs.proof.BusPartValues.{AreCodes};
+ghost use Rattle.pals_bus.specs.proof.NodeAndCodeValues.{AreCodes};
 ghost use Rattle.step_compiler.specs.LaidOutCode.{AreLaidOut};
 ghost use Rattle.scenario_json.specs.proof.ScenarioFacts.{IsScenarioOf};
 ghost use Rattle.design_codes.specs.Behaviours.{behaviours};
-ghost use Rattle.pals_top.specs.ExecutionKinds.{Budget};
+ghost use Rattle.pals_top.specs.ExecutionCommands.{Budget};
 ghost use Rattle.pals_top.specs.Budget.{IsBudgeted};
-ghost use Rattle.pals_top.specs.proof.Statuses.{status_of, text_of};
+ghost use Rattle.pals_top.specs.proof.StatusAndText.{status_of, text_of};
 
 use crate::answer::Answer;
-use crate::coded::{Coded, CodedCommand};
+use crate::bundle_meaning::{Coded, CodedCommand};
 use crate::execution::{ExecutionCommand, keeps_rules};
 use analysis_texts::budget;
 use pals_base::{NoMemory, Text};

@@ -1,7 +1,7 @@
 //! The command `check`: what a design is accepted with, or what is wrong with it.
 ghost use Rattle.std.specs.Prelude.{IfOk};
 ghost use Rattle.pals_top.specs.Check.{IsCheckAnswer};
-ghost use Rattle.pals_top.specs.proof.Statuses.{status_of, text_of};
+ghost use Rattle.pals_top.specs.proof.StatusAndText.{status_of, text_of};
 
 use crate::answer::Answer;
 use bundle_designs::accept;

@@ -1,16 +1,16 @@
 //! The commands that need a design, its step codes and a scenario, and no host.
 ghost use Rattle.std.specs.Prelude.{IfOk};
-ghost use Rattle.pals_model.specs.Rules.{IsDesign};
-ghost use Rattle.pals_bus.specs.proof.BusPartValues.{AreCodes};
+ghost use Rattle.pals_model.specs.DesignRules.{IsDesign};
+ghost use Rattle.pals_bus.specs.proof.NodeAndCodeValues.{AreCodes};
 ghost use Rattle.scenario_json.specs.proof.ScenarioFacts.{IsScenarioOf};
 ghost use Rattle.step_compiler.specs.LaidOutCode.{AreLaidOut};
 ghost use Rattle.design_codes.specs.Behaviours.{behaviours};
 ghost use Rattle.pals_top.specs.ExecutionAnswers.{Makes, IsExecutionAnswer};
 ghost use Rattle.pals_top.specs.proof.CodedBundles.{HasEvents};
-ghost use Rattle.pals_top.specs.proof.Statuses.{status_of, text_of};
+ghost use Rattle.pals_top.specs.proof.StatusAndText.{status_of, text_of};
 
 use crate::answer::Answer;
-use crate::coded::{BundleMeaning, Coded, CodedCommand, meaning_of};
+use crate::bundle_meaning::{BundleMeaning, Coded, CodedCommand, meaning_of};
 use pals_base::{NoMemory, Text};
 use pals_model::Design;
 use std::alloc::Global;

@@ -1,5 +1,5 @@
 //! The command `fuse`: the rounds in which plants answer their controllers within the step.
-ghost use Rattle.pals_top.specs.AnalysisKinds.{Fuse};
+ghost use Rattle.pals_top.specs.AnalysisCommands.{Fuse};
 
 use crate::analysis::ScenarioCommand;
 use crate::answer::Answer;

@@ -1,7 +1,7 @@
 //! The command `print`: the canonical text of a design.
 ghost use Rattle.std.specs.Prelude.{IfOk};
 ghost use Rattle.pals_top.specs.Print.{IsPrintAnswer};
-ghost use Rattle.pals_top.specs.proof.Statuses.{status_of, text_of};
+ghost use Rattle.pals_top.specs.proof.StatusAndText.{status_of, text_of};
 
 use crate::answer::Answer;
 use bundle_designs::print_bundle;

@@ -1,11 +1,11 @@
 //! Answers to bundles whose scenario, or an event of it, is refused.
 ghost use Rattle.std.specs.Prelude.{◌≡◌, ◌≢◌, ◌++◌, IfOk};
 ghost use Rattle.pals_model.specs.RoundTexts.{line_end};
-ghost use Rattle.pals_report.specs.EventFaults.{event_fault_line};
-ghost use Rattle.pals_report.specs.ScenarioFaults.{scenario_fault_line};
+ghost use Rattle.pals_report.specs.EventFaultLines.{event_fault_line};
+ghost use Rattle.pals_report.specs.ScenarioFaultLines.{scenario_fault_line};
 ghost use Rattle.scenario_values.specs.declared.fault.ScenarioFault.{ScenarioFault};
 ghost use Rattle.pals_top.specs.declared.status.TheConstants.{SCENARIO_REFUSED};
-ghost use Rattle.pals_top.specs.proof.Statuses.{status_of, text_of, Says};
+ghost use Rattle.pals_top.specs.proof.StatusAndText.{status_of, text_of, Says};
 
 use crate::answer::Answer;
 use pals_base::NoMemory;

@@ -1,19 +1,19 @@
 //! The command `run`: the nodes in threads. It is the one command that is given the program's host.
 ghost use Rattle.std.specs.Prelude.{IfOk, OnErr};
-ghost use Rattle.pals_bus.specs.proof.BusPartValues.{AreCodes};
+ghost use Rattle.pals_bus.specs.proof.NodeAndCodeValues.{AreCodes};
 ghost use Rattle.pals_io.specs.SourcesAndSinks.{GivesWithin};
 ghost use Rattle.pals_runs.specs.declared.commands.Command.TheVariants as command;
 ghost use Rattle.scenario_json.specs.proof.ScenarioFacts.{IsScenarioOf};
-ghost use Rattle.pals_top.specs.ExecutionKinds.{Run};
+ghost use Rattle.pals_top.specs.ExecutionCommands.{Run};
 ghost use Rattle.pals_top.specs.Answers.{IsSourceAnswer};
 ghost use Rattle.pals_top.specs.ExecutionAnswers.{IsExecutionAnswer};
 ghost use Rattle.pals_top.specs.ProgramInput.{reading};
 ghost use Rattle.pals_top.specs.Run.{IsRunAnswer};
-ghost use Rattle.pals_top.specs.proof.Statuses.{status_of, text_of};
+ghost use Rattle.pals_top.specs.proof.StatusAndText.{status_of, text_of};
 
 use crate::answer::Answer;
-use crate::coded::{BundleMeaning, Coded, CodedCommand, meaning_of};
-use crate::opening::opened;
+use crate::bundle_meaning::{BundleMeaning, Coded, CodedCommand, meaning_of};
+use crate::opening_bus::opened;
 use node_threads::{Gate, Host, Starter};
 use pals_base::limits::BUNDLE_BYTES;
 use pals_base::{NoMemory, Text};

@@ -1,5 +1,5 @@
 //! The command `sync`: the rounds of the synchronous composition.
-ghost use Rattle.pals_top.specs.AnalysisKinds.{Sync};
+ghost use Rattle.pals_top.specs.AnalysisCommands.{Sync};
 
 use crate::analysis::ScenarioCommand;
 use crate::answer::Answer;

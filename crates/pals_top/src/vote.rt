@@ -1,5 +1,5 @@
 //! The command `vote`: the rounds with replicas of some components, whose messages are voted on.
-ghost use Rattle.pals_top.specs.AnalysisKinds.{Vote};
+ghost use Rattle.pals_top.specs.AnalysisCommands.{Vote};
 
 use crate::analysis::ScenarioCommand;
 use crate::answer::Answer;

@@ -1,8 +1,8 @@
 //! The command `watch`: what properties say in each round.
 ghost use Rattle.std.specs.Prelude.{IfOk};
-ghost use Rattle.pals_top.specs.AnalysisKinds.{Watch};
+ghost use Rattle.pals_top.specs.AnalysisCommands.{Watch};
 ghost use Rattle.pals_top.specs.Watch.{IsWatched};
-ghost use Rattle.pals_top.specs.proof.Statuses.{status_of, text_of};
+ghost use Rattle.pals_top.specs.proof.StatusAndText.{status_of, text_of};
 
 use crate::analysis::ScenarioCommand;
 use crate::answer::Answer;

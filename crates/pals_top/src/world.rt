@@ -1,14 +1,14 @@
 //! The command `world`: what a list of timed events within the bounds leaves.
 ghost use Rattle.std.specs.Prelude.{◌≤◌, length, IfOk};
 ghost use Rattle.pals_base.specs.declared.limits.TheConstants.{LIST_ITEMS};
-ghost use Rattle.pals_bus.specs.proof.BusPartValues.{AreCodes};
+ghost use Rattle.pals_bus.specs.proof.NodeAndCodeValues.{AreCodes};
 ghost use Rattle.scenario_json.specs.proof.ScenarioFacts.{IsScenarioOf};
-ghost use Rattle.pals_top.specs.ExecutionKinds.{TimedWorld};
+ghost use Rattle.pals_top.specs.ExecutionCommands.{TimedWorld};
 ghost use Rattle.pals_top.specs.TimedWorlds.{IsTimedAnswer};
-ghost use Rattle.pals_top.specs.proof.Statuses.{status_of, text_of};
+ghost use Rattle.pals_top.specs.proof.StatusAndText.{status_of, text_of};
 
 use crate::answer::Answer;
-use crate::coded::{Coded, CodedCommand};
+use crate::bundle_meaning::{Coded, CodedCommand};
 use crate::execution::ExecutionCommand;
 use crate::refused_scenario::refused_event;
 use pals_base::{Items, NoMemory, Text};

@@ -5,23 +5,23 @@
 
 mod adaptors;
 mod alarms;
-mod behaviours;
+mod parsed_behaviours;
 mod bounds;
 mod buffers;
 mod clocks;
 mod codes;
-mod compiling;
-mod running;
-mod steps;
+mod compiled_behaviours;
+mod step_outcomes;
+mod step_comparison;
 mod streams;
-mod verifying;
+mod code_verification;
 
 use case_files::check;
 use std::alloc::AllocError;
 use std::io;
 
 fn main(rt: HostRuntime) -> io::Result<()> {
-    check(&rt, &compiling::Behaviours, &["sizes", "steps"])?;
+    check(&rt, &compiled_behaviours::Behaviours, &["sizes", "steps"])?;
     check(&rt, &codes::Codes, &["codes"])?;
     tell_streams(&rt)?;
     tell_numbers(&rt)?;

@@ -12,10 +12,10 @@ pub mod RoundUniqueness
 pub mod IteratedRounds
 pub mod FusiblePairs
 pub mod PairSteps
-pub mod PartnerCounts
+pub mod PartnerListLength
 pub mod TakenElements
 pub mod PairRoom
-pub mod PairRuns
+pub mod PairWork
 pub mod ComponentPairs
 pub mod RoundReads
 pub mod ProductAdvance
@@ -23,4 +23,4 @@ pub mod SolutionParts
 pub mod StateSolutions
 pub mod Reports
 pub mod ReportsWithoutPairs
-pub mod MessageRows
+pub mod LinkMessages

@@ -9,7 +9,7 @@ use Rattle.pals_base.specs.SingleStep.{fire}
 use Rattle.pals_base.specs.StepSequences.{outputs, upwards}
 use Rattle.pals_base.proofs.UpwardNumbers.{map_upwards_more}
 use Rattle.pals_base.proofs.StepSequences.{frame_after-append, outputs-append}
-use Rattle.sync_product.specs.declared.reads.RoundInputs.{RoundInputs}
+use Rattle.sync_product.specs.declared.round_inputs.RoundInputs.{RoundInputs}
 use Rattle.plant_fuse.specs.proof.PairSides.{Seat, Work, side_vector, row_before, plant_vector, controller_vector}
 use Rattle.plant_fuse.specs.proof.PairSides.{IsMade, work, AreMade}
 use Rattle.plant_fuse.proofs.FunctionTables.{map_upwards_same}

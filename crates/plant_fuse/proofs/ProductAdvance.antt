@@ -8,8 +8,8 @@ use Rattle.std.proofs.lemmas.Bool.{cases_Bool}
 use Rattle.std.proofs.lemmas.List.{length-map}
 use Rattle.std.proofs.lemmas.List.Elements.{All-head, All-tail}
 use Rattle.std.proofs.lemmas.Option.{slice_get_cases, get_or_from_slice_get}
-use Rattle.list_lemmas.proofs.Places.{slice_get-map_some}
-use Rattle.list_lemmas.proofs.Lists.{length-map_enumerate_from, same_from_places}
+use Rattle.list_lemmas.proofs.ElementPositions.{slice_get-map_some}
+use Rattle.list_lemmas.proofs.ListOperations.{length-map_enumerate_from, same_from_places}
 use Rattle.pals_base.proofs.SettledStates.{map-same}
 use Rattle.pals_base.specs.declared.values.PortValue.{PortValue}
 use Rattle.pals_base.specs.declared.values.PortValue.TheVariants.{Absent}
@@ -20,13 +20,13 @@ use Rattle.pals_model.specs.declared.design.Component.{Component}
 use Rattle.pals_model.specs.declared.design.Link.{Link}
 use Rattle.pals_model.specs.declared.design.Tap.{Tap}
 use Rattle.pals_model.specs.declared.design.DesignParts.{DesignParts}
-use Rattle.pals_model.specs.declared.rounds.Part.{Part}
+use Rattle.pals_model.specs.declared.inputs_and_parts.Part.{Part}
 use Rattle.pals_model.specs.ComponentInputs.{rate_of, rate_in}
 use Rattle.pals_model.specs.Composition.{Configuration, taps_of}
-use Rattle.pals_model.specs.Rules.{IsDesign, IsLink}
+use Rattle.pals_model.specs.DesignRules.{IsDesign, IsLink}
 use Rattle.pals_model.proofs.ShapeLaws.{component_at, length-outputs}
-use Rattle.pals_runs.specs.declared.pairs.Pair.{Pair}
-use Rattle.sync_product.specs.declared.reads.RoundInputs.{RoundInputs}
+use Rattle.pals_runs.specs.declared.analysis_inputs.Pair.{Pair}
+use Rattle.sync_product.specs.declared.round_inputs.RoundInputs.{RoundInputs}
 use Rattle.sync_product.specs.declared.stage.Stage.{Stage}
 use Rattle.sync_product.specs.proof.ProductSizes.{StageSize, stage_size, stage_size_of, stage_sizes}
 use Rattle.sync_product.specs.proof.Rounds.{frames_of}
@@ -37,8 +37,8 @@ use Rattle.plant_fuse.specs.proof.Partners.{partner_of, is_inside}
 use Rattle.plant_fuse.specs.proof.Messages.{sent_from, sent_on}
 use Rattle.plant_fuse.specs.proof.RoundEquations.{frame_at, place_at, left_in, tuple_from, tuple_in, message_in}
 use Rattle.plant_fuse.specs.proof.RoundEquations.{after_round}
-use Rattle.plant_fuse.specs.proof.RoundRuns.{rows_of, AreRun}
-use Rattle.plant_fuse.specs.proof.State.{FuseState, part_after, parts_after, IsAdvanced}
+use Rattle.plant_fuse.specs.proof.RoundWork.{rows_of, AreRun}
+use Rattle.plant_fuse.specs.proof.FuseState.{FuseState, part_after, parts_after, IsAdvanced}
 use Rattle.plant_fuse.proofs.FunctionTables.{map_map, length_map_upwards}
 use Rattle.plant_fuse.proofs.WithoutPairs.{by_place}
 use Rattle.sync_product.proofs.StepRoom.{count_of_stages}

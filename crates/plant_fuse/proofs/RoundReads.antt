@@ -15,13 +15,13 @@ use Rattle.pals_base.specs.StepSequences.{outputs, frame_after, column, upwards}
 use Rattle.pals_model.specs.declared.design.Component.{Component}
 use Rattle.pals_model.specs.declared.design.Link.{Link}
 use Rattle.pals_model.specs.declared.design.DesignParts.{DesignParts}
-use Rattle.pals_model.specs.declared.rounds.Part.{Part}
+use Rattle.pals_model.specs.declared.inputs_and_parts.Part.{Part}
 use Rattle.pals_model.specs.declared.sources.PortSource.{PortSource}
 use Rattle.pals_model.specs.declared.sources.PortSource.TheVariants as source
 use Rattle.pals_model.specs.ComponentInputs.{rate_of, rate_in, source_of, sources_of}
 use Rattle.pals_model.specs.Composition.{Configuration, no_frame}
-use Rattle.pals_runs.specs.declared.pairs.Pair.{Pair}
-use Rattle.sync_product.specs.declared.reads.RoundInputs.{RoundInputs}
+use Rattle.pals_runs.specs.declared.analysis_inputs.Pair.{Pair}
+use Rattle.sync_product.specs.declared.round_inputs.RoundInputs.{RoundInputs}
 use Rattle.sync_product.specs.declared.stage.Stage.{Stage}
 use Rattle.sync_product.specs.proof.ProductSizes.{tap_ports}
 use Rattle.sync_product.specs.proof.Rounds.{brought, vectors}
@@ -32,7 +32,7 @@ use Rattle.plant_fuse.specs.proof.RoundEquations.{Left, frame_at, outputs_from, 
 use Rattle.plant_fuse.specs.proof.RoundEquations.{link_by, read_by, vector_by, round_vector, IsFusedRound}
 use Rattle.plant_fuse.specs.proof.PairSides.{Work, from_partner, from_link, side_value, row_at, row_before}
 use Rattle.plant_fuse.specs.proof.PairSides.{plant_vector, controller_vector}
-use Rattle.plant_fuse.specs.proof.RoundRuns.{seat, rows_of, HasWork, IsRun, AreRun}
+use Rattle.plant_fuse.specs.proof.RoundWork.{seat, rows_of, HasWork, IsRun, AreRun}
 use Rattle.plant_fuse.proofs.FunctionTables.{map_map, map_upwards_same, table, table_at, table_same}
 use Rattle.plant_fuse.proofs.PairLinks.{read_from_target}
 use Rattle.plant_fuse.proofs.ComponentPairs.{some_stands, pair_at, to_plant_forth, to_plant_back, to_controller_back}

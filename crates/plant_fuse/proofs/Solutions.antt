@@ -1,9 +1,9 @@
 -- The equations have one solution.
 use Rattle.std.proofs.Common.{◌≡◌, ◌∙◌, ℕ, zero, suc, ◌*◌, List, [], sym, subst₂, arith}
 use Rattle.pals_model.specs.declared.design.DesignParts.{DesignParts}
-use Rattle.pals_model.specs.declared.rounds.Env.{Env}
-use Rattle.pals_model.specs.Rules.{IsDesign}
-use Rattle.pals_runs.specs.declared.pairs.Pair.{Pair}
+use Rattle.pals_model.specs.declared.inputs_and_parts.Env.{Env}
+use Rattle.pals_model.specs.DesignRules.{IsDesign}
+use Rattle.pals_runs.specs.declared.analysis_inputs.Pair.{Pair}
 use Rattle.plant_fuse.specs.FusedComposition.{ArePairs, Inputs, reads, IsFused}
 use Rattle.plant_fuse.specs.proof.FusedLaws.{SolutionExists, SolutionIsOne}
 use Rattle.plant_fuse.proofs.StepDependencies.{Agree, same_reads, next_agree}

@@ -5,7 +5,7 @@ use Rattle.std.specs.Option.{option_map}
 use Rattle.std.proofs.lemmas.List.{length-set, length-map}
 use Rattle.std.proofs.lemmas.Option.{slice_get-map, slice_get_read}
 use Rattle.std.proofs.lemmas.Bool.{cases_order}
-use Rattle.list_lemmas.proofs.Lists.{same_from_places}
+use Rattle.list_lemmas.proofs.ListOperations.{same_from_places}
 use Rattle.sync_product.proofs.ComponentLists.{slice_get-set_same}
 use Rattle.plant_fuse.specs.proof.TakenElements.{TakenFrom}
 

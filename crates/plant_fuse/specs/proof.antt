@@ -7,8 +7,8 @@ pub mod Fusibility
 pub mod Partners
 pub mod DesignTables
 pub mod PairSides
-pub mod RoundRuns
+pub mod RoundWork
 pub mod TakenElements
 pub mod Messages
-pub mod State
+pub mod FuseState
 pub mod ProductInvariant

@@ -2,15 +2,15 @@
 //! round hand in hand. Its definition and its laws stand in `specs`.
 #![tactic(auto)]
 
-mod ends;
+mod fuse_end;
 pub mod laws;
 mod messages;
 mod pairs;
 mod product;
-mod rooms;
+mod taken_stages;
 mod round;
 mod sides;
 mod tables;
 
-pub use ends::FuseEnd;
+pub use fuse_end::FuseEnd;
 pub use product::FuseProduct;

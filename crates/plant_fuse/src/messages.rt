@@ -1,6 +1,6 @@
 //! What the components send to one another.
 ghost use Rattle.std.specs.Prelude.{◌≡◌, length, map};
-ghost use Rattle.pals_model.specs.Rules.{IsDesign};
+ghost use Rattle.pals_model.specs.DesignRules.{IsDesign};
 ghost use Rattle.sync_product.specs.proof.ProductSizes.{stage_size, stage_sizes, message_sizes};
 ghost use Rattle.plant_fuse.specs.proof.Partners.{is_inside};
 ghost use Rattle.plant_fuse.specs.proof.Messages.{sent_count, sent_on};

@@ -1,12 +1,12 @@
 //! The fused composition after some rounds.
 ghost use Rattle.std.specs.Prelude.{◌≡◌, ◌<◌, IfOk, IfErr, OnOk, OnErr, Some, length, slice_get};
 ghost use Rattle.std.specs.Arc.{arc_value};
-ghost use Rattle.pals_model.specs.Rules.{IsDesign};
+ghost use Rattle.pals_model.specs.DesignRules.{IsDesign};
 ghost use Rattle.plant_fuse.specs.FusedComposition.{ArePairs};
 ghost use Rattle.plant_fuse.specs.proof.Fusibility.{IsEnd};
-ghost use Rattle.plant_fuse.specs.proof.State.{begun, IsAdvanced};
+ghost use Rattle.plant_fuse.specs.proof.FuseState.{begun, IsAdvanced};
 
-use crate::ends::FuseEnd;
+use crate::fuse_end::FuseEnd;
 use crate::messages::send_all;
 use crate::pairs::first_bad;
 use crate::round::run_all;
@@ -19,7 +19,7 @@ use std::marker::Model;
 use std::mem::swap;
 use std::sync::Arc;
 use sync_product::opening::{opening_messages, opening_parts, stages};
-use sync_product::reads::RoundInputs;
+use sync_product::round_inputs::RoundInputs;
 use sync_product::stage::Stage;
 
 /// The fused composition of a design and its pairs after some rounds: its configuration, and what each
@@ -51,7 +51,7 @@ impl Drop for FuseProduct {
 }
 
 impl Model for FuseProduct {
-    ghost use Rattle.plant_fuse.specs.proof.State.{FuseState, state_code};
+    ghost use Rattle.plant_fuse.specs.proof.FuseState.{FuseState, state_code};
 
     ghost Value = { FuseState };
 

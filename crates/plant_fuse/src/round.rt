@@ -4,15 +4,15 @@ ghost use Rattle.sync_product.specs.proof.ProductSizes.{part_size, part_sizes, s
 ghost use Rattle.sync_product.specs.proof.Rounds.{frames_of};
 ghost use Rattle.plant_fuse.specs.FusedComposition.{IsPair, ArePairs};
 ghost use Rattle.plant_fuse.specs.proof.DesignTables.{AreTables};
-ghost use Rattle.plant_fuse.specs.proof.RoundRuns.{IsPaired, IsRunAlone, AreAlone, IsRun, AreRun, StayBeside};
+ghost use Rattle.plant_fuse.specs.proof.RoundWork.{IsPaired, IsRunAlone, AreAlone, IsRun, AreRun, StayBeside};
 
-use crate::rooms::{put_stage, take_part, take_stage};
+use crate::taken_stages::{put_stage, take_part, take_stage};
 use crate::sides::{FusedPair, PairedComponent, run_sides};
 use crate::tables::Tables;
 use pals_base::{Items, NoMemory, NodeNo};
 use pals_model::{Design, Part};
 use pals_runs::Pair;
-use sync_product::reads::RoundInputs;
+use sync_product::round_inputs::RoundInputs;
 use sync_product::stage::Stage;
 
 /// Makes the steps of all components, from their frames in the parts of the round before: those that

@@ -9,7 +9,7 @@ ghost use Rattle.plant_fuse.specs.proof.PairSides.{work, FitsSteps, AreSidesRun}
 use pals_base::tuples::place;
 use pals_base::{Frame, NoMemory, PortValue, Tuple};
 use pals_model::{Link, Part, PortSource};
-use sync_product::reads::{RoundInputs, place_brought};
+use sync_product::round_inputs::{RoundInputs, place_brought};
 use sync_product::stage::{Stage, write_taps};
 use sync_product::wiring::WiredComponent;
 

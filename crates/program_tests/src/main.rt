@@ -1,16 +1,16 @@
 //! What the whole program answers to words and bytes, over sources and sinks in memory that fail where they are told.
 #![tactic(auto)]
 
-mod question;
+mod program_answer;
 mod rings;
-mod runs;
-mod series;
-mod traces;
+mod answer_groups;
+mod case_series;
+mod audited_runs;
 
 use case_files::{asked, check_answer, text_of, word};
-use question::{Transfer, ask};
+use program_answer::{Transfer, ask};
 use rings::check_ring;
-use series::answer_series;
+use case_series::answer_series;
 use std::sync::Wait;
 use std::thread::Threads;
 use std::{fs, io};

@@ -16,15 +16,15 @@ use Rattle.step_code.specs.CappedWeights.{capped}
 use Rattle.step_code.specs.PathWeights.{weight_of}
 use Rattle.step_code.proofs.HeaviestPaths.{made_within}
 use Rattle.pals_model.specs.declared.design.DesignParts.{DesignParts}
-use Rattle.pals_model.specs.declared.rounds.Env.{Env}
-use Rattle.pals_model.specs.Rules.{IsDesign}
+use Rattle.pals_model.specs.declared.inputs_and_parts.Env.{Env}
+use Rattle.pals_model.specs.DesignRules.{IsDesign}
 use Rattle.round_budget.specs.Budgets.{Release, Served, releases, in_order, precedes, serve, most_of, most_in, by_most}
 use Rattle.round_budget.specs.Responses.{response, AreAtMost, made_in, frame_before, inputs_at, by_exec}
 use Rattle.round_budget.specs.proof.BudgetLaws.{AreMembers, IsWithinBudget, EachIsServed, ServedOnce, ServedInOrder}
 use Rattle.round_budget.specs.proof.BudgetLaws.{NoneBeginsEarly, OneAtATime, ResponsesFit, MostResponsesFit}
 use Rattle.round_budget.specs.proof.BudgetLaws.{ExecResponsesFit, RoundsAreApart}
-use Rattle.round_budget.proofs.Elements.{every_both, Pairs, pairs_weaker, pairs_both, all_pairs_from, Member, member_of}
-use Rattle.round_budget.proofs.Elements.{contains_of}
+use Rattle.round_budget.proofs.ListQuantifiers.{every_both, Pairs, pairs_weaker, pairs_both, all_pairs_from, Member, member_of}
+use Rattle.round_budget.proofs.ListQuantifiers.{contains_of}
 use Rattle.round_budget.proofs.ReleaseOrders.{NotAfter, every_in_order, pairs_in_order, sorted_in_order}
 use Rattle.round_budget.proofs.ReleaseOrders.{length_in_order, member_in_order, in_order_member, strict_numbers}
 use Rattle.round_budget.proofs.FilteredSums.{one_le}

@@ -3,13 +3,13 @@ use Rattle.std.proofs.Common.{◌≡◌, ℕ, ◌≤◌, true, List}
 use Rattle.std.proofs.lemmas.Bool.{leb-true}
 use Rattle.step_code.specs.declared.instr.CodeParts.{CodeParts}
 use Rattle.pals_model.specs.declared.design.DesignParts.{DesignParts}
-use Rattle.pals_model.specs.Rules.{IsDesign}
+use Rattle.pals_model.specs.DesignRules.{IsDesign}
 use Rattle.round_budget.specs.proof.BudgetLaws.{AreMembers, IsWithinBudget}
 use Rattle.round_budget.specs.Budgets.{Release, budget, total, fits}
 use Rattle.round_budget.specs.Responses.{AreInTime, AreAtMost, by_exec, RespondInTime}
 use Rattle.round_budget.proofs.BudgetLaws.{responses_fit, exec_at_most, rounds_are_apart}
 use Rattle.round_budget.proofs.TimetableRepetition.{timetable_repeats}
-use Rattle.round_budget.specs.proof.Promises.{TimetableIsEach}
+use Rattle.round_budget.specs.proof.TimetablePromises.{TimetableIsEach}
 
 pub budgeted_by : (design : DesignParts) (codes : List CodeParts) (nanos : ℕ) (members : List ℕ)
     → AreMembers design members

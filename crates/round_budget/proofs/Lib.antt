@@ -1,4 +1,4 @@
-pub mod Elements
+pub mod ListQuantifiers
 pub mod ReleaseOrders
 pub mod ReleaseTimes
 pub mod FilteredSums
@@ -6,8 +6,8 @@ pub mod TimelyService
 pub mod BudgetLaws
 pub mod TimetableRepetition
 pub mod SortedUniqueness
-pub mod Members
-pub mod NextReleases
+pub mod ProcessorMembers
+pub mod TimetableLines
 pub mod ServableReleases
 pub mod FittingBudgets
 pub mod UniqueBudgetTexts

@@ -6,7 +6,7 @@ use Rattle.std.specs.List.{AllByRecursion as Every}
 use Rattle.std.proofs.lemmas.Bool.Decides.{nat_tests}
 use Rattle.list_lemmas.proofs.Elements.{AllByRecursion-weaker}
 use Rattle.round_budget.specs.Budgets.{Release, precedes, put, in_order}
-use Rattle.round_budget.proofs.Elements.{Pairs, Member}
+use Rattle.round_budget.proofs.ListQuantifiers.{Pairs, Member}
 
 -- ---- all elements
 every_put : (P : Release → Type 0) (x : Release) (ys : List Release) → P x → Every P ys → Every P (put x ys)

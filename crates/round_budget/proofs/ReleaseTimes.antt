@@ -12,13 +12,13 @@ use Rattle.pals_base.specs.StepSequences.{upwards}
 use Rattle.pals_model.specs.declared.design.Component.{Component}
 use Rattle.pals_model.specs.declared.design.DesignParts.{DesignParts}
 use Rattle.pals_model.specs.ComponentInputs.{rate_of, rate_in}
-use Rattle.pals_model.specs.Rules.{IsDesign, IsComponent, greatest_rate}
+use Rattle.pals_model.specs.DesignRules.{IsDesign, IsComponent, greatest_rate}
 use Rattle.pals_model.proofs.FirstElements.{at_element}
 use Rattle.pals_model.proofs.ShapeLaws.{component_at}
 use Rattle.round_budget.specs.Budgets.{Release, release_of, releases_of, releases_in, releases}
 use Rattle.round_budget.specs.proof.BudgetLaws.{AreMembers}
-use Rattle.round_budget.proofs.Elements.{every_both, every_flat_map, every_upwards, Pairs, pairs_weaker, pairs_map}
-use Rattle.round_budget.proofs.Elements.{pairs_flat_map, pairs_upwards, pairs_from, Member, member_of}
+use Rattle.round_budget.proofs.ListQuantifiers.{every_both, every_flat_map, every_upwards, Pairs, pairs_weaker, pairs_map}
+use Rattle.round_budget.proofs.ListQuantifiers.{pairs_flat_map, pairs_upwards, pairs_from, Member, member_of}
 
 -- ---- rates
 first_le : (from : ℕ) (cs : List Component) → from ≤ fold (λ k (c : Component). max k c.rate) from cs

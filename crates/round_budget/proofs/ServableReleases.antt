@@ -10,11 +10,11 @@ use Rattle.pals_base.specs.StepSequences.{upwards}
 use Rattle.step_code.specs.declared.instr.CodeParts.{CodeParts}
 use Rattle.pals_model.specs.declared.design.DesignParts.{DesignParts}
 use Rattle.pals_model.specs.ComponentInputs.{rate_of}
-use Rattle.pals_model.specs.Rules.{IsDesign}
+use Rattle.pals_model.specs.DesignRules.{IsDesign}
 use Rattle.round_budget.specs.Budgets as budgets
 use Rattle.round_budget.specs.Budgets.{release_of, releases_of, releases_in, releases, in_order, most_of, by_most}
 use Rattle.round_budget.specs.proof.BudgetLaws.{IsWithinBudget}
-use Rattle.round_budget.proofs.Elements.{every_both, every_flat_map, every_upwards}
+use Rattle.round_budget.proofs.ListQuantifiers.{every_both, every_flat_map, every_upwards}
 use Rattle.round_budget.proofs.ReleaseOrders.{every_in_order}
 use Rattle.round_budget.proofs.FilteredSums.{one_le}
 use Rattle.round_budget.proofs.ReleaseTimes.{IsRelease, releases_are}

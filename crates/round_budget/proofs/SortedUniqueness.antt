@@ -9,7 +9,7 @@ use Rattle.std.proofs.lemmas.List.Sums.{sum_by-cons}
 use Rattle.std.proofs.lemmas.Bool.Decides.{nat_tests}
 use Rattle.list_lemmas.proofs.Elements.{AllByRecursion-weaker}
 use Rattle.round_budget.specs.Budgets.{Release, Served, precedes, put, in_order, begins, serve}
-use Rattle.round_budget.proofs.Elements.{Pairs, Member}
+use Rattle.round_budget.proofs.ListQuantifiers.{Pairs, Member}
 use Rattle.round_budget.proofs.ReleaseOrders.{NotAfter}
 use Rattle.round_budget.specs.declared.releases.Release as steps
 use Rattle.round_budget.specs.proof.ReleaseValues.{release_value}

@@ -6,7 +6,7 @@ use Rattle.std.specs.List.{sum_by, AllByRecursion as Every}
 use Rattle.std.proofs.lemmas.Bool.{cases_lt, eqb-true, or_cases}
 use Rattle.list_lemmas.proofs.Elements.{AllByRecursion-weaker}
 use Rattle.round_budget.specs.Budgets.{Release, Served, begins, serve}
-use Rattle.round_budget.proofs.Elements.{every_both, Pairs, Member}
+use Rattle.round_budget.proofs.ListQuantifiers.{every_both, Pairs, Member}
 use Rattle.round_budget.proofs.FilteredSums.{part, with_one, part_le, part_more}
 
 -- ---- what is served

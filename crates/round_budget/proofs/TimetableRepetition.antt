@@ -14,12 +14,12 @@ use Rattle.pals_base.specs.StepSequences.{upwards}
 use Rattle.step_code.specs.declared.instr.CodeParts.{CodeParts}
 use Rattle.pals_model.specs.declared.design.DesignParts.{DesignParts}
 use Rattle.pals_model.specs.ComponentInputs.{rate_of}
-use Rattle.pals_model.specs.Rules.{IsDesign}
+use Rattle.pals_model.specs.DesignRules.{IsDesign}
 use Rattle.round_budget.specs.Budgets.{Release, Served, Line, release_of, releases_of, releases_in, releases, precedes}
 use Rattle.round_budget.specs.Budgets.{put, in_order, begins, served_at, serve, budget, by_most, line_from, timetable}
-use Rattle.round_budget.specs.proof.RoundLines.{line_in_round}
+use Rattle.round_budget.specs.proof.RoundTimetableLine.{line_in_round}
 use Rattle.round_budget.specs.proof.BudgetLaws.{IsWithinBudget, TimetableRepeats}
-use Rattle.round_budget.proofs.Elements.{every_both, every_flat_map, every_upwards}
+use Rattle.round_budget.proofs.ListQuantifiers.{every_both, every_flat_map, every_upwards}
 use Rattle.round_budget.proofs.ReleaseOrders.{every_in_order}
 use Rattle.round_budget.proofs.ReleaseTimes.{IsIn, in_round, rate_fits}
 use Rattle.round_budget.proofs.BudgetLaws.{rounds_are_apart}

@@ -4,7 +4,7 @@ use Rattle.std.specs.List.{list_any}
 use Rattle.step_code.specs.declared.instr.CodeParts.{CodeParts}
 use Rattle.pals_model.specs.declared.design.DesignParts.{DesignParts}
 use Rattle.pals_model.specs.RoundTexts.{text_of}
-use Rattle.pals_runs.specs.Journal.{node_word, spaced}
+use Rattle.pals_runs.specs.JournalLines.{node_word, spaced}
 use Rattle.round_budget.specs.Budgets.{Line, total, fits, timetable}
 
 -- a processor: its name, how many nanoseconds it takes for an instruction, and the components that it serves

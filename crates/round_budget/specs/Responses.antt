@@ -5,10 +5,10 @@ use Rattle.pals_base.specs.declared.values.Frame.{Frame}
 use Rattle.pals_base.specs.declared.values.PortValue.{PortValue}
 use Rattle.pals_base.specs.PeriodBound.{alarm}
 use Rattle.step_code.specs.declared.instr.CodeParts.{CodeParts}
-use Rattle.step_code.specs.InstructionCounts.{made}
+use Rattle.step_code.specs.InstructionsPerStep.{made}
 use Rattle.pals_model.specs.declared.design.Component.{Component}
 use Rattle.pals_model.specs.declared.design.DesignParts.{DesignParts}
-use Rattle.pals_model.specs.declared.rounds.Env.{Env}
+use Rattle.pals_model.specs.declared.inputs_and_parts.Env.{Env}
 use Rattle.pals_model.specs.ComponentInputs.{feed}
 use Rattle.pals_model.specs.Composition.{comp, no_frame, own_steps_so_far}
 use Rattle.round_budget.specs.Budgets.{Release, Served, budget, most_of}

@@ -1,7 +1,7 @@
 -- What the theorem of the program does not rest on: definitions of contracts below it, of laws, and of proofs.
-pub mod RoundLines
+pub mod RoundTimetableLine
 pub mod BudgetLaws
 pub mod TurnController
 pub mod TurnControllerBudget
 pub mod ReleaseValues
-pub mod Promises
+pub mod TimetablePromises

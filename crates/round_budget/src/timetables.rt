@@ -5,7 +5,7 @@ ghost use Rattle.round_budget.specs.Budgets.{timetable, total, fits, numbers};
 ghost use Rattle.round_budget.specs.proof.BudgetLaws.{AreMembers};
 ghost use Rattle.round_budget.specs.Responses.{RespondInTime};
 ghost use Rattle.round_budget.specs.proof.ReleaseValues.{AreLines};
-ghost use Rattle.round_budget.specs.proof.Promises.{IsEnd, TimetableIsEach};
+ghost use Rattle.round_budget.specs.proof.TimetablePromises.{IsEnd, TimetableIsEach};
 
 use crate::releases::ordered_releases;
 use crate::serving::{TimetableLine, serve};

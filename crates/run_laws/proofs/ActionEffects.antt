@@ -15,12 +15,12 @@ use Rattle.pals_runs.specs.declared.journal.Arrived.TheVariants.{Kept, Ignored, 
 use Rattle.bus_machine.specs.declared.plan.Plan.{Plan}
 use Rattle.bus_machine.specs.Nodes.{NodeState, round_of, at_rest}
 use Rattle.bus_machine.specs.NodeEvents.{started, stepped, finished, sent_from, after_send, after_round, with_message}
-use Rattle.bus_machine.specs.declared.action.NodeAction.{NodeAction}
-use Rattle.bus_machine.specs.declared.action.NodeAction.TheVariants as action
+use Rattle.bus_machine.specs.declared.node_action.NodeAction.{NodeAction}
+use Rattle.bus_machine.specs.declared.node_action.NodeAction.TheVariants as action
 use Rattle.bus_machine.specs.Targets.{Progress, actions, target, send_is_next, next_action, progress_after, targets}
 use Rattle.bus_machine.specs.Targets.{next_in}
 use Rattle.run_laws.specs.NodeActions.{Turn, turn, progress_in, upcoming, Follows}
-use Rattle.run_laws.proofs.NodeTurns.{IsPlan, turn_next, sized, size, bit, action_at, target_at}
+use Rattle.run_laws.proofs.NodeActions.{IsPlan, turn_next, sized, size, bit, action_at, target_at}
 
 -- ---- the next action
 

@@ -22,13 +22,13 @@ use Rattle.bus_machine.specs.Machine.{early_stop}
 use Rattle.bus_machine.specs.Replay.{entries, start_entry, stop_entry}
 use Rattle.bus_machine.specs.Agreement.{Agrees}
 use Rattle.bus_machine.specs.proof.MachineLaws.{IsRunOf}
-use Rattle.bus_machine.specs.declared.action.NodeAction.TheVariants as action
+use Rattle.bus_machine.specs.declared.node_action.NodeAction.TheVariants as action
 use Rattle.bus_machine.specs.Targets.{Progress, send_is_next, next_in}
 use Rattle.run_laws.specs.ShownReadings.{listed, start_in, send_in, starts, sends}
 use Rattle.pals_clock.specs.declared.clock.Clocks.{Clocks}
 use Rattle.pals_clock.specs.declared.clock.Clocks.TheVariants.{Meet, Lists}
 use Rattle.run_laws.specs.Runs.{Shows, Does, KeepsTo, Runs, opens, picks_for, goes_on}
-use Rattle.run_laws.specs.proof.StopReadings.{IsFor, TimesFit}
+use Rattle.run_laws.specs.proof.ReadingsAndStops.{IsFor, TimesFit}
 use Rattle.run_laws.proofs.NodePicks.{runs_agree}
 use Rattle.run_laws.proofs.ShownActions.{rounds_are_shown, sender_before}
 use Rattle.run_laws.proofs.LinkTiming.{unsent_round}

@@ -18,7 +18,7 @@ use Rattle.bus_machine.specs.Machine.{BusEvent, Start, Step, Finish, Send, Arriv
 use Rattle.bus_machine.specs.Machine.{on_step}
 use Rattle.bus_machine.specs.Agreement.{PhaseAgrees, Agrees}
 use Rattle.bus_machine.specs.proof.MachineLaws.{IsRunOf}
-use Rattle.bus_machine.specs.declared.action.NodeAction.TheVariants as action
+use Rattle.bus_machine.specs.declared.node_action.NodeAction.TheVariants as action
 use Rattle.bus_machine.proofs.AgreementChanges.{node_stays}
 use Rattle.run_laws.specs.NodeActions.{Follows}
 use Rattle.pals_clock.specs.declared.clock.Clocks.{Clocks}

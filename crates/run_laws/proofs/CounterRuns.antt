@@ -17,8 +17,8 @@ use Rattle.pals_runs.specs.declared.journal.JournalEntry.{JournalEntry}
 use Rattle.pals_runs.specs.declared.journal.Phase.TheVariants.{Done}
 use Rattle.bus_machine.specs.States.{Run, BusState, opening, node_at, flight_at, link_at}
 use Rattle.bus_machine.specs.Machine.{Start, Finish, Send, after}
-use Rattle.bus_machine.specs.proof.CounterMachine.{a, b}
-use Rattle.bus_machine.specs.declared.action.NodeAction.TheVariants as action
+use Rattle.bus_machine.specs.proof.StoppedCounterRuns.{a, b}
+use Rattle.bus_machine.specs.declared.node_action.NodeAction.TheVariants as action
 use Rattle.run_laws.specs.TraceRules.{is_due}
 use Rattle.pals_clock.specs.declared.clock.Clocks.TheVariants.{Meet, Lists}
 use Rattle.run_laws.specs.Runs.{clock_at, target_of, IsLeast, HasEnded, NoneDue, IsAwaited, Runs, opens, picks_for}

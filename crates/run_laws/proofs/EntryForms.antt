@@ -5,7 +5,7 @@ use Rattle.std.specs.Option.{option_and_then}
 use Rattle.std.specs.List.{list_all}
 use Rattle.pals_base.specs.declared.limits.TheConstants.{ROUNDS}
 use Rattle.pals_model.specs.declared.design.DesignParts.{DesignParts}
-use Rattle.pals_model.specs.Rules.{IsDesign}
+use Rattle.pals_model.specs.DesignRules.{IsDesign}
 use Rattle.pals_runs.specs.declared.journal.Arrived.{Arrived}
 use Rattle.pals_runs.specs.declared.journal.Arrived.TheVariants.{Kept, Ignored, Early}
 use Rattle.pals_runs.specs.declared.journal.Cause.{Cause}
@@ -14,14 +14,14 @@ use Rattle.pals_runs.specs.declared.journal.Stop.{Stop}
 use Rattle.pals_runs.specs.declared.journal.Stop.TheVariants as stop
 use Rattle.pals_runs.specs.declared.journal.JournalEntry.{JournalEntry}
 use Rattle.pals_runs.specs.declared.journal.JournalEntry.TheVariants as entry
-use Rattle.pals_runs.specs.Journal.{node_word, link_word, reading_word, arrived_word, cause_word, spaced, stop_words}
-use Rattle.pals_runs.specs.Journal.{entry_words}
+use Rattle.pals_runs.specs.JournalLines.{node_word, link_word, reading_word, arrived_word, cause_word, spaced, stop_words}
+use Rattle.pals_runs.specs.JournalLines.{entry_words}
 use Rattle.run_laws.specs.LineForms.{Form, ArriveLine, StartLine, StepLine, FinishLine, SendLine, DropLine, RepeatLine}
 use Rattle.run_laws.specs.LineForms.{EarlyLine, MissedLine, is_there, form_of_words, form_of, named, read, at_end}
 use Rattle.run_laws.specs.LineForms.{with_result, with_cause, with_step}
 use Rattle.run_laws.specs.proof.EntryLines.{stop_form, entry_form, LinesHaveForms, EntriesHaveLines}
 use Rattle.run_laws.specs.Entries.{IsReading, IsOfNode, IsOfLink, IsStopIn, IsEntryIn}
-use Rattle.run_laws.proofs.SpacedWords.{is_plain, ArePlain, end, before, words_are, all_there, is_one_line}
+use Rattle.run_laws.proofs.PlainWords.{is_plain, ArePlain, end, before, words_are, all_there, is_one_line}
 use Rattle.run_laws.proofs.DecimalNumbers.{round_is, reading_is, round_plain, reading_plain}
 use Rattle.run_laws.proofs.PlainNames.{node_plain, link_plain}
 

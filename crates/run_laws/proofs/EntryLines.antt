@@ -5,12 +5,12 @@ use Rattle.std.proofs.lemmas.Option.{same_Some}
 use Rattle.pals_base.specs.declared.values.NodeNo.{NodeNo}
 use Rattle.pals_base.specs.declared.values.LinkNo.{LinkNo}
 use Rattle.pals_model.specs.declared.design.DesignParts.{DesignParts}
-use Rattle.pals_model.specs.Rules.{IsDesign}
+use Rattle.pals_model.specs.DesignRules.{IsDesign}
 use Rattle.pals_runs.specs.declared.journal.Stop.{Stop}
 use Rattle.pals_runs.specs.declared.journal.Stop.TheVariants as stop
 use Rattle.pals_runs.specs.declared.journal.JournalEntry.{JournalEntry}
 use Rattle.pals_runs.specs.declared.journal.JournalEntry.TheVariants as entry
-use Rattle.pals_runs.specs.Journal.{node_word, link_word}
+use Rattle.pals_runs.specs.JournalLines.{node_word, link_word}
 use Rattle.run_laws.specs.TraceLines.{of_node, of_link, entry_of, told}
 use Rattle.run_laws.specs.proof.EntryLines.{stop_form, entry_form, LinesTellEntries, LinesDiffer}
 use Rattle.run_laws.specs.Entries.{IsOfNode, IsOfLink, IsStopIn, IsEntryIn}

@@ -12,7 +12,7 @@ use Rattle.pals_base.specs.declared.values.LinkNo.{LinkNo}
 use Rattle.pals_base.specs.PeriodBound.{alarm}
 use Rattle.pals_base.specs.ClockPicks.{reached}
 use Rattle.pals_clock.specs.Clock.{left_after}
-use Rattle.pals_model.specs.Rules.{IsComponent, IsLink}
+use Rattle.pals_model.specs.DesignRules.{IsComponent, IsLink}
 use Rattle.pals_model.proofs.FirstElements.{at_element}
 use Rattle.pals_runs.specs.declared.journal.Phase.{Phase}
 use Rattle.pals_runs.specs.declared.journal.Phase.TheVariants.{Waiting, Running, Between, Holding, Done}
@@ -31,10 +31,10 @@ use Rattle.bus_machine.specs.Machine.{BusEvent, Start, Step, Finish, Send, Arriv
 use Rattle.bus_machine.specs.Replay.{entries, start_entry, stop_entry}
 use Rattle.bus_machine.specs.Agreement.{PhaseAgrees, IsCopy, Agrees}
 use Rattle.bus_machine.specs.proof.MachineLaws.{IsRunOf}
-use Rattle.bus_machine.specs.declared.action.NodeAction.{NodeAction}
-use Rattle.bus_machine.specs.declared.action.NodeAction.TheVariants as action
+use Rattle.bus_machine.specs.declared.node_action.NodeAction.{NodeAction}
+use Rattle.bus_machine.specs.declared.node_action.NodeAction.TheVariants as action
 use Rattle.bus_machine.specs.Targets.{Progress, target, targets, send_is_next, next_action, next_in}
-use Rattle.bus_machine.proofs.Lists.{oldest_is_one}
+use Rattle.bus_machine.proofs.ListsAndFlights.{oldest_is_one}
 use Rattle.run_laws.specs.Entries.{IsReading, IsOfLink, IsEntryIn}
 use Rattle.pals_clock.specs.declared.clock.Clocks.{Clocks}
 use Rattle.pals_clock.specs.declared.clock.Clocks.TheVariants.{Meet, Lists}

@@ -16,7 +16,7 @@ use Rattle.pals_base.specs.declared.values.LinkNo.{LinkNo}
 use Rattle.pals_model.specs.declared.design.Link.{Link}
 use Rattle.pals_model.specs.declared.design.DesignParts.{DesignParts}
 use Rattle.pals_model.specs.RoundTexts.{report_lines}
-use Rattle.pals_model.specs.Rules.{IsDesign}
+use Rattle.pals_model.specs.DesignRules.{IsDesign}
 use Rattle.pals_model.proofs.WordBytes.{same_bytes}
 use Rattle.pals_runs.specs.declared.journal.Arrived.{Arrived}
 use Rattle.pals_runs.specs.declared.journal.Arrived.TheVariants.{Kept, Ignored, Early}
@@ -27,7 +27,7 @@ use Rattle.pals_runs.specs.declared.journal.JournalEntry.TheVariants as entry
 use Rattle.pals_runs.specs.declared.verdicts.TraceRule.{TraceRule}
 use Rattle.pals_runs.specs.declared.verdicts.TraceRule.TheVariants as rule
 use Rattle.pals_runs.specs.declared.verdicts.Verdict.TheVariants.{Sound}
-use Rattle.pals_runs.specs.Journal.{entry_line}
+use Rattle.pals_runs.specs.JournalLines.{entry_line}
 use Rattle.bus_machine.specs.Plans.{plan_of}
 use Rattle.bus_machine.specs.Nodes.{NodeState, round_of}
 use Rattle.bus_machine.specs.NodeEvents.{is_waiting, next_step}
@@ -51,7 +51,7 @@ use Rattle.run_laws.specs.Histories.{History, opens, goes_on}
 use Rattle.run_laws.proofs.EntryLines.{lines_tell_entries}
 use Rattle.run_laws.proofs.EntryForms.{lines_have_forms}
 use Rattle.run_laws.proofs.MissedLinks.{missed_link}
-use Rattle.run_laws.proofs.UnbrokenLines.{BreakNone, audited, break_append, verdict_is, not_before, none_of, none_due}
+use Rattle.run_laws.proofs.RuleKeepingLines.{BreakNone, audited, break_append, verdict_is, not_before, none_of, none_due}
 use Rattle.run_laws.proofs.JournalVerdicts.{FirstHasForm, behind_report}
 use Rattle.run_laws.specs.proof.SoundTraces.{TracesAreSound}
 use Rattle.run_laws.proofs.SoundEntries.{AreLast, target_within}

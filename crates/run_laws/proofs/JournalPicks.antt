@@ -25,15 +25,15 @@ use Rattle.bus_machine.specs.Machine.{BusEvent, Start, Step, Finish, Send, Arriv
 use Rattle.bus_machine.specs.Machine.{after_start, after_arrive, on_step, arrival, early_stop}
 use Rattle.bus_machine.specs.Replay.{entries, start_entry, stop_entry}
 use Rattle.bus_machine.specs.proof.MachineLaws.{IsRunOf}
-use Rattle.bus_machine.specs.declared.action.NodeAction.{NodeAction}
-use Rattle.bus_machine.specs.declared.action.NodeAction.TheVariants as action
+use Rattle.bus_machine.specs.declared.node_action.NodeAction.{NodeAction}
+use Rattle.bus_machine.specs.declared.node_action.NodeAction.TheVariants as action
 use Rattle.bus_machine.specs.Targets.{target, targets, actions}
 use Rattle.run_laws.specs.ShownReadings.{listed, start_in, send_in, starts, sends, acts}
 use Rattle.pals_clock.specs.declared.clock.Clocks.{Clocks}
 use Rattle.pals_clock.specs.declared.clock.Clocks.TheVariants.{Meet, Lists}
 use Rattle.run_laws.specs.Runs.{no_clock, clock_at, Does, Takes, KeepsTo, Picks, Runs, opens, picks_for, goes_on}
 use Rattle.run_laws.specs.ListPicks.{picks_of, IsPickFor}
-use Rattle.run_laws.proofs.ClockPicks.{pick_at}
+use Rattle.run_laws.proofs.TargetPicks.{pick_at}
 use Rattle.run_laws.proofs.ActionEffects.{action_is}
 use Rattle.run_laws.proofs.NodePicks.{runs_agree, many_clocks, nodes_pick, next_target, acting_by, plan_rules, held_of}
 use Rattle.run_laws.proofs.NodePicks.{node_agrees}

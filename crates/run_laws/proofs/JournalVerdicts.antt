@@ -6,15 +6,15 @@ use Rattle.std.specs.List.{position_or_len}
 use Rattle.std.proofs.lemmas.List.Elements.{All-head, All-tail}
 use Rattle.std.proofs.lemmas.Nat.{div-mul-add}
 use Rattle.pals_model.specs.declared.design.DesignParts.{DesignParts}
-use Rattle.pals_model.specs.declared.rounds.Env.{Env}
+use Rattle.pals_model.specs.declared.inputs_and_parts.Env.{Env}
 use Rattle.pals_model.specs.RoundTexts.{report_lines}
-use Rattle.pals_model.specs.Rules.{IsDesign}
+use Rattle.pals_model.specs.DesignRules.{IsDesign}
 use Rattle.bus_machine.specs.States.{Run}
 use Rattle.run_laws.specs.LineForms.{form_of}
 use Rattle.run_laws.specs.TraceVerdicts.{report_size, row_size, wrong_row, opening_audit, journal_verdict}
 use Rattle.run_laws.specs.TraceVerdicts.{trace_verdict, verdict}
 use Rattle.run_laws.proofs.ReportRows.{report_length, row_some, reports_have_rows}
-use Rattle.run_laws.proofs.ReportForms.{reports_have_no_forms}
+use Rattle.run_laws.proofs.FormlessReports.{reports_have_no_forms}
 
 abbrev has_form : List ℕ → Bool
 has_form line = is_some (form_of line)

@@ -1,9 +1,9 @@
-pub mod NodeTurns
-pub mod ClockPicks
+pub mod NodeActions
+pub mod TargetPicks
 pub mod ActionEffects
 pub mod NodePicks
 pub mod ShownActions
-pub mod LinkEvents
+pub mod LinkEventEffects
 pub mod MissedLinks
 pub mod EventReadings
 pub mod LinkViews
@@ -15,7 +15,7 @@ pub mod ActionReadings
 pub mod MeetingSources
 pub mod StopCauses
 pub mod MeetingStops
-pub mod ActionPlaces
+pub mod ActionIndices
 pub mod JournalPicks
 pub mod ListClockRuns
 pub mod RunGuarantees
@@ -26,7 +26,7 @@ pub mod CounterRuns
 pub mod MeetingLines
 pub mod RisingReadings
 pub mod DueArrivals
-pub mod UnbrokenLines
+pub mod RuleKeepingLines
 pub mod EntryRanges
 pub mod EntrySpelling
 pub mod SoundRows
@@ -45,7 +45,7 @@ pub mod RunTermination
 pub mod TimelyRuns
 pub mod JournalStates
 pub mod FinalStops
-pub mod SpacedWords
+pub mod PlainWords
 pub mod DecimalNumbers
 pub mod PlainNames
 pub mod EntryForms
@@ -53,7 +53,7 @@ pub mod EntryLines
 pub mod ToldEntries
 pub mod TextLines
 pub mod ReportRows
-pub mod ReportForms
+pub mod FormlessReports
 pub mod JournalVerdicts
 pub mod CounterTraces
 pub mod TimeArithmetic
@@ -70,6 +70,6 @@ pub mod OpeningWorlds
 pub mod ArrivalTiming
 pub mod SendTiming
 pub mod TimelyWorlds
-pub mod MessagePlaces
-pub mod WorldReadings
+pub mod MessageWhereabouts
+pub mod WorldTimeRanges
 pub mod CounterWorlds

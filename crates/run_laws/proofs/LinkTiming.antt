@@ -13,12 +13,12 @@ use Rattle.pals_base.specs.declared.values.NodeNo.{NodeNo}
 use Rattle.pals_base.specs.declared.values.LinkNo.{LinkNo}
 use Rattle.pals_base.specs.declared.values.PortValue.{PortValue}
 use Rattle.pals_model.specs.declared.design.Link.{Link}
-use Rattle.pals_model.specs.declared.flight.FlightCopy.{FlightCopy}
+use Rattle.pals_model.specs.declared.flight_copy.FlightCopy.{FlightCopy}
 use Rattle.pals_model.specs.ComponentInputs.{values_at}
 use Rattle.pals_model.specs.Delays.{delay_of}
 use Rattle.pals_model.specs.Flights.{oldest, without_oldest}
 use Rattle.pals_model.specs.PortKinds.{ins_in}
-use Rattle.pals_model.specs.Rules.{IsLink, LinkPrecedes, port_place}
+use Rattle.pals_model.specs.DesignRules.{IsLink, LinkPrecedes, port_place}
 use Rattle.pals_model.proofs.FirstElements.{at_element}
 use Rattle.pals_runs.specs.declared.journal.Phase.{Phase}
 use Rattle.pals_runs.specs.declared.journal.Phase.TheVariants.{Waiting, Running, Between, Holding, Done}
@@ -42,7 +42,7 @@ use Rattle.run_laws.specs.TraceRules.{is_due}
 use Rattle.bus_machine.specs.Replay.{entries, start_entry, stop_entry}
 use Rattle.bus_machine.specs.Agreement.{Agrees}
 use Rattle.bus_machine.specs.proof.MachineLaws.{IsRunOf}
-use Rattle.bus_machine.proofs.Lists.{numbered_at}
+use Rattle.bus_machine.proofs.ListsAndFlights.{numbered_at}
 use Rattle.bus_machine.proofs.NodeAgreement.{finish_keeps}
 use Rattle.bus_machine.proofs.AgreementChanges.{node_stays}
 use Rattle.run_laws.specs.ShownReadings.{if_at, start_in, send_in, starts, sends, latest}
@@ -52,7 +52,7 @@ use Rattle.run_laws.specs.Runs.{Takes, KeepsTo, Runs, opens, picks_for, goes_on}
 use Rattle.run_laws.specs.proof.LinkTiming.{early_on, view, LinksAreTimed}
 use Rattle.run_laws.proofs.NodePicks.{runs_agree, node_opens}
 use Rattle.run_laws.proofs.ShownActions.{rounds_are_shown, sender_before}
-use Rattle.run_laws.proofs.LinkEvents.{goes_start, goes_send, goes_arrive, slot_after, taken_after, arrived_at}
+use Rattle.run_laws.proofs.LinkEventEffects.{goes_start, goes_send, goes_arrive, slot_after, taken_after, arrived_at}
 use Rattle.run_laws.proofs.MissedLinks.{full_slot}
 use Rattle.run_laws.proofs.MeetingReadings.{no_fall}
 use Rattle.run_laws.proofs.EventReadings.{does_read, start_tells, arrive_tells, event_tells, later, latest_after}

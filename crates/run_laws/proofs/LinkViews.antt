@@ -17,7 +17,7 @@ use Rattle.bus_machine.proofs.AgreementChanges.{node_stays}
 use Rattle.run_laws.specs.ShownReadings.{listed, if_at, start_in, send_in, starts, sends, latest}
 use Rattle.pals_clock.specs.declared.clock.Clocks.{Clocks}
 use Rattle.run_laws.specs.proof.LinkTiming.{LinkView, early_on, view, IsTimed}
-use Rattle.run_laws.proofs.LinkEvents.{goes_later}
+use Rattle.run_laws.proofs.LinkEventEffects.{goes_later}
 use Rattle.run_laws.proofs.EventReadings.{Told, none_told, is_told, latest_after, NoFall}
 
 -- ---- equal views

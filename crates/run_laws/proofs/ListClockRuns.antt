@@ -19,27 +19,27 @@ use Rattle.bus_machine.specs.Nodes.{NodeState}
 use Rattle.bus_machine.specs.States.{Run, BusState, node_at, link_at, no_link}
 use Rattle.bus_machine.specs.Agreement.{PhaseAgrees}
 use Rattle.bus_machine.specs.proof.MachineLaws.{IsRunOf}
-use Rattle.bus_machine.specs.declared.action.NodeAction.{NodeAction}
-use Rattle.bus_machine.specs.declared.action.NodeAction.TheVariants as action
+use Rattle.bus_machine.specs.declared.node_action.NodeAction.{NodeAction}
+use Rattle.bus_machine.specs.declared.node_action.NodeAction.TheVariants as action
 use Rattle.bus_machine.specs.Targets.{targets, target}
 use Rattle.run_laws.specs.ShownReadings.{sends, acts}
 use Rattle.run_laws.specs.NodeActions.{turn, progress_in, Follows}
 use Rattle.pals_clock.specs.declared.clock.Clocks.TheVariants.{Lists}
 use Rattle.run_laws.specs.Runs.{clock_at, HasEnded, Runs}
 use Rattle.run_laws.specs.proof.LinkTiming.{due_of}
-use Rattle.run_laws.specs.proof.StopReadings.{CauseFits, StopFits}
+use Rattle.run_laws.specs.proof.ReadingsAndStops.{CauseFits, StopFits}
 use Rattle.run_laws.specs.ListPicks.{picks_of, IsPickFor}
 use Rattle.run_laws.specs.TimelyRounds.{IsOver, PicksAll, ListStop}
 use Rattle.run_laws.specs.proof.ListClockEnds.{EndsAreTimely, DoneArePicked, EndedPicksEnd, ListsStop}
-use Rattle.run_laws.proofs.NodeTurns.{IsPlan, length-targets, sized, size}
-use Rattle.run_laws.proofs.ClockPicks.{picks_end}
+use Rattle.run_laws.proofs.NodeActions.{IsPlan, length-targets, sized, size}
+use Rattle.run_laws.proofs.TargetPicks.{picks_end}
 use Rattle.run_laws.proofs.NodePicks.{runs_agree, nodes_pick, next_target, plan_rules, node_agrees, readings_are_picks}
 use Rattle.run_laws.proofs.ShownActions.{rounds_are_shown}
-use Rattle.run_laws.proofs.LinkEvents.{due_if_sent}
+use Rattle.run_laws.proofs.LinkEventEffects.{due_if_sent}
 use Rattle.run_laws.proofs.LinkTiming.{links_timed}
 use Rattle.run_laws.proofs.StopCauses.{stops_fit}
 use Rattle.run_laws.proofs.MeetingStops.{sent_of, link_is, source_within, target_within}
-use Rattle.run_laws.proofs.ActionPlaces.{start_place, start_done, send_place, send_done}
+use Rattle.run_laws.proofs.ActionIndices.{start_place, start_done, send_place, send_done}
 use Rattle.run_laws.proofs.JournalPicks.{StopAt, StopPicked, both_chosen, stop_picked}
 
 -- ---- one pick for an action

@@ -23,8 +23,8 @@ use Rattle.bus_machine.specs.States.{Run, BusState, node_at, link_at}
 use Rattle.bus_machine.specs.MissedStarts.{missing_link}
 use Rattle.bus_machine.specs.Machine.{BusEvent, Start, Step, Finish, Send, Arrive, Drop, Repeat, arrival, early_stop}
 use Rattle.bus_machine.specs.Replay.{entries, start_entry, stop_entry}
-use Rattle.bus_machine.specs.declared.action.NodeAction.{NodeAction}
-use Rattle.bus_machine.specs.declared.action.NodeAction.TheVariants as action
+use Rattle.bus_machine.specs.declared.node_action.NodeAction.{NodeAction}
+use Rattle.bus_machine.specs.declared.node_action.NodeAction.TheVariants as action
 use Rattle.bus_machine.specs.Targets.{Progress, target, send_is_next, next_in}
 use Rattle.bus_machine.specs.proof.MachineLaws.{IsRunOf}
 use Rattle.run_laws.specs.ShownReadings.{start_in, starts}

@@ -26,8 +26,8 @@ use Rattle.bus_machine.specs.Machine.{after_start, on_step}
 use Rattle.bus_machine.specs.Replay.{entries}
 use Rattle.bus_machine.specs.Agreement.{PhaseAgrees, Agrees}
 use Rattle.bus_machine.specs.proof.MachineLaws.{IsRunOf}
-use Rattle.bus_machine.specs.declared.action.NodeAction.{NodeAction}
-use Rattle.bus_machine.specs.declared.action.NodeAction.TheVariants as action
+use Rattle.bus_machine.specs.declared.node_action.NodeAction.{NodeAction}
+use Rattle.bus_machine.specs.declared.node_action.NodeAction.TheVariants as action
 use Rattle.bus_machine.specs.Targets.{target, action_in, next_in}
 use Rattle.bus_machine.proofs.AgreementChanges.{node_stays}
 use Rattle.run_laws.specs.ShownReadings.{latest}

@@ -9,7 +9,7 @@ use Rattle.std.proofs.lemmas.Option.{same_Some, get_or_from_slice_get, slice_get
 use Rattle.pals_base.specs.PeriodBound.{alarm, backoff, step_period, sent_steps}
 use Rattle.pals_model.specs.declared.design.Link.{Link}
 use Rattle.pals_model.specs.Delays.{delay_of}
-use Rattle.pals_model.specs.Rules.{IsLink}
+use Rattle.pals_model.specs.DesignRules.{IsLink}
 use Rattle.pals_model.proofs.FirstElements.{at_element}
 use Rattle.pals_runs.specs.declared.journal.Cause.{Cause}
 use Rattle.pals_runs.specs.declared.journal.Cause.TheVariants.{NotSent, InTransit, Lost}
@@ -25,7 +25,7 @@ use Rattle.pals_clock.specs.declared.clock.Clocks.{Clocks}
 use Rattle.pals_clock.specs.declared.clock.Clocks.TheVariants.{Meet, Lists}
 use Rattle.run_laws.specs.Runs.{Runs}
 use Rattle.run_laws.specs.proof.LinkTiming.{due_of}
-use Rattle.run_laws.specs.proof.StopReadings.{IsFor, StopsAt, CauseFits, StopFits}
+use Rattle.run_laws.specs.proof.ReadingsAndStops.{IsFor, StopsAt, CauseFits, StopFits}
 use Rattle.run_laws.specs.Meetings.{IsLate, MeetingStop, DelaysFit}
 use Rattle.run_laws.specs.proof.MeetingLaws.{MeetingsStop, MeetingsEnd, NoMeetingStops}
 use Rattle.run_laws.specs.StopBounds.{sent_at, BoundedStop}

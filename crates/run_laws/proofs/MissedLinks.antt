@@ -5,7 +5,7 @@ use Rattle.std.specs.Prelude.{position, zip, is_none, is_some, if◌then◌else�
 use Rattle.std.specs.Option.{option_map, unwrap_or}
 use Rattle.std.proofs.lemmas.Bool.{and_parts, eqb-true, eqb-false, false≢true}
 use Rattle.std.proofs.lemmas.Option.{slice_get-map, get_or_from_slice_get, slice_get-get_or}
-use Rattle.list_lemmas.proofs.Places.{slice_get-zip}
+use Rattle.list_lemmas.proofs.ElementPositions.{slice_get-zip}
 use Rattle.list_lemmas.proofs.Options.{option_map-parts, option_map-none}
 use Rattle.run_laws.proofs.Lists.{zipped_at}
 use Rattle.pals_base.specs.declared.values.PortValue.{PortValue}
@@ -17,7 +17,7 @@ use Rattle.pals_model.specs.declared.sources.PortSource.{PortSource}
 use Rattle.pals_model.specs.declared.sources.PortSource.TheVariants as source
 use Rattle.pals_model.specs.ComponentInputs.{source_of, sources_of, from_feed, from_link, link_goes_to, feed_goes_to}
 use Rattle.pals_model.specs.PortKinds.{ins_in}
-use Rattle.pals_model.specs.Rules.{IsLink}
+use Rattle.pals_model.specs.DesignRules.{IsLink}
 use Rattle.pals_model.proofs.FirstElements.{found_at, at_element}
 use Rattle.pals_model.proofs.SourceLaws.{link_is_source}
 use Rattle.bus_machine.specs.declared.plan.Input.{Input}
@@ -27,7 +27,7 @@ use Rattle.bus_machine.specs.States.{Run, BusState, node_at}
 use Rattle.bus_machine.specs.MissedStarts.{link_into, missing_link}
 use Rattle.bus_machine.specs.Agreement.{Agrees}
 use Rattle.bus_machine.specs.proof.MachineLaws.{IsRunOf}
-use Rattle.bus_machine.proofs.Lists.{none_found}
+use Rattle.bus_machine.proofs.ListsAndFlights.{none_found}
 
 -- ---- lists
 

@@ -16,7 +16,7 @@ use Rattle.pals_base.specs.PeriodBound.{sent_steps}
 use Rattle.pals_clock.specs.Clock.{ClockState, standing_at}
 use Rattle.pals_model.specs.declared.design.Component.{Component}
 use Rattle.pals_model.specs.ComponentInputs.{values_at}
-use Rattle.pals_model.specs.Rules.{IsComponent}
+use Rattle.pals_model.specs.DesignRules.{IsComponent}
 use Rattle.pals_model.proofs.FirstElements.{at_element}
 use Rattle.pals_runs.specs.declared.journal.Phase.{Phase}
 use Rattle.pals_runs.specs.declared.journal.Phase.TheVariants.{Waiting, Running, Between, Holding, Done}
@@ -37,8 +37,8 @@ use Rattle.bus_machine.specs.Replay.{Replays, entries, start_entry, stop_entry, 
 use Rattle.bus_machine.specs.Replay.{goes_on as replay_goes_on}
 use Rattle.bus_machine.specs.Agreement.{NodeAgrees, PhaseAgrees, Agrees}
 use Rattle.bus_machine.specs.proof.MachineLaws.{IsRunOf}
-use Rattle.bus_machine.specs.declared.action.NodeAction.{NodeAction}
-use Rattle.bus_machine.specs.declared.action.NodeAction.TheVariants as action
+use Rattle.bus_machine.specs.declared.node_action.NodeAction.{NodeAction}
+use Rattle.bus_machine.specs.declared.node_action.NodeAction.TheVariants as action
 use Rattle.bus_machine.specs.Targets.{target, targets, next_in}
 use Rattle.bus_machine.proofs.AgreementChanges.{node_stays}
 use Rattle.bus_machine.proofs.ReplayAgreement.{replay_agrees}
@@ -50,8 +50,8 @@ use Rattle.run_laws.specs.Runs.{no_clock, clock_at, Does, Begins, Takes, KeepsTo
 use Rattle.run_laws.specs.Runs.{picks_for, goes_on}
 use Rattle.run_laws.specs.proof.ListPicks.{IsPicked}
 use Rattle.run_laws.specs.ListPicks.{picks_of, IsPrefix}
-use Rattle.run_laws.proofs.NodeTurns.{IsPlan, length-targets}
-use Rattle.run_laws.proofs.ClockPicks.{does_next, picks_next, goes_otherwise, is_prefix}
+use Rattle.run_laws.proofs.NodeActions.{IsPlan, length-targets}
+use Rattle.run_laws.proofs.TargetPicks.{does_next, picks_next, goes_otherwise, is_prefix}
 use Rattle.run_laws.proofs.ActionEffects.{acting, is_at_most, next_is, target_is, starts_follow, steps_follow}
 use Rattle.run_laws.proofs.ActionEffects.{sends_follow, finish_follows, received_follows}
 

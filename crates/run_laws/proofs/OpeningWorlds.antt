@@ -9,7 +9,7 @@ use Rattle.pals_base.specs.declared.values.PortValue.{PortValue}
 use Rattle.pals_base.specs.StepSequences.{upwards}
 use Rattle.pals_model.specs.declared.design.Component.{Component}
 use Rattle.pals_model.specs.declared.design.Link.{Link}
-use Rattle.pals_model.specs.declared.flight.FlightCopy.{FlightCopy}
+use Rattle.pals_model.specs.declared.flight_copy.FlightCopy.{FlightCopy}
 use Rattle.pals_runs.specs.declared.journal.Phase.TheVariants.{Waiting, Running}
 use Rattle.bus_machine.specs.declared.plan.Input.{Input}
 use Rattle.bus_machine.specs.Plans.{plan_of}

@@ -10,21 +10,21 @@ use Rattle.pals_base.specs.declared.behaviour.PortDecl.{PortDecl}
 use Rattle.pals_base.specs.declared.behaviour.VarDecl.{VarDecl}
 use Rattle.pals_base.specs.declared.behaviour.BehaviourParts.{BehaviourParts}
 use Rattle.pals_base.specs.Names.{is_word, is_path}
-use Rattle.pals_base.specs.Rules.{IsBehaviour}
+use Rattle.pals_base.specs.BehaviourRules.{IsBehaviour}
 use Rattle.pals_model.specs.declared.design.Link.{Link}
 use Rattle.pals_model.specs.declared.design.Component.{Component}
 use Rattle.pals_model.specs.declared.design.DesignParts.{DesignParts}
 use Rattle.pals_model.specs.NamesInTexts.{link_name, in_port_name, port_name, node_named, link_named}
 use Rattle.pals_model.specs.PortKinds.{ins_in}
-use Rattle.pals_model.specs.Rules.{IsDesign, IsComponent, IsLink}
+use Rattle.pals_model.specs.DesignRules.{IsDesign, IsComponent, IsLink}
 use Rattle.pals_model.proofs.FirstElements.{at_element}
 use Rattle.pals_model.proofs.NameLaws.{node_is_found, link_is_found}
 use Rattle.pals_model.proofs.ShapeLaws.{component_at, is_behaviour}
 use Rattle.pals_model.proofs.WordBytes.{all_pass, word_without, path_without}
-use Rattle.pals_runs.specs.Journal.{node_word, link_word, path_in, name_in}
+use Rattle.pals_runs.specs.JournalLines.{node_word, link_word, path_in, name_in}
 use Rattle.bus_machine.specs.States.{link_at, no_link}
 use Rattle.run_laws.specs.LineForms.{is_there}
-use Rattle.run_laws.proofs.SpacedWords.{is_inner, is_plain, all_inner, there_cons}
+use Rattle.run_laws.proofs.PlainWords.{is_inner, is_plain, all_inner, there_cons}
 
 -- ---- words and paths
 word_inner : (word : List ℕ) → is_word word ≡ true → list_all is_inner word ≡ true

@@ -14,7 +14,7 @@ use Rattle.pals_base.specs.declared.values.LinkNo.{LinkNo}
 use Rattle.pals_base.specs.declared.values.PortValue.{PortValue}
 use Rattle.pals_model.specs.declared.design.Component.{Component}
 use Rattle.pals_model.specs.declared.design.Link.{Link}
-use Rattle.pals_model.specs.declared.flight.FlightCopy.{FlightCopy}
+use Rattle.pals_model.specs.declared.flight_copy.FlightCopy.{FlightCopy}
 use Rattle.pals_model.specs.Delays.{delay_of}
 use Rattle.pals_model.specs.ComponentInputs.{values_at}
 use Rattle.pals_model.specs.Flights.{is_of, oldest, without_oldest}
@@ -38,7 +38,7 @@ use Rattle.bus_machine.specs.Machine.{early_stop}
 use Rattle.bus_machine.specs.Replay.{entries, stop_entry}
 use Rattle.bus_machine.specs.Agreement.{PhaseAgrees, Agrees}
 use Rattle.bus_machine.specs.proof.MachineLaws.{IsRunOf}
-use Rattle.bus_machine.proofs.Lists.{numbered_at}
+use Rattle.bus_machine.proofs.ListsAndFlights.{numbered_at}
 use Rattle.bus_machine.proofs.AgreementChanges.{node_set, node_stays}
 use Rattle.pals_clock.specs.declared.clock.Clocks.{Clocks}
 use Rattle.run_laws.specs.Runs.{KeepsTo}
@@ -46,7 +46,7 @@ use Rattle.run_laws.specs.proof.LinkTiming.{one_if}
 use Rattle.run_laws.specs.proof.RunTermination.{most_lines}
 use Rattle.run_laws.proofs.NodePicks.{node_agrees, below_nodes, plan_rules, node_opens}
 use Rattle.run_laws.proofs.ShownActions.{is_waiting_phase}
-use Rattle.run_laws.proofs.LinkEvents.{without_by}
+use Rattle.run_laws.proofs.LinkEventEffects.{without_by}
 use Rattle.run_laws.proofs.DueArrivals.{message_keeps}
 use Rattle.run_laws.proofs.Sums.{sum_below, sum_stays, sum_rises, sum_falls, sum_none, sum_scale, sum_both, sum_columns}
 use Rattle.run_laws.proofs.Sums.{one_is, sum_list}

@@ -9,18 +9,18 @@ use Rattle.std.proofs.lemmas.List.Concat.{flat_map_single}
 use Rattle.std.proofs.lemmas.List.Elements.{All-nil, All-cons, All-append}
 use Rattle.std.proofs.lemmas.Nat.{div-mul-add, mod-mul-add}
 use Rattle.std.proofs.lemmas.Option.{get_or_from_slice_get, slice_get_within}
-use Rattle.list_lemmas.proofs.Lists.{enumerate_from-append, length-map_enumerate_from}
+use Rattle.list_lemmas.proofs.ListOperations.{enumerate_from-append, length-map_enumerate_from}
 use Rattle.pals_base.specs.StepSequences.{upwards}
 use Rattle.pals_model.specs.declared.design.Component.{Component}
 use Rattle.pals_model.specs.declared.design.Tap.{Tap}
 use Rattle.pals_model.specs.declared.design.DesignParts.{DesignParts}
-use Rattle.pals_model.specs.declared.rounds.Env.{Env}
+use Rattle.pals_model.specs.declared.inputs_and_parts.Env.{Env}
 use Rattle.pals_model.specs.Composition.{part}
 use Rattle.pals_model.specs.RoundTexts.{component_line, part_lines, tap_lines, composed_lines, report_lines}
 use Rattle.pals_model.proofs.FirstElements.{none_passes}
 use Rattle.pals_model.proofs.WordBytes.{same_bytes}
 use Rattle.run_laws.specs.TraceVerdicts.{row_size, line_at}
-use Rattle.run_laws.specs.proof.ReportVerdicts.{ReportsHaveRows}
+use Rattle.run_laws.specs.proof.ReportLines.{ReportsHaveRows}
 
 -- ---- numbered lists
 pub numbered_all : {X : Type 0} (P : ℕ × X → Type 0) (from : ℕ) (xs : List X)

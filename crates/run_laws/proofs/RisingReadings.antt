@@ -19,7 +19,7 @@ use Rattle.bus_machine.specs.MissedStarts.{missing_link}
 use Rattle.bus_machine.specs.Machine.{BusEvent, Start, Step, Finish, Send, Arrive, Drop, Repeat, arrival, early_stop}
 use Rattle.bus_machine.specs.Replay.{entries, start_entry, stop_entry}
 use Rattle.bus_machine.specs.proof.MachineLaws.{IsRunOf}
-use Rattle.bus_machine.specs.declared.action.NodeAction.{NodeAction}
+use Rattle.bus_machine.specs.declared.node_action.NodeAction.{NodeAction}
 use Rattle.run_laws.specs.TraceLines.{Timed, timed}
 use Rattle.run_laws.specs.ShownReadings.{latest}
 use Rattle.pals_clock.specs.declared.clock.Clocks.{Clocks}

@@ -10,7 +10,7 @@ use Rattle.std.proofs.lemmas.Option.{same_Some}
 use Rattle.list_lemmas.proofs.Booleans.{or_second}
 use Rattle.pals_base.specs.declared.values.PortValue.{PortValue}
 use Rattle.pals_base.specs.PeriodBound.{step_period, sent_steps, alarm}
-use Rattle.pals_model.specs.Rules.{IsComponent}
+use Rattle.pals_model.specs.DesignRules.{IsComponent}
 use Rattle.pals_model.proofs.FirstElements.{at_element}
 use Rattle.pals_runs.specs.declared.journal.Phase.{Phase}
 use Rattle.pals_runs.specs.declared.journal.Phase.TheVariants.{Waiting, Running, Between, Holding, Done}
@@ -20,7 +20,7 @@ use Rattle.bus_machine.specs.Nodes.{NodeState, round_of, at_rest}
 use Rattle.bus_machine.specs.NodeEvents.{started, stepped, finished, sent_from, after_send, after_round}
 use Rattle.bus_machine.specs.States.{Run}
 use Rattle.bus_machine.specs.proof.MachineLaws.{IsRunOf}
-use Rattle.bus_machine.specs.declared.action.NodeAction.TheVariants as action
+use Rattle.bus_machine.specs.declared.node_action.NodeAction.TheVariants as action
 use Rattle.bus_machine.specs.Targets.{Progress, target, send_is_next, next_action, progress_after, action_in, next_in}
 use Rattle.run_laws.specs.NodeActions.{turn, progress_in, upcoming, Follows}
 use Rattle.run_laws.proofs.ActionEffects.{turn_acts, turn_brings}

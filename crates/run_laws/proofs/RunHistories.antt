@@ -15,8 +15,8 @@ use Rattle.bus_machine.specs.States.{Run, BusState, node_at, link_at}
 use Rattle.bus_machine.specs.Machine.{BusEvent, Start, Step, Finish, Send, Arrive, Drop, Repeat, is_allowed}
 use Rattle.bus_machine.specs.Targets.{target}
 use Rattle.bus_machine.specs.proof.MachineLaws.{IsRunOf}
-use Rattle.bus_machine.specs.declared.action.NodeAction.{NodeAction}
-use Rattle.bus_machine.specs.declared.action.NodeAction.TheVariants as action
+use Rattle.bus_machine.specs.declared.node_action.NodeAction.{NodeAction}
+use Rattle.bus_machine.specs.declared.node_action.NodeAction.TheVariants as action
 use Rattle.run_laws.specs.Runs.{Does, KeepsTo, Runs, next_start, opens as run_opens, picks_for, goes_on as run_goes_on}
 use Rattle.run_laws.proofs.MeetingStops.{no_less}
 use Rattle.run_laws.proofs.MeetingReadings.{no_fall}

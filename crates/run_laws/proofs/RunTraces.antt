@@ -3,11 +3,11 @@ use Rattle.std.proofs.Common.{List, [], ◌∷◌, map, All, refl}
 use Rattle.std.proofs.lemmas.List.Elements.{All-nil, All-cons, All-head, All-tail, All-append}
 use Rattle.pals_model.specs.proof.CompositionLaws.Lines.{IsLine}
 use Rattle.pals_model.specs.RoundTexts.{report_lines}
-use Rattle.pals_model.specs.Rules.{IsDesign}
+use Rattle.pals_model.specs.DesignRules.{IsDesign}
 use Rattle.pals_model.specs.declared.design.DesignParts.{DesignParts}
 use Rattle.pals_model.proofs.LineLaws.{report_has_lines}
 use Rattle.pals_runs.specs.declared.journal.JournalEntry.{JournalEntry}
-use Rattle.pals_runs.specs.Journal.{entry_line}
+use Rattle.pals_runs.specs.JournalLines.{entry_line}
 use Rattle.bus_machine.specs.States.{finished_by_all}
 use Rattle.run_laws.specs.Entries.{IsEntryIn}
 use Rattle.run_laws.specs.Histories.{trace_of}

@@ -13,7 +13,7 @@ use Rattle.pals_base.specs.declared.values.NodeNo.{NodeNo}
 use Rattle.pals_base.specs.declared.values.PortValue.{PortValue}
 use Rattle.pals_base.specs.PeriodBound.{alarm}
 use Rattle.pals_model.specs.declared.design.Link.{Link}
-use Rattle.pals_model.specs.declared.flight.FlightCopy.{FlightCopy}
+use Rattle.pals_model.specs.declared.flight_copy.FlightCopy.{FlightCopy}
 use Rattle.pals_model.specs.Delays.{delay_of}
 use Rattle.pals_model.specs.Flights.{is_of}
 use Rattle.pals_runs.specs.declared.events.Event.TheVariants as event
@@ -32,7 +32,7 @@ use Rattle.bus_machine.specs.Machine as machine
 use Rattle.bus_machine.specs.proof.MachineLaws.{IsRunOf}
 use Rattle.run_laws.specs.Deadlines.{last_before, lesser}
 use Rattle.run_laws.specs.Worlds.{World, reading_at, since_at, ready_at, sendings, moved, is_held, world_after}
-use Rattle.bus_machine.proofs.Lists.{numbered_at}
+use Rattle.bus_machine.proofs.ListsAndFlights.{numbered_at}
 use Rattle.bus_machine.proofs.NodeAgreement.{MaySend, may_send_of}
 use Rattle.bus_machine.proofs.AgreementChanges.{node_set, node_stays}
 use Rattle.bus_machine.proofs.NodeEventAgreement.{send_keeps}

@@ -18,10 +18,10 @@ use Rattle.pals_base.specs.PeriodBound.{alarm}
 use Rattle.pals_base.specs.ClockPicks.{reached}
 use Rattle.pals_clock.specs.Clock.{ClockState, standing_at}
 use Rattle.pals_model.specs.declared.design.Link.{Link}
-use Rattle.pals_model.specs.declared.flight.FlightCopy.{FlightCopy}
+use Rattle.pals_model.specs.declared.flight_copy.FlightCopy.{FlightCopy}
 use Rattle.pals_model.specs.Delays.{delay_of}
 use Rattle.pals_model.specs.Flights.{is_of, oldest}
-use Rattle.pals_model.specs.Rules.{IsLink}
+use Rattle.pals_model.specs.DesignRules.{IsLink}
 use Rattle.pals_model.proofs.FirstElements.{at_element}
 use Rattle.pals_runs.specs.declared.journal.Arrived.{Arrived}
 use Rattle.pals_runs.specs.declared.journal.Arrived.TheVariants.{Kept, Ignored, Early}
@@ -43,10 +43,10 @@ use Rattle.bus_machine.specs.Machine.{after_start, after_arrive, on_step, arriva
 use Rattle.bus_machine.specs.Replay.{entries, start_entry, stop_entry}
 use Rattle.bus_machine.specs.Agreement.{PhaseAgrees, Agrees}
 use Rattle.bus_machine.specs.proof.MachineLaws.{IsRunOf}
-use Rattle.bus_machine.specs.declared.action.NodeAction.TheVariants as action
+use Rattle.bus_machine.specs.declared.node_action.NodeAction.TheVariants as action
 use Rattle.bus_machine.specs.Targets.{target}
 use Rattle.run_laws.specs.TraceRules.{is_due}
-use Rattle.bus_machine.proofs.Lists.{oldest_is_one}
+use Rattle.bus_machine.proofs.ListsAndFlights.{oldest_is_one}
 use Rattle.run_laws.specs.ShownReadings.{send_in, sends}
 use Rattle.run_laws.specs.NodeActions.{upcoming}
 use Rattle.pals_clock.specs.declared.clock.Clocks.{Clocks}
@@ -55,14 +55,14 @@ use Rattle.run_laws.specs.Runs.{no_clock, clock_at, Shows, HasEnded, IsAwaited, 
 use Rattle.run_laws.specs.Runs.{opens, picks_for, goes_on}
 use Rattle.run_laws.specs.proof.LinkTiming.{view, early_on, due_of, one_if, copies, Whereabouts, in_flight, in_slot}
 use Rattle.run_laws.specs.proof.LinkTiming.{was_taken, came_early, IsDueCopy}
-use Rattle.run_laws.specs.proof.StopReadings.{IsFor, StopsAt, NeverSent, CauseFits, StopFits, StopsFit}
+use Rattle.run_laws.specs.proof.ReadingsAndStops.{IsFor, StopsAt, NeverSent, CauseFits, StopFits, StopsFit}
 use Rattle.run_laws.proofs.NodePicks.{runs_agree, node_agrees, many_clocks}
 use Rattle.run_laws.proofs.ShownActions.{rounds_are_shown, is_waiting_phase}
-use Rattle.run_laws.proofs.LinkEvents.{arriving_tells, due_if_sent}
+use Rattle.run_laws.proofs.LinkEventEffects.{arriving_tells, due_if_sent}
 use Rattle.run_laws.proofs.MissedLinks.{missed_link}
 use Rattle.run_laws.proofs.LinkViews.{TimedIn, keeps_at}
 use Rattle.run_laws.proofs.LinkTiming.{links_timed, with_message_count}
-use Rattle.run_laws.proofs.ClockPicks.{reached_again}
+use Rattle.run_laws.proofs.TargetPicks.{reached_again}
 use Rattle.run_laws.proofs.ActionReadings.{shown_for}
 use Rattle.run_laws.proofs.MeetingSources.{meeting_sent}
 

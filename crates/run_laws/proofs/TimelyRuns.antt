@@ -16,7 +16,7 @@ use Rattle.pals_runs.specs.declared.journal.Phase.TheVariants.{Done}
 use Rattle.pals_runs.specs.declared.journal.JournalEntry.{JournalEntry}
 use Rattle.pals_runs.specs.declared.journal.Stop.{Stop}
 use Rattle.pals_runs.specs.declared.journal.Stop.TheVariants as stop
-use Rattle.bus_machine.specs.declared.action.NodeAction.{NodeAction}
+use Rattle.bus_machine.specs.declared.node_action.NodeAction.{NodeAction}
 use Rattle.bus_machine.specs.proof.MachineLaws.{IsRunOf}
 use Rattle.bus_machine.specs.Plans.{plan_of}
 use Rattle.bus_machine.specs.States.{Run, BusState, node_at, link_at, no_link}
@@ -28,7 +28,7 @@ use Rattle.run_laws.specs.ListPicks.{picks_of, IsPickFor}
 use Rattle.run_laws.specs.proof.LinkTiming.{due_of}
 use Rattle.run_laws.specs.TimelyRounds.{IsTimely, PicksAll, PicksEndAt, ListStop, AllAtEnd}
 use Rattle.run_laws.specs.Meetings.{AllDone, MeetingStop}
-use Rattle.run_laws.specs.proof.StopReadings.{StopFits}
+use Rattle.run_laws.specs.proof.ReadingsAndStops.{StopFits}
 use Rattle.run_laws.specs.proof.RunTermination.{IsFirstEnded}
 use Rattle.run_laws.specs.proof.TimelyRuns.{InTime, NoneStops, BoundsAreInTime, EndsFirst, EndsAreOne, PickedAreDone}
 use Rattle.run_laws.proofs.NodePicks.{runs_agree, node_agrees}

@@ -6,7 +6,7 @@ use Rattle.std.specs.Option.{unwrap_or}
 use Rattle.pals_base.specs.declared.values.NodeNo.{NodeNo}
 use Rattle.pals_base.specs.declared.values.LinkNo.{LinkNo}
 use Rattle.pals_base.specs.StepSequences.{upwards}
-use Rattle.pals_model.specs.declared.flight.FlightCopy.{FlightCopy}
+use Rattle.pals_model.specs.declared.flight_copy.FlightCopy.{FlightCopy}
 use Rattle.pals_runs.specs.declared.events.Event.{Event}
 use Rattle.pals_runs.specs.declared.events.EventFault.{EventFault}
 use Rattle.pals_runs.specs.declared.events.EventSubject.{EventSubject}

@@ -14,7 +14,7 @@ pub mod TraceRules
 pub mod TraceVerdicts
 pub mod Entries
 pub mod Histories
-pub mod ReportVerdicts
+pub mod TextLines
 pub mod Worlds
 pub mod Deadlines
 pub mod EventFaults

@@ -16,7 +16,7 @@ use Rattle.pals_clock.specs.declared.clock.Clocks.{Clocks}
 use Rattle.pals_clock.specs.declared.clock.Clocks.TheVariants.{Meet, Lists}
 use Rattle.run_laws.specs.Meetings.{AllDone}
 use Rattle.pals_runs.specs.declared.journal.Stop.TheVariants as stop
-use Rattle.bus_machine.specs.declared.action.NodeAction.TheVariants as action
+use Rattle.bus_machine.specs.declared.node_action.NodeAction.TheVariants as action
 
 -- a round of a link is in time: where its target's picks reach the start of the round after it, its source's picks
 -- reach its send, and that pick plus the delay is no more than the pick of the start

@@ -6,7 +6,7 @@ pub mod MeetingLaws
 pub mod StopBounds
 pub mod RisingReadings
 pub mod LinkTiming
-pub mod StopReadings
+pub mod ReadingsAndStops
 pub mod LockedSteps
 pub mod CounterRuns
 pub mod RunGuarantees
@@ -15,7 +15,7 @@ pub mod SoundTraces
 pub mod RunTermination
 pub mod TimelyRuns
 pub mod EntryLines
-pub mod ReportVerdicts
+pub mod ReportLines
 pub mod CounterTraces
 pub mod CounterWorlds
 pub mod WorldInvariant

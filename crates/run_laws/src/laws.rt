@@ -9,7 +9,7 @@ ghost use Rattle.run_laws.specs.proof.MeetingLaws.{MeetingsEnd, MeetingsShowTarg
 ghost use Rattle.run_laws.specs.proof.ListPicks.{LinesArePicks, NodesPick, ReadingsArePicks};
 ghost use Rattle.run_laws.specs.proof.CounterRuns.{SomeListEnds, SomeMeetingEnds};
 ghost use Rattle.run_laws.specs.proof.RunTraces.{RunsAreSound, TracesAreTexts};
-ghost use Rattle.run_laws.specs.proof.StopReadings.{AllTimesFit, StopsFit};
+ghost use Rattle.run_laws.specs.proof.ReadingsAndStops.{AllTimesFit, StopsFit};
 ghost use Rattle.run_laws.specs.proof.ListClockEnds.{DoneArePicked, EndedPicksEnd, EndsAreTimely, ListsStop};
 ghost use Rattle.run_laws.specs.proof.LinkTiming.{LinksAreTimed, RoundsAreShown};
 

@@ -6,6 +6,6 @@
 
 pub mod history_laws;
 pub mod laws;
-pub mod replay;
+pub mod replay_laws;
 pub mod trace_laws;
 pub mod world_laws;

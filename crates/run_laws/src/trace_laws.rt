@@ -1,7 +1,7 @@
 //! Laws of traces. The functions do nothing: their contracts are the laws.
 ghost use Rattle.run_laws.specs.proof.EntryLines.{EntriesHaveLines, LinesDiffer, LinesHaveForms, LinesTellEntries};
 ghost use Rattle.run_laws.specs.proof.EntryLines.{ToldAreIn};
-ghost use Rattle.run_laws.specs.proof.ReportVerdicts.{ReportsHaveNoForms, ReportsHaveRows, TextsHaveLines};
+ghost use Rattle.run_laws.specs.proof.ReportLines.{ReportsHaveNoForms, ReportsHaveRows, TextsHaveLines};
 ghost use Rattle.run_laws.specs.proof.CounterTraces.{TracesAreJudged};
 
 /// The line of an entry of a design is one line, and has the form of that entry, with its name, its

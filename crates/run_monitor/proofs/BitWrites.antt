@@ -1,8 +1,8 @@
 -- A list of bits as its bits are written one after the other.
 use Rattle.std.proofs.Common.{◌≡◌, ◌≢◌, ◌∙◌, inl, inr, ℕ, zero, suc, ◌+◌, ◌<◌, ◌≤◌, Bool, not, ◌&&◌, ◌||◌, List, []}
 use Rattle.std.proofs.Common.{◌∷◌, length, Some, slice_get, slice_set, refl, sym, ap, ap₂, arith, eq-or-lt_of_le}
-use Rattle.run_monitor.specs.declared.forms.FlatForm.{FlatForm}
-use Rattle.run_monitor.specs.declared.forms.FlatForm.TheVariants as flat
+use Rattle.run_monitor.specs.declared.flat_form.FlatForm.{FlatForm}
+use Rattle.run_monitor.specs.declared.flat_form.FlatForm.TheVariants as flat
 use Rattle.run_monitor.specs.proof.FlatForms.{HasParts, IsFlat}
 use Rattle.run_monitor.specs.proof.FormBits.{bit_at, next_bit}
 

@@ -7,8 +7,8 @@ use Rattle.std.proofs.lemmas.List.{get_or_append_left}
 use Rattle.std.proofs.Math.Seq.{get_or-append_seam}
 use Rattle.std.proofs.lemmas.Result.{IfOk-weaker}
 use Rattle.pals_runs.specs.Formula.{Formula, Var, Not, And, Or, Previous, Once, Historically, Since, Halted}
-use Rattle.run_monitor.specs.declared.forms.FlatForm.{FlatForm}
-use Rattle.run_monitor.specs.declared.forms.FlatForm.TheVariants as flat
+use Rattle.run_monitor.specs.declared.flat_form.FlatForm.{FlatForm}
+use Rattle.run_monitor.specs.declared.flat_form.FlatForm.TheVariants as flat
 use Rattle.pals_runs.specs.proof.FormulaComponents.{reads, names}
 use Rattle.run_monitor.specs.proof.FlatForms.{formula_at, built, formulas_behind, forms_of, HasParts, IsFlat, Adds}
 

@@ -9,7 +9,7 @@ use Rattle.pals_runs.specs.declared.forms.Compare.{Compare}
 use Rattle.pals_runs.specs.Formula.{Formula, Var, Halted, Not, And, Or, Previous, Once, Historically, Since}
 use Rattle.run_monitor.specs.TemporalOperators.{since}
 use Rattle.run_monitor.specs.FormulaSemantics.{frame_in, variable_in, compares, holds}
-use Rattle.run_monitor.specs.proof.MonitorSteps.{further, bits_after}
+use Rattle.run_monitor.specs.proof.OneBitMonitors.{further, bits_after}
 use Rattle.run_monitor.specs.proof.FormulaLaws.{PreviousReads, OnceReads, HistoricallyReads, SinceReads, PastStays}
 use Rattle.run_monitor.specs.proof.FormulaLaws.{OneBitEach}
 use Rattle.run_monitor.proofs.TemporalOperators.{once-first, once-next, always-first, always-next, since-first}

@@ -5,7 +5,7 @@ use Rattle.pals_base.specs.declared.values.Frame.{Frame}
 use Rattle.pals_base.proofs.UpwardNumbers.{map_upwards_more}
 use Rattle.pals_model.specs.Composition.{comp}
 use Rattle.run_monitor.specs.FormulaSemantics.{holds}
-use Rattle.run_monitor.specs.Violations.{history}
+use Rattle.run_monitor.specs.FalseProperties.{history}
 use Rattle.run_monitor.specs.proof.FormulaLaws.{HistoryHasRounds, HistoryGoesOn, SaidAtOnce}
 use Rattle.run_monitor.proofs.FormulaHistories.{past_stays}
 

@@ -1,7 +1,7 @@
 pub mod TemporalOperators
 pub mod FormulaHistories
 pub mod HistoryGrowth
-pub mod Violations
+pub mod FirstFalseProperty
 pub mod PropertyRows
 pub mod CounterProperties
 pub mod FlatForms

@@ -10,7 +10,7 @@ use Rattle.pals_model.specs.Composition.{comp}
 use Rattle.pals_model.specs.RoundTexts.{line_end, text_of, round_line}
 use Rattle.pals_runs.specs.Formula.{Formula}
 use Rattle.run_monitor.specs.FormulaSemantics.{holds}
-use Rattle.run_monitor.specs.Violations.{history}
+use Rattle.run_monitor.specs.FalseProperties.{history}
 use Rattle.run_monitor.specs.WatchText.{verdict_line, watched_lines}
 use Rattle.run_monitor.specs.proof.FormulaLaws.{RowsGoOn}
 use Rattle.run_monitor.proofs.FormulaHistories.{past_stays}

@@ -1,5 +1,5 @@
 pub mod TemporalOperators
 pub mod FormulaSemantics
-pub mod Violations
+pub mod FalseProperties
 pub mod WatchText
 pub mod proof

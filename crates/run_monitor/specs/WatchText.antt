@@ -4,12 +4,12 @@ use Rattle.std.specs.Prelude.{Option, Some, None}
 use Rattle.pals_base.specs.declared.values.Frame.{Frame}
 use Rattle.pals_base.specs.StepSequences.{upwards}
 use Rattle.pals_model.specs.declared.design.DesignParts.{DesignParts}
-use Rattle.pals_model.specs.declared.rounds.Env.{Env}
+use Rattle.pals_model.specs.declared.inputs_and_parts.Env.{Env}
 use Rattle.pals_model.specs.RoundTexts.{text_of, round_line}
 use Rattle.pals_runs.specs.Formula.{Formula}
-use Rattle.run_monitor.specs.declared.violation.FalseProperty.{FalseProperty}
+use Rattle.run_monitor.specs.declared.false_property.FalseProperty.{FalseProperty}
 use Rattle.run_monitor.specs.FormulaSemantics.{holds}
-use Rattle.run_monitor.specs.Violations.{history, violation}
+use Rattle.run_monitor.specs.FalseProperties.{history, violation}
 
 -- a property is a name and its formula; they come in byte order of their names
 abbrev pub names_of : List (List ℕ × Formula) → List (List ℕ)

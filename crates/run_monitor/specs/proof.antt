@@ -1,7 +1,7 @@
 -- What the theorem of the program does not rest on: definitions of contracts below it, of laws, and of proofs.
-pub mod MonitorSteps
+pub mod OneBitMonitors
 pub mod FormulaLaws
-pub mod FirstViolation
+pub mod FirstFalseProperty
 pub mod CounterProperties
 pub mod FlatForms
 pub mod FormBits

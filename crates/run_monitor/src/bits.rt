@@ -5,7 +5,7 @@ ghost use Rattle.run_monitor.specs.proof.FlatForms.{IsFlat};
 ghost use Rattle.run_monitor.specs.proof.FormBits.{bit_at, seen_bit, row_bit, next_bit, row_of, AreSeen, AreOfRow};
 ghost use Rattle.run_monitor.specs.proof.FormBits.{AreNext};
 
-use crate::forms::FlatForm;
+use crate::flat_form::FlatForm;
 use pals_base::{Frame, Items, NodeNo};
 use pals_model::Part;
 use pals_runs::Compare;

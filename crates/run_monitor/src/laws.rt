@@ -2,7 +2,7 @@
 ghost use Rattle.run_monitor.specs.proof.FormulaLaws.{PreviousReads, OnceReads, HistoricallyReads, SinceReads};
 ghost use Rattle.run_monitor.specs.proof.FormulaLaws.{PastStays, OneBitEach, HistoryHasRounds, HistoryGoesOn};
 ghost use Rattle.run_monitor.specs.proof.FormulaLaws.{SaidAtOnce, RowsGoOn};
-ghost use Rattle.run_monitor.specs.proof.FirstViolation.{ViolatedIsFirst, OthersHold};
+ghost use Rattle.run_monitor.specs.proof.FirstFalseProperty.{ViolatedIsFirst, OthersHold};
 ghost use Rattle.run_monitor.specs.proof.CounterProperties.{SmallIsWatched, UpIsWatched, QuietIsWatched, TwoText};
 ghost use Rattle.run_monitor.specs.proof.CounterProperties.{OneText, AreViolated};
 

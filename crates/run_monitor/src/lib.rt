@@ -3,12 +3,12 @@
 #![tactic(auto)]
 
 mod bits;
-mod forms;
+mod flat_form;
 pub mod laws;
 mod monitor;
 mod monitors;
-mod violation;
+mod false_property;
 
 pub use monitor::Monitor;
 pub use monitors::Monitors;
-pub use violation::FalseProperty;
+pub use false_property::FalseProperty;

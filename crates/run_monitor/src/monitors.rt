@@ -3,17 +3,17 @@ ghost use Rattle.std.specs.Prelude.{◌≡◌, ◌+◌, ◌++◌, ◌∷◌, [],
 ghost use Rattle.std.specs.Prelude.{option_map, OnOk, OnErr};
 ghost use Rattle.pals_base.specs.declared.values.Frame.{Frame};
 ghost use Rattle.pals_model.specs.declared.design.DesignParts.{DesignParts};
-ghost use Rattle.pals_model.specs.declared.rounds.Env.{Env};
+ghost use Rattle.pals_model.specs.declared.inputs_and_parts.Env.{Env};
 ghost use Rattle.pals_model.specs.Composition.{comp};
 ghost use Rattle.pals_runs.specs.Formula.{Formula};
-ghost use Rattle.pals_runs.specs.proof.FormulaOf.{formula_of};
+ghost use Rattle.pals_runs.specs.proof.FormulasOfForms.{formula_of};
 ghost use Rattle.run_monitor.specs.proof.FormBits.{row_of};
-ghost use Rattle.run_monitor.specs.Violations.{history};
+ghost use Rattle.run_monitor.specs.FalseProperties.{history};
 ghost use Rattle.run_monitor.specs.proof.MonitorState.{said, GoesOn};
 ghost use Rattle.run_monitor.specs.proof.SeveralMonitors.{said_by, EachGoesOn, HasWatched, WatchesOn, WatchesRound};
 
 use crate::monitor::Monitor;
-use crate::violation::FalseProperty;
+use crate::false_property::FalseProperty;
 use pals_base::NoMemory;
 use pals_model::Part;
 use pals_runs::Form;

@@ -15,8 +15,8 @@ use Rattle.pals_bus.specs.BusValues.{BusValue}
 use Rattle.loose_world.specs.proof.FinishedRows.{common_lines}
 use Rattle.loose_world.proofs.FinishedRows.{common_rows}
 use Rattle.node_threads.specs.proof.SharedCourses.{EndsAt as EndsAtOn}
-use Rattle.node_threads.specs.declared.ends.NodeEnd.{NodeEnd}
-use Rattle.node_threads.specs.declared.ends.NodeEnd.TheVariants as end
+use Rattle.node_threads.specs.declared.node_end.NodeEnd.{NodeEnd}
+use Rattle.node_threads.specs.declared.node_end.NodeEnd.TheVariants as end
 use Rattle.node_threads.specs.proof.NodeEnds.{EndFits, EndsFit, IsOutcome}
 use Rattle.run_laws.specs.TimelyRounds.{IsOver, AllAtEnd}
 use Rattle.run_laws.specs.proof.RunTraces.{AreReadings}

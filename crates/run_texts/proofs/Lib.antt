@@ -1,4 +1,4 @@
 pub mod FinishedRounds
 pub mod RunTexts
-pub mod NodeEnds
+pub mod FirstEndedNode
 pub mod BusOutcomes

@@ -8,11 +8,11 @@ use Rattle.pals_runs.specs.declared.journal.JournalEntry.{JournalEntry}
 use Rattle.pals_runs.specs.declared.journal.Phase.TheVariants.{Done}
 use Rattle.pals_runs.specs.declared.journal.Stop.{Stop}
 use Rattle.pals_runs.specs.declared.verdicts.Verdict.TheVariants.{Sound}
-use Rattle.pals_runs.specs.Journal.{entry_line}
+use Rattle.pals_runs.specs.JournalLines.{entry_line}
 use Rattle.bus_machine.specs.Plans.{plan_of}
 use Rattle.bus_machine.specs.States.{Run, BusState, node_at, finished_by_all}
 use Rattle.bus_machine.specs.Targets.{target}
-use Rattle.run_laws.specs.ReportVerdicts.{lines_of}
+use Rattle.run_laws.specs.TextLines.{lines_of}
 use Rattle.run_laws.specs.TraceVerdicts.{verdict}
 use Rattle.run_laws.specs.RunGuarantees.{KeepsClauses}
 use Rattle.run_laws.specs.TimelyRounds.{AllAtEnd}

@@ -1,7 +1,7 @@
 //! How the nodes of a run that no stop ended have ended.
 ghost use Rattle.std.specs.Prelude.{◌≡◌, ◌≤◌, ℕ, length, Some, IfOk, slice_get};
 ghost use Rattle.pals_base.specs.declared.limits.TheConstants.{COMPONENTS};
-ghost use Rattle.node_threads.specs.declared.ends.NodeEnd.TheVariants as end;
+ghost use Rattle.node_threads.specs.declared.node_end.NodeEnd.TheVariants as end;
 ghost use Rattle.run_texts.specs.proof.NodeEnds.{AreFirst};
 
 use node_threads::NodeEnd;

@@ -9,7 +9,7 @@ use Rattle.pals_clock.specs.declared.clock.Clocks.{Clocks}
 use Rattle.pals_clock.specs.declared.clock.Clocks.TheVariants.{Meet, Lists}
 use Rattle.pals_model.specs.declared.design.DesignParts.{DesignParts}
 use Rattle.scenario_values.specs.declared.fault.ScenarioFault.{ScenarioFault}
-use Rattle.scenario_values.specs.Outcomes.{◌>>=◌, through}
+use Rattle.scenario_values.specs.ResultCombinators.{◌>>=◌, through}
 use Rattle.scenario_values.specs.FaultPlaces.{inside}
 use Rattle.scenario_values.specs.FieldValues.{entries, short_list, whole}
 use Rattle.scenario_values.specs.NameLookup.{node_at}

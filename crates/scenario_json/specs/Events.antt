@@ -16,7 +16,7 @@ use Rattle.scenario_values.specs.declared.fault.ScenarioFault.TheVariants.{Wrong
 use Rattle.scenario_json.specs.declared.events.EventWord.{EventWord}
 use Rattle.scenario_json.specs.declared.events.EventWord.TheVariants.{Pass, Start, Step, Finish, Send, Arrive, Drop}
 use Rattle.scenario_json.specs.declared.events.EventWord.TheVariants.{Repeat}
-use Rattle.scenario_values.specs.Outcomes.{◌>>=◌, given, only_if, through}
+use Rattle.scenario_values.specs.ResultCombinators.{◌>>=◌, given, only_if, through}
 use Rattle.scenario_values.specs.FaultPlaces.{inside}
 use Rattle.scenario_values.specs.FieldValues.{elements, short_list, text, whole, is_whole}
 use Rattle.scenario_values.specs.NameLookup.{node_no, link_no, node_at, link_at}

@@ -2,6 +2,6 @@ pub mod Scenarios
 pub mod RunSizes
 pub mod Clocks
 pub mod Events
-pub mod Inputs
+pub mod InputsAndDelays
 pub mod Traces
 pub mod proof

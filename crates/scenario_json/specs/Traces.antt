@@ -3,7 +3,7 @@ use Rattle.std.specs.Prelude.{ℕ, codes, decimal, List, [], ◌∷◌, ◌++◌
 use Rattle.serde_json.specs.Data.{Data}
 use Rattle.pals_base.specs.declared.limits.TheConstants.{LIST_ITEMS}
 use Rattle.scenario_values.specs.declared.fault.ScenarioFault.{ScenarioFault}
-use Rattle.scenario_values.specs.Outcomes.{◌>>=◌, through}
+use Rattle.scenario_values.specs.ResultCombinators.{◌>>=◌, through}
 use Rattle.scenario_values.specs.FaultPlaces.{inside}
 use Rattle.scenario_values.specs.FieldValues.{short_list, text}
 

@@ -3,7 +3,7 @@ ghost use Rattle.std.specs.Prelude.{◌≡◌, map, option_and_then};
 ghost use Rattle.std.specs.List.{list_all};
 ghost use Rattle.serde_json.specs.Find.{as_str};
 ghost use Rattle.serde_json.specs.View.{view};
-ghost use Rattle.scenario_values.specs.Outcomes.{Answers};
+ghost use Rattle.scenario_values.specs.ResultCombinators.{Answers};
 ghost use Rattle.scenario_values.specs.FaultPlaces.{place_text};
 ghost use Rattle.scenario_values.specs.FieldValues.{is_whole};
 ghost use Rattle.scenario_json.specs.Events.{word_of, is_usual, usual_word, node_part, link_parts, reading_parts};

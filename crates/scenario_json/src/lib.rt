@@ -3,20 +3,20 @@
 //! scenario means, or what its first fault is, is `scen` of `specs/Scenarios.antt`.
 #![tactic(auto)]
 
-mod cells;
+mod run_sizes;
 mod clocks;
 mod events;
-mod inputs;
-mod read;
+mod inputs_and_delays;
+mod scenario_reader;
 mod scenario;
 mod traces;
 
 pub use analysis_fields::{Processor, Property, RoundFault};
-pub use cells::cells_of;
+pub use run_sizes::cells_of;
 pub use clocks::read_clocks;
 pub use events::read_events;
-pub use inputs::{least_delays, no_inputs, read_delays, read_inputs};
-pub use read::read_scenario;
+pub use inputs_and_delays::{least_delays, no_inputs, read_delays, read_inputs};
+pub use scenario_reader::read_scenario;
 pub use scenario::Scenario;
 pub use scenario_values::ScenarioFault;
 pub use traces::read_trace;

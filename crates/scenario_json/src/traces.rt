@@ -1,6 +1,6 @@
 //! The lines of a trace.
 ghost use Rattle.serde_json.specs.View.{view};
-ghost use Rattle.scenario_values.specs.Outcomes.{Answers};
+ghost use Rattle.scenario_values.specs.ResultCombinators.{Answers};
 ghost use Rattle.scenario_json.specs.Traces.{trace_in};
 
 use pals_base::limits::LIST_ITEMS;

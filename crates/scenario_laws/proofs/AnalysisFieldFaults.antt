@@ -10,12 +10,12 @@ use Rattle.pals_base.specs.declared.limits.TheConstants.{HOUR, ROUNDS}
 use Rattle.pals_base.specs.declared.values.NodeNo.{NodeNo}
 use Rattle.pals_base.specs.declared.values.PortValue.{PortValue}
 use Rattle.pals_model.specs.declared.design.DesignParts.{DesignParts}
-use Rattle.pals_runs.specs.declared.pairs.Pair.{Pair}
+use Rattle.pals_runs.specs.declared.analysis_inputs.Pair.{Pair}
 use Rattle.pals_runs.specs.Formula.{Formula}
 use Rattle.scenario_values.specs.declared.fault.ScenarioFault.{ScenarioFault}
 use Rattle.scenario_values.specs.FaultPlaces.{inside}
-use Rattle.analysis_fields.specs.declared.faults.FaultEnds.{FaultEnds}
-use Rattle.analysis_fields.specs.declared.faults.RoundFault.{RoundFault}
+use Rattle.analysis_fields.specs.declared.replica_faults.FaultEnds.{FaultEnds}
+use Rattle.analysis_fields.specs.declared.replica_faults.RoundFault.{RoundFault}
 use Rattle.analysis_fields.specs.declared.formulas.FormulaWord.{FormulaWord}
 use Rattle.analysis_fields.specs.declared.formulas.FormulaWord.TheVariants as role
 use Rattle.analysis_fields.specs.declared.limits.TheConstants.{LEVELS, REPLICAS}

@@ -4,7 +4,7 @@ use Rattle.std.specs.Prelude.{◌≢◌, Result, Ok, Err}
 use Rattle.scenario_values.specs.declared.fault.ScenarioFault.{ScenarioFault}
 use Rattle.scenario_values.specs.declared.fault.ScenarioFault.TheVariants.{NotJson, Field, Unknown, WrongKind}
 use Rattle.scenario_values.specs.declared.fault.ScenarioFault.TheVariants.{OutOfRange, TooBig, Memory}
-use Rattle.scenario_values.specs.Outcomes.{◌>>=◌, given, only_if, through}
+use Rattle.scenario_values.specs.ResultCombinators.{◌>>=◌, given, only_if, through}
 
 pub record IsNamed {A : Type 0} (r : Result A ScenarioFault) : Type 0 where
   pub named : (fault : ScenarioFault) → r ≡ Err fault → fault ≢ Memory

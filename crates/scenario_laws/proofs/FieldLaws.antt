@@ -5,7 +5,7 @@ use Rattle.std.proofs.lemmas.Bool.{false≢true}
 use Rattle.serde_json.specs.Find.{get}
 use Rattle.pals_base.specs.declared.limits.TheConstants.{LIST_ITEMS}
 use Rattle.pals_model.specs.declared.design.DesignParts.{DesignParts}
-use Rattle.pals_model.specs.Rules.{IsDesign}
+use Rattle.pals_model.specs.DesignRules.{IsDesign}
 use Rattle.pals_runs.specs.declared.commands.Command.{Command}
 use Rattle.scenario_json.specs.Events.{events_in}
 use Rattle.scenario_json.specs.Traces.{trace_in}
@@ -17,8 +17,8 @@ use Rattle.scenario_json.proofs.ScenarioFields.{answer_keeps}
 use Rattle.plant_fuse.specs.FusedComposition.{ArePairs}
 use Rattle.scenario_laws.specs.proof.EventsAndTraces.{loosely, AreLooseEvents}
 use Rattle.scenario_laws.proofs.FieldOutcomes.{field_keeps, means_fields, means_read}
-use Rattle.scenario_laws.proofs.EventLists.{events_few, events_loose}
-use Rattle.scenario_laws.proofs.TraceLists.{trace_few}
+use Rattle.scenario_laws.proofs.ScenarioEvents.{events_few, events_loose}
+use Rattle.scenario_laws.proofs.TraceLengths.{trace_few}
 use Rattle.scenario_laws.proofs.FusiblePairs.{no_pairs, pairs_fit}
 
 pub events_are_few : (bytes : List ℕ) (command : Command) (design : DesignParts) (s : Scenario)

@@ -12,17 +12,17 @@ use Rattle.pals_model.specs.declared.design.DesignParts.{DesignParts}
 use Rattle.pals_model.specs.ComponentInputs.{root_inputs}
 use Rattle.pals_runs.specs.declared.commands.Command.{Command}
 use Rattle.pals_runs.specs.declared.events.Event.{Event}
-use Rattle.pals_runs.specs.declared.pairs.Pair.{Pair}
+use Rattle.pals_runs.specs.declared.analysis_inputs.Pair.{Pair}
 use Rattle.scenario_values.specs.declared.fault.ScenarioFault.{ScenarioFault}
 use Rattle.scenario_values.specs.declared.fault.ScenarioFault.TheVariants.{NotJson}
-use Rattle.scenario_values.specs.Outcomes.{◌>>=◌}
+use Rattle.scenario_values.specs.ResultCombinators.{◌>>=◌}
 use Rattle.scenario_values.specs.FieldValues.{entries}
-use Rattle.scenario_values.proofs.SuccessfulOutcomes.{ok_same, ok_bind}
-use Rattle.scenario_json.specs.Inputs.{inputs_in, delays_in}
+use Rattle.scenario_values.proofs.SuccessfulResults.{ok_same, ok_bind}
+use Rattle.scenario_json.specs.InputsAndDelays.{inputs_in, delays_in}
 use Rattle.scenario_json.specs.Traces.{trace_in}
 use Rattle.scenario_json.specs.Clocks.{clocks_in}
 use Rattle.scenario_json.specs.Events.{events_in}
-use Rattle.analysis_fields.specs.declared.faults.RoundFault.{RoundFault}
+use Rattle.analysis_fields.specs.declared.replica_faults.RoundFault.{RoundFault}
 use Rattle.analysis_fields.specs.declared.processors.Processor.{Processor}
 use Rattle.analysis_fields.specs.Properties.{properties_in}
 use Rattle.analysis_fields.specs.PropertyValues.{PropertyValue}

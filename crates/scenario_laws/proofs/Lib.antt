@@ -1,7 +1,7 @@
 mod FieldOutcomes
 mod NamesInDesign
-mod EventLists
-mod TraceLists
+mod ScenarioEvents
+mod TraceLengths
 mod FusiblePairs
 mod FieldLaws
 mod FaultsBesidesMemory

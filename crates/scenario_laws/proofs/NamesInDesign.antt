@@ -6,7 +6,7 @@ use Rattle.pals_model.specs.declared.design.Component.{Component}
 use Rattle.pals_model.specs.declared.design.Link.{Link}
 use Rattle.pals_model.specs.NamesInTexts.{node_named, link_named, link_name}
 use Rattle.scenario_values.specs.declared.fault.ScenarioFault.TheVariants.{Unknown}
-use Rattle.scenario_values.proofs.SuccessfulOutcomes.{ok_given}
+use Rattle.scenario_values.proofs.SuccessfulResults.{ok_given}
 use Rattle.scenario_values.specs.NameLookup.{node_at, link_at}
 
 pub node_below : (place : List ℕ) (design : DesignParts) (path : List ℕ) (node : ℕ)

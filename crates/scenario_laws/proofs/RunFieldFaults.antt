@@ -18,8 +18,8 @@ use Rattle.scenario_values.specs.FaultPlaces.{inside}
 use Rattle.scenario_json.specs.declared.events.EventWord.{EventWord}
 use Rattle.scenario_json.specs.declared.events.EventWord.TheVariants.{Pass, Start, Step, Finish, Send, Arrive, Drop}
 use Rattle.scenario_json.specs.declared.events.EventWord.TheVariants.{Repeat}
-use Rattle.scenario_json.specs.Inputs.{with_value, value_list, with_input, inputs_in, with_delay, delay_list}
-use Rattle.scenario_json.specs.Inputs.{with_link_delays, delays_in}
+use Rattle.scenario_json.specs.InputsAndDelays.{with_value, value_list, with_input, inputs_in, with_delay, delay_list}
+use Rattle.scenario_json.specs.InputsAndDelays.{with_link_delays, delays_in}
 use Rattle.scenario_json.specs.Traces.{with_line, trace_in}
 use Rattle.scenario_json.specs.Clocks.{last_of, with_reading, reading_list, with_clock, clock_lists, is_meet, clocks_in}
 use Rattle.scenario_json.specs.Events.{word_of, node_part, link_parts, with_number, pass_parts, event_of, usual_word}

@@ -12,7 +12,7 @@ use Rattle.pals_runs.specs.declared.commands.Command.{Command}
 use Rattle.scenario_values.specs.declared.fault.ScenarioFault.{ScenarioFault}
 use Rattle.scenario_values.specs.declared.fault.ScenarioFault.TheVariants.{NotJson}
 use Rattle.scenario_values.specs.FieldValues.{whole}
-use Rattle.scenario_json.specs.Inputs.{inputs_in, delays_in}
+use Rattle.scenario_json.specs.InputsAndDelays.{inputs_in, delays_in}
 use Rattle.scenario_json.specs.Traces.{trace_in}
 use Rattle.scenario_json.specs.Clocks.{clocks_in}
 use Rattle.scenario_json.specs.Events.{events_in}

@@ -2,7 +2,7 @@
 //! scenario keep that was read, whatever they say.
 #![tactic(auto)]
 
-pub mod events;
-pub mod facts;
-pub mod meanings;
-pub mod plants;
+pub mod event_laws;
+pub mod scenario_suitability;
+pub mod scenario_meaning;
+pub mod plant_laws;

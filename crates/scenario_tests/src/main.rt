@@ -4,9 +4,9 @@
 
 mod commands;
 mod designs;
-mod fields;
+mod scenario_predicates;
 mod lines;
-mod tables;
+mod scenarios;
 
 use case_files::check;
 use std::io;
@@ -24,6 +24,6 @@ const TABLES: [&str; 9] = [
 ];
 
 fn main(rt: HostRuntime) -> io::Result<()> {
-    check(&rt, &tables::Scenarios, &TABLES)?;
+    check(&rt, &scenarios::Scenarios, &TABLES)?;
     check(&rt, &lines::Lines, &["lines"])
 }

@@ -1,3 +1,3 @@
 pub mod JsonLists
-pub mod SuccessfulOutcomes
+pub mod SuccessfulResults
 pub mod NameSearch

@@ -13,7 +13,7 @@ use Rattle.pals_base.specs.declared.values.PortValue.TheVariants.{Absent, Presen
 use Rattle.pals_base.specs.Expressions.{truth}
 use Rattle.scenario_values.specs.declared.fault.ScenarioFault.{ScenarioFault}
 use Rattle.scenario_values.specs.declared.fault.ScenarioFault.TheVariants.{WrongKind, OutOfRange}
-use Rattle.scenario_values.specs.Outcomes.{◌>>=◌, given, only_if}
+use Rattle.scenario_values.specs.ResultCombinators.{◌>>=◌, given, only_if}
 
 -- ---- lists
 abbrev pub values_in : Items → List Data

@@ -1,4 +1,4 @@
-pub mod Outcomes
+pub mod ResultCombinators
 pub mod FaultPlaces
 pub mod FieldValues
 pub mod NameLookup

@@ -7,7 +7,7 @@ use Rattle.pals_model.specs.ComponentInputs.{root_inputs}
 use Rattle.pals_model.specs.NamesInTexts.{node_named, link_named}
 use Rattle.scenario_values.specs.declared.fault.ScenarioFault.{ScenarioFault}
 use Rattle.scenario_values.specs.declared.fault.ScenarioFault.TheVariants.{Unknown}
-use Rattle.scenario_values.specs.Outcomes.{given}
+use Rattle.scenario_values.specs.ResultCombinators.{given}
 
 abbrev pub node_no : ℕ → NodeNo
 node_no n = record { 0 = n }

@@ -1,7 +1,7 @@
 //! JSON values as what fields ask for.
 ghost use Rattle.std.specs.Prelude.{◌≡◌, ◌≤◌, map, IfOk, IfErr};
 ghost use Rattle.serde_json.specs.View.{view};
-ghost use Rattle.scenario_values.specs.Outcomes.{Answers, Shows};
+ghost use Rattle.scenario_values.specs.ResultCombinators.{Answers, Shows};
 ghost use Rattle.scenario_values.specs.FaultPlaces.{place_text};
 ghost use Rattle.scenario_values.specs.FieldValues.{elements, entries, entry_of, short_list, integer_of, is_whole};
 ghost use Rattle.scenario_values.specs.FieldValues.{in_range, whole, number, text, present, port_value};

@@ -118,9 +118,9 @@ impl<'a> DesignNames<'a> {
     ghost use Rattle.pals_model.specs.ComponentInputs.{root_inputs};
     ghost use Rattle.pals_model.specs.NamesInTexts.{node_named, link_named};
     ghost use Rattle.pals_model.specs.PortKinds.{root_kind};
-    ghost use Rattle.pals_model.specs.Rules.{IsDesign};
-    ghost use Rattle.pals_runs.specs.Journal.{node_word};
-    ghost use Rattle.scenario_values.specs.Outcomes.{Answers, Shows};
+    ghost use Rattle.pals_model.specs.DesignRules.{IsDesign};
+    ghost use Rattle.pals_runs.specs.JournalLines.{node_word};
+    ghost use Rattle.scenario_values.specs.ResultCombinators.{Answers, Shows};
     ghost use Rattle.scenario_values.specs.FaultPlaces.{place_text};
     ghost use Rattle.scenario_values.specs.NameLookup.{node_at, link_at, root_at};
 

@@ -5,7 +5,7 @@ use Rattle.std.specs.Prelude.{slice_get, slice_set}
 use Rattle.std.proofs.lemmas.List.{length-set, take_more}
 use Rattle.std.proofs.lemmas.Option.{slice_get-get_or}
 use Rattle.step_code.specs.proof.StackHeights.{Member}
-use Rattle.step_code.specs.proof.VerifierChecks.{Holds}
+use Rattle.step_code.specs.proof.VerifierAnswers.{Holds}
 use Rattle.step_code.proofs.WeightBounds.{get_set_other, get_set_same}
 use Rattle.step_code.proofs.PassedHeights.{member_left, member_right, member_either, member_or_not}
 

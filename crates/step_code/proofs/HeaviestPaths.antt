@@ -12,9 +12,9 @@ use Rattle.step_code.specs.declared.instr.CodeParts.{CodeParts}
 use Rattle.step_code.specs.Loops.{turns_of}
 use Rattle.step_code.specs.PathWeights.{leads, product, greatest, weight_at, heaviest, entry_weight, weight}
 use Rattle.step_code.specs.InstructionEffects.{Next, Goes, Ends, Traps, Sticks, Senses, step}
-use Rattle.step_code.specs.InstructionCounts.{then_count, count, made_from, unless_halted, made}
+use Rattle.step_code.specs.InstructionsPerStep.{then_count, count, made_from, unless_halted, made}
 use Rattle.step_code.specs.proof.StackHeights.{Member}
-use Rattle.step_code.specs.proof.PathLists.{IsPath, path_weight}
+use Rattle.step_code.specs.proof.CodePaths.{IsPath, path_weight}
 use Rattle.step_code.specs.proof.VerifierRules.{IsVerified}
 use Rattle.step_code.proofs.CappedWeights.{GoesOn, goes_on}
 use Rattle.step_code.proofs.VerifiedPlaces.{verified_entry}

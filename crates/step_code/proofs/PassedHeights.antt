@@ -9,7 +9,7 @@ use Rattle.std.proofs.lemmas.Bool.{cases_eq}
 use Rattle.step_code.specs.declared.instr.Instr.{Instr}
 use Rattle.step_code.specs.PathWeights.{jump_of, next_of, onward}
 use Rattle.step_code.specs.proof.StackHeights.{Member}
-use Rattle.step_code.specs.proof.VerifierChecks.{Holds, AreThere, AreSet}
+use Rattle.step_code.specs.proof.VerifierAnswers.{Holds, AreThere, AreSet}
 use Rattle.step_code.proofs.WeightBounds.{get_set_other, get_set_same}
 
 -- ---- members

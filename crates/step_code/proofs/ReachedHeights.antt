@@ -17,7 +17,7 @@ use Rattle.step_code.specs.proof.VerifierRules.{strays, lacks_next, jumps_badly,
 use Rattle.step_code.specs.proof.VerifierRules.{is_bad_entry, on_some, finds, Underflows, Differs, Rule, BadJump}
 use Rattle.step_code.specs.proof.VerifierRules.{BackJump, BadSlot, Underflow, HeightsDiffer, rank, Finds, IsCleanBelow}
 use Rattle.step_code.specs.proof.VerifierRules.{IsFirst, IsFaultOf}
-use Rattle.step_code.specs.proof.VerifierChecks.{Holds, Clashes, AreThere, AreHeights, PassesOn, Disagrees, Passed}
+use Rattle.step_code.specs.proof.VerifierAnswers.{Holds, Clashes, AreThere, AreHeights, PassesOn, Disagrees, Passed}
 use Rattle.step_code.proofs.FaultlessInstructions.{IsSound, goes_well}
 use Rattle.step_code.proofs.LoopCrossings.{not_le}
 use Rattle.step_code.proofs.PassedHeights.{member_right, member_either, member_or_not}

@@ -1,7 +1,7 @@
 pub mod Loops
 pub mod PathWeights
 pub mod InstructionEffects
-pub mod InstructionCounts
+pub mod InstructionsPerStep
 pub mod CappedWeights
 pub mod CodeLengths
 pub mod proof

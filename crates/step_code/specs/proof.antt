@@ -2,8 +2,8 @@
 pub mod InnermostLoops
 pub mod CodeRuns
 pub mod StackHeights
-pub mod PathLists
+pub mod CodePaths
 pub mod VerifierRules
-pub mod VerifierChecks
+pub mod VerifierAnswers
 pub mod CodeMeaning
 pub mod Examples

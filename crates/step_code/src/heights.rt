@@ -1,7 +1,7 @@
 //! The heights of the stack.
 ghost use Rattle.std.specs.Prelude.{◌≤◌, ◌<◌, ◌↔◌, length, option_to_list, IfOk, IsTrue, Some};
 ghost use Rattle.step_code.specs.PathWeights.{onward};
-ghost use Rattle.step_code.specs.proof.VerifierChecks.{AreHeights, Clashes, AreThere, AreSet, Passed};
+ghost use Rattle.step_code.specs.proof.VerifierAnswers.{AreHeights, Clashes, AreThere, AreSet, Passed};
 ghost use Rattle.pals_base.specs.declared.limits.TheConstants.{INSTRUCTIONS};
 
 use crate::fault::CodeFault;

@@ -8,8 +8,8 @@ ghost use Rattle.step_code.specs.declared.instr.CodeParts.{CodeParts};
 ghost use Rattle.step_code.specs.PathWeights.{weight_of};
 ghost use Rattle.step_code.specs.proof.CodeRuns.{FitsCode, exec, Leaves};
 ghost use Rattle.step_code.specs.proof.StackHeights.{Member};
-ghost use Rattle.step_code.specs.proof.PathLists.{IsPath, path_weight};
-ghost use Rattle.step_code.specs.InstructionCounts.{made};
+ghost use Rattle.step_code.specs.proof.CodePaths.{IsPath, path_weight};
+ghost use Rattle.step_code.specs.InstructionsPerStep.{made};
 ghost use Rattle.step_code.specs.proof.VerifierRules.{IsVerified};
 ghost use Rattle.step_code.specs.proof.Examples.{counter, at_four, surface, nested};
 

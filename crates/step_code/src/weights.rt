@@ -4,7 +4,7 @@ ghost use Rattle.step_code.specs.proof.InnermostLoops.{AreInnermost};
 ghost use Rattle.step_code.specs.PathWeights.{onward, greatest, weight_at, heaviest, entry_weight, weight_of};
 ghost use Rattle.step_code.specs.proof.StackHeights.{Member};
 ghost use Rattle.step_code.specs.proof.VerifierRules.{IsVerified};
-ghost use Rattle.step_code.specs.proof.VerifierChecks.{AreThere};
+ghost use Rattle.step_code.specs.proof.VerifierAnswers.{AreThere};
 ghost use Rattle.step_code.specs.CappedWeights.{capped, AreWeights, AreBest};
 ghost use Rattle.pals_base.specs.declared.limits.TheConstants.{INSTRUCTIONS};
 

@@ -18,7 +18,7 @@ use Rattle.step_code.specs.declared.instr.Instr.{Instr}
 use Rattle.step_code.specs.declared.instr.Instr.TheVariants as code
 use Rattle.step_code.specs.InstructionEffects.{Goes, Senses, on_found, step}
 use Rattle.step_code.specs.CodeLengths.{length_of, length_act, length_acts, length_branches}
-use Rattle.step_compiler.specs.ActionLayout.{code_of, code_act, code_acts, code_branches}
+use Rattle.step_compiler.specs.TreeInstructions.{code_of, code_act, code_acts, code_branches}
 use Rattle.step_compiler.proofs.PlacedCode.{HasAt, has_front, has_back, code-length, act-length, acts-length}
 use Rattle.step_compiler.proofs.PlacedCode.{branches-length}
 use Rattle.step_compiler.proofs.AccessBounds.{Sees, Sizes, SeesAct, SeesActs, SeesBranches}

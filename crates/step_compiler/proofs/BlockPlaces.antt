@@ -6,17 +6,17 @@ use Rattle.std.proofs.lemmas.Bool.{false≢true}
 use Rattle.pals_base.specs.declared.behaviour.BehaviourParts.{BehaviourParts}
 use Rattle.pals_base.specs.PlainTrees.{Edge, Trigger, Dispatch, Always, When}
 use Rattle.pals_base.specs.SingleStep.{is_complete, leaving, is_dispatch}
-use Rattle.pals_base.specs.Rules.{IsBehaviour}
+use Rattle.pals_base.specs.BehaviourRules.{IsBehaviour}
 use Rattle.step_code.specs.declared.instr.Instr.{Instr}
 use Rattle.step_code.specs.CodeLengths.{length_trigger, length_edge}
-use Rattle.step_compiler.specs.ActionLayout.{code_acts}
+use Rattle.step_compiler.specs.TreeInstructions.{code_acts}
 use Rattle.step_compiler.specs.proof.BlockOrder.{is_placed, block_order}
 use Rattle.step_compiler.specs.BlockLayout.{trigger_code, last_instr, past, edge_code, block_code, block_length}
 use Rattle.step_compiler.specs.BlockLayout.{start_of, blocks_code, dispatch_offset}
 use Rattle.step_compiler.specs.proof.BlockLengths.{in_list, block_starts}
-use Rattle.step_compiler.proofs.NumberedLists.{listed}
+use Rattle.step_compiler.proofs.UpwardNumbers.{listed}
 use Rattle.step_compiler.proofs.PlacedCode.{HasAt, has_front, has_back, edge-length, block-length}
-use Rattle.step_compiler.proofs.OrderCompleteness.{order_full}
+use Rattle.step_compiler.proofs.BlockOrderCompleteness.{order_full}
 
 -- ---- a list stands at its own beginning
 get_seam : (a : List Instr) (x : Instr) (xs : List Instr) → slice_get (a ++ x ∷ xs) (length a) ≡ Some x

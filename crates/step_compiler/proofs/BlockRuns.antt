@@ -11,14 +11,14 @@ use Rattle.pals_base.specs.Expressions.{is_true, on_value, eval}
 use Rattle.pals_base.specs.Actions.{Effect, acts}
 use Rattle.pals_base.specs.PlainTrees.{Edge, Trigger, Dispatch, Always, When}
 use Rattle.pals_base.specs.SingleStep.{Fired, is_complete, leaving, is_dispatch, opens, first_open, along, settled}
-use Rattle.pals_base.specs.Rules.{is_always}
+use Rattle.pals_base.specs.BehaviourRules.{is_always}
 use Rattle.pals_base.specs.proof.SettledStates.{settles}
 use Rattle.step_code.specs.declared.instr.Instr.{Instr}
 use Rattle.step_code.specs.declared.instr.Instr.TheVariants as code
 use Rattle.step_code.specs.InstructionEffects.{Senses, step}
 use Rattle.step_code.specs.proof.CodeRuns.{Ended, then_run, run}
 use Rattle.step_code.specs.CodeLengths.{length_of, length_acts, length_trigger, length_edge}
-use Rattle.step_compiler.specs.ActionLayout.{code_of, code_acts}
+use Rattle.step_compiler.specs.TreeInstructions.{code_of, code_acts}
 use Rattle.step_compiler.proofs.PlacedCode.{HasAt, has_front, has_back, code-length, acts-length, trigger-length}
 use Rattle.step_compiler.proofs.PlacedCode.{edge-length}
 use Rattle.step_compiler.proofs.AccessBounds.{Sizes, SeesTrigger, IsGood, AreGood}

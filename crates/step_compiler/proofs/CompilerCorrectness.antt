@@ -20,7 +20,7 @@ use Rattle.pals_base.specs.SingleStep.{Fired, holding, is_present, silence, comp
 use Rattle.pals_base.specs.SingleStep.{is_dispatch, first_open, along, settled, dispatched, reaction, outcome, HasShape}
 use Rattle.pals_base.specs.SingleStep.{fire}
 use Rattle.pals_base.specs.SingleStep as base
-use Rattle.pals_base.specs.Rules.{is_edge, dispatch_count, ends_unguarded, has_ways, IsBehaviour}
+use Rattle.pals_base.specs.BehaviourRules.{is_edge, dispatch_count, ends_unguarded, has_ways, IsBehaviour}
 use Rattle.pals_base.specs.proof.SettledStates.{settles}
 use Rattle.pals_base.proofs.SettledStates.{rule_at}
 use Rattle.pals_base.proofs.WaysAndCycles.{settled_unless_cycle}
@@ -31,7 +31,7 @@ use Rattle.step_code.specs.InstructionEffects.{Senses}
 use Rattle.step_code.specs.PathWeights.{weight_of}
 use Rattle.step_code.specs.proof.CodeRuns.{Outcome, run, left, run_from, from_entry, unless_halted, exec, Leaves}
 use Rattle.step_code.specs.proof.CodeRuns.{has_entry}
-use Rattle.step_code.specs.InstructionCounts.{silent, senses}
+use Rattle.step_code.specs.InstructionsPerStep.{silent, senses}
 use Rattle.step_code.specs.proof.StackHeights.{Member}
 use Rattle.step_code.specs.proof.VerifierRules.{IsVerified}
 use Rattle.step_code.specs.proof.CodeMeaning.{Means}
@@ -47,9 +47,9 @@ use Rattle.step_compiler.specs.proof.BlockLengths.{block_starts, in_list, compil
 use Rattle.step_compiler.proofs.AccessBounds.{Sizes, IsGood, AreGood}
 use Rattle.step_compiler.proofs.SoundAccesses.{Fitting, acts_seen, trigger_seen}
 use Rattle.step_compiler.proofs.PlacedCode.{HasAt, blocks-length}
-use Rattle.step_compiler.proofs.AwaitedMarks.{edge_has}
-use Rattle.step_compiler.proofs.OrderCompleteness.{all_member, order_sum}
-use Rattle.step_compiler.proofs.NumberedLists.{got, length-upwards}
+use Rattle.step_compiler.proofs.AwaitedStates.{edge_has}
+use Rattle.step_compiler.proofs.BlockOrderCompleteness.{all_member, order_sum}
+use Rattle.step_compiler.proofs.UpwardNumbers.{got, length-upwards}
 use Rattle.step_compiler.proofs.BlockPlaces.{whole_block, dispatch_at}
 use Rattle.step_compiler.proofs.ExpressionRuns.{At, at, runs}
 use Rattle.step_compiler.proofs.LoopTurns.{Fits}

@@ -8,18 +8,18 @@ use Rattle.std.proofs.lemmas.List.Elements.{All-from_recursion, All-filter, recu
 use Rattle.pals_base.specs.declared.behaviour.BehaviourParts.{BehaviourParts}
 use Rattle.pals_base.specs.PlainTrees.{Edge}
 use Rattle.pals_base.specs.SingleStep.{is_complete, leaving}
-use Rattle.pals_base.specs.Rules.{IsBehaviour, is_edge}
+use Rattle.pals_base.specs.BehaviourRules.{IsBehaviour, is_edge}
 use Rattle.pals_base.specs.StepSequences.{upwards}
 use Rattle.step_code.specs.declared.instr.Instr.{Instr}
 use Rattle.step_code.specs.declared.instr.CodeParts.{CodeParts}
 use Rattle.step_code.specs.CodeLengths.{length_edge, length_trigger}
 use Rattle.step_compiler.specs.LaidOutCode.{states_of, IsLaidOut, AreLaidOut}
 use Rattle.step_compiler.specs.proof.BlockOrder.{block_order}
-use Rattle.step_compiler.specs.ActionLayout.{code_acts}
+use Rattle.step_compiler.specs.TreeInstructions.{code_acts}
 use Rattle.step_compiler.specs.BlockLayout.{trigger_code, past, last_instr, edge_code, block_code, block_length}
 use Rattle.step_compiler.specs.BlockLayout.{blocks_code, start_of, entry_of}
 use Rattle.step_compiler.specs.proof.BlockLengths.{block_starts, in_list, compiled}
-use Rattle.step_compiler.proofs.AwaitedMarks.{edge_has}
+use Rattle.step_compiler.proofs.AwaitedStates.{edge_has}
 use Rattle.step_compiler.proofs.BlockPlaces.{start_is}
 use Rattle.step_compiler.specs.proof.LayoutLaws.{HasLayout, LaidOutCodeIsOne, LaidOutCodesAreOne}
 use Rattle.step_compiler.proofs.UniqueBlockOrder.{blocks_are_ordered, order_is_one}

@@ -7,12 +7,12 @@ use Rattle.std.proofs.lemmas.Bool.{cases_lt, true≢false, false≢true, or_righ
 use Rattle.pals_base.specs.declared.behaviour.BehaviourParts.{BehaviourParts}
 use Rattle.pals_base.specs.PlainTrees.{Edge, Trigger, Dispatch, Always, When}
 use Rattle.pals_base.specs.SingleStep.{is_complete, leaving}
-use Rattle.pals_base.specs.Rules.{is_always, ends_unguarded}
+use Rattle.pals_base.specs.BehaviourRules.{is_always, ends_unguarded}
 use Rattle.step_code.specs.declared.instr.Instr.{Instr}
 use Rattle.step_code.specs.declared.instr.Instr.TheVariants as code
 use Rattle.step_code.specs.proof.StackHeights.{Member}
 use Rattle.step_code.specs.CodeLengths.{length_of, length_acts, length_trigger, length_edge, length_edges}
-use Rattle.step_compiler.specs.ActionLayout.{code_of, code_acts}
+use Rattle.step_compiler.specs.TreeInstructions.{code_of, code_acts}
 use Rattle.step_compiler.specs.LoopDepths.{depth_acts, depth_edges}
 use Rattle.step_compiler.specs.proof.BlockOrder.{is_placed}
 use Rattle.step_compiler.specs.BlockLayout.{trigger_code, last_instr, past, edge_code, block_code, block_length}
@@ -20,11 +20,11 @@ use Rattle.step_compiler.specs.BlockLayout.{start_of, blocks_code}
 use Rattle.step_compiler.specs.proof.BlockLengths.{order_length}
 use Rattle.step_compiler.proofs.PlacedCode.{HasAt, has_front, has_back, code-length, acts-length, trigger-length}
 use Rattle.step_compiler.proofs.PlacedCode.{edge-length, block-length}
-use Rattle.step_compiler.proofs.OrderInvariant.{AreOnce}
-use Rattle.step_compiler.proofs.LoopsAndJumps.{Outer, Closed, closed_both, one_closed, none_closed, starts_none}
-use Rattle.step_compiler.proofs.LoopsAndJumps.{expr_closed, acts_closed}
+use Rattle.step_compiler.proofs.BlockOrderInvariant.{AreOnce}
+use Rattle.step_compiler.proofs.JumpsWithinLoops.{Outer, Closed, closed_both, one_closed, none_closed, starts_none}
+use Rattle.step_compiler.proofs.JumpsWithinLoops.{expr_closed, acts_closed}
 use Rattle.step_compiler.proofs.StackHeights.{height, edge_height, block_height}
-use Rattle.step_compiler.proofs.ActionChecks.{Round}
+use Rattle.step_compiler.proofs.VerifiedActions.{Round}
 
 -- ---- loops of transitions and blocks
 last_plain : (b : BehaviourParts) (starts : ℕ → ℕ) (target : ℕ) → starts_none (last_instr b starts target) ≡ true

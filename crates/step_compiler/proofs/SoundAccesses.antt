@@ -17,7 +17,7 @@ use Rattle.pals_base.specs.PlainTrees.{NoMore, Then, Action, Assign, Emit, If, F
 use Rattle.pals_base.specs.PlainTrees.{NoBranch, Where, Trigger, Dispatch, Always, When}
 use Rattle.pals_base.specs.Kinds.{allows, port_kinds, declared_or, joined, kinds_of, kinds_along, suits_variable}
 use Rattle.pals_base.specs.Kinds.{suits_port, turns, is_short, is_sound, are_sound, branches_are_sound}
-use Rattle.pals_base.specs.Rules.{has_condition}
+use Rattle.pals_base.specs.BehaviourRules.{has_condition}
 use Rattle.step_compiler.specs.LoopDepths.{depth_act, depth_acts, depth_branches}
 use Rattle.step_compiler.proofs.AccessBounds.{Sees, SeesAll, Sizes, SeesAct, SeesActs, SeesBranches, SeesTrigger}
 

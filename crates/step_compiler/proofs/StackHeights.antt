@@ -14,8 +14,8 @@ use Rattle.step_code.specs.declared.instr.Instr.TheVariants as code
 use Rattle.step_code.specs.proof.StackHeights.{after}
 use Rattle.step_code.specs.CodeLengths.{operand_length, length_of, length_rest, length_act, length_acts}
 use Rattle.step_code.specs.CodeLengths.{length_branches, length_trigger, length_edge, length_edges}
-use Rattle.step_compiler.specs.ActionLayout.{operator, operand_code, code_of, code_rest, code_act, code_acts}
-use Rattle.step_compiler.specs.ActionLayout.{code_branches}
+use Rattle.step_compiler.specs.TreeInstructions.{operator, operand_code, code_of, code_rest, code_act, code_acts}
+use Rattle.step_compiler.specs.TreeInstructions.{code_branches}
 use Rattle.step_compiler.specs.BlockLayout.{trigger_code, last_instr, past, edge_code, block_code}
 use Rattle.step_compiler.proofs.PlacedCode.{HasAt, has_front, has_back, code-length, operand-length, act-length}
 use Rattle.step_compiler.proofs.PlacedCode.{acts-length, branches-length, trigger-length, edge-length}

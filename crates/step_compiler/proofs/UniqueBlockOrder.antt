@@ -7,15 +7,15 @@ use Rattle.std.proofs.lemmas.Bool.{eqb-true, eq-eqb, and_parts, cases_lt, cases_
 use Rattle.std.proofs.lemmas.List.{take_all, take-append-le, length-append}
 use Rattle.std.proofs.lemmas.List.Folds.{Any-from_list_any, list_any_at}
 use Rattle.std.proofs.lemmas.Option.{slice_get_within}
-use Rattle.list_lemmas.proofs.Places.{slice_get-push}
+use Rattle.list_lemmas.proofs.ElementPositions.{slice_get-push}
 use Rattle.pals_base.specs.declared.behaviour.BehaviourParts.{BehaviourParts}
-use Rattle.pals_base.specs.Rules.{IsBehaviour}
+use Rattle.pals_base.specs.BehaviourRules.{IsBehaviour}
 use Rattle.pals_base.specs.PlainTrees.{Edge}
 use Rattle.step_compiler.specs.proof.BlockOrder.{is_placed, is_awaited, leads_from_outside, may_follow, next_state}
 use Rattle.step_compiler.specs.proof.BlockOrder.{with_next, ordered, block_order}
 use Rattle.step_compiler.specs.LaidOutCode.{complete_states, MayFollow, IsNext, IsBlockOrder}
-use Rattle.step_compiler.proofs.NumberedLists.{found_is}
-use Rattle.step_compiler.proofs.OrderCompleteness.{order_full}
+use Rattle.step_compiler.proofs.UpwardNumbers.{found_is}
+use Rattle.step_compiler.proofs.BlockOrderCompleteness.{order_full}
 use Rattle.step_compiler.specs.proof.LayoutLaws.{OrderIsOne}
 use Rattle.step_compiler.proofs.PlacedStates.{placed_contains, contains_placed, find_least, get_take, take_next}
 use Rattle.step_compiler.proofs.PlacedStates.{get_front}

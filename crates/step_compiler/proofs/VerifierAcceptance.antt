@@ -11,7 +11,7 @@ use Rattle.pals_base.specs.declared.limits.TheConstants.{INSTRUCTIONS}
 use Rattle.pals_base.specs.PlainTrees.{Edge, Trigger, Dispatch, Always, When}
 use Rattle.pals_base.specs.SingleStep.{is_complete, leaving, is_dispatch}
 use Rattle.pals_base.specs.StepSequences.{upwards}
-use Rattle.pals_base.specs.Rules.{is_edge, is_always, IsBehaviour}
+use Rattle.pals_base.specs.BehaviourRules.{is_edge, is_always, IsBehaviour}
 use Rattle.step_code.specs.declared.instr.Instr.{Instr}
 use Rattle.step_code.specs.declared.instr.Instr.TheVariants as code
 use Rattle.step_code.specs.declared.instr.CodeParts.{CodeParts}
@@ -27,7 +27,7 @@ use Rattle.step_code.specs.proof.VerifierRules.{misses_slot, is_none, enters_bad
 use Rattle.step_code.specs.proof.VerifierRules.{BadJump, BackJump, BadSlot, Underflow, HeightsDiffer, Finds, IsFaultOf}
 use Rattle.step_code.specs.proof.VerifierRules.{IsVerified}
 use Rattle.step_code.specs.CodeLengths.{length_of, length_acts, length_trigger, length_edge, length_edges, code_length}
-use Rattle.step_compiler.specs.ActionLayout.{code_of, code_acts}
+use Rattle.step_compiler.specs.TreeInstructions.{code_of, code_acts}
 use Rattle.step_compiler.specs.proof.BlockOrder.{block_order}
 use Rattle.step_compiler.specs.LaidOutCode.{states_of}
 use Rattle.step_compiler.specs.BlockLayout.{trigger_code, last_instr, past, edge_code, block_code, block_length}
@@ -37,17 +37,17 @@ use Rattle.step_compiler.proofs.AccessBounds.{SeesTrigger}
 use Rattle.step_compiler.proofs.SoundAccesses.{acts_seen, trigger_seen}
 use Rattle.step_compiler.proofs.PlacedCode.{HasAt, has_front, has_back, code-length, acts-length, trigger-length}
 use Rattle.step_compiler.proofs.PlacedCode.{edge-length, blocks-length}
-use Rattle.step_compiler.proofs.AwaitedMarks.{edge_has}
-use Rattle.step_compiler.proofs.OrderInvariant.{start_below}
-use Rattle.step_compiler.proofs.OrderCompleteness.{all_member, some_member, order_full}
-use Rattle.step_compiler.proofs.NumberedLists.{got}
+use Rattle.step_compiler.proofs.AwaitedStates.{edge_has}
+use Rattle.step_compiler.proofs.BlockOrderInvariant.{start_below}
+use Rattle.step_compiler.proofs.BlockOrderCompleteness.{all_member, some_member, order_full}
+use Rattle.step_compiler.proofs.UpwardNumbers.{got}
 use Rattle.step_compiler.proofs.BlockPlaces.{whole_at, start_is, whole_block}
 use Rattle.step_compiler.proofs.CompilerCorrectness.{sizes, fitting, onward_of, dispatch_of, compiled_length}
-use Rattle.step_compiler.proofs.LoopsAndJumps.{Closed, jump_stays, closed_both, none_closed, expr_closed, acts_closed}
+use Rattle.step_compiler.proofs.JumpsWithinLoops.{Closed, jump_stays, closed_both, none_closed, expr_closed, acts_closed}
 use Rattle.step_compiler.proofs.StackHeights.{height, height_at, expr_height, acts_height, trigger_height, edge_height}
-use Rattle.step_compiler.proofs.ExpressionChecks.{IsFine, AreFine, one_fine, both_fine, none_fine, fine_at, jump_fine}
-use Rattle.step_compiler.proofs.ExpressionChecks.{zero_fine}
-use Rattle.step_compiler.proofs.ActionChecks.{none_round, Matches, value_fine, acts_fine}
+use Rattle.step_compiler.proofs.VerifiedExpressions.{IsFine, AreFine, one_fine, both_fine, none_fine, fine_at, jump_fine}
+use Rattle.step_compiler.proofs.VerifiedExpressions.{zero_fine}
+use Rattle.step_compiler.proofs.VerifiedActions.{none_round, Matches, value_fine, acts_fine}
 use Rattle.step_compiler.proofs.LoopFreePlaces.{trigger_closed, edge_closed, IsCalm, calm_edge, calm_at, calm_round}
 use Rattle.step_compiler.proofs.LoopFreePlaces.{calm_outer, calm_start, lies_in, member_leaving, edge_depth, some_edges}
 use Rattle.step_compiler.proofs.LoopFreePlaces.{LastOpen, last_open, rest_open, past_inside}

@@ -1,4 +1,4 @@
-pub mod ActionLayout
+pub mod TreeInstructions
 pub mod LoopDepths
 pub mod BlockLayout
 pub mod LaidOutCode

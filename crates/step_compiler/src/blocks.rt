@@ -9,7 +9,7 @@ ghost use Rattle.step_compiler.specs.proof.BlockLengths.{start_in, in_list, capp
 ghost use Rattle.step_compiler.specs.proof.AppendedCode.{Adds};
 
 use crate::lengths::transition_length;
-use crate::numbering::{behind, item_at};
+use crate::checked_numbers::{behind, item_at};
 use crate::transitions::{is_complete, push_transition};
 use pals_base::{Behaviour, Guard, Items, NoMemory, Transition};
 use std::alloc::Global;

@@ -7,11 +7,11 @@ ghost use Rattle.step_compiler.specs.LaidOutCode.{IsLaidOut};
 ghost use Rattle.step_compiler.specs.proof.CompileRefusals.{IsCauseFor};
 
 use crate::blocks::{entries, push_blocks, starts};
-use crate::depths::transitions_depth;
+use crate::loop_depths::transitions_depth;
 use crate::fault::CompileFault;
 use crate::lengths::transitions_length;
-use crate::numbering::count;
-use crate::order::block_order;
+use crate::checked_numbers::count;
+use crate::block_order::block_order;
 use pals_base::limits::INSTRUCTIONS;
 use pals_base::{Behaviour, Items, NoMemory};
 use std::alloc::Global;

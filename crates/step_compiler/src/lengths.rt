@@ -1,8 +1,8 @@
 //! How many instructions the parts of a behaviour take, stopped at u64's greatest value. Each
 //! function recurs as deep as its tree is.
 ghost use Rattle.std.specs.Prelude.{◌≡◌};
-ghost use Rattle.pals_base.specs.proof.SourceTrees.{tree_of, operands_along, action_of, actions_along, branches_along};
-ghost use Rattle.pals_base.specs.proof.SourceTrees.{trigger_of};
+ghost use Rattle.pals_base.specs.proof.TreeViews.{tree_of, operands_along, action_of, actions_along, branches_along};
+ghost use Rattle.pals_base.specs.proof.TreeViews.{trigger_of};
 ghost use Rattle.step_code.specs.CappedWeights.{capped};
 ghost use Rattle.step_code.specs.CodeLengths.{operand_length, length_of, length_rest, length_act, length_acts};
 ghost use Rattle.step_code.specs.CodeLengths.{length_branches, length_trigger, length_edge, length_edges};

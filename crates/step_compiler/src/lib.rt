@@ -4,13 +4,13 @@
 mod actions;
 mod blocks;
 mod compiler;
-mod depths;
+mod loop_depths;
 mod expressions;
 mod fault;
 pub mod laws;
 mod lengths;
-mod numbering;
-mod order;
+mod checked_numbers;
+mod block_order;
 mod transitions;
 
 pub use compiler::compile;

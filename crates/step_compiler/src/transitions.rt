@@ -1,6 +1,6 @@
 //! The instructions of transitions.
 ghost use Rattle.std.specs.Prelude.{◌≡◌, IfOk, OnOk, slice_get};
-ghost use Rattle.pals_base.specs.proof.SourceTrees.{trigger_of};
+ghost use Rattle.pals_base.specs.proof.TreeViews.{trigger_of};
 ghost use Rattle.pals_base.specs.SingleStep.{completes};
 ghost use Rattle.step_compiler.specs.BlockLayout.{trigger_code, last_instr, past};
 ghost use Rattle.step_compiler.specs.proof.BlockLengths.{transition_code, in_list};
@@ -9,7 +9,7 @@ ghost use Rattle.step_compiler.specs.proof.AppendedCode.{Adds};
 use crate::actions::push_acts;
 use crate::expressions::push_expr;
 use crate::lengths::transition_length;
-use crate::numbering::{behind, count, item_at};
+use crate::checked_numbers::{behind, count, item_at};
 use pals_base::{Behaviour, Guard, Items, NoMemory, StateDecl, Transition};
 use step_code::Instr;
 

@@ -22,7 +22,7 @@ use Rattle.step_code.specs.InstructionEffects.{Next, Goes, Ends, Traps, Sticks, 
 use Rattle.step_code.specs.InstructionEffects.{on_two, step}
 use Rattle.step_code.specs.proof.CodeRuns.{Outcome, Ended, Trapped, Stuck, Unfinished, then_run, run, left, from_entry}
 use Rattle.step_code.specs.proof.CodeRuns.{unless_halted, exec, Leaves, has_entry, FitsCode}
-use Rattle.step_code.specs.InstructionCounts.{silent, senses, slots_of}
+use Rattle.step_code.specs.InstructionsPerStep.{silent, senses, slots_of}
 use Rattle.step_code.specs.proof.VerifierRules.{finds, misses_slot, on_some, BadSlot, IsVerified}
 use Rattle.step_code.proofs.FaultlessInstructions.{untrue}
 use Rattle.step_code.proofs.StepResults.{length-holding, begins}

@@ -13,7 +13,7 @@ use Rattle.pals_base.specs.declared.limits.TheConstants.{INSTRUCTIONS}
 use Rattle.step_code.specs.PathWeights.{weight}
 use Rattle.step_code.specs.InstructionEffects.{Next, Goes, Ends, Traps, step}
 use Rattle.step_code.specs.proof.CodeRuns.{Outcome, Ended, Trapped, Rest, then_run, run}
-use Rattle.step_code.specs.InstructionCounts.{count, senses}
+use Rattle.step_code.specs.InstructionsPerStep.{count, senses}
 use Rattle.step_code.specs.proof.StackHeights.{takes, Fed, Member}
 use Rattle.step_code.specs.proof.VerifierRules.{IsVerified}
 use Rattle.step_code.proofs.NestedCode.{IsOver}

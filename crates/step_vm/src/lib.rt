@@ -1,7 +1,7 @@
 //! The machine that runs step code.
 #![tactic(auto)]
 
-mod machine;
+mod instruction_effects;
 mod operators;
 mod room;
 mod stack;

@@ -2,14 +2,14 @@
 ghost use Rattle.std.specs.Prelude.{◌≡◌, ◌≤◌, ◌-◌, ◌++◌, [], length, take, replicate, pos, Some, true, slice_get, ◌+◌};
 ghost use Rattle.pals_base.specs.SingleStep.{holding};
 ghost use Rattle.step_code.specs.proof.CodeRuns.{FitsCode, Sized, Leaves, exec, has_entry, left, run_from};
-ghost use Rattle.step_code.specs.InstructionCounts.{silent};
+ghost use Rattle.step_code.specs.InstructionsPerStep.{silent};
 ghost use Rattle.step_code.specs.proof.StackHeights.{Member};
 ghost use Rattle.step_code.specs.proof.VerifierRules.{IsVerified};
 ghost use Rattle.step_vm.specs.proof.OperandStacks.{stack_of};
 ghost use Rattle.step_vm.specs.proof.StepOutcomes.{HasEnded, LeavesBehind, ran};
 ghost use Rattle.step_vm.specs.proof.RoomCapacity.{IsRoomOf};
 
-use crate::machine::{CodeInputs, Continuation, advance};
+use crate::instruction_effects::{CodeInputs, Continuation, advance};
 use crate::room::Room;
 use crate::stack::Stack;
 use pals_base::{Frame, Items, PortValue, Trap};

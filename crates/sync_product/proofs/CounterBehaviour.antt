@@ -8,7 +8,7 @@ use Rattle.std.proofs.lemmas.List.Kept.{AllPairs-cons}
 use Rattle.list_lemmas.proofs.ElementPairs.{AllPairs-one, AllPairs-three, bytes_ne_by_test}
 use Rattle.pals_base.specs.declared.behaviour.BehaviourParts.{BehaviourParts}
 use Rattle.pals_base.specs.declared.behaviour.StateDecl.{StateDecl}
-use Rattle.pals_base.specs.Rules.{IsBehaviour, IsAcyclic}
+use Rattle.pals_base.specs.BehaviourRules.{IsBehaviour, IsAcyclic}
 use Rattle.pals_base.specs.PlainTrees.{Edge}
 use Rattle.pals_base.specs.SingleStep.{leaving}
 use Rattle.pals_model.specs.declared.design.Component.{Component}

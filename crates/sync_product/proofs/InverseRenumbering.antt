@@ -4,14 +4,14 @@ use Rattle.std.proofs.Common.{slice_get, Contains, sym, ap, ap₂, subst, arith}
 use Rattle.std.proofs.lemmas.Bool.{eqb-true, eq-eqb, true≢false}
 use Rattle.std.proofs.lemmas.List.Elements.{All-contains, Contains-get_or}
 use Rattle.std.proofs.lemmas.Option.{slice_get_within}
-use Rattle.list_lemmas.proofs.Places.{Contains-from_slice_get, slice_get-from_Contains, slice_get-map_some}
-use Rattle.list_lemmas.proofs.Places.{slice_get-map_parts}
+use Rattle.list_lemmas.proofs.ElementPositions.{Contains-from_slice_get, slice_get-from_Contains, slice_get-map_some}
+use Rattle.list_lemmas.proofs.ElementPositions.{slice_get-map_parts}
 use Rattle.pals_model.specs.declared.design.Link.{Link}
 use Rattle.pals_model.specs.declared.design.Feed.{Feed}
 use Rattle.pals_model.specs.declared.design.DesignParts.{DesignParts}
-use Rattle.pals_model.specs.declared.rounds.Env.{Env}
+use Rattle.pals_model.specs.declared.inputs_and_parts.Env.{Env}
 use Rattle.pals_model.specs.ComponentInputs.{feed_names, root_inputs}
-use Rattle.pals_model.specs.Rules.{IsDesign, IsLink, IsFeed}
+use Rattle.pals_model.specs.DesignRules.{IsDesign, IsLink, IsFeed}
 use Rattle.pals_model.proofs.FirstElements.{at_element}
 use Rattle.pals_model.proofs.RootInputLaws.{root_inputs_are_feeds}
 use Rattle.pals_model.proofs.ShapeLaws.{component_at}

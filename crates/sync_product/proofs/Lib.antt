@@ -1,12 +1,12 @@
 pub mod SizePreservation
 pub mod PortColumns
-pub mod RowSizes
+pub mod TupleLengths
 pub mod ProductLaws
 pub mod ComponentLists
 pub mod TapPorts
 pub mod StepRoom
 pub mod ComponentSteps
-pub mod MessageRows
+pub mod LinkMessages
 pub mod OpeningProducts
 pub mod ProductRounds
 pub mod ListElements

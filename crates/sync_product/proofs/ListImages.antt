@@ -2,8 +2,8 @@
 use Rattle.std.proofs.Common.{◌≡◌, ◌∙◌, ◌↔◌, ℕ, Bool, false, List, map, get_or, Some, All, Contains, slice_get, sym, ap}
 use Rattle.std.proofs.Common.{subst}
 use Rattle.std.proofs.lemmas.Option.{slice_get-get_or}
-use Rattle.list_lemmas.proofs.Places.{Contains-from_slice_get, slice_get-from_Contains, slice_get-map_some}
-use Rattle.list_lemmas.proofs.Places.{slice_get-map_parts}
+use Rattle.list_lemmas.proofs.ElementPositions.{Contains-from_slice_get, slice_get-from_Contains, slice_get-map_some}
+use Rattle.list_lemmas.proofs.ElementPositions.{slice_get-map_parts}
 use Rattle.pals_model.proofs.FirstElements.{at_element}
 
 module _ {X : Type 0} (f : X → X) (xs ys : List X) (same : (y : X) → Contains ys y ↔ Contains (map f xs) y) where

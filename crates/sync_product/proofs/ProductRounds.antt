@@ -6,8 +6,8 @@ use Rattle.std.proofs.lemmas.Bool.{eqb-true}
 use Rattle.std.proofs.lemmas.List.{length-map}
 use Rattle.std.proofs.lemmas.List.Elements.{All-head, All-tail}
 use Rattle.std.proofs.lemmas.Option.{slice_get_cases, get_or_from_slice_get}
-use Rattle.list_lemmas.proofs.Places.{slice_get-map_some}
-use Rattle.list_lemmas.proofs.Lists.{same_from_places}
+use Rattle.list_lemmas.proofs.ElementPositions.{slice_get-map_some}
+use Rattle.list_lemmas.proofs.ListOperations.{same_from_places}
 use Rattle.pals_base.specs.declared.values.PortValue.{PortValue}
 use Rattle.pals_base.specs.declared.values.Frame.{Frame}
 use Rattle.pals_base.specs.PeriodBound.{sent_steps}
@@ -17,17 +17,17 @@ use Rattle.pals_model.specs.declared.design.Component.{Component}
 use Rattle.pals_model.specs.declared.design.Link.{Link}
 use Rattle.pals_model.specs.declared.design.Tap.{Tap}
 use Rattle.pals_model.specs.declared.design.DesignParts.{DesignParts}
-use Rattle.pals_model.specs.declared.rounds.Part.{Part}
+use Rattle.pals_model.specs.declared.inputs_and_parts.Part.{Part}
 use Rattle.pals_model.specs.ComponentInputs.{inputs_of, rate_in}
 use Rattle.pals_model.specs.PortKinds.{outs_in}
-use Rattle.pals_model.specs.Rules.{IsDesign, IsLink, IsTap}
+use Rattle.pals_model.specs.DesignRules.{IsDesign, IsLink, IsTap}
 use Rattle.pals_model.specs.Composition.{steps_from, no_frame, part_of, taps_of, tuple_in, message_of}
-use Rattle.sync_product.specs.declared.reads.RoundInputs.{RoundInputs}
+use Rattle.sync_product.specs.declared.round_inputs.RoundInputs.{RoundInputs}
 use Rattle.sync_product.specs.declared.stage.Stage.{Stage}
 use Rattle.sync_product.specs.proof.ProductSizes.{StageSize, stage_size, stage_size_of, stage_sizes, tap_ports}
 use Rattle.sync_product.specs.proof.Rounds.{AreStepped, frames_of, own_part, own_rows, sent_by, sent_from}
 use Rattle.sync_product.specs.proof.ProductStates.{ProductState, advanced, parts_of}
-use Rattle.sync_product.proofs.RowSizes.{length-upwards}
+use Rattle.sync_product.proofs.TupleLengths.{length-upwards}
 use Rattle.sync_product.proofs.ComponentLists.{sized_at, count_of_sized}
 
 -- ---- lists with equal elements

@@ -4,17 +4,17 @@ use Rattle.std.proofs.Common.{All, slice_get, slice_index_or, sym, ap, ap₂, su
 use Rattle.std.proofs.lemmas.Bool.{eqb-true, and_parts}
 use Rattle.std.proofs.lemmas.List.Elements.{All-contains}
 use Rattle.std.proofs.lemmas.Option.{get_or_from_slice_get}
-use Rattle.list_lemmas.proofs.Places.{Contains-from_slice_get, slice_get-map_some}
+use Rattle.list_lemmas.proofs.ElementPositions.{Contains-from_slice_get, slice_get-map_some}
 use Rattle.pals_base.specs.declared.values.PortValue.{PortValue}
 use Rattle.pals_base.specs.declared.values.PortValue.TheVariants.{Absent}
 use Rattle.pals_base.specs.Adaptors.{adapt}
 use Rattle.pals_model.specs.declared.design.Link.{Link}
 use Rattle.pals_model.specs.declared.design.Feed.{Feed}
 use Rattle.pals_model.specs.declared.design.DesignParts.{DesignParts}
-use Rattle.pals_model.specs.declared.rounds.Env.{Env}
+use Rattle.pals_model.specs.declared.inputs_and_parts.Env.{Env}
 use Rattle.pals_model.specs.ComponentInputs.{feed_names, root_inputs, root_of, place_of, values_at, link_goes_to}
 use Rattle.pals_model.specs.ComponentInputs.{feed_goes_to, source_of, read_link, read_feed, reading}
-use Rattle.pals_model.specs.Rules.{IsDesign, IsLink, IsFeed}
+use Rattle.pals_model.specs.DesignRules.{IsDesign, IsLink, IsFeed}
 use Rattle.pals_model.proofs.FirstElements.{at_element}
 use Rattle.pals_model.proofs.SourceLaws.{link_is_source, feed_is_source, nothing_is_source}
 use Rattle.pals_model.proofs.RootInputLaws.{root_inputs_are_feeds}

@@ -1,13 +1,13 @@
 -- A product has room for the steps of each component: its frame, part and stage have the component's sizes.
 use Rattle.std.proofs.Common.{◌≡◌, ◌∙◌, ℕ, List, length, map, slice_index_or, sym, ap}
 use Rattle.std.proofs.lemmas.List.{length-map}
-use Rattle.list_lemmas.proofs.Lists.{length-map_enumerate_from}
-use Rattle.list_lemmas.proofs.Places.{slice_get-map_some}
+use Rattle.list_lemmas.proofs.ListOperations.{length-map_enumerate_from}
+use Rattle.list_lemmas.proofs.ElementPositions.{slice_get-map_some}
 use Rattle.pals_base.specs.PeriodBound.{sent_steps}
 use Rattle.pals_base.specs.StepSequences.{upwards}
 use Rattle.pals_model.specs.declared.design.Component.{Component}
 use Rattle.pals_model.specs.declared.design.DesignParts.{DesignParts}
-use Rattle.pals_model.specs.declared.rounds.Part.{Part}
+use Rattle.pals_model.specs.declared.inputs_and_parts.Part.{Part}
 use Rattle.pals_model.specs.ComponentInputs.{source_of}
 use Rattle.sync_product.specs.declared.stage.Stage.{Stage}
 use Rattle.sync_product.specs.declared.wiring.WiredComponent.{WiredComponent}
@@ -15,7 +15,7 @@ use Rattle.sync_product.specs.proof.ProductSizes.{PartSize, StageSize, frame_siz
 use Rattle.sync_product.specs.proof.ProductSizes.{part_size_of, part_sizes, stage_size, stage_size_of, stage_sizes}
 use Rattle.sync_product.specs.proof.ProductSizes.{tap_ports}
 use Rattle.sync_product.specs.proof.ComponentWiring.{IsWired}
-use Rattle.sync_product.proofs.RowSizes.{length-upwards}
+use Rattle.sync_product.proofs.TupleLengths.{length-upwards}
 use Rattle.sync_product.proofs.ComponentLists.{numbered-at, sized_at, count_of_sized}
 
 -- ---- one for each component

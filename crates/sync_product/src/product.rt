@@ -5,7 +5,7 @@ ghost use Rattle.sync_product.specs.proof.ProductStates.{begun, advanced};
 
 use crate::messages::send_all;
 use crate::opening::{opening_messages, opening_parts, stages};
-use crate::reads::RoundInputs;
+use crate::round_inputs::RoundInputs;
 use crate::round::run_all;
 use crate::stage::Stage;
 use crate::wiring::Wiring;

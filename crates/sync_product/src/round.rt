@@ -4,7 +4,7 @@ ghost use Rattle.sync_product.specs.proof.ProductSizes.{part_size, stage_size, p
 ghost use Rattle.sync_product.specs.proof.ComponentWiring.{IsWiring};
 ghost use Rattle.sync_product.specs.proof.Rounds.{AreStepped, frames_of};
 
-use crate::reads::RoundInputs;
+use crate::round_inputs::RoundInputs;
 use crate::stage::Stage;
 use crate::wiring::Wiring;
 use pals_base::{Items, NoMemory};

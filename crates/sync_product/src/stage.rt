@@ -6,7 +6,7 @@ ghost use Rattle.sync_product.specs.proof.Rounds.{vectors};
 ghost use Rattle.sync_product.specs.proof.ProductSizes.{frame_size, part_size, stage_size, frame_size_of, part_size_of};
 ghost use Rattle.sync_product.specs.proof.ProductSizes.{stage_size_of};
 
-use crate::reads::{RoundInputs, write_inputs};
+use crate::round_inputs::{RoundInputs, write_inputs};
 use crate::tuple_columns::write_column;
 use crate::wiring::WiredComponent;
 use behaviour_sem::fire_into;

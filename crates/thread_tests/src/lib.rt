@@ -5,10 +5,10 @@
 #[cfg(test)]
 mod buses;
 #[cfg(test)]
-mod clocks;
+mod list_clocks;
 #[cfg(test)]
 mod designs;
 #[cfg(test)]
 mod gates;
 #[cfg(test)]
-mod runs;
+mod meetings;

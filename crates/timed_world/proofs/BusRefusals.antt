@@ -19,17 +19,17 @@ use Rattle.pals_node.specs.declared.answers.StartEnd.{StartEnd}
 use Rattle.pals_node.specs.declared.answers.StartEnd.TheVariants as start
 use Rattle.pals_node.specs.declared.answers.StepEnd.{StepEnd}
 use Rattle.pals_node.specs.declared.answers.StepEnd.TheVariants as step
-use Rattle.pals_bus.specs.declared.refusals.BusError.{BusError}
-use Rattle.pals_bus.specs.declared.refusals.BusError.TheVariants as fault
-use Rattle.pals_bus.specs.declared.refusals.MessageError.{MessageError}
-use Rattle.pals_bus.specs.declared.refusals.MessageError.TheVariants as message
+use Rattle.pals_bus.specs.declared.bus_error.BusError.{BusError}
+use Rattle.pals_bus.specs.declared.bus_error.BusError.TheVariants as fault
+use Rattle.pals_bus.specs.declared.bus_error.MessageError.{MessageError}
+use Rattle.pals_bus.specs.declared.bus_error.MessageError.TheVariants as message
 use Rattle.pals_bus.specs.BusValues.{BusValue}
 use Rattle.pals_bus.specs.proof.Answers.{BusStartEnds, BusStepEnds, LinkEnds}
 use Rattle.pals_bus.proofs.LooseEvents.{busy_waits_not, no_next_step}
 use Rattle.run_laws.specs.Worlds.{reading_at}
 use Rattle.run_laws.proofs.FaultlessEvents.{starts_in_time, steps_in_time, sends_in_time, arrives_in_time}
 use Rattle.run_laws.proofs.WorldNodes.{may_is}
-use Rattle.run_laws.proofs.WorldReadings.{times_are_readings}
+use Rattle.run_laws.proofs.WorldTimeRanges.{times_are_readings}
 use Rattle.run_laws.proofs.TimelyWorlds.{event_keeps_time}
 use Rattle.timed_world.specs.proof.WorldValues.{WorldValue, world_of, KeepsWorld}
 use Rattle.timed_world.proofs.FaultlessEvents.{IsFine, Reads}

@@ -1,6 +1,6 @@
 pub mod OpeningWorlds
 pub mod NodeStandings
-pub mod FaultTable
+pub mod FaultSearch
 pub mod SingleFlights
 pub mod FaultlessEvents
 pub mod BusRefusals

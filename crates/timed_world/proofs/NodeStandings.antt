@@ -18,7 +18,7 @@ use Rattle.run_laws.specs.Deadlines.{node_deadline, phase_deadline, lesser}
 use Rattle.run_laws.specs.proof.WorldInvariant.{IsInTime, KeepsTime}
 use Rattle.run_laws.proofs.WorldNodes.{deadline_is, phase_agrees, rounds_at_most, send_last as of_send}
 use Rattle.run_laws.proofs.WorldNodes.{phase_last as of_phase}
-use Rattle.run_laws.proofs.WorldReadings.{times_are_readings}
+use Rattle.run_laws.proofs.WorldTimeRanges.{times_are_readings}
 use Rattle.timed_world.specs.declared.standing.NodeStanding.{NodeStanding}
 use Rattle.timed_world.specs.proof.WorldValues.{WorldValue, KeepsWorld, world_of}
 use Rattle.timed_world.specs.proof.NodeStandings.{IsSound, standing_of, phase_last, send_last, last_time}

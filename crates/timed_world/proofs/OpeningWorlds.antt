@@ -8,10 +8,10 @@ use Rattle.pals_base.specs.declared.values.Gamma.{Gamma}
 use Rattle.pals_model.specs.declared.design.DesignParts.{DesignParts}
 use Rattle.pals_model.specs.declared.design.Link.{Link}
 use Rattle.pals_model.specs.declared.design.Component.{Component}
-use Rattle.pals_model.specs.declared.rounds.Delays.{Delays}
-use Rattle.pals_model.specs.declared.rounds.Env.{Env}
+use Rattle.pals_model.specs.declared.inputs_and_parts.Delays.{Delays}
+use Rattle.pals_model.specs.declared.inputs_and_parts.Env.{Env}
 use Rattle.pals_model.specs.Delays.{AreDelays, IsDelayList}
-use Rattle.pals_model.specs.Rules.{IsDesign, IsGamma}
+use Rattle.pals_model.specs.DesignRules.{IsDesign, IsGamma}
 use Rattle.step_code.specs.declared.instr.CodeParts.{CodeParts}
 use Rattle.bus_machine.specs.proof.MachineLaws.{IsRunOf}
 use Rattle.pals_bus.specs.BusValues.{BusValue}

@@ -7,7 +7,7 @@ use Rattle.std.proofs.lemmas.List.Sums.{sum_by-cons}
 use Rattle.bus_machine.proofs.NodeQuantities.{sent_most}
 use Rattle.pals_base.specs.declared.limits.TheConstants.{READING, ROUNDS}
 use Rattle.pals_base.specs.PeriodBound.{alarm}
-use Rattle.pals_model.specs.declared.flight.FlightCopy.{FlightCopy}
+use Rattle.pals_model.specs.declared.flight_copy.FlightCopy.{FlightCopy}
 use Rattle.pals_model.specs.Flights.{is_of}
 use Rattle.pals_runs.specs.declared.events.EventFault.{EventFault}
 use Rattle.pals_runs.specs.declared.events.EventSubject.TheVariants as which
@@ -23,9 +23,9 @@ use Rattle.run_laws.specs.proof.WorldInvariant.{KeepsTime, copies}
 use Rattle.run_laws.proofs.TimeArithmetic.{alarm_next, alarm_more, arrives_before}
 use Rattle.run_laws.proofs.WorldNodes.{fits_at, counts_close}
 use Rattle.run_laws.proofs.WorldLinks.{under_way, in_flight_counts, counts_in_flight, rule_of}
-use Rattle.run_laws.proofs.WorldReadings.{times_are_readings}
+use Rattle.run_laws.proofs.WorldTimeRanges.{times_are_readings}
 use Rattle.timed_world.specs.proof.FlightFaults.{flying_past}
-use Rattle.timed_world.proofs.FaultTable.{goes_past, has_found}
+use Rattle.timed_world.proofs.FaultSearch.{goes_past, has_found}
 
 -- ---- counts
 count_first : (round : ℕ) (a : FlightCopy) (cs : List FlightCopy) → a.round ≡ round

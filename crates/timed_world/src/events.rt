@@ -5,8 +5,8 @@ ghost use Rattle.pals_runs.specs.declared.events.Event.TheVariants as event;
 ghost use Rattle.pals_runs.specs.declared.events.EventFault.TheVariants as fault;
 ghost use Rattle.pals_node.specs.declared.answers.StartEnd.TheVariants as start;
 ghost use Rattle.pals_node.specs.declared.answers.StepEnd.TheVariants as step;
-ghost use Rattle.pals_bus.specs.declared.refusals.BusError.TheVariants.{Refused};
-ghost use Rattle.pals_bus.specs.declared.refusals.MessageError.TheVariants as message;
+ghost use Rattle.pals_bus.specs.declared.bus_error.BusError.TheVariants.{Refused};
+ghost use Rattle.pals_bus.specs.declared.bus_error.MessageError.TheVariants as message;
 ghost use Rattle.run_laws.specs.EventFaults.{fault_of};
 ghost use Rattle.timed_world.specs.proof.WorldValues.{Moves, world_of};
 

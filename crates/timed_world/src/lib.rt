@@ -6,7 +6,7 @@ mod event_list;
 mod events;
 mod faults;
 mod opening;
-mod passes;
+mod pass_faults;
 mod standing;
 mod world;
 

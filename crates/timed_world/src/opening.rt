@@ -1,7 +1,7 @@
 //! What a world begins with.
 ghost use Rattle.std.specs.Prelude.{◌≡◌, IfOk, [], ◌∷◌, length, map};
 ghost use Rattle.pals_model.specs.Delays.{AreDelays};
-ghost use Rattle.pals_model.specs.Rules.{IsDesign};
+ghost use Rattle.pals_model.specs.DesignRules.{IsDesign};
 ghost use Rattle.run_laws.specs.Worlds.{zeros};
 
 use pals_base::{Items, Nanos, NoMemory};

@@ -17,7 +17,7 @@ use Rattle.run_laws.specs.TraceLines.{Timed, event_of, has_reading, timed}
 use Rattle.run_laws.specs.TraceRules.{broken, is_line_of}
 use Rattle.run_laws.specs.TraceVerdicts.{Audit, audit_after, audit_event, line_broken, noted}
 use Rattle.trace_audit.specs.proof.OwedStops.{owed_by}
-use Rattle.trace_audit.proofs.EntryNumbers.{owed_behind}
+use Rattle.trace_audit.proofs.OrderRule.{owed_behind}
 
 pub given : (o : Option ℕ) → is_some o ≡ true → Some (unwrap_or o 0) ≡ o
 given None is = absurd (cc)

@@ -6,7 +6,7 @@ use Rattle.std.proofs.Math.Bool.{and-true}
 use Rattle.std.proofs.lemmas.Bool.{and_left, and_right}
 use Rattle.pals_model.proofs.WordBytes.{same_bytes}
 use Rattle.pals_runs.specs.declared.journal.JournalEntry.{JournalEntry}
-use Rattle.pals_runs.specs.Journal.{entry_line}
+use Rattle.pals_runs.specs.JournalLines.{entry_line}
 use Rattle.pals_runs.specs.declared.verdicts.TraceRule.{TraceRule}
 use Rattle.pals_runs.specs.declared.verdicts.TraceRule.TheVariants as rule
 use Rattle.bus_machine.specs.States.{Run, BusState}
@@ -15,7 +15,7 @@ use Rattle.bus_machine.specs.Replay.{entries}
 use Rattle.run_laws.specs.TraceLines.{timed, event_of}
 use Rattle.run_laws.specs.TraceRules.{broken, falls, first_entry, fits, is_in_order, is_line_of, tells_stop, too_early}
 use Rattle.run_laws.specs.TraceRules.{waits}
-use Rattle.trace_audit.specs.proof.FirstRules.{first_rule}
+use Rattle.trace_audit.specs.proof.FirstBrokenRule.{first_rule}
 
 -- an entry that tells an event with its own numbers, where no stop stands
 told_rule : (run : Run) (s : BusState) (readings : List ℕ) (e : JournalEntry) (event : BusEvent)

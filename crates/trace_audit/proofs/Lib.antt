@@ -1,6 +1,6 @@
 pub mod BrokenRules
 pub mod StartLines
-pub mod EntryNumbers
+pub mod OrderRule
 pub mod DueMessages
 pub mod DoneNodes
 pub mod StartRules

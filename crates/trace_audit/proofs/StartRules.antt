@@ -3,7 +3,7 @@ use Rattle.std.proofs.Common.{◌≡◌, ◌↔◌, ℕ, ◌<◌, ◌≤◌, Boo
 use Rattle.std.proofs.Common.{None, inl, inr, IsTrue, sym, ap, ◌∙◌}
 use Rattle.pals_base.specs.declared.limits.TheConstants.{ROUNDS}
 use Rattle.pals_base.specs.declared.values.NodeNo.{NodeNo}
-use Rattle.pals_model.specs.Rules.{IsDesign}
+use Rattle.pals_model.specs.DesignRules.{IsDesign}
 use Rattle.pals_runs.specs.declared.journal.Stop.{Stop}
 use Rattle.pals_runs.specs.declared.journal.JournalEntry.{JournalEntry}
 use Rattle.pals_runs.specs.declared.verdicts.TraceRule.{TraceRule}
@@ -20,7 +20,7 @@ use Rattle.pals_bus.specs.proof.DueMessages.{HasDue}
 use Rattle.pals_bus.specs.BusValues.{BusValue, Happens}
 use Rattle.trace_audit.specs.proof.EntryClocks.{read_at}
 use Rattle.trace_audit.specs.proof.ToldEvents.{IsReady, SaysStart}
-use Rattle.trace_audit.specs.proof.FirstRules.{first_rule}
+use Rattle.trace_audit.specs.proof.FirstBrokenRule.{first_rule}
 use Rattle.trace_audit.proofs.BrokenRules.{late_breaks}
 use Rattle.trace_audit.proofs.DueMessages.{due_is}
 use Rattle.trace_audit.proofs.StartLines.{start_tells}

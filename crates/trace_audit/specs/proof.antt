@@ -1,6 +1,6 @@
 -- What the theorem of the program does not rest on: definitions of contracts below it, of laws, and of proofs.
 pub mod EntryClocks
-pub mod FirstRules
+pub mod FirstBrokenRule
 pub mod ToldEvents
 pub mod OwedStops
 pub mod AuditReplays

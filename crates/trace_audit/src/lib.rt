@@ -2,12 +2,12 @@
 //! they come, and then the lines of its journal are done again on a bus.
 #![tactic(auto)]
 
-mod clocks;
-mod ends;
-mod entries;
-mod events;
-mod forms;
-mod lines;
+mod entry_clocks;
+mod end_rules;
+mod redone_entries;
+mod redone_events;
+mod journal_lines;
+mod row_text;
 mod numerals;
 mod replay;
 mod report;
@@ -17,6 +17,6 @@ mod told_entries;
 mod traces;
 mod words;
 
-pub use forms::has_form;
+pub use journal_lines::has_form;
 pub use told_entries::told;
 pub use traces::audit;

@@ -7,8 +7,8 @@ ghost use Rattle.run_laws.specs.TraceVerdicts.{opening_audit, line_broken};
 ghost use Rattle.trace_audit.specs.proof.OwedStops.{owed_by};
 ghost use Rattle.trace_audit.specs.proof.AuditReplays.{IsReplay, Follows, IsClockOf, audit_in};
 
-use crate::clocks::{ClockReading, clock_of, has_reading, note};
-use crate::entries::redo;
+use crate::entry_clocks::{ClockReading, clock_of, has_reading, note};
+use crate::redone_entries::redo;
 use crate::rules::is_line_of;
 use pals_base::{Nanos, NoMemory};
 use pals_bus::Bus;

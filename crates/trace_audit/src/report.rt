@@ -5,7 +5,7 @@ ghost use Rattle.trace_audit.specs.proof.ReportEnds.{ReportEnds, end_at, index_o
 ghost use Rattle.trace_audit.specs.proof.ReportRows.{IsAtLine};
 
 use crate::has_form;
-use crate::lines::row_size;
+use crate::row_text::row_size;
 use crate::rows::AuditedRows;
 use pals_base::{NoMemory, Text};
 use pals_model::{Design, Env};

@@ -2,12 +2,12 @@
 ghost use Rattle.std.specs.Prelude.{◌≡◌, ◌<◌, ◌+◌, ◌/◌, ◌^◌, bytes_eq, IfOk, OnOk};
 ghost use Rattle.std.specs.Arc.{arc_value};
 ghost use Rattle.pals_model.specs.RoundTexts.{composed_lines};
-ghost use Rattle.pals_model.specs.Rules.{IsDesign};
+ghost use Rattle.pals_model.specs.DesignRules.{IsDesign};
 ghost use Rattle.run_laws.specs.TraceVerdicts.{line_at, row_size};
 ghost use Rattle.trace_audit.specs.proof.RemainingLines.{HasLeft};
 ghost use Rattle.trace_audit.specs.proof.ReportRows.{AreRows, IsAtLine, left_at};
 
-use crate::lines::{RowText, row_size};
+use crate::row_text::{RowText, row_size};
 use pals_base::{NoMemory, PortValue};
 use pals_model::{Design, Env};
 use pals_report::{TapPlaces, add_row};

@@ -5,7 +5,7 @@ ghost use Rattle.std.specs.Option.{option_map_or};
 ghost use Rattle.pals_runs.specs.declared.journal.JournalEntry.{JournalEntry};
 ghost use Rattle.run_laws.specs.Entries.{IsEntryIn};
 ghost use Rattle.run_laws.specs.TraceRules.{is_due, is_line_of};
-ghost use Rattle.trace_audit.specs.proof.FirstRules.{first_rule};
+ghost use Rattle.trace_audit.specs.proof.FirstBrokenRule.{first_rule};
 
 use pals_base::Nanos;
 use pals_model::{Design, FlightCopy};

@@ -6,7 +6,7 @@ ghost use Rattle.run_laws.specs.Entries.{IsEntryIn};
 ghost use Rattle.run_laws.specs.TraceLines.{entry_of, told};
 ghost use Rattle.trace_audit.specs.proof.LineForms.{node_form, link_form, shown};
 
-use crate::forms::{JournalLine, LinkLine, NodeLine, form_of};
+use crate::journal_lines::{JournalLine, LinkLine, NodeLine, form_of};
 use pals_base::{LinkNo, NodeNo};
 use pals_runs::{JournalEntry, Stop};
 use scenario_values::DesignNames;

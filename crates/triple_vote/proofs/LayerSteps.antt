@@ -3,14 +3,14 @@ use Rattle.std.proofs.Common.{◌≡◌, ◌∙◌, ℕ, ◌+◌, ◌<◌, ◌�
 use Rattle.std.proofs.Common.{slice_get, slice_index_or, Some, sym, ap, ap₂, arith, eq-or-lt_of_le}
 use Rattle.std.proofs.lemmas.Bool.{false≢true}
 use Rattle.std.proofs.lemmas.List.{map-set, length-map, get_or-map}
-use Rattle.list_lemmas.proofs.Places.{slice_get-map_some}
+use Rattle.list_lemmas.proofs.ElementPositions.{slice_get-map_some}
 use Rattle.pals_base.specs.declared.values.PortValue.{PortValue}
 use Rattle.pals_base.specs.declared.values.Frame.{Frame}
 use Rattle.pals_base.specs.PeriodBound.{sent_steps}
 use Rattle.pals_base.specs.StepSequences.{frame_after, outputs, upwards}
 use Rattle.pals_model.specs.declared.design.Component.{Component}
 use Rattle.pals_model.specs.declared.design.DesignParts.{DesignParts}
-use Rattle.pals_model.specs.declared.rounds.Part.{Part}
+use Rattle.pals_model.specs.declared.inputs_and_parts.Part.{Part}
 use Rattle.pals_model.specs.declared.sources.PortSource.{PortSource}
 use Rattle.pals_model.specs.ComponentInputs.{inputs_of, source_of, sources_of, all_sources}
 use Rattle.pals_model.specs.Composition.{no_frame}
@@ -18,7 +18,7 @@ use Rattle.sync_product.specs.declared.stage.Stage.{Stage}
 use Rattle.sync_product.specs.proof.ProductSizes.{PartSize, StageSize, part_size, part_size_of, stage_size}
 use Rattle.sync_product.specs.proof.ProductSizes.{stage_size_of, stage_sizes}
 use Rattle.sync_product.specs.proof.Rounds.{frames_of}
-use Rattle.sync_product.proofs.RowSizes.{length-upwards}
+use Rattle.sync_product.proofs.TupleLengths.{length-upwards}
 use Rattle.sync_product.proofs.ComponentLists.{numbered-at, entry_at, sized_at, within_table, count_of_sized, item_at}
 use Rattle.sync_product.proofs.ComponentLists.{slice_get-set_same, slice_get-set_other}
 use Rattle.triple_vote.specs.proof.ReplicaLayers.{frame_sizes, is_there, frame_made, rows_made, IsRun}

@@ -1,5 +1,5 @@
 pub mod MajorityVotes
-pub mod NumberedLists
+pub mod TabulatedLists
 pub mod ReplicaInputs
 pub mod SingleFaults
 pub mod ReplicaRounds
@@ -12,10 +12,10 @@ pub mod TupleWrites
 pub mod LayerSteps
 pub mod LayerTuples
 pub mod VotedRounds
-pub mod LayerLists
+pub mod LayerUpdates
 pub mod TupleLengths
 pub mod StageMessages
-pub mod EarliestFaults
+pub mod FaultTables
 pub mod VotedMessages
 pub mod OpeningReplicas
 pub mod AdvancedStates

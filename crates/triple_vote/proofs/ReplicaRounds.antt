@@ -12,22 +12,22 @@ use Rattle.pals_model.specs.declared.design.Component.{Component}
 use Rattle.pals_model.specs.declared.design.Link.{Link}
 use Rattle.pals_model.specs.declared.design.Tap.{Tap}
 use Rattle.pals_model.specs.declared.design.DesignParts.{DesignParts}
-use Rattle.pals_model.specs.declared.rounds.Env.{Env}
+use Rattle.pals_model.specs.declared.inputs_and_parts.Env.{Env}
 use Rattle.pals_model.specs.ComponentInputs.{rate_of, rate_in, values_at, feed, inputs_in}
 use Rattle.pals_model.specs.Composition.{no_frame, comp, state, msg, steps_of_round, tuple_in, tuple_of}
-use Rattle.pals_model.specs.Rules.{IsDesign, IsLink, IsTap}
+use Rattle.pals_model.specs.DesignRules.{IsDesign, IsLink, IsTap}
 use Rattle.pals_model.specs.proof.CompositionLaws.{own_steps}
 use Rattle.pals_model.proofs.CompositionLaws.{state_begins, state_goes_on, message_from_source, steps_of_round-at}
 use Rattle.pals_model.proofs.FirstElements.{at_element}
 use Rattle.pals_model.proofs.ShapeLaws.{component_at, message_has_rate}
-use Rattle.pals_runs.specs.declared.pairs.VoteFault.{VoteFault}
+use Rattle.pals_runs.specs.declared.analysis_inputs.VoteFault.{VoteFault}
 use Rattle.triple_vote.specs.Votes.{votes}
 use Rattle.triple_vote.specs.Replicas.{is_replicated, copies_of, receivers_in, Voted, frame_at, received_at}
 use Rattle.triple_vote.specs.Replicas.{for_replicas, for_receivers, first_frame, first_tuple, vopening, steps_in}
 use Rattle.triple_vote.specs.Replicas.{replica_steps, tuple_at, is_fault, fault_or, own_message, sent_to, vote_of}
 use Rattle.triple_vote.specs.Replicas.{receives_on, vnext, vcomp, vshown_by, vshown}
 use Rattle.triple_vote.proofs.MajorityVotes.{votes-first_two}
-use Rattle.triple_vote.proofs.NumberedLists.{table-at}
+use Rattle.triple_vote.proofs.TabulatedLists.{table-at}
 use Rattle.triple_vote.proofs.ReplicaInputs.{same_inputs}
 
 -- ---- the places of the lists

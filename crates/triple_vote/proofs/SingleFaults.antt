@@ -7,13 +7,13 @@ use Rattle.pals_base.specs.declared.values.PortValue.{PortValue}
 use Rattle.pals_model.specs.declared.design.Link.{Link}
 use Rattle.pals_model.specs.declared.design.DesignParts.{DesignParts}
 use Rattle.pals_model.specs.ComponentInputs.{rate_of}
-use Rattle.pals_runs.specs.declared.pairs.VoteFault.{VoteFault}
+use Rattle.pals_runs.specs.declared.analysis_inputs.VoteFault.{VoteFault}
 use Rattle.triple_vote.specs.Votes.{votes}
 use Rattle.triple_vote.specs.Replicas.{source_in, is_fault, fault_or, vote_of}
 use Rattle.triple_vote.specs.OutvotedFaults.{AreOutvoted}
 use Rattle.triple_vote.specs.proof.VoteLaws.{IsFault, AreFaults, OneNamedIsOutvoted}
 use Rattle.triple_vote.proofs.MajorityVotes.{votes-first_two, votes-outer_two, votes-last_two}
-use Rattle.triple_vote.proofs.NumberedLists.{found}
+use Rattle.triple_vote.proofs.TabulatedLists.{found}
 
 -- ---- one of three
 abbrev Apart : Option VoteFault → Option VoteFault → Type 0

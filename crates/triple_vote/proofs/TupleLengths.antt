@@ -4,7 +4,7 @@ use Rattle.std.proofs.Common.{◌≡◌, ◌∙◌, ℕ, ◌<◌, inl, inr, List
 use Rattle.std.proofs.Common.{sym, ap, arith}
 use Rattle.std.proofs.lemmas.List.{length-map}
 use Rattle.std.proofs.lemmas.Option.{slice_get_cases}
-use Rattle.list_lemmas.proofs.Places.{slice_get-map_some}
+use Rattle.list_lemmas.proofs.ElementPositions.{slice_get-map_some}
 use Rattle.pals_base.specs.declared.values.PortValue.{PortValue}
 use Rattle.pals_base.specs.PeriodBound.{sent_steps}
 use Rattle.pals_base.specs.StepSequences.{column, cut}
@@ -15,7 +15,7 @@ use Rattle.sync_product.specs.declared.stage.Stage.{Stage}
 use Rattle.sync_product.specs.proof.ProductSizes.{StageSize, stage_size, stage_size_of, stage_sizes}
 use Rattle.sync_product.proofs.PortColumns.{length-cut, length-column}
 use Rattle.sync_product.proofs.SizePreservation.{same_sizes}
-use Rattle.sync_product.proofs.RowSizes.{count_of_rows}
+use Rattle.sync_product.proofs.TupleLengths.{count_of_rows}
 use Rattle.sync_product.proofs.ComponentLists.{sized_at, count_of_sized}
 use Rattle.triple_vote.specs.proof.ReplicaLayers.{lengths}
 

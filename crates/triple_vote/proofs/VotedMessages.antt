@@ -6,14 +6,14 @@ use Rattle.std.proofs.lemmas.Bool.{eqb-true, and_parts}
 use Rattle.std.proofs.lemmas.List.{get_or-map}
 use Rattle.std.proofs.lemmas.List.Elements.{All-contains}
 use Rattle.std.proofs.lemmas.Option.{slice_get_cases, slice_get-get_or, get_or_from_slice_get}
-use Rattle.list_lemmas.proofs.Places.{slice_get-map_some}
+use Rattle.list_lemmas.proofs.ElementPositions.{slice_get-map_some}
 use Rattle.pals_base.specs.declared.values.PortValue.{PortValue}
 use Rattle.pals_model.specs.declared.design.Link.{Link}
 use Rattle.pals_model.specs.declared.design.Tap.{Tap}
 use Rattle.pals_model.specs.declared.design.DesignParts.{DesignParts}
 use Rattle.pals_model.specs.ComponentInputs.{rate_of}
 use Rattle.pals_model.proofs.FirstElements.{at_element}
-use Rattle.pals_runs.specs.declared.pairs.VoteFault.{VoteFault}
+use Rattle.pals_runs.specs.declared.analysis_inputs.VoteFault.{VoteFault}
 use Rattle.sync_product.specs.proof.ProductSizes.{message_sizes}
 use Rattle.sync_product.proofs.ComponentLists.{item_at}
 use Rattle.triple_vote.specs.declared.layer.Layer.{Layer}
@@ -23,7 +23,7 @@ use Rattle.triple_vote.specs.proof.VoteLaws.{IsFault}
 use Rattle.triple_vote.specs.proof.ReplicaLayers.{lengths, tap_sizes, HasRoom, is_there}
 use Rattle.triple_vote.specs.proof.ReplicaTriples.{there_in, sent_in, shown_in, tuple_of, received_of, shown_of}
 use Rattle.triple_vote.specs.proof.ReplicaTriples.{AreOfSize, FaultsFit, AreThree}
-use Rattle.triple_vote.proofs.NumberedLists.{found}
+use Rattle.triple_vote.proofs.TabulatedLists.{found}
 use Rattle.triple_vote.proofs.TupleVotes.{length-votes}
 use Rattle.triple_vote.proofs.TupleWrites.{Filled, filled_put}
 use Rattle.triple_vote.proofs.TupleLengths.{tuple_within, tuple_size, sizes_stay}

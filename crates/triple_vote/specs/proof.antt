@@ -4,4 +4,4 @@ pub mod VoteLaws
 pub mod CounterVotes
 pub mod ReplicaLayers
 pub mod ReplicaTriples
-pub mod FaultPlaces
+pub mod FaultTables

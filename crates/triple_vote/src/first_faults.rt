@@ -1,6 +1,6 @@
 //! Where the faults of a round stand, so that each message looks only at its own place.
 ghost use Rattle.std.specs.Prelude.{◌≡◌, ◌<◌, ◌+◌, ◌*◌, ◌^◌, IfOk, length, replicate, Option};
-ghost use Rattle.triple_vote.specs.proof.FaultPlaces.{place, is_replica, is_placed, with_fault, AreFirst};
+ghost use Rattle.triple_vote.specs.proof.FaultTables.{place, is_replica, is_placed, with_fault, AreFirst};
 
 use pals_base::{Items, NoMemory};
 use pals_runs::VoteFault;

@@ -5,13 +5,13 @@ ghost use Rattle.sync_product.specs.proof.ProductSizes.{stage_size, stage_sizes}
 ghost use Rattle.triple_vote.specs.proof.ReplicaLayers.{HasRoom, IsOpened, StaysPut, IsMade, IsTurned};
 
 use crate::opening::{opening_frames, opening_shown};
-use crate::rounds::{run_all, send_all, show_all};
+use crate::layer_rounds::{run_all, send_all, show_all};
 use pals_base::{Items, NoMemory, Tuple};
 use pals_model::{Design, Part, PortSource};
 use std::alloc::Global;
 use std::mem::swap;
 use sync_product::opening::opening_messages;
-use sync_product::reads::RoundInputs;
+use sync_product::round_inputs::RoundInputs;
 use sync_product::stage::Stage;
 
 /// The replicas of one number: which components have one, their frames after the last round, room for

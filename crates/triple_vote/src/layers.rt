@@ -3,7 +3,7 @@ ghost use Rattle.std.specs.Prelude.{◌≡◌, All, IfOk, OnOk, length, map, rep
 ghost use Rattle.pals_model.specs.ComponentInputs.{all_sources};
 ghost use Rattle.pals_model.specs.Composition.{opening};
 ghost use Rattle.sync_product.specs.proof.ProductSizes.{stage_size, stage_sizes};
-ghost use Rattle.triple_vote.specs.proof.FaultPlaces.{AreFirst};
+ghost use Rattle.triple_vote.specs.proof.FaultTables.{AreFirst};
 ghost use Rattle.triple_vote.specs.proof.VoteLaws.{IsFault};
 ghost use Rattle.triple_vote.specs.proof.ReplicaTriples.{AreThree, AreOpened, AreMade, StayPut, AreHeard, AllReceived};
 ghost use Rattle.triple_vote.specs.proof.ReplicaTriples.{AreTurned};
@@ -15,7 +15,7 @@ use pals_base::{Items, NoMemory, PortValue, Tuple};
 use pals_model::{Design, PortSource};
 use std::alloc::Global;
 use sync_product::opening::opening_messages;
-use sync_product::reads::RoundInputs;
+use sync_product::round_inputs::RoundInputs;
 use sync_product::stage::Stage;
 
 /// Three layers before the first round: one replica of each component, and two more of those that are

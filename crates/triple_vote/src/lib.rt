@@ -9,8 +9,8 @@ mod layers;
 mod opening;
 mod product;
 mod receiving;
-mod rounds;
-mod showing;
+mod layer_rounds;
+mod shown_tuples;
 pub mod votes;
 
 pub use product::VoteProduct;

@@ -11,7 +11,7 @@ use crate::first_faults::{FaultTable, first_faults};
 use crate::layer::Layer;
 use crate::layers::{opening_heard, opening_layers, receive_each, run_each, turn_each};
 use crate::opening::opening_shown;
-use crate::showing::show_each;
+use crate::shown_tuples::show_each;
 use pals_base::{Frame, Items, LinkNo, NoMemory, NodeNo, PortValue, Tuple};
 use pals_model::sources::all_sources;
 use pals_model::{Design, PortSource};

@@ -2,7 +2,7 @@
 ghost use Rattle.std.specs.Prelude.{◌≡◌, ◌<◌, ◌^◌, All, Option, length, slice_index_or};
 ghost use Rattle.sync_product.specs.proof.ProductSizes.{message_sizes};
 ghost use Rattle.triple_vote.specs.Replicas.{fault_or};
-ghost use Rattle.triple_vote.specs.proof.FaultPlaces.{fault_at, AreFirstOn, AreFirst};
+ghost use Rattle.triple_vote.specs.proof.FaultTables.{fault_at, AreFirstOn, AreFirst};
 ghost use Rattle.triple_vote.specs.proof.ReplicaLayers.{lengths};
 ghost use Rattle.triple_vote.specs.proof.VoteLaws.{IsFault};
 ghost use Rattle.triple_vote.specs.proof.ReplicaTriples.{AreThree, sent_in, tuple_of, received_of, AreReceived};
@@ -10,7 +10,7 @@ ghost use Rattle.triple_vote.specs.proof.ReplicaTriples.{AreOfSize, FaultsFit};
 
 use crate::first_faults::{FaultTable, place};
 use crate::layer::Layer;
-use crate::rounds::{is_there, tuple_at};
+use crate::layer_rounds::{is_there, tuple_at};
 use crate::votes::vote_into;
 use pals_base::{Items, PortValue, Tuple};
 use pals_model::Design;

@@ -11,7 +11,7 @@ use Rattle.pals_base.specs.declared.limits.TheConstants.{HOUR, ROUNDS, READING}
 use Rattle.pals_base.specs.StepSequences.{upwards}
 use Rattle.pals_model.specs.declared.design.DesignParts.{DesignParts}
 use Rattle.pals_model.specs.ComponentInputs.{no_env}
-use Rattle.pals_model.specs.Rules.{IsDesign}
+use Rattle.pals_model.specs.DesignRules.{IsDesign}
 use Rattle.pals_runs.specs.declared.events.Event.{Event}
 use Rattle.pals_runs.specs.declared.events.Event.TheVariants as event
 use Rattle.bus_machine.specs.Plans.{plan_of}
@@ -19,7 +19,7 @@ use Rattle.bus_machine.specs.States.{Run, link_at}
 use Rattle.bus_machine.specs.proof.MachineLaws.{IsRunOf}
 use Rattle.run_laws.specs.Worlds.{world_run}
 use Rattle.run_laws.proofs.WorldLinks.{rule_of}
-use Rattle.world_gen.specs.declared.courses.EventSeries.{EventSeries}
+use Rattle.world_gen.specs.declared.event_series.EventSeries.{EventSeries}
 use Rattle.world_gen.specs.proof.Schedules.{step_time, finish_time, send_time, arrive_time, which, event_of, all_of}
 use Rattle.world_gen.specs.proof.Schedules.{step_count, begins, starts_at, finishes_at, sends_at, arrivals_at, finishes}
 use Rattle.world_gen.specs.proof.Schedules.{earlier_finishes, present_finishes, events_at}
@@ -27,7 +27,7 @@ use Rattle.world_gen.specs.proof.EventSeries.{IsEventSeries, time_of, course_eve
 use Rattle.world_gen.specs.proof.EventSeries.{finish_course, send_course, arrive_course, each_of, begin_courses}
 use Rattle.world_gen.specs.proof.EventSeries.{finish_courses, send_courses, arrive_courses, earlier_courses}
 use Rattle.world_gen.specs.proof.EventSeries.{present_courses, timetable}
-use Rattle.world_gen.proofs.NumberedLists.{numbered_all}
+use Rattle.world_gen.proofs.TabulatedLists.{numbered_all}
 use Rattle.world_gen.proofs.ScheduleTimes.{whole, some_rate, some_step, step_at, send_before}
 
 -- ---- times that are the same

@@ -1,6 +1,6 @@
 pub mod CounterSchedules
 pub mod ScheduleTimes
-pub mod FollowingWorlds
+pub mod WorldsOnSchedule
 pub mod FaultlessEvents
 pub mod ScheduleStarts
 pub mod ScheduleFinishes
@@ -10,7 +10,7 @@ pub mod QuietTimes
 pub mod SchedulePasses
 pub mod WholeSchedules
 pub mod UniqueMoments
-pub mod NumberedLists
+pub mod TabulatedLists
 pub mod RingBehaviours
 pub mod RingDesigns
 pub mod SeriesNumbers

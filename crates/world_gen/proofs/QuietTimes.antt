@@ -18,12 +18,12 @@ use Rattle.world_gen.specs.proof.Schedules.{step_time, finish_time, send_time, a
 use Rattle.world_gen.specs.proof.Schedules.{step_count, begins, starts_at, finishes_at, sends_at, arrivals_at, finishes}
 use Rattle.world_gen.specs.proof.Schedules.{earlier_finishes, present_finishes, events_at}
 use Rattle.world_gen.proofs.ScheduleTimes.{Made, which_none, made_none}
-use Rattle.pals_model.specs.declared.flight.FlightCopy.{FlightCopy}
+use Rattle.pals_model.specs.declared.flight_copy.FlightCopy.{FlightCopy}
 use Rattle.run_laws.specs.proof.WorldInvariant.{copies}
 use Rattle.run_laws.proofs.WorldNodes.{rounds_at_most}
 use Rattle.run_laws.proofs.WorldLinks.{rule_of, under_way}
-use Rattle.world_gen.proofs.FollowingWorlds.{begun_by, ended_by, NodeFollows, LinkFollows, Follows, bump, bump_done}
-use Rattle.world_gen.proofs.FollowingWorlds.{bump_left, bump_other}
+use Rattle.world_gen.proofs.WorldsOnSchedule.{begun_by, ended_by, NodeFollows, LinkFollows, Follows, bump, bump_done}
+use Rattle.world_gen.proofs.WorldsOnSchedule.{bump_left, bump_other}
 
 -- ---- nothing comes at a time
 nil_parts : (xs ys : List Event) → xs ++ ys ≡ [] → (xs ≡ []) × (ys ≡ [])

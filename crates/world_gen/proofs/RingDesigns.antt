@@ -21,15 +21,15 @@ use Rattle.pals_model.specs.declared.design.DesignParts.{DesignParts}
 use Rattle.pals_model.specs.ComponentInputs.{rate_of, rate_in, feed}
 use Rattle.pals_model.specs.PortKinds.{ins_in, outs_in, in_kind, out_kind}
 use Rattle.pals_model.specs.Composition.{comp, state}
-use Rattle.pals_model.specs.Rules.{IsComponent, IsSource, IsTarget, IsLink, IsFeed, IsTap, IsApart, AgreeInKind}
-use Rattle.pals_model.specs.Rules.{LinkPrecedes, FeedPrecedes, greatest_rate, IsDesign}
+use Rattle.pals_model.specs.DesignRules.{IsComponent, IsSource, IsTarget, IsLink, IsFeed, IsTap, IsApart, AgreeInKind}
+use Rattle.pals_model.specs.DesignRules.{LinkPrecedes, FeedPrecedes, greatest_rate, IsDesign}
 use Rattle.pals_model.proofs.FirstElements.{at_element}
 use Rattle.pals_model.proofs.WordBytes.{all_pass}
 use Rattle.run_laws.proofs.Lists.{upwards_at}
 use Rattle.world_gen.specs.Rings.{ring_rate, ring_path, rate_by, ring_adaptor, before_in, ring_component, ring_link}
 use Rattle.world_gen.specs.Rings.{ring_bounds, ring}
 use Rattle.world_gen.specs.proof.RingLaws.{RingsAreDesigns, RingsAddUp}
-use Rattle.world_gen.proofs.NumberedLists.{length-numbered, numbered_get, numbered_all, numbered_pairs}
+use Rattle.world_gen.proofs.TabulatedLists.{length-numbered, numbered_get, numbered_all, numbered_pairs}
 use Rattle.world_gen.proofs.RingBehaviours.{ring_behaves}
 
 -- ---- rates

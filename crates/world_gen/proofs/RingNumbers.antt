@@ -33,7 +33,7 @@ use Rattle.bus_machine.specs.Agreement.{IsAtRest, PhaseAgrees, Agrees}
 use Rattle.world_gen.specs.Rings.{number_sum, next_number, ring_actions, ring_edge, ring_behaviour, before_in}
 use Rattle.world_gen.specs.Rings.{ring_component, ring_link, ring, ring_number}
 use Rattle.world_gen.specs.proof.RingLaws.{RingNumbersAreSmall, ring_run, number_at, IsRingDone, DoneRingsAddUp}
-use Rattle.world_gen.proofs.NumberedLists.{numbered_get, numbered_at, numbered_all}
+use Rattle.world_gen.proofs.TabulatedLists.{numbered_get, numbered_at, numbered_all}
 use Rattle.world_gen.proofs.RingDesigns.{before_below}
 
 -- ---- what is left modulo 1000

@@ -6,7 +6,7 @@ use Rattle.std.proofs.lemmas.Grind.{get_or-set_at}
 use Rattle.std.proofs.lemmas.List.{get_or-set_other}
 use Rattle.list_lemmas.proofs.Elements.{find-passes}
 use Rattle.pals_base.specs.declared.values.LinkNo.{LinkNo}
-use Rattle.pals_model.specs.declared.flight.FlightCopy.{FlightCopy}
+use Rattle.pals_model.specs.declared.flight_copy.FlightCopy.{FlightCopy}
 use Rattle.pals_model.specs.Flights.{is_of, oldest, without_oldest}
 use Rattle.pals_runs.specs.declared.events.Event.{Event}
 use Rattle.pals_runs.specs.declared.events.Event.TheVariants as event
@@ -27,7 +27,7 @@ use Rattle.world_gen.proofs.FaultlessEvents.{arrival_is_fine}
 use Rattle.run_laws.proofs.ArrivalTiming.{the_oldest}
 use Rattle.run_laws.proofs.ArrivalTiming as arrive
 use Rattle.world_gen.proofs.ScheduleTimes.{which_is, sends_rise}
-use Rattle.world_gen.proofs.FollowingWorlds.{NodeFollows, LinkFollows, Follows, nodes_follow, follows_put}
+use Rattle.world_gen.proofs.WorldsOnSchedule.{NodeFollows, LinkFollows, Follows, nodes_follow, follows_put}
 
 module _ (run : Run) (rules : IsRunOf run) (w : World) (moment : ℕ) (fin st se ar : ℕ → ℕ)
     (follows : Follows run w moment fin st se ar)

@@ -27,8 +27,8 @@ use Rattle.run_laws.proofs.WorldChanges.{moved_here, moved_other}
 use Rattle.run_laws.proofs.FinishTiming.{Ends, goes_on, holds, waits_next, is_done, not_running}
 use Rattle.run_laws.proofs.FinishTiming as finish
 use Rattle.world_gen.proofs.ScheduleTimes.{Made, which_is, which_next, made_next, step_is, finishes_rise}
-use Rattle.world_gen.proofs.FollowingWorlds.{begun_by, ended_by, NodeFollows, Follows, follows_again, follows_put}
-use Rattle.world_gen.proofs.FollowingWorlds.{links_follow}
+use Rattle.world_gen.proofs.WorldsOnSchedule.{begun_by, ended_by, NodeFollows, Follows, follows_again, follows_put}
+use Rattle.world_gen.proofs.WorldsOnSchedule.{links_follow}
 
 -- how many steps are begun where a step ends, and how many are finished
 full_round : (count round k step : ℕ) → count ≡ suc round → step < k → k ≤ step + 1

@@ -9,7 +9,7 @@ use Rattle.std.proofs.lemmas.Nat.{mul-le}
 use Rattle.std.proofs.lemmas.Option.{slice_get_within, get_or_from_slice_get}
 use Rattle.bus_machine.proofs.NodeQuantities.{sent_most}
 use Rattle.pals_base.specs.PeriodBound.{alarm}
-use Rattle.pals_model.specs.declared.flight.FlightCopy.{FlightCopy}
+use Rattle.pals_model.specs.declared.flight_copy.FlightCopy.{FlightCopy}
 use Rattle.pals_model.specs.Flights.{is_of}
 use Rattle.pals_runs.specs.declared.events.Event.TheVariants as event
 use Rattle.pals_runs.specs.declared.journal.Phase.{Phase}
@@ -35,7 +35,7 @@ use Rattle.world_gen.proofs.FaultlessEvents.{pass_is_fine, replicate_at}
 use Rattle.run_laws.proofs.TimePassage.{passes_in_time, pass_keeps_time}
 use Rattle.world_gen.proofs.ScheduleTimes.{Made, made_later, which_none, step_is, some_rate}
 use Rattle.world_gen.proofs.QuietTimes.{IsQuiet, is_quiet}
-use Rattle.world_gen.proofs.FollowingWorlds.{begun_by, ended_by, NodeFollows, Follows}
+use Rattle.world_gen.proofs.WorldsOnSchedule.{begun_by, ended_by, NodeFollows, Follows}
 
 abbrev pub all_at : ℕ → ℕ → ℕ
 all_at time j = time

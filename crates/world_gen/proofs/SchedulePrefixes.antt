@@ -5,12 +5,12 @@ use Rattle.std.specs.Prelude.{replicate}
 use Rattle.std.proofs.lemmas.List.{flat_map_more, append-nil}
 use Rattle.pals_base.specs.declared.limits.TheConstants.{ROUNDS, READING}
 use Rattle.pals_model.specs.declared.design.DesignParts.{DesignParts}
-use Rattle.pals_model.specs.declared.rounds.Env.{Env}
-use Rattle.pals_model.specs.Rules.{IsDesign}
+use Rattle.pals_model.specs.declared.inputs_and_parts.Env.{Env}
+use Rattle.pals_model.specs.DesignRules.{IsDesign}
 use Rattle.pals_runs.specs.declared.events.Event.{Event}
 use Rattle.pals_runs.specs.declared.events.Event.TheVariants as event
 use Rattle.run_laws.specs.Worlds.{world_run}
-use Rattle.world_gen.specs.declared.courses.EventSeries.{EventSeries}
+use Rattle.world_gen.specs.declared.event_series.EventSeries.{EventSeries}
 use Rattle.world_gen.specs.proof.ScheduleLaws.{IsWhole}
 use Rattle.world_gen.specs.proof.Schedules.{events_at, AreMoments, schedule_at, IsScheduleOf}
 use Rattle.world_gen.specs.proof.EventSeries.{IsEventSeries, events_of, moment_events, next_moment, timetable}

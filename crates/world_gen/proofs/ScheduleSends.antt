@@ -8,7 +8,7 @@ use Rattle.std.proofs.lemmas.Nat.{mul-le}
 use Rattle.std.proofs.Math.Seq.{get_or-append_seam}
 use Rattle.pals_base.specs.declared.values.NodeNo.{NodeNo}
 use Rattle.pals_base.specs.PeriodBound.{alarm}
-use Rattle.pals_model.specs.declared.flight.FlightCopy.{FlightCopy}
+use Rattle.pals_model.specs.declared.flight_copy.FlightCopy.{FlightCopy}
 use Rattle.pals_model.specs.Flights.{is_of}
 use Rattle.pals_runs.specs.declared.events.Event.{Event}
 use Rattle.pals_runs.specs.declared.events.Event.TheVariants as event
@@ -36,8 +36,8 @@ use Rattle.run_laws.proofs.SendTiming.{runs_before, one_is}
 use Rattle.run_laws.proofs.SendTiming as send
 use Rattle.world_gen.proofs.ScheduleTimes.{Made, which_is, which_next, made_next, step_is, sends_rise, send_after}
 use Rattle.world_gen.proofs.ScheduleTimes.{some_rate}
-use Rattle.world_gen.proofs.FollowingWorlds.{begun_by, ended_by, NodeFollows, LinkFollows, Follows, follows_again}
-use Rattle.world_gen.proofs.FollowingWorlds.{follows_put}
+use Rattle.world_gen.proofs.WorldsOnSchedule.{begun_by, ended_by, NodeFollows, LinkFollows, Follows, follows_again}
+use Rattle.world_gen.proofs.WorldsOnSchedule.{follows_put}
 
 -- a send leaves the steps that are begun and finished
 rest_begun : (k count : ℕ) (all : Bool) → begun_by k count (at_rest all) ≡ count * k

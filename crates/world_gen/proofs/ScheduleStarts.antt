@@ -32,8 +32,8 @@ use Rattle.run_laws.proofs.StartTiming as start
 use Rattle.run_laws.proofs.StepTiming as on
 use Rattle.world_gen.proofs.ScheduleTimes.{Made, which_is, which_next, made_next, step_is, steps_rise, next_step_after}
 use Rattle.world_gen.proofs.ScheduleTimes.{send_before, some_rate}
-use Rattle.world_gen.proofs.FollowingWorlds.{begun_by, ended_by, NodeFollows, Follows, follows_again, follows_put}
-use Rattle.world_gen.proofs.FollowingWorlds.{links_follow}
+use Rattle.world_gen.proofs.WorldsOnSchedule.{begun_by, ended_by, NodeFollows, Follows, follows_again, follows_put}
+use Rattle.world_gen.proofs.WorldsOnSchedule.{links_follow}
 
 pred_is : (n m : ℕ) → n ≡ suc m → n - 1 ≡ m
 pred_is n m is = omega arith

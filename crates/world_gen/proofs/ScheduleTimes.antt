@@ -5,12 +5,12 @@ use Rattle.std.proofs.lemmas.Bool.{cases_lt, cases_order, eqb-true, eq-eqb, fals
 use Rattle.std.proofs.lemmas.Nat.{mul-le, div-mul-add, mod-mul-add, div-add-mod'}
 use Rattle.pals_base.specs.PeriodBound.{alarm}
 use Rattle.pals_base.specs.StepSequences.{upwards}
-use Rattle.pals_model.specs.Rules.{IsComponent}
+use Rattle.pals_model.specs.DesignRules.{IsComponent}
 use Rattle.pals_model.proofs.FirstElements.{at_element, found_at}
 use Rattle.bus_machine.specs.Plans.{plan_of, component_at}
 use Rattle.bus_machine.specs.States.{Run}
 use Rattle.bus_machine.specs.proof.MachineLaws.{IsRunOf}
-use Rattle.bus_machine.proofs.Lists.{none_found}
+use Rattle.bus_machine.proofs.ListsAndFlights.{none_found}
 use Rattle.world_gen.specs.proof.Schedules.{step_time, finish_time, send_time, which}
 use Rattle.run_laws.proofs.Lists.{upwards_at}
 use Rattle.run_laws.proofs.WorldNodes.{FitsAt, fits_at, component_is}

@@ -8,7 +8,7 @@ use Rattle.std.proofs.lemmas.Nat.{mul-le}
 use Rattle.pals_base.specs.declared.limits.TheConstants.{READING}
 use Rattle.pals_runs.specs.declared.events.Event.{Event}
 use Rattle.run_laws.specs.Deadlines.{lesser}
-use Rattle.world_gen.specs.declared.courses.EventSeries.{EventSeries}
+use Rattle.world_gen.specs.declared.event_series.EventSeries.{EventSeries}
 use Rattle.world_gen.specs.proof.Schedules.{which, event_of}
 use Rattle.world_gen.specs.proof.EventSeries.{IsEventSeries, time_of, next_of, deed_event, course_events, events_of}
 use Rattle.world_gen.specs.proof.EventSeries.{next_moment}

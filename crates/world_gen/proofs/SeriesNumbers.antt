@@ -9,9 +9,9 @@ use Rattle.std.proofs.lemmas.List.Quantifiers.{position-Some}
 use Rattle.std.proofs.lemmas.Option.{get_or_from_slice_get}
 use Rattle.pals_base.specs.StepSequences.{upwards}
 use Rattle.pals_model.proofs.FirstElements.{first_at, found_at}
-use Rattle.bus_machine.proofs.Lists.{none_found}
+use Rattle.bus_machine.proofs.ListsAndFlights.{none_found}
 use Rattle.run_laws.proofs.Lists.{upwards_at}
-use Rattle.world_gen.specs.declared.courses.EventSeries.{EventSeries}
+use Rattle.world_gen.specs.declared.event_series.EventSeries.{EventSeries}
 use Rattle.world_gen.specs.proof.Schedules.{which}
 use Rattle.world_gen.specs.proof.EventSeries.{time_of, next_of}
 use Rattle.world_gen.proofs.ScheduleTimes.{upwards_is}

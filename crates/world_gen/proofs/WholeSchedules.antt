@@ -25,8 +25,8 @@ use Rattle.run_laws.proofs.WorldLinks.{rule_of}
 use Rattle.run_laws.proofs.OpeningWorlds.{opening_keeps_time, opens_at, zero_at, nothing_sent, nothing_flies}
 use Rattle.run_laws.proofs.OpeningWorlds.{not_running}
 use Rattle.world_gen.proofs.ScheduleTimes.{Made, which_none, some_rate, some_step, least_step}
-use Rattle.world_gen.proofs.FollowingWorlds.{begun_by, ended_by, NodeFollows, Follows, Runs, runs_none, runs_on}
-use Rattle.world_gen.proofs.FollowingWorlds.{runs_all, runs_event, bump, bump_done, bump_left, bump_other}
+use Rattle.world_gen.proofs.WorldsOnSchedule.{begun_by, ended_by, NodeFollows, Follows, Runs, runs_none, runs_on}
+use Rattle.world_gen.proofs.WorldsOnSchedule.{runs_all, runs_event, bump, bump_done, bump_left, bump_other}
 use Rattle.world_gen.proofs.QuietTimes.{is_quiet, follows_same, none_starts, none_ends, none_sends, none_arrives}
 use Rattle.world_gen.proofs.ScheduleStarts.{start_comes}
 use Rattle.world_gen.proofs.ScheduleFinishes.{finish_comes}

@@ -2,7 +2,7 @@
 //! within the bounds that finish all rounds.
 #![tactic(auto)]
 
-mod courses;
+mod event_series;
 pub mod laws;
 mod ring_behaviours;
 mod rings;

@@ -7,8 +7,8 @@ ghost use Rattle.world_gen.specs.proof.EventSeries.{IsEventSeries, begin_course,
 ghost use Rattle.world_gen.specs.proof.EventSeries.{arrive_course, begin_courses, finish_courses, send_courses};
 ghost use Rattle.world_gen.specs.proof.EventSeries.{arrive_courses, timetable, next_moment, events_of};
 
-use crate::courses::{EventKind, EventSeries};
-use pals_base::bound::step_period;
+use crate::event_series::{EventKind, EventSeries};
+use pals_base::period_bound::step_period;
 use pals_base::{Items, LinkNo, Nanos, NoMemory, NodeNo};
 use pals_model::Design;
 use pals_runs::Event;
@@ -86,7 +86,7 @@ fn arrive_course(design: &Design, rounds: u32, link: LinkNo) -> EventSeries
     }
 }
 
-#[tactic(auto, using(crate::proofs::NumberedLists::add_numbered))]
+#[tactic(auto, using(crate::proofs::TabulatedLists::add_numbered))]
 fn add_begins(
     courses: &mut Items<EventSeries>,
     design: &Design,
@@ -101,7 +101,7 @@ fn add_begins(
     Ok(())
 }
 
-#[tactic(auto, using(crate::proofs::NumberedLists::add_numbered))]
+#[tactic(auto, using(crate::proofs::TabulatedLists::add_numbered))]
 fn add_finishes(
     courses: &mut Items<EventSeries>,
     design: &Design,
@@ -116,7 +116,7 @@ fn add_finishes(
     Ok(())
 }
 
-#[tactic(auto, using(crate::proofs::NumberedLists::add_numbered))]
+#[tactic(auto, using(crate::proofs::TabulatedLists::add_numbered))]
 fn add_sends(courses: &mut Items<EventSeries>, design: &Design, rounds: u32) -> Result<(), NoMemory>
     ensures { OnOk result (courses.new ≡ courses.old ++ send_courses design.now rounds) }
 {
@@ -126,7 +126,7 @@ fn add_sends(courses: &mut Items<EventSeries>, design: &Design, rounds: u32) -> 
     Ok(())
 }
 
-#[tactic(auto, using(crate::proofs::NumberedLists::add_numbered))]
+#[tactic(auto, using(crate::proofs::TabulatedLists::add_numbered))]
 fn add_arrivals(
     courses: &mut Items<EventSeries>,
     design: &Design,

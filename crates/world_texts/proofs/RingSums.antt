@@ -12,8 +12,8 @@ use Rattle.pals_base.specs.StepSequences.{upwards}
 use Rattle.pals_base.proofs.UpwardNumbers.{map_upwards_more}
 use Rattle.pals_model.specs.declared.design.Component.{Component}
 use Rattle.pals_model.specs.declared.design.DesignParts.{DesignParts}
-use Rattle.pals_model.specs.declared.rounds.Env.{Env}
-use Rattle.pals_model.specs.declared.rounds.Part.{Part}
+use Rattle.pals_model.specs.declared.inputs_and_parts.Env.{Env}
+use Rattle.pals_model.specs.declared.inputs_and_parts.Part.{Part}
 use Rattle.pals_model.specs.Composition.{comp, state, part}
 use Rattle.pals_model.specs.ComponentInputs.{no_env}
 use Rattle.pals_runs.specs.declared.journal.Phase.{Phase}
@@ -33,7 +33,7 @@ use Rattle.design_codes.specs.OverlongCodes.{length_of, IsFirstTooLong}
 use Rattle.loose_world.proofs.FinishedRows.{part_is}
 use Rattle.world_gen.specs.proof.ScheduleLaws.{IsWhole}
 use Rattle.world_gen.specs.Rings.{ring, ring_component, ring_behaviour, ring_number}
-use Rattle.world_gen.proofs.NumberedLists.{length-numbered, numbered_at, numbered_get}
+use Rattle.world_gen.proofs.TabulatedLists.{length-numbered, numbered_at, numbered_get}
 use Rattle.world_gen.proofs.RingNumbers.{ring_numbers_are_small}
 use Rattle.world_texts.specs.RingTexts.{number_in, IsDoneRing}
 

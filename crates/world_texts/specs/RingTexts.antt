@@ -1,11 +1,11 @@
 -- The line of a ring that has gone through its schedule.
 use Rattle.std.specs.Prelude.{◌≡◌, ℕ, ℤ, pos, ◌*◌, ◌<◌, List, [], ◌∷◌, codes, decimal, slice_index_or}
 use Rattle.std.specs.Fmt.{signed_decimal}
-use Rattle.pals_model.specs.declared.rounds.Part.{Part}
+use Rattle.pals_model.specs.declared.inputs_and_parts.Part.{Part}
 use Rattle.pals_model.specs.ComponentInputs.{no_env}
 use Rattle.pals_model.specs.RoundTexts.{text_of}
 use Rattle.pals_runs.specs.declared.journal.Phase.TheVariants.{Done}
-use Rattle.pals_runs.specs.Journal.{spaced}
+use Rattle.pals_runs.specs.JournalLines.{spaced}
 use Rattle.bus_machine.specs.States.{node_at}
 use Rattle.run_laws.specs.Worlds.{world_run}
 use Rattle.pals_bus.specs.BusValues.{BusValue}

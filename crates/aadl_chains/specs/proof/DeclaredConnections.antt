@@ -2,8 +2,8 @@
 -- go from the one to the other.
 use Rattle.std.specs.Prelude.{◌≡◌, ℕ, true, false, [], Some, Contains}
 use Rattle.aadl_tree.specs.Declarations.{PackageTree}
-use Rattle.aadl_names.specs.declared.site.PortPlace.{PortPlace}
-use Rattle.aadl_names.specs.declared.site.PortPlace.TheVariants.{Own, Inner}
+use Rattle.aadl_names.specs.declared.port_place.PortPlace.{PortPlace}
+use Rattle.aadl_names.specs.declared.port_place.PortPlace.TheVariants.{Own, Inner}
 use Rattle.aadl_uses.specs.Uses.{below}
 use Rattle.aadl_uses.specs.declared.connections.Wire.{Wire}
 use Rattle.aadl_uses.specs.Wiring.{wires_at}

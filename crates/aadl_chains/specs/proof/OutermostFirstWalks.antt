@@ -1,8 +1,8 @@
 -- The walk back from a port, on paths with the outermost subcomponent first, as the code makes it.
 use Rattle.std.specs.Prelude.{◌≡◌, ℕ, false, List, take, reverse, Option, Some, None, option_map}
 use Rattle.aadl_tree.specs.Declarations.{PackageTree}
-use Rattle.aadl_names.specs.declared.site.PortPlace.{PortPlace}
-use Rattle.aadl_names.specs.declared.site.PortPlace.TheVariants.{Own, Inner}
+use Rattle.aadl_names.specs.declared.port_place.PortPlace.{PortPlace}
+use Rattle.aadl_names.specs.declared.port_place.PortPlace.TheVariants.{Own, Inner}
 use Rattle.aadl_uses.specs.Uses.{below}
 use Rattle.aadl_uses.specs.proof.DeclarationWires.{connection_into}
 use Rattle.aadl_chains.specs.proof.PortsJoinedInside.{is_in_at}

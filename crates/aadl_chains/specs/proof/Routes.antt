@@ -1,7 +1,7 @@
 -- Chains as the walk back finds them: by where they begin, and by the connection that carries them.
 use Rattle.std.specs.Prelude.{◌≡◌, ◌⊎◌, ℕ, false, List, [], reverse, Option, Some, None}
 use Rattle.aadl_tree.specs.Declarations.{PackageTree}
-use Rattle.aadl_uses.specs.Threads.{IsThreadAt}
+use Rattle.aadl_uses.specs.ThreadsBelow.{IsThreadAt}
 use Rattle.aadl_chains.specs.Chains.{Port, Place, Leads, is_in, IsStart}
 use Rattle.aadl_chains.specs.declared.walks.ChainStart.{ChainStart}
 use Rattle.aadl_chains.specs.declared.walks.ChainRoute.{ChainRoute}

@@ -2,7 +2,7 @@
 -- into each port, each ends where it may, and threads have none.
 use Rattle.std.specs.Prelude.{◌≡◌, ℕ, true, List, Some, slice_get}
 use Rattle.aadl_tree.specs.Declarations.{Connection, Implementation, PackageTree}
-use Rattle.aadl_names.specs.declared.site.PortPlace.{PortPlace}
+use Rattle.aadl_names.specs.declared.port_place.PortPlace.{PortPlace}
 use Rattle.aadl_names.specs.ReferenceResolution.{implementation_at, is_thread, site}
 use Rattle.aadl_uses.specs.Uses.{IsInUse}
 use Rattle.aadl_chains.specs.Chains.{Port, Place, Leads, IsStart}

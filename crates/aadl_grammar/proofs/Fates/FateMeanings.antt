@@ -8,13 +8,13 @@ use Rattle.aadl_tree.specs.declared.limits.TheConstants.{GREATEST_NESTING}
 use Rattle.aadl_tree.specs.declared.mark.Mark.TheVariants as k
 use Rattle.aadl_tree.specs.Terminals.{Kind, word, whole, real, quoted, unread, mark, other, Spot, kinds_of}
 use Rattle.aadl_tree.specs.Grammar.{Begins, opened, is_end, nesting_from, nesting, IsShallow, IsStuck, FailsAt, DeepAt}
-use Rattle.aadl_grammar.specs.proof.Machine.{Stack, depth, Fate, finished, syntax_at, deep_at, fate}
-use Rattle.aadl_grammar.proofs.Derived.FollowerMembership.{Clear}
-use Rattle.aadl_grammar.proofs.Derived.Derivations.{Derives, steps, derived_ends, ends_derived}
-use Rattle.aadl_grammar.proofs.Derived.StackTexts.{some_text}
-use Rattle.aadl_grammar.proofs.Fates.Nesting.{Good}
-use Rattle.aadl_grammar.proofs.Fates.MachineRuns.{walk, walk_front, walk_then, walk_derives, derived_left, walk_depth}
-use Rattle.aadl_grammar.proofs.Fates.MachineRuns.{Within}
+use Rattle.aadl_grammar.specs.proof.StackMachine.{Stack, depth, Fate, finished, syntax_at, deep_at, fate}
+use Rattle.aadl_grammar.proofs.DerivationTrees.FollowerMembership.{Clear}
+use Rattle.aadl_grammar.proofs.DerivationTrees.Derivations.{Derives, steps, derived_ends, ends_derived}
+use Rattle.aadl_grammar.proofs.DerivationTrees.StackTexts.{some_text}
+use Rattle.aadl_grammar.proofs.Fates.StackNesting.{Good}
+use Rattle.aadl_grammar.proofs.Fates.MachineWalks.{walk, walk_front, walk_then, walk_derives, derived_left, walk_depth}
+use Rattle.aadl_grammar.proofs.Fates.MachineWalks.{Within}
 use Rattle.aadl_grammar.proofs.Fates.MachineStops.{StopsBy, Stops, Deepens, Finishes, Tells, tells}
 
 -- a language by the stack that its texts are derived from

@@ -8,16 +8,16 @@ use Rattle.aadl_tree.specs.Annexes.{AnnexTree, annex_tree_parts}
 use Rattle.aadl_tree.specs.Declarations.{PackageTree, package_parts}
 use Rattle.aadl_tree.specs.Grammar.{IsPackage, IsBehaviour}
 use Rattle.aadl_grammar.specs.proof.Symbols as s
-use Rattle.aadl_grammar.specs.proof.Machine.{depth, whole_package, annex_body}
-use Rattle.aadl_grammar.proofs.Derived.ForbiddenFollowers.{first_of, tail}
-use Rattle.aadl_grammar.proofs.Derived.FollowerMembership.{Clear, apart_means}
-use Rattle.aadl_grammar.proofs.Derived.SymbolTrees.{Trees}
-use Rattle.aadl_grammar.proofs.Derived.DerivedTrees.{derives, Written, written}
+use Rattle.aadl_grammar.specs.proof.StackMachine.{depth, whole_package, annex_body}
+use Rattle.aadl_grammar.proofs.DerivationTrees.ForbiddenFollowers.{first_of, tail}
+use Rattle.aadl_grammar.proofs.DerivationTrees.FollowerMembership.{Clear, apart_means}
+use Rattle.aadl_grammar.proofs.DerivationTrees.SymbolTrees.{Trees}
+use Rattle.aadl_grammar.proofs.DerivationTrees.DerivedTrees.{derives, Written, written}
 use Rattle.aadl_grammar.proofs.PlaceIndependence.AlikeParts.{alike_spells, alike_kept}
 use Rattle.aadl_tree.specs.proof.PlaceMaps.{annex_tree_to, package_to}
 use Rattle.aadl_grammar.proofs.PlaceIndependence.Annexes.{annex_tree_alike}
 use Rattle.aadl_grammar.proofs.PlaceIndependence.Declarations.{package_alike}
-use Rattle.aadl_grammar.proofs.Derived.UniqueTrees.{one}
+use Rattle.aadl_grammar.proofs.DerivationTrees.UniqueTrees.{one}
 use Rattle.aadl_grammar.proofs.Fates.FateMeanings.{Language}
 
 pub package_clear : Clear whole_package

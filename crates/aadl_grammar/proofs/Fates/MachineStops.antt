@@ -6,9 +6,9 @@ use Rattle.std.proofs.lemmas.Bool as bool
 use Rattle.aadl_tree.specs.declared.limits.TheConstants.{GREATEST_NESTING}
 use Rattle.aadl_tree.specs.Terminals.{Spot, kinds_of}
 use Rattle.aadl_tree.specs.Grammar.{place}
-use Rattle.aadl_grammar.specs.proof.Machine.{Stack, step, ends, depth, Fate, finished, syntax_at, deep_at, fate_after}
-use Rattle.aadl_grammar.specs.proof.Machine.{fate}
-use Rattle.aadl_grammar.proofs.Fates.MachineRuns.{walk, walk_more, Within, within_nothing, within_more}
+use Rattle.aadl_grammar.specs.proof.StackMachine.{Stack, step, ends, depth, Fate, finished, syntax_at, deep_at, fate_after}
+use Rattle.aadl_grammar.specs.proof.StackMachine.{fate}
+use Rattle.aadl_grammar.proofs.Fates.MachineWalks.{walk, walk_more, Within, within_nothing, within_more}
 
 abbrev pub StopsBy : Stack → List Spot → Type 0
 StopsBy last [] = ends last ≡ false

@@ -9,11 +9,11 @@ use Rattle.aadl_tree.specs.declared.limits.TheConstants.{GREATEST_NESTING}
 use Rattle.aadl_tree.specs.Grammar.{place}
 use Rattle.aadl_grammar.specs.proof.Symbols.{the, Symbol, Row}
 use Rattle.aadl_grammar.specs.proof.ParseTable.{behind, rows, can_omit}
-use Rattle.aadl_grammar.specs.proof.Machine.{Stack, Move, takes, omitted, refuses, kind_number, fits, move_by, move}
-use Rattle.aadl_grammar.specs.proof.Machine.{chosen, step, ends, depth, Fate, finished, syntax_at, deep_at, fate_after}
-use Rattle.aadl_grammar.specs.proof.Machine.{fate}
-use Rattle.aadl_grammar.proofs.Derived.ForbiddenFollowers.{among, firsts}
-use Rattle.aadl_grammar.proofs.Derived.TerminalContents.{Said, said, fits_with}
+use Rattle.aadl_grammar.specs.proof.StackMachine.{Stack, Move, takes, omitted, refuses, kind_number, fits, move_by, move}
+use Rattle.aadl_grammar.specs.proof.StackMachine.{chosen, step, ends, depth, Fate, finished, syntax_at, deep_at, fate_after}
+use Rattle.aadl_grammar.specs.proof.StackMachine.{fate}
+use Rattle.aadl_grammar.proofs.DerivationTrees.ForbiddenFollowers.{among, firsts}
+use Rattle.aadl_grammar.proofs.DerivationTrees.TerminalContents.{Said, said, fits_with}
 use Rattle.std.proofs.lemmas.Bool.{or_parts}
 
 -- what the symbol does where these terminals are left

@@ -16,9 +16,9 @@ use Rattle.aadl_grammar.proofs.UniquePlacedTrees.PlaceOrder.{in_turn}
 use Rattle.aadl_grammar.proofs.UniquePlacedTrees.Names.{Fixed, identifier_fixed, name_fixed}
 use Rattle.aadl_grammar.proofs.UniquePlacedTrees.Values.{list_fixed, associations_fixed}
 use Rattle.aadl_grammar.proofs.UniquePlacedTrees.Annexes.{annex_fixed}
-use Rattle.aadl_grammar.proofs.UniquePlacedTrees.Members.{category_one, sectioned, with_fixed, feature_fixed}
-use Rattle.aadl_grammar.proofs.UniquePlacedTrees.Members.{subcomponent_fixed, connection_fixed}
-use Rattle.aadl_grammar.proofs.UniquePlacedTrees.Members.{implementation_name_fixed}
+use Rattle.aadl_grammar.proofs.UniquePlacedTrees.DeclarationMembers.{category_one, sectioned, with_fixed, feature_fixed}
+use Rattle.aadl_grammar.proofs.UniquePlacedTrees.DeclarationMembers.{subcomponent_fixed, connection_fixed}
+use Rattle.aadl_grammar.proofs.UniquePlacedTrees.DeclarationMembers.{implementation_name_fixed}
 
 pub type_fixed : Fixed (d.TypeDeclaration ℕ) (d.TypeDeclaration (Unit {0})) (type_to no_place) d.type_parts
 type_fixed t u xs ys s h =

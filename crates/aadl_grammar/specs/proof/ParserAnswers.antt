@@ -7,12 +7,12 @@ use Rattle.aadl_tree.specs.SpellingParts.{Part, Written}
 use Rattle.aadl_tree.specs.Names.{Identifier}
 use Rattle.aadl_tree.specs.declared.limits.TheConstants.{GREATEST_NESTING}
 use Rattle.aadl_grammar.specs.proof.Symbols.{Class, the, Symbol, only, Row}
-use Rattle.aadl_grammar.specs.proof.Machine.{Stack, fits, takes, move, depth, Fate, syntax_at, deep_at, fate}
+use Rattle.aadl_grammar.specs.proof.StackMachine.{Stack, fits, takes, move, depth, Fate, syntax_at, deep_at, fate}
 use Rattle.aadl_grammar.specs.declared.terminal.Terminal.{Terminal}
 use Rattle.aadl_grammar.specs.declared.reader.Reader.{Reader}
-use Rattle.aadl_grammar.specs.declared.fault.ParseFault.{ParseFault}
-use Rattle.aadl_grammar.specs.declared.fault.ParseFault.TheVariants.{Memory, Syntax, TooDeep}
-use Rattle.aadl_grammar.specs.proof.Terminals.{spot_of, spots_of, is_word_at}
+use Rattle.aadl_grammar.specs.declared.parse_fault.ParseFault.{ParseFault}
+use Rattle.aadl_grammar.specs.declared.parse_fault.ParseFault.TheVariants.{Memory, Syntax, TooDeep}
+use Rattle.aadl_grammar.specs.proof.TerminalSpots.{spot_of, spots_of, is_word_at}
 use Rattle.aadl_grammar.specs.declared.terminal.TerminalKind.TheVariants as t
 
 -- the terminals from this number on

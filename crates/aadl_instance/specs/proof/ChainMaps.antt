@@ -5,11 +5,11 @@ use Rattle.aadl_tree.specs.Declarations.{PackageTree}
 use Rattle.aadl_tree.specs.proof.PackageViews.{placed}
 use Rattle.aadl_uses.specs.Uses.{standing}
 use Rattle.aadl_chains.specs.Links.{Ends}
-use Rattle.aadl_instance.specs.declared.parts.Chain.{Chain}
-use Rattle.aadl_instance.specs.declared.build.Incoming.{Incoming}
-use Rattle.aadl_instance.specs.declared.ends.ChainMap.{ChainMap}
-use Rattle.aadl_instance.specs.declared.ends.ThreadNode.{ThreadNode}
-use Rattle.aadl_instance.specs.proof.PortNumbers.{AreNumbers}
+use Rattle.aadl_instance.specs.declared.chain.Chain.{Chain}
+use Rattle.aadl_instance.specs.declared.chain_search.Incoming.{Incoming}
+use Rattle.aadl_instance.specs.declared.chain_map.ChainMap.{ChainMap}
+use Rattle.aadl_instance.specs.declared.chain_map.ThreadNode.{ThreadNode}
+use Rattle.aadl_instance.specs.proof.PortNumberTables.{AreNumbers}
 use Rattle.aadl_instance.specs.proof.ChainsSoFar.{paths_of, IsSettled, AreShown, AreInto, AreTapsTo}
 
 abbrev pub tree_of : ChainMap → PackageTree ℕ

@@ -2,12 +2,12 @@
 use Rattle.std.specs.Prelude.{◌≡◌, ◌↔◌, ℕ, [], Contains, Option, Some, None}
 use Rattle.aadl_tree.specs.Declarations.{PackageTree}
 use Rattle.aadl_names.specs.declared.fault.PackageFault.{PackageFault}
-use Rattle.aadl_names.specs.FirstFindings.{IsFirstByLine}
+use Rattle.aadl_names.specs.FirstFaults.{IsFirstByLine}
 use Rattle.aadl_names.specs.PackageFaults.{package_faults}
 use Rattle.aadl_uses.specs.proof.PackageContainment.{containment}
 use Rattle.aadl_uses.specs.Uses.{IsInUse, IsRecursive}
 use Rattle.aadl_uses.specs.proof.ContainmentOrders.{IsOrder}
-use Rattle.aadl_instance.specs.declared.package.Checked.{Checked}
+use Rattle.aadl_instance.specs.declared.checked_package.Checked.{Checked}
 use Rattle.aadl_instance.specs.Faults.{FoundIn, IsRoot}
 
 -- nothing is wrong with its names and its containment

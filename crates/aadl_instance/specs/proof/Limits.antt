@@ -3,9 +3,9 @@ use Rattle.std.specs.Prelude.{ℕ, ◌<◌, List, length, codes, Option, Some, N
 use Rattle.pals_base.specs.declared.limits.TheConstants.{COMPONENTS, LINKS, PORTS, VARIABLES, STATES, PATH_BYTES}
 use Rattle.aadl_tree.specs.Declarations.{PackageTree}
 use Rattle.aadl_names.specs.ReferenceResolution.{ports_of}
-use Rattle.aadl_uses.specs.Threads.{MoreThan, IsThreadAt, PathBefore}
-use Rattle.aadl_uses.specs.ThreadPlaces.{ThreadWith, spelled_path}
-use Rattle.aadl_instance.specs.ThreadParts.{variable_count, state_count}
+use Rattle.aadl_uses.specs.ThreadsBelow.{MoreThan, IsThreadAt, PathBefore}
+use Rattle.aadl_uses.specs.ThreadLocations.{ThreadWith, spelled_path}
+use Rattle.aadl_instance.specs.BehaviourSizes.{variable_count, state_count}
 use Rattle.aadl_chains.specs.Links.{IsLink, OtherTarget}
 use Rattle.aadl_instance.specs.declared.limits.Limit.{Limit}
 use Rattle.aadl_instance.specs.declared.limits.Limit.TheVariants.{Components, Links, Ports, Variables, States, Path}

@@ -6,7 +6,7 @@ use Rattle.aadl_tree.specs.Declarations.{Implementation, PackageTree}
 use Rattle.aadl_names.specs.ReferenceResolution.{implementation_at, is_thread, ports_of}
 use Rattle.aadl_instance.specs.declared.thread_parts.ThreadPart.{ThreadPart}
 use Rattle.aadl_instance.specs.declared.thread_parts.ThreadPart.TheVariants.{Ports, Variables, States}
-use Rattle.aadl_instance.specs.ThreadParts.{state_count, variable_count}
+use Rattle.aadl_instance.specs.BehaviourSizes.{state_count, variable_count}
 
 abbrev pub count_of : PackageTree ℕ → Implementation ℕ → ThreadPart → ℕ
 count_of tree x Ports = length (ports_of tree x)

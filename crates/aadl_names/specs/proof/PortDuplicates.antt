@@ -7,15 +7,15 @@ use Rattle.aadl_tree.specs.Annexes.{AnnexTree}
 use Rattle.aadl_tree.specs.Declarations.{Implementation, Declaration, type, implementation, PackageTree}
 use Rattle.aadl_names.specs.declared.fault.PackageFault.{PackageFault}
 use Rattle.aadl_names.specs.declared.fault.PackageFault.TheVariants.{Twice}
-use Rattle.aadl_names.specs.declared.entry.SpelledName.{SpelledName}
-use Rattle.aadl_names.specs.declared.spot.NumberedPlace.{NumberedPlace}
-use Rattle.aadl_names.specs.proof.FindingSoFar.{found, as_list}
+use Rattle.aadl_names.specs.declared.spelled_name.SpelledName.{SpelledName}
+use Rattle.aadl_names.specs.declared.numbered_place.NumberedPlace.{NumberedPlace}
+use Rattle.aadl_names.specs.proof.FirstFaultSoFar.{found, as_list}
 use Rattle.aadl_names.specs.DuplicateNames.{twice}
 use Rattle.aadl_names.specs.proof.EarliestDeclarations.{earliest, is_before}
 use Rattle.aadl_names.specs.ReferenceResolution.{is_thread, ports_of}
-use Rattle.aadl_names.specs.Behaviours.{behaviours, first_behaviour}
-use Rattle.aadl_names.specs.DuplicatesBySpace.{port_entries, variable_entries, state_entries, member_entries}
-use Rattle.aadl_names.specs.DuplicatesBySpace.{type_entry, implementation_entry}
+use Rattle.aadl_names.specs.BehaviourAnnexes.{behaviours, first_behaviour}
+use Rattle.aadl_names.specs.DuplicatesByNamespace.{port_entries, variable_entries, state_entries, member_entries}
+use Rattle.aadl_names.specs.DuplicatesByNamespace.{type_entry, implementation_entry}
 
 abbrev pub entry_again : Option SpelledName → List PackageFault
 entry_again None = []

@@ -4,10 +4,10 @@ use Rattle.aadl_lex.specs.declared.token.Token.{Token}
 use Rattle.aadl_lex.specs.proof.TokenSpellings.{IsWordAt}
 use Rattle.aadl_lex.proofs.TokenSpellings.{words_of}
 use Rattle.aadl_tree.specs.Terminals.{spots}
-use Rattle.aadl_grammar.specs.proof.Machine.{depth}
+use Rattle.aadl_grammar.specs.proof.StackMachine.{depth}
 use Rattle.aadl_grammar.specs.proof.ParserAnswers.{here}
-use Rattle.aadl_grammar.specs.proof.Terminals.{spots_of}
-use Rattle.aadl_grammar.proofs.FirstTerminals.{spots_past}
+use Rattle.aadl_grammar.specs.proof.TerminalSpots.{spots_of}
+use Rattle.aadl_grammar.proofs.TerminalSpots.{spots_past}
 use Rattle.aadl_parse.specs.ParseResults.{IsFaultOfText, of_parse}
 use Rattle.aadl_parse.specs.proof.DeclarationRests.{package_of}
 use Rattle.aadl_parse.proofs.PackageFates.{at_fault, left_fault, at_tree, only_one, residual, some_left}

@@ -4,8 +4,8 @@ use Rattle.aadl_tree.specs.Terminals.{Kind}
 use Rattle.aadl_tree.specs.declared.mark.Mark.{Mark}
 use Rattle.aadl_tree.specs.SpellingParts.{Part, token, may, plain}
 use Rattle.aadl_tree.specs.Canon.{kind_text, holds_left, holds_right, ends_line, line_end}
-use Rattle.aadl_print.specs.declared.gap.Spacing.{Spacing}
-use Rattle.aadl_print.specs.declared.gap.Spacing.TheVariants.{Nothing, Space, LineEnd}
+use Rattle.aadl_print.specs.declared.spacing.Spacing.{Spacing}
+use Rattle.aadl_print.specs.declared.spacing.Spacing.TheVariants.{Nothing, Space, LineEnd}
 
 -- The text of some terminals, and what stands behind the last of them where the next one lets it.
 pub record Printed : Type 0 where

@@ -1,9 +1,9 @@
 -- Which connection is the first into a port.
 use Rattle.std.specs.Prelude.{ℕ, Bool, false, nat_lt, List, Option, Some, None}
-use Rattle.aadl_names.specs.declared.site.PortPlace.{PortPlace}
+use Rattle.aadl_names.specs.declared.port_place.PortPlace.{PortPlace}
 use Rattle.aadl_names.specs.ReferenceResolution.{first_number}
 use Rattle.aadl_uses.specs.declared.connections.Wire.{Wire}
-use Rattle.aadl_uses.specs.proof.PortNumbers.{is_site}
+use Rattle.aadl_uses.specs.proof.NumbersByPort.{is_site}
 
 abbrev pub first_into : List Wire → PortPlace → Option ℕ
 first_into wires target = first_number (λ wire. is_site target wire.target) wires

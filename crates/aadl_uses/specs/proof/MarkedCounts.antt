@@ -4,7 +4,7 @@ use Rattle.std.specs.Prelude.{slice_index, slice_index_or}
 use Rattle.std.specs.List.{AllByRecursion}
 use Rattle.std.specs.Option.{option_and_then}
 use Rattle.aadl_uses.specs.proof.ContainmentGraphs.{Graph, below_in}
-use Rattle.aadl_uses.specs.Threads.{path_before}
+use Rattle.aadl_uses.specs.ThreadsBelow.{path_before}
 
 -- what stands at the end of a path of subcomponents, the outermost first
 abbrev pub stands_at : Graph → ℕ → List ℕ → Option ℕ

@@ -3,7 +3,7 @@
 use Rattle.std.specs.Prelude.{ℕ, List, map, Option, Some, None}
 use Rattle.aadl_tree.specs.Declarations.{Implementation, Declaration, PackageTree}
 use Rattle.aadl_names.specs.declared.fault.PackageFault.{PackageFault}
-use Rattle.aadl_names.specs.FirstFindings.{IsFirst}
+use Rattle.aadl_names.specs.FirstFaults.{IsFirst}
 use Rattle.aadl_names.specs.ReferenceResolution.{implementation_in, subcomponents_of, referred}
 use Rattle.aadl_uses.specs.proof.ContainmentGraphs.{Graph}
 

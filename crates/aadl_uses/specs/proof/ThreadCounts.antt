@@ -2,7 +2,7 @@
 use Rattle.std.specs.Prelude.{◌≡◌, ℕ, Bool, false, List, length, map, min, Option, Some, None}
 use Rattle.aadl_tree.specs.Declarations.{Implementation, Declaration, PackageTree}
 use Rattle.aadl_names.specs.ReferenceResolution.{implementation_in, is_thread}
-use Rattle.aadl_uses.specs.Threads.{IsThreadAt, Lists, PathBefore}
+use Rattle.aadl_uses.specs.ThreadsBelow.{IsThreadAt, Lists, PathBefore}
 
 -- which declarations are implementations of threads
 abbrev pub is_thread_in : Option (Implementation ℕ) → Bool

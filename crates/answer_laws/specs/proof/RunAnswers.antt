@@ -10,7 +10,7 @@ use Rattle.pals_runs.specs.declared.verdicts.Verdict.TheVariants.{Sound}
 use Rattle.design_codes.specs.OverlongCodes.{AreShort}
 use Rattle.scenario_json.specs.declared.scenario.Scenario.{Scenario}
 use Rattle.bus_machine.specs.States.{Run}
-use Rattle.run_laws.specs.ReportVerdicts.{lines_of}
+use Rattle.run_laws.specs.TextLines.{lines_of}
 use Rattle.run_laws.specs.TraceVerdicts.{verdict}
 use Rattle.run_laws.specs.proof.TimelyRuns.{InTime, AllPicked}
 use Rattle.run_laws.specs.Meetings.{DelaysFit}
@@ -19,11 +19,11 @@ use Rattle.pals_top.specs.declared.status.TheConstants.{DONE, STOPPED, CLOCK_END
 use Rattle.pals_top.specs.AnalysisAnswers.{IsAnalysisAnswer}
 use Rattle.pals_top.specs.ExecutionAnswers.{IsExecutionAnswer}
 use Rattle.pals_top.specs.LooseWorlds.{run_of}
-use Rattle.pals_top.specs.ScenarioFaults.{HasScenario}
+use Rattle.pals_top.specs.BundleScenarios.{HasScenario}
 use Rattle.pals_runs.specs.declared.commands.Command.TheVariants as command
 use Rattle.pals_runs.specs.declared.journal.JournalEntry.TheVariants as entry
-use Rattle.pals_top.specs.AnalysisKinds as analysis
-use Rattle.pals_top.specs.ExecutionKinds as execution
+use Rattle.pals_top.specs.AnalysisCommands as analysis
+use Rattle.pals_top.specs.ExecutionCommands as execution
 
 -- the statuses of a run: all nodes are done, a stop stands, or a list has ended
 abbrev pub IsRunStatus : ℕ → Type 0

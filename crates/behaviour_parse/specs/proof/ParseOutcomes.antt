@@ -4,8 +4,8 @@ use Rattle.aadl_lex.specs.declared.token.Token.{Token}
 use Rattle.aadl_tree.specs.Annexes.{AnnexTree}
 use Rattle.aadl_tree.specs.GrammarTrees.{IsBehaviourOf}
 use Rattle.aadl_tree.specs.proof.GrammarTrees.{BehaviourStopsAt, BehaviourNestsAt}
-use Rattle.aadl_grammar.specs.declared.fault.ParseFault.{ParseFault}
-use Rattle.aadl_grammar.specs.declared.fault.ParseFault.TheVariants.{Memory, Syntax, TooDeep}
+use Rattle.aadl_grammar.specs.declared.parse_fault.ParseFault.{ParseFault}
+use Rattle.aadl_grammar.specs.declared.parse_fault.ParseFault.TheVariants.{Memory, Syntax, TooDeep}
 
 -- This is the tree of the behaviour's tokens, and there is no other.
 pub record IsOnlyBehaviourOf (text : List ℕ) (tokens : List Token) (tree : AnnexTree ℕ) : Type 0 where

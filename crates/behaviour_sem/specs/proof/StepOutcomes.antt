@@ -1,8 +1,8 @@
 -- What a part of a step may answer and leave: what is meant, the trap that is meant, or want of memory.
 use Rattle.std.specs.Prelude.{◌≡◌, Bool, true, false, Result, Ok, Err}
 use Rattle.pals_base.specs.declared.values.Trap.{Trap}
-use Rattle.behaviour_sem.specs.declared.stop.EarlyEnd.{EarlyEnd}
-use Rattle.behaviour_sem.specs.declared.stop.EarlyEnd.TheVariants as stop
+use Rattle.behaviour_sem.specs.declared.early_end.EarlyEnd.{EarlyEnd}
+use Rattle.behaviour_sem.specs.declared.early_end.EarlyEnd.TheVariants as stop
 
 -- it reaches what is meant, or stops by the trap that is meant; every part may stop if there is not enough memory
 abbrev pub Left : {A : Type 0} → Result (Unit {0}) EarlyEnd → A → Result A Trap → Type 0

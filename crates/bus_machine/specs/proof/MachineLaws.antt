@@ -1,6 +1,6 @@
 -- Laws of the machine, at every run of a design.
 use Rattle.std.specs.Prelude.{◌≤◌, List}
-use Rattle.pals_model.specs.Rules.{IsDesign}
+use Rattle.pals_model.specs.DesignRules.{IsDesign}
 use Rattle.pals_runs.specs.declared.journal.JournalEntry.{JournalEntry}
 use Rattle.bus_machine.specs.States.{Run, BusState, opening}
 use Rattle.bus_machine.specs.Machine.{BusEvent, IsStep}

@@ -10,7 +10,7 @@ use Rattle.pals_model.specs.declared.design.Link.{Link}
 use Rattle.pals_model.specs.declared.design.Feed.{Feed}
 use Rattle.pals_model.specs.declared.design.Tap.{Tap}
 use Rattle.pals_model.specs.declared.design.DesignParts.{DesignParts}
-use Rattle.pals_model.specs.Rules.{IsDesign}
+use Rattle.pals_model.specs.DesignRules.{IsDesign}
 use Rattle.step_code.specs.declared.instr.CodeParts.{CodeParts}
 use Rattle.code_listing.specs.Listings.{listing}
 use Rattle.code_listing.specs.NumberRanges.{AllFit}

@@ -4,12 +4,12 @@ use Rattle.std.specs.Option.{option_and_then}
 use Rattle.pals_base.specs.declared.values.Adaptor.{Adaptor}
 use Rattle.aadl_tree.specs.Values.{Association, Associations}
 use Rattle.aadl_tree.specs.Declarations.{Declaration}
-use Rattle.aadl_names.specs.Properties.{association_named, association_value, name_of, text_of}
+use Rattle.aadl_names.specs.RecognisedProperties.{association_named, association_value, name_of, text_of}
 use Rattle.aadl_names.specs.ReferenceResolution.{implementation_in, connections_of}
-use Rattle.component_checks.specs.declared.carried.ChainProperties.{ChainProperties}
+use Rattle.component_checks.specs.declared.chain_properties.ChainProperties.{ChainProperties}
 use Rattle.component_checks.specs.Rates.{adaptor_named}
 use Rattle.component_checks.specs.Threads.{says}
-use Rattle.aadl_names.specs.declared.holder.PropertyName.TheVariants as properties
+use Rattle.aadl_names.specs.declared.property_holder.PropertyName.TheVariants as properties
 
 abbrev pub adaptor_of : Option (Association ℕ) → Option (Option Adaptor)
 adaptor_of x = option_map adaptor_named (option_and_then (λ a. text_of (association_value a)) x)

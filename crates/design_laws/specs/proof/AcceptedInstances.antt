@@ -1,7 +1,7 @@
 -- An instance in which nothing is found.
 use Rattle.std.specs.Prelude.{◌≡◌, ℕ, Bool, []}
 use Rattle.pals_model.specs.declared.design.DesignParts.{DesignParts}
-use Rattle.pals_model.specs.Rules.{IsDesign}
+use Rattle.pals_model.specs.DesignRules.{IsDesign}
 use Rattle.aadl_tree.specs.Declarations.{PackageTree}
 use Rattle.aadl_instance.specs.Instances.{IsInstance}
 use Rattle.model_violations.specs.UsedDeclarations.{IsUse}

@@ -1,9 +1,9 @@
 -- A thread's implementation that has a behaviour.
 use Rattle.std.specs.Prelude.{◌≡◌, ℕ, Some}
 use Rattle.pals_base.specs.declared.behaviour.BehaviourParts.{BehaviourParts}
-use Rattle.pals_base.specs.Rules.{IsBehaviour}
+use Rattle.pals_base.specs.BehaviourRules.{IsBehaviour}
 use Rattle.aadl_tree.specs.Declarations.{Implementation, PackageTree}
-use Rattle.model_violations.specs.Threads.{behaviour_in}
+use Rattle.model_violations.specs.ThreadBehaviours.{behaviour_in}
 
 -- its annex gives parts that are those of a behaviour
 pub record Behaves (tree : PackageTree ℕ) (x : Implementation ℕ) : Type 0 where

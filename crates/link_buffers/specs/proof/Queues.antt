@@ -2,7 +2,7 @@
 use Rattle.std.specs.Prelude.{◌≡◌, ℕ, nat_eq, nat_lt, nat_le, Bool, false, not, ◌&&◌, ◌||◌, List, ◌∷◌, ◌++◌, filter}
 use Rattle.std.specs.Prelude.{AllPairs}
 use Rattle.std.specs.List.{before_first, after_first}
-use Rattle.link_buffers.specs.declared.queue.DueEntry.{DueEntry}
+use Rattle.link_buffers.specs.declared.due_queue.DueEntry.{DueEntry}
 
 -- the entries in rising order, and how many more have room
 pub record QueueState : Type 0 where

@@ -1,6 +1,6 @@
 -- What a ring of copies holds.
 use Rattle.std.specs.Prelude.{ℕ, ◌<◌, ◌≤◌, List, map, slice_index_or, All, AllPairs}
-use Rattle.pals_model.specs.declared.flight.FlightCopy.{FlightCopy}
+use Rattle.pals_model.specs.declared.flight_copy.FlightCopy.{FlightCopy}
 use Rattle.link_buffers.specs.declared.ring.RingEntry.{RingEntry}
 
 -- the copies alone

@@ -1,6 +1,6 @@
 -- The nodes that events send from, and what is in flight directly behind a send.
 use Rattle.std.specs.Prelude.{◌≡◌, ℕ, ◌+◌, List, [], ◌∷◌, Option, Some, None, Contains}
-use Rattle.pals_model.specs.declared.flight.FlightCopy.{FlightCopy}
+use Rattle.pals_model.specs.declared.flight_copy.FlightCopy.{FlightCopy}
 use Rattle.pals_model.specs.ComponentInputs.{links_from}
 use Rattle.pals_model.specs.Composition.{msg}
 use Rattle.pals_model.specs.Flights.{oldest}

@@ -5,11 +5,11 @@ use Rattle.pals_runs.specs.declared.events.Event.{Event}
 use Rattle.pals_runs.specs.declared.journal.JournalEntry.{JournalEntry}
 use Rattle.bus_machine.specs.States.{Run, BusState, opening}
 use Rattle.pals_bus.specs.BusValues.{BusValue}
-use Rattle.pals_bus.specs.proof.BusPartValues.{opening_bus}
-use Rattle.loose_world.specs.declared.events.LooseEnd.{LooseEnd}
+use Rattle.pals_bus.specs.proof.NodeAndCodeValues.{opening_bus}
+use Rattle.loose_world.specs.declared.loose_run.LooseEnd.{LooseEnd}
 use Rattle.loose_world.specs.LooseRuns.{RunsLoosely}
 use Rattle.loose_world.specs.MachineSteps.{AllStep, StepsToFault, StepsToStop}
-use Rattle.loose_world.specs.declared.events.LooseEnd.TheVariants as end
+use Rattle.loose_world.specs.declared.loose_run.LooseEnd.TheVariants as end
 
 -- how a list of loose events ends, at a state and with a journal
 abbrev pub StepsTo : Run → List Event → LooseEnd → BusState → List JournalEntry → Type 0

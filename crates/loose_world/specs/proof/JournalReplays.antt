@@ -5,8 +5,8 @@ use Rattle.pals_runs.specs.declared.events.Event.{Event}
 use Rattle.bus_machine.specs.States.{Run}
 use Rattle.bus_machine.specs.proof.MachineLaws.{IsRunOf}
 use Rattle.pals_bus.specs.BusValues.{BusValue}
-use Rattle.pals_bus.specs.proof.BusPartValues.{opening_bus}
-use Rattle.loose_world.specs.declared.events.LooseEnd.{LooseEnd}
+use Rattle.pals_bus.specs.proof.NodeAndCodeValues.{opening_bus}
+use Rattle.loose_world.specs.declared.loose_run.LooseEnd.{LooseEnd}
 use Rattle.loose_world.specs.LooseRuns.{RunsLoosely}
 use Rattle.loose_world.specs.proof.UndergoneEvents.{IsReplayed}
 

@@ -3,9 +3,9 @@ use Rattle.std.specs.Prelude.{◌≡◌, ⊤, List}
 use Rattle.pals_runs.specs.declared.events.Event.{Event}
 use Rattle.pals_runs.specs.declared.journal.JournalEntry.{JournalEntry}
 use Rattle.bus_machine.specs.States.{Run, BusState}
-use Rattle.loose_world.specs.declared.events.LooseEnd.{LooseEnd}
+use Rattle.loose_world.specs.declared.loose_run.LooseEnd.{LooseEnd}
 use Rattle.loose_world.specs.proof.EventsAsSteps.{StepsTo}
-use Rattle.loose_world.specs.declared.events.LooseEnd.TheVariants as end
+use Rattle.loose_world.specs.declared.loose_run.LooseEnd.TheVariants as end
 
 -- what is left at an end is one state and one journal; where an event is not allowed, nothing is said of these
 abbrev pub IsOneLeft : LooseEnd → BusState → BusState → List JournalEntry → List JournalEntry → Type 0

@@ -5,7 +5,7 @@ use Rattle.std.specs.Option.{option_and_then}
 use Rattle.pals_base.specs.declared.behaviour.BehaviourParts.{BehaviourParts}
 use Rattle.aadl_tree.specs.Declarations.{PackageTree}
 use Rattle.aadl_names.specs.ReferenceResolution.{implementation_at}
-use Rattle.model_violations.specs.Threads.{behaviour_in}
+use Rattle.model_violations.specs.ThreadBehaviours.{behaviour_in}
 
 -- the behaviour of the implementation of a number, if it is one and has one
 abbrev pub behaviour_at : PackageTree ℕ → ℕ → Option BehaviourParts

@@ -3,8 +3,8 @@ use Rattle.std.specs.Prelude.{◌≢◌, ℕ, []}
 use Rattle.std.specs.Bool.{⊤}
 use Rattle.pals_model.specs.declared.design.DesignParts.{DesignParts}
 use Rattle.aadl_tree.specs.Declarations.{PackageTree}
-use Rattle.model_checks.specs.declared.verdict.CheckFault.{CheckFault}
-use Rattle.model_checks.specs.declared.verdict.CheckFault.TheVariants.{Violations, Memory}
+use Rattle.model_checks.specs.declared.instance_check.CheckFault.{CheckFault}
+use Rattle.model_checks.specs.declared.instance_check.CheckFault.TheVariants.{Violations, Memory}
 use Rattle.design_laws.specs.InstanceDesigns.{IsDesignOf}
 use Rattle.model_violations.specs.Violations.{Shown, AreViolations}
 

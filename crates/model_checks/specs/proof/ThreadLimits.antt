@@ -1,9 +1,9 @@
 -- The threads of an instance are within the limits of a design.
 use Rattle.std.specs.Prelude.{◌≡◌, ℕ, Some}
 use Rattle.aadl_tree.specs.Declarations.{Implementation, PackageTree}
-use Rattle.aadl_uses.specs.declared.thread_places.ThreadAt.{ThreadAt}
+use Rattle.aadl_uses.specs.declared.thread_locations.ThreadAt.{ThreadAt}
 use Rattle.model_violations.specs.ChainEnds.{component_of}
-use Rattle.model_violations.specs.Threads.{IsSmall}
+use Rattle.model_violations.specs.ThreadBehaviours.{IsSmall}
 
 -- the component of a thread has no more ports and variables than a design may have
 abbrev pub IsWithinLimits : PackageTree ℕ → ThreadAt → Type 0

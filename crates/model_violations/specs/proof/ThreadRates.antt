@@ -2,7 +2,7 @@
 use Rattle.std.specs.Prelude.{◌≡◌, ◌<◌, ℕ, List, Option, Some, slice_get}
 use Rattle.aadl_tree.specs.Declarations.{PackageTree}
 use Rattle.aadl_tree.specs.proof.PackageViews.{placed}
-use Rattle.model_violations.specs.declared.chains.RatedThreads.{RatedThreads}
+use Rattle.model_violations.specs.declared.chain_findings.RatedThreads.{RatedThreads}
 
 -- their package
 abbrev pub tree_of : RatedThreads → PackageTree ℕ

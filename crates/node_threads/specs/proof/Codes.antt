@@ -5,8 +5,8 @@ use Rattle.pals_bus.specs.proof.Codes.{bus_code}
 use Rattle.pals_bus.specs.BusValues.{BusValue}
 use Rattle.pals_clock.specs.contracts.clock.Clocks.{the_row as clocks}
 use Rattle.pals_clock.specs.declared.clock.Clocks.{Clocks}
-use Rattle.node_threads.specs.contracts.ends.NodeNote.{the_row as notes}
-use Rattle.node_threads.specs.declared.ends.NodeNote.{NodeNote}
+use Rattle.node_threads.specs.contracts.node_end.NodeNote.{the_row as notes}
+use Rattle.node_threads.specs.declared.node_end.NodeNote.{NodeNote}
 use Rattle.node_threads.specs.proof.SharedCourses.{CourseValue}
 
 abbrev pub course_code : Coded CourseValue

@@ -7,11 +7,11 @@ use Rattle.bus_machine.specs.proof.MachineLaws.{IsRunOf}
 use Rattle.bus_machine.specs.States.{node_at}
 use Rattle.pals_bus.specs.BusValues.{BusValue}
 use Rattle.run_laws.specs.Runs.{lists_in, Runs}
-use Rattle.node_threads.specs.declared.ends.NodeEnd.{NodeEnd}
-use Rattle.node_threads.specs.declared.ends.NodeNote.{NodeNote}
+use Rattle.node_threads.specs.declared.node_end.NodeEnd.{NodeEnd}
+use Rattle.node_threads.specs.declared.node_end.NodeNote.{NodeNote}
 use Rattle.node_threads.specs.proof.SharedCourses.{CourseValue, EndsAt, note_at}
-use Rattle.node_threads.specs.declared.ends.NodeEnd.TheVariants as end
-use Rattle.node_threads.specs.declared.ends.NodeNote.TheVariants as note
+use Rattle.node_threads.specs.declared.node_end.NodeEnd.TheVariants as end
+use Rattle.node_threads.specs.declared.node_end.NodeNote.TheVariants as note
 
 -- ---- the ends of a run
 -- what the end of a node's part says of the bus and of the clocks

@@ -9,8 +9,8 @@ use Rattle.pals_clock.specs.declared.clock.Clocks.{Clocks}
 use Rattle.pals_clock.specs.declared.clock.Clocks.TheVariants.{Meet, Lists}
 use Rattle.pals_model.specs.declared.design.Link.{Link}
 use Rattle.pals_runs.specs.declared.journal.Phase.TheVariants.{Waiting, Done}
-use Rattle.bus_machine.specs.declared.action.NodeAction.{NodeAction}
-use Rattle.bus_machine.specs.declared.action.Next.{Next}
+use Rattle.bus_machine.specs.declared.node_action.NodeAction.{NodeAction}
+use Rattle.bus_machine.specs.declared.node_action.Next.{Next}
 use Rattle.bus_machine.specs.proof.MachineLaws.{IsRunOf}
 use Rattle.bus_machine.specs.Plans.{plan_of}
 use Rattle.bus_machine.specs.States.{node_at}
@@ -20,10 +20,10 @@ use Rattle.bus_machine.specs.Targets.{next_of, target}
 use Rattle.pals_bus.specs.BusValues.{BusValue}
 use Rattle.run_laws.specs.proof.LockedSteps.{IsToStart}
 use Rattle.run_laws.specs.Runs.{lists_in, HasEnded, Does, IsAwaited, KeepsTo, Runs}
-use Rattle.node_threads.specs.declared.ends.NodeNote.{NodeNote}
+use Rattle.node_threads.specs.declared.node_end.NodeNote.{NodeNote}
 use Rattle.node_threads.specs.declared.clocks.ClockAnswer.{ClockAnswer}
-use Rattle.bus_machine.specs.declared.action.NodeAction.TheVariants as action
-use Rattle.node_threads.specs.declared.ends.NodeNote.TheVariants as note
+use Rattle.bus_machine.specs.declared.node_action.NodeAction.TheVariants as action
+use Rattle.node_threads.specs.declared.node_end.NodeNote.TheVariants as note
 use Rattle.node_threads.specs.declared.clocks.ClockAnswer.TheVariants as look
 
 pub record CourseValue : Type 0 where

@@ -1,5 +1,5 @@
 use Rattle.std.proofs.Common.{◌≡◌, drop}
-use Rattle.pals_base.specs.proof.SourceTrees.{operands_along}
+use Rattle.pals_base.specs.proof.TreeViews.{operands_along}
 use Rattle.pals_base.specs.Kinds.{kinds_along}
 use Rattle.pals_base.proofs.+kinds_of_expr.Given as goal
 

@@ -2,8 +2,8 @@ use Rattle.std.proofs.Common.{◌≡◌, ap, sym, ◌∙◌, arith}
 use Rattle.std.proofs.lemmas.Bool.{eqb-true}
 use Rattle.std.proofs.lemmas.Grind.{common_steps}
 use Rattle.pals_base.specs.PlainTrees.{If, For}
-use Rattle.pals_base.specs.proof.SourceTrees.{action_of, actions_along, branches_along}
-use Rattle.pals_base.proofs.SourceTrees.{action_of-If, action_of-For}
+use Rattle.pals_base.specs.proof.TreeViews.{action_of, actions_along, branches_along}
+use Rattle.pals_base.proofs.TreeViews.{action_of-If, action_of-For}
 use Rattle.pals_base.proofs.SameTreeLengths.{same_acts-length, same_branches-length}
 use Rattle.pals_base.proofs.+same_act.Goals as goal
 use Rattle.pals_base.proofs.+same_act.Goals.{behaviour::Act::same-then-low-other_low, behaviour::Act::same-else-low-other_low}

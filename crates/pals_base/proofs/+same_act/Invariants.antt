@@ -1,6 +1,6 @@
 use Rattle.std.proofs.Common.{◌≡◌, length, drop}
 use Rattle.std.specs.Prelude.{◌↔◌}
-use Rattle.pals_base.specs.proof.SourceTrees.{actions_along, branches_along}
+use Rattle.pals_base.specs.proof.TreeViews.{actions_along, branches_along}
 use Rattle.pals_base.proofs.+same_act.Given as goal
 
 -- all are the same exactly where those that are left are

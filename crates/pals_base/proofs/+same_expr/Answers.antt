@@ -1,8 +1,8 @@
 use Rattle.std.proofs.Common.{◌≡◌, ap, ◌∙◌, arith}
 use Rattle.std.proofs.lemmas.Grind.{common_steps}
 use Rattle.pals_base.specs.PlainTrees.{Chain}
-use Rattle.pals_base.specs.proof.SourceTrees.{tree_of, operands_along}
-use Rattle.pals_base.proofs.SourceTrees.{tree_of-Chain}
+use Rattle.pals_base.specs.proof.TreeViews.{tree_of, operands_along}
+use Rattle.pals_base.proofs.TreeViews.{tree_of-Chain}
 use Rattle.pals_base.proofs.SameTreeLengths.{same_operands-length}
 use Rattle.pals_base.proofs.+same_expr.Goals as goal
 

@@ -1,6 +1,6 @@
 use Rattle.std.proofs.Common.{◌≡◌, length, drop}
 use Rattle.std.specs.Prelude.{◌↔◌}
-use Rattle.pals_base.specs.proof.SourceTrees.{operands_along}
+use Rattle.pals_base.specs.proof.TreeViews.{operands_along}
 use Rattle.pals_base.proofs.+same_expr.Given as goal
 
 -- all are the same exactly where those that are left are

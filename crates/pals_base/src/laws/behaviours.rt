@@ -4,7 +4,7 @@ ghost use Rattle.pals_base.specs.declared.values.Frame.{Frame};
 ghost use Rattle.pals_base.specs.declared.values.PortValue.{PortValue};
 ghost use Rattle.pals_base.specs.declared.behaviour.BehaviourParts.{BehaviourParts};
 ghost use Rattle.pals_base.specs.SingleStep.{fire, initial, HasShape};
-ghost use Rattle.pals_base.specs.Rules.{IsBehaviour, IsWay};
+ghost use Rattle.pals_base.specs.BehaviourRules.{IsBehaviour, IsWay};
 
 /// A component starts in its behaviour's shape, so in a complete state. Each step ends: it leaves a
 /// frame of that shape, so again in a complete state, and gives each out port a place.

@@ -1,6 +1,6 @@
 //! Whether two actions stand for the same tree.
 ghost use Rattle.std.specs.Prelude.{◌≡◌, ◌↔◌, IsTrue};
-ghost use Rattle.pals_base.specs.proof.SourceTrees.{action_of, actions_along, branches_along};
+ghost use Rattle.pals_base.specs.proof.TreeViews.{action_of, actions_along, branches_along};
 
 use crate::behaviour::{Act, Branch};
 

@@ -1,6 +1,6 @@
 //! Whether two expressions stand for the same tree.
 ghost use Rattle.std.specs.Prelude.{◌≡◌, ◌↔◌, IsTrue};
-ghost use Rattle.pals_base.specs.proof.SourceTrees.{tree_of, operands_along};
+ghost use Rattle.pals_base.specs.proof.TreeViews.{tree_of, operands_along};
 
 use crate::behaviour::{Expr, Operand};
 

@@ -1,6 +1,6 @@
 //! Whether two guards, or two transitions, are the same.
 ghost use Rattle.std.specs.Prelude.{◌≡◌, ◌↔◌, IsTrue};
-ghost use Rattle.pals_base.specs.proof.SourceTrees.{trigger_of};
+ghost use Rattle.pals_base.specs.proof.TreeViews.{trigger_of};
 
 use super::Same;
 use super::actions::same_acts;

@@ -16,13 +16,13 @@ use Rattle.pals_node.specs.declared.answers.Finished.{Finished}
 use Rattle.pals_node.specs.proof.NodeValues.{JobValue}
 use Rattle.pals_node.specs.proof.Answers.{is_early, Starts, StartEnds, Steps, StepEnds, FinishesWith, NoneRuns}
 use Rattle.pals_node.specs.proof.Answers.{SendEnds}
-use Rattle.pals_bus.specs.declared.refusals.BusError.{BusError}
-use Rattle.pals_bus.specs.declared.refusals.MessageError.{MessageError}
+use Rattle.pals_bus.specs.declared.bus_error.BusError.{BusError}
+use Rattle.pals_bus.specs.declared.bus_error.MessageError.{MessageError}
 use Rattle.pals_bus.specs.BusValues.{BusValue, Happens}
-use Rattle.pals_bus.specs.proof.BusPartValues.{node_value}
+use Rattle.pals_bus.specs.proof.NodeAndCodeValues.{node_value}
 use Rattle.pals_node.specs.declared.answers.StartEnd.TheVariants as start
-use Rattle.pals_bus.specs.declared.refusals.BusError.TheVariants as fault
-use Rattle.pals_bus.specs.declared.refusals.MessageError.TheVariants as message
+use Rattle.pals_bus.specs.declared.bus_error.BusError.TheVariants as fault
+use Rattle.pals_bus.specs.declared.bus_error.MessageError.TheVariants as message
 
 -- no stop stands
 abbrev pub Going : BusValue → Type 0

@@ -5,9 +5,9 @@ use Rattle.std.specs.Arc.{arc_value}
 use Rattle.pals_base.specs.declared.limits.TheConstants.{ROUNDS}
 use Rattle.pals_model.specs.declared.design.Link.{Link}
 use Rattle.pals_model.specs.declared.design.DesignParts.{DesignParts}
-use Rattle.pals_model.specs.declared.flight.FlightCopy.{FlightCopy}
+use Rattle.pals_model.specs.declared.flight_copy.FlightCopy.{FlightCopy}
 use Rattle.pals_model.specs.Delays.{AreDelays}
-use Rattle.pals_model.specs.Rules.{IsDesign}
+use Rattle.pals_model.specs.DesignRules.{IsDesign}
 use Rattle.link_buffers.specs.proof.Flights.{FlightState}
 use Rattle.step_code.specs.proof.CodeMeaning.{Means}
 use Rattle.bus_machine.specs.Plans.{component_at, plan_of}
@@ -17,10 +17,10 @@ use Rattle.bus_machine.specs.Replay.{Replays}
 use Rattle.pals_node.specs.proof.NodeValues.{NodeValue}
 use Rattle.pals_bus.specs.declared.fields.BusFields.{BusFields}
 use Rattle.pals_bus.specs.BusValues.{BusValue}
-use Rattle.pals_bus.specs.proof.BusPartValues.{codes_in}
-use Rattle.pals_bus.specs.proof.AbsentItems.{no_node_value, no_flight}
+use Rattle.pals_bus.specs.proof.NodeAndCodeValues.{codes_in}
+use Rattle.pals_bus.specs.proof.Placeholders.{no_node_value, no_flight}
 use Rattle.pals_bus.specs.proof.LinksFrom.{AreOutgoing}
-use Rattle.pals_bus.specs.proof.Queues.{AreQueues}
+use Rattle.pals_bus.specs.proof.DueQueues.{AreQueues}
 
 -- ---- what contracts see of a bus's fields
 abbrev pub copies_in : List FlightState → List (List FlightCopy)

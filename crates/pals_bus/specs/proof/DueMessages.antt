@@ -3,17 +3,17 @@ use Rattle.std.specs.Prelude.{◌≡◌, ◌⊎◌, ℕ, ◌<◌, ◌≤◌, nat
 use Rattle.std.specs.Prelude.{None, slice_get}
 use Rattle.pals_base.specs.declared.values.LinkNo.{LinkNo}
 use Rattle.pals_model.specs.declared.design.Link.{Link}
-use Rattle.pals_model.specs.declared.flight.FlightCopy.{FlightCopy}
+use Rattle.pals_model.specs.declared.flight_copy.FlightCopy.{FlightCopy}
 use Rattle.link_buffers.specs.proof.Flights.{is_due}
-use Rattle.link_buffers.specs.declared.queue.DueEntry.{DueEntry}
+use Rattle.link_buffers.specs.declared.due_queue.DueEntry.{DueEntry}
 use Rattle.link_buffers.specs.proof.Queues.{is_entry, is_due_at}
 use Rattle.bus_machine.specs.States.{flight_at, link_at}
 use Rattle.bus_machine.specs.Machine.{Arrive}
 use Rattle.std.specs.declared.alloc.AllocError.{AllocError}
-use Rattle.pals_bus.specs.declared.refusals.BusError.{BusError}
+use Rattle.pals_bus.specs.declared.bus_error.BusError.{BusError}
 use Rattle.pals_bus.specs.BusValues.{BusValue, Happens}
-use Rattle.pals_bus.specs.proof.Queues.{comes_first, is_copy_of}
-use Rattle.pals_bus.specs.declared.refusals.BusError.TheVariants as fault
+use Rattle.pals_bus.specs.proof.DueQueues.{comes_first, is_copy_of}
+use Rattle.pals_bus.specs.declared.bus_error.BusError.TheVariants as fault
 
 -- a message of this round of this link is due to a node at a reading
 pub record IsDueTo (b : BusValue) (node reading link round : ℕ) : Type 0 where

@@ -3,15 +3,15 @@ use Rattle.std.specs.Prelude.{ℕ, List, length, Option, slice_index_or, slice_s
 use Rattle.std.specs.Arc.{arc_value}
 use Rattle.pals_base.specs.declared.values.LinkNo.{LinkNo}
 use Rattle.pals_base.specs.declared.values.PortValue.{PortValue}
-use Rattle.pals_model.specs.declared.flight.FlightCopy.{FlightCopy}
+use Rattle.pals_model.specs.declared.flight_copy.FlightCopy.{FlightCopy}
 use Rattle.pals_model.specs.Flights.{without_oldest}
 use Rattle.link_buffers.specs.proof.Flights.{FlightState}
 use Rattle.link_buffers.specs.proof.Queues.{QueueState}
 use Rattle.bus_machine.specs.States.{link_at}
 use Rattle.pals_bus.specs.declared.fields.BusFields.{BusFields}
-use Rattle.pals_bus.specs.proof.AbsentItems.{no_flight, no_queue}
+use Rattle.pals_bus.specs.proof.Placeholders.{no_flight, no_queue}
 use Rattle.pals_bus.specs.proof.BusInvariant.{copies_in}
-use Rattle.pals_bus.specs.proof.Queues.{with_due}
+use Rattle.pals_bus.specs.proof.DueQueues.{with_due}
 use Rattle.pals_bus.specs.proof.RoundMessages.{AreSent}
 
 -- ---- a link's flight, and the queue of its target

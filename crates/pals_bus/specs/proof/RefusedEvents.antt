@@ -1,6 +1,6 @@
 -- When a bus refuses an event, and for which fault.
-use Rattle.pals_bus.specs.declared.refusals.BusError.{BusError}
-use Rattle.pals_bus.specs.declared.refusals.BusError.TheVariants.{Stopped, Refused}
+use Rattle.pals_bus.specs.declared.bus_error.BusError.{BusError}
+use Rattle.pals_bus.specs.declared.bus_error.BusError.TheVariants.{Stopped, Refused}
 
 -- no stop stands, and the event is refused for something of this kind
 abbrev pub IsRefusedBy : {E : Type 0} → (E → Type 0) → BusError E → Type 0

@@ -1,7 +1,7 @@
 -- The messages of errors.
 use Rattle.std.specs.Prelude.{ℕ, List, codes}
-use Rattle.pals_io.specs.declared.ends.ReadEnd.{ReadEnd}
-use Rattle.pals_io.specs.declared.ends.ReadEnd.TheVariants.{ReadFault, TooLong, Memory}
+use Rattle.pals_io.specs.declared.stream_errors.ReadEnd.{ReadEnd}
+use Rattle.pals_io.specs.declared.stream_errors.ReadEnd.TheVariants.{ReadFault, TooLong, Memory}
 
 abbrev pub message_of : ReadEnd → List ℕ
 message_of ReadFault = codes "read fault"

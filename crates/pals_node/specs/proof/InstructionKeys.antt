@@ -1,7 +1,7 @@
 -- An instruction as its kind and its numbers, by which two are told apart.
 use Rattle.std.specs.Prelude.{ℕ, ℤ, pos, List, [], ◌∷◌, slice_index_or}
 use Rattle.step_code.specs.declared.instr.Instr.{Instr}
-use Rattle.pals_node.specs.declared.keys.Key.{Key}
+use Rattle.pals_node.specs.declared.instruction_key.Key.{Key}
 use Rattle.step_code.specs.declared.instr.Instr.TheVariants as instr
 
 -- a slot, a port or a state; a place; and two numbers

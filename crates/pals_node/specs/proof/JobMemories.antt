@@ -4,7 +4,7 @@ use Rattle.pals_base.specs.declared.values.PortValue.{PortValue}
 use Rattle.pals_base.specs.declared.values.Frame.{Frame}
 use Rattle.step_code.specs.declared.instr.CodeParts.{CodeParts}
 use Rattle.step_vm.specs.proof.RoomCapacity.{IsRoomOf}
-use Rattle.pals_node.specs.declared.memory.Memory.{Memory}
+use Rattle.pals_node.specs.declared.job_memory.Memory.{Memory}
 use Rattle.pals_node.specs.proof.NodeValues.{JobValue}
 
 -- a frame has a code's numbers of variables and in ports

@@ -3,21 +3,21 @@
 use Rattle.std.specs.Prelude.{ℕ, ◌≤◌, List, length, ◌⊎◌}
 use Rattle.pals_base.specs.declared.limits.TheConstants.{LIST_ITEMS}
 use Rattle.pals_model.specs.declared.design.DesignParts.{DesignParts}
-use Rattle.pals_bus.specs.proof.BusPartValues.{AreCodes}
+use Rattle.pals_bus.specs.proof.NodeAndCodeValues.{AreCodes}
 use Rattle.step_compiler.specs.LaidOutCode.{AreLaidOut}
 use Rattle.design_codes.specs.OverlongCodes.{AreShort}
 use Rattle.design_codes.specs.Behaviours.{behaviours}
 use Rattle.scenario_json.specs.declared.scenario.Scenario.{Scenario}
 use Rattle.scenario_json.specs.proof.ScenarioFacts.{IsScenarioOf}
 use Rattle.scenario_laws.specs.proof.EventsAndTraces.{AreLooseEvents}
-use Rattle.pals_top.specs.declared.coded.Coded.{Coded}
-use Rattle.pals_top.specs.declared.coded.BundleMeaning.{BundleMeaning}
-use Rattle.pals_top.specs.ExecutionKinds.{Execution, TimedWorld, LooseWorld, Audit}
+use Rattle.pals_top.specs.declared.bundle_meaning.Coded.{Coded}
+use Rattle.pals_top.specs.declared.bundle_meaning.BundleMeaning.{BundleMeaning}
+use Rattle.pals_top.specs.ExecutionCommands.{Execution, TimedWorld, LooseWorld, Audit}
 use Rattle.pals_top.specs.ExecutionAnswers.{command_of, IsCodeTooLong, IsScenarioRefusedIn}
-use Rattle.pals_top.specs.Refusals.{IsBundleRefused}
-use Rattle.pals_top.specs.ScenarioFaults.{HasScenario}
-use Rattle.pals_top.specs.proof.Statuses.{status_of, text_of}
-use Rattle.pals_top.specs.declared.coded.BundleMeaning.TheVariants as meaning
+use Rattle.pals_top.specs.RefusalAnswers.{IsBundleRefused}
+use Rattle.pals_top.specs.BundleScenarios.{HasScenario}
+use Rattle.pals_top.specs.proof.StatusAndText.{status_of, text_of}
+use Rattle.pals_top.specs.declared.bundle_meaning.BundleMeaning.TheVariants as meaning
 
 -- what the scenario of each keeps beside
 abbrev pub HasEvents : Execution → DesignParts → Scenario → Type 0

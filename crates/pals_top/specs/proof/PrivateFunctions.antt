@@ -3,14 +3,14 @@ use Rattle.std.specs.Prelude.{ℕ, Bool, true, false, List, [], ◌∷◌, ◌++
 use Rattle.pals_model.specs.RoundTexts.{line_end, text_of}
 use Rattle.pals_runs.specs.declared.commands.Command.{Command}
 use Rattle.pals_runs.specs.declared.commands.Command.TheVariants.{Run}
-use Rattle.pals_runs.specs.Journal.{entry_line}
+use Rattle.pals_runs.specs.JournalLines.{entry_line}
 use Rattle.pals_bus.specs.BusValues.{BusValue}
-use Rattle.loose_world.specs.declared.events.LooseEnd.{LooseEnd}
+use Rattle.loose_world.specs.declared.loose_run.LooseEnd.{LooseEnd}
 use Rattle.loose_world.specs.proof.FinishedRows.{finished_lines, common_lines}
-use Rattle.pals_report.specs.EventFaults.{event_fault_line}
+use Rattle.pals_report.specs.EventFaultLines.{event_fault_line}
 use Rattle.pals_top.specs.declared.status.TheConstants.{DONE, SCENARIO_REFUSED, STOPPED}
 use Rattle.pals_top.specs.CommandWords.{is_plain, form_by}
-use Rattle.loose_world.specs.declared.events.LooseEnd.TheVariants as end
+use Rattle.loose_world.specs.declared.loose_run.LooseEnd.TheVariants as end
 
 -- a word with a root and one flag
 abbrev pub flagged_form : List ℕ → List ℕ → List ℕ → Option Command

@@ -4,16 +4,16 @@ use Rattle.pals_base.specs.declared.values.PortValue.{PortValue}
 use Rattle.pals_base.specs.declared.values.PortValue.TheVariants.{Absent}
 use Rattle.pals_model.specs.declared.design.Component.{Component}
 use Rattle.pals_model.specs.declared.design.DesignParts.{DesignParts}
-use Rattle.pals_model.specs.declared.rounds.Env.{Env}
-use Rattle.pals_model.specs.Rules.{IsDesign}
+use Rattle.pals_model.specs.declared.inputs_and_parts.Env.{Env}
+use Rattle.pals_model.specs.DesignRules.{IsDesign}
 use Rattle.pals_model.specs.Composition.{Configuration, comp}
 use Rattle.pals_model.specs.ComponentInputs.{values_at}
 use Rattle.plant_fuse.specs.proof.RoundEquations.{IsFusedRound, after_round, last_round, AreRounds}
-use Rattle.pals_runs.specs.declared.pairs.Pair.{Pair}
+use Rattle.pals_runs.specs.declared.analysis_inputs.Pair.{Pair}
 use Rattle.pals_model.specs.RoundTexts.{report}
 use Rattle.plant_fuse.specs.FusedComposition.{ArePairs, Inputs, left_by, frame_before, IsFused}
 use Rattle.plant_fuse.specs.proof.FusedRounds.{made_at, first_rounds, fused}
-use Rattle.plant_fuse.specs.proof.State.{FuseState, AreStates}
+use Rattle.plant_fuse.specs.proof.FuseState.{FuseState, AreStates}
 use Rattle.plant_fuse.specs.FusedText.{fused_parts, IsFusedReport}
 
 -- the equations have a solution for each number of rounds

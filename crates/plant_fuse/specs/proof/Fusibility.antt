@@ -2,9 +2,9 @@
 use Rattle.std.specs.Prelude.{◌≡◌, ◌≢◌, ℕ, ◌<◌, nat_eq, Bool, not, ◌&&◌, ◌||◌, List, length, Some, slice_get}
 use Rattle.pals_model.specs.declared.design.Link.{Link}
 use Rattle.pals_model.specs.declared.design.DesignParts.{DesignParts}
-use Rattle.pals_runs.specs.declared.pairs.Pair.{Pair}
-use Rattle.plant_fuse.specs.declared.ends.FuseEnd.{FuseEnd}
-use Rattle.plant_fuse.specs.declared.ends.FuseEnd.TheVariants.{BadPair, Memory}
+use Rattle.pals_runs.specs.declared.analysis_inputs.Pair.{Pair}
+use Rattle.plant_fuse.specs.declared.fuse_end.FuseEnd.{FuseEnd}
+use Rattle.plant_fuse.specs.declared.fuse_end.FuseEnd.TheVariants.{BadPair, Memory}
 use Rattle.plant_fuse.specs.FusedComposition.{IsPair, AreApart, ArePairs}
 
 -- two components, out of a number of them

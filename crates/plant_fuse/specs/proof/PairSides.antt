@@ -9,8 +9,8 @@ use Rattle.pals_base.specs.StepSequences.{frame_after, outputs, column, upwards}
 use Rattle.pals_model.specs.declared.design.Component.{Component}
 use Rattle.pals_model.specs.declared.design.Link.{Link}
 use Rattle.pals_model.specs.declared.sources.PortSource.{PortSource}
-use Rattle.pals_model.specs.declared.rounds.Part.{Part}
-use Rattle.sync_product.specs.declared.reads.RoundInputs.{RoundInputs}
+use Rattle.pals_model.specs.declared.inputs_and_parts.Part.{Part}
+use Rattle.sync_product.specs.declared.round_inputs.RoundInputs.{RoundInputs}
 use Rattle.sync_product.specs.declared.stage.Stage.{Stage}
 use Rattle.sync_product.specs.proof.ProductSizes.{frame_size, frame_size_of, part_size, part_size_of, stage_size}
 use Rattle.sync_product.specs.proof.ProductSizes.{stage_size_of}

@@ -7,13 +7,13 @@ use Rattle.pals_base.specs.PeriodBound.{alarm}
 use Rattle.pals_base.specs.StepSequences.{upwards}
 use Rattle.step_code.specs.declared.instr.CodeParts.{CodeParts}
 use Rattle.pals_model.specs.declared.design.DesignParts.{DesignParts}
-use Rattle.pals_model.specs.declared.rounds.Env.{Env}
-use Rattle.pals_model.specs.Rules.{IsDesign}
+use Rattle.pals_model.specs.declared.inputs_and_parts.Env.{Env}
+use Rattle.pals_model.specs.DesignRules.{IsDesign}
 use Rattle.step_compiler.specs.LaidOutCode.{AreLaidOut}
 use Rattle.round_budget.specs.BudgetText.{Processor, some_is_over, budget_text}
 use Rattle.round_budget.specs.Budgets.{Release, Served, releases, precedes, budget, by_most, total, timetable}
 use Rattle.round_budget.specs.Responses.{response, AreAtMost, by_exec}
-use Rattle.round_budget.specs.proof.RoundLines.{line_in_round}
+use Rattle.round_budget.specs.proof.RoundTimetableLine.{line_in_round}
 
 -- the members of a processor: components of the design, rising
 pub record AreMembers (design : DesignParts) (members : List ℕ) : Type 0 where

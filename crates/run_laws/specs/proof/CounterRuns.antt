@@ -7,7 +7,7 @@ use Rattle.pals_model.specs.ComponentInputs.{no_env}
 use Rattle.pals_runs.specs.declared.journal.Cause.TheVariants.{NotSent}
 use Rattle.pals_runs.specs.declared.journal.JournalEntry.{JournalEntry}
 use Rattle.bus_machine.specs.States.{Run, BusState}
-use Rattle.bus_machine.specs.proof.CounterMachine.{to_b}
+use Rattle.bus_machine.specs.proof.StoppedCounterRuns.{to_b}
 use Rattle.pals_clock.specs.declared.clock.Clocks.TheVariants.{Meet, Lists}
 use Rattle.run_laws.specs.Runs.{Runs}
 use Rattle.run_laws.specs.Meetings.{AllDone}

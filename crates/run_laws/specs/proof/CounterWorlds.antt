@@ -9,7 +9,7 @@ use Rattle.bus_machine.specs.States.{Run}
 use Rattle.run_laws.specs.Worlds.{World, world_run, opening_world, world_after}
 use Rattle.run_laws.specs.EventFaults.{fault_of}
 use Rattle.bus_machine.specs.WorldTexts.{world_lines}
-use Rattle.bus_machine.specs.proof.CounterMachine.{a, b, to_a, to_b}
+use Rattle.bus_machine.specs.proof.StoppedCounterRuns.{a, b, to_a, to_b}
 use Rattle.pals_runs.specs.declared.events.EventFault.TheVariants as fault
 use Rattle.pals_runs.specs.declared.events.EventSubject.TheVariants as which
 

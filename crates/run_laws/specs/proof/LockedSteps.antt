@@ -5,8 +5,8 @@ use Rattle.pals_base.specs.declared.values.NodeNo.{NodeNo}
 use Rattle.pals_base.specs.declared.values.LinkNo.{LinkNo}
 use Rattle.pals_clock.specs.Clock.{ClockState, standing_at}
 use Rattle.pals_model.specs.declared.design.Link.{Link}
-use Rattle.pals_model.specs.declared.flight.FlightCopy.{FlightCopy}
-use Rattle.bus_machine.specs.declared.action.NodeAction.{NodeAction}
+use Rattle.pals_model.specs.declared.flight_copy.FlightCopy.{FlightCopy}
+use Rattle.bus_machine.specs.declared.node_action.NodeAction.{NodeAction}
 use Rattle.bus_machine.specs.Plans.{plan_of}
 use Rattle.bus_machine.specs.Agreement.{Agrees}
 use Rattle.bus_machine.specs.NodeEvents.{is_waiting}

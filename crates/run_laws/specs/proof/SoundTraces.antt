@@ -5,7 +5,7 @@ use Rattle.pals_base.specs.declared.limits.TheConstants.{ROUNDS}
 use Rattle.pals_model.specs.declared.design.DesignParts.{DesignParts}
 use Rattle.pals_runs.specs.declared.journal.Stop.{Stop}
 use Rattle.pals_runs.specs.declared.journal.JournalEntry.{JournalEntry}
-use Rattle.pals_runs.specs.Journal.{entry_line}
+use Rattle.pals_runs.specs.JournalLines.{entry_line}
 use Rattle.pals_runs.specs.declared.verdicts.Verdict.TheVariants.{Sound}
 use Rattle.bus_machine.specs.Plans.{plan_of}
 use Rattle.bus_machine.specs.States.{Run, BusState, finished_by_all}

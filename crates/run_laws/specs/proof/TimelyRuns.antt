@@ -16,7 +16,7 @@ use Rattle.run_laws.specs.proof.RunTermination.{IsFirstEnded}
 use Rattle.run_laws.specs.Meetings.{AllDone, IsLate, DelaysFit}
 use Rattle.run_laws.specs.ListPicks.{IsPickFor}
 use Rattle.run_laws.specs.Runs.{Runs, lists_in}
-use Rattle.bus_machine.specs.declared.action.NodeAction.TheVariants as action
+use Rattle.bus_machine.specs.declared.node_action.NodeAction.TheVariants as action
 
 -- ---- in time
 -- with list clocks the message of a link's round is due after each start of that round, and of those before it

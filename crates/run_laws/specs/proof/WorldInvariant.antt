@@ -6,7 +6,7 @@ use Rattle.std.specs.List.{count_by}
 use Rattle.pals_base.specs.declared.values.Gamma.{Gamma}
 use Rattle.pals_base.specs.declared.values.PortValue.{PortValue}
 use Rattle.pals_base.specs.PeriodBound.{backoff, alarm}
-use Rattle.pals_model.specs.declared.flight.FlightCopy.{FlightCopy}
+use Rattle.pals_model.specs.declared.flight_copy.FlightCopy.{FlightCopy}
 use Rattle.pals_model.specs.Flights.{is_of}
 use Rattle.pals_runs.specs.declared.journal.Phase.TheVariants.{Running}
 use Rattle.bound_checker.specs.proof.MessageTimes.{IsNear}

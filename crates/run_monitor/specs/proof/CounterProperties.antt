@@ -7,7 +7,7 @@ use Rattle.pals_model.specs.RoundTexts.{line_end}
 use Rattle.pals_runs.specs.declared.forms.Compare.TheVariants.{Eq, Lt, Gt}
 use Rattle.pals_runs.specs.Formula.{Formula, Var, Not, Or, Previous, Historically, Since}
 use Rattle.run_monitor.specs.FormulaSemantics.{holds}
-use Rattle.run_monitor.specs.Violations.{history, is_violated}
+use Rattle.run_monitor.specs.FalseProperties.{history, is_violated}
 use Rattle.run_monitor.specs.WatchText.{formulas_of, watch_text}
 
 -- what a formula says at each of the rounds

@@ -2,8 +2,8 @@
 use Rattle.std.specs.Prelude.{◌≡◌, ℕ, ◌+◌, ◌<◌, ◌≤◌, true, List, [], ◌∷◌, ◌++◌, length, Some, slice_get, slice_index_or}
 use Rattle.pals_runs.specs.Formula.{Formula, Var, Halted, Not, And, Or, Previous, Once, Historically, Since}
 use Rattle.pals_runs.specs.proof.FormulaComponents.{reads, names}
-use Rattle.run_monitor.specs.declared.forms.FlatForm.{FlatForm}
-use Rattle.run_monitor.specs.declared.forms.FlatForm.TheVariants as flat
+use Rattle.run_monitor.specs.declared.flat_form.FlatForm.{FlatForm}
+use Rattle.run_monitor.specs.declared.flat_form.FlatForm.TheVariants as flat
 
 -- the formula at a place
 abbrev pub formula_at : List Formula → ℕ → Formula

@@ -2,13 +2,13 @@
 use Rattle.std.specs.Prelude.{◌≡◌, ◌↔◌, IsTrue, ℕ, suc, ◌<◌, ◌≤◌, List, [], ◌∷◌, ◌++◌, length}
 use Rattle.pals_base.specs.declared.values.Frame.{Frame}
 use Rattle.pals_model.specs.declared.design.DesignParts.{DesignParts}
-use Rattle.pals_model.specs.declared.rounds.Env.{Env}
+use Rattle.pals_model.specs.declared.inputs_and_parts.Env.{Env}
 use Rattle.pals_model.specs.Composition.{comp}
 use Rattle.pals_model.specs.RoundTexts.{text_of}
 use Rattle.pals_runs.specs.Formula.{Formula, Previous, Once, Historically, Since}
 use Rattle.run_monitor.specs.FormulaSemantics.{holds}
-use Rattle.run_monitor.specs.proof.MonitorSteps.{further, bits_after}
-use Rattle.run_monitor.specs.Violations.{history}
+use Rattle.run_monitor.specs.proof.OneBitMonitors.{further, bits_after}
+use Rattle.run_monitor.specs.FalseProperties.{history}
 use Rattle.run_monitor.specs.WatchText.{watched_lines, watched_rows}
 
 abbrev pub Holds : Formula → List (List Frame) → ℕ → Type 0

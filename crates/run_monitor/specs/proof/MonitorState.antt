@@ -4,10 +4,10 @@ use Rattle.std.specs.Prelude.{slice_get, refl}
 use Rattle.std.specs.Coded.{Coded, code_by, coded×, coded_bool, coded_list}
 use Rattle.pals_base.specs.declared.values.Frame.{Frame}
 use Rattle.pals_runs.specs.Formula.{Formula}
-use Rattle.pals_runs.specs.proof.FormulaCode.{formula_code}
+use Rattle.pals_runs.specs.proof.FormulaEncoding.{formula_code}
 use Rattle.run_monitor.specs.FormulaSemantics.{frame_in, holds}
-use Rattle.run_monitor.specs.proof.MonitorSteps.{further}
-use Rattle.run_monitor.specs.declared.forms.FlatForm.{FlatForm}
+use Rattle.run_monitor.specs.proof.OneBitMonitors.{further}
+use Rattle.run_monitor.specs.declared.flat_form.FlatForm.{FlatForm}
 use Rattle.pals_runs.specs.proof.FormulaComponents.{reads, names}
 use Rattle.run_monitor.specs.proof.FlatForms.{formula_at, forms_of, IsFlat}
 use Rattle.run_monitor.specs.proof.FormBits.{bit_at}

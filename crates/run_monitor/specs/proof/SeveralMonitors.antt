@@ -4,11 +4,11 @@ use Rattle.std.specs.Prelude.{refl}
 use Rattle.std.specs.Coded.{Coded, code_by, coded×, coded_list, coded_option}
 use Rattle.pals_base.specs.declared.values.Frame.{Frame}
 use Rattle.pals_model.specs.declared.design.DesignParts.{DesignParts}
-use Rattle.pals_model.specs.declared.rounds.Env.{Env}
+use Rattle.pals_model.specs.declared.inputs_and_parts.Env.{Env}
 use Rattle.pals_runs.specs.Formula.{Formula}
-use Rattle.run_monitor.specs.declared.violation.FalseProperty.{FalseProperty}
-use Rattle.run_monitor.specs.contracts.violation.FalseProperty.{the_row as violations}
-use Rattle.run_monitor.specs.Violations.{history, verdicts, violation}
+use Rattle.run_monitor.specs.declared.false_property.FalseProperty.{FalseProperty}
+use Rattle.run_monitor.specs.contracts.false_property.FalseProperty.{the_row as violations}
+use Rattle.run_monitor.specs.FalseProperties.{history, verdicts, violation}
 use Rattle.run_monitor.specs.proof.MonitorState.{MonitorState, state_code, whole, said, StandsFor, GoesOn}
 
 pub record MonitorsState : Type 0 where

@@ -9,7 +9,7 @@ use Rattle.step_code.specs.declared.instr.Instr.{Instr}
 use Rattle.step_code.specs.declared.instr.CodeParts.{CodeParts}
 use Rattle.step_code.specs.InstructionEffects.{Next, Goes, Ends, Traps, Sticks, Senses, step}
 use Rattle.step_code.specs.PathWeights.{weight_of}
-use Rattle.step_code.specs.InstructionCounts.{silent, senses, slots_of}
+use Rattle.step_code.specs.InstructionsPerStep.{silent, senses, slots_of}
 
 -- how a run ends
 pub data Outcome : Type 0 where

@@ -1,7 +1,7 @@
 -- Laws of layout: each behaviour has laid-out code, with one order of blocks, and no other code.
 use Rattle.std.specs.Prelude.{◌≡◌, ℕ, List}
 use Rattle.pals_base.specs.declared.behaviour.BehaviourParts.{BehaviourParts}
-use Rattle.pals_base.specs.Rules.{IsBehaviour}
+use Rattle.pals_base.specs.BehaviourRules.{IsBehaviour}
 use Rattle.step_code.specs.declared.instr.CodeParts.{CodeParts}
 use Rattle.step_compiler.specs.LaidOutCode.{IsBlockOrder, IsLaidOut, AreLaidOut}
 

@@ -4,17 +4,17 @@ use Rattle.pals_base.specs.declared.values.Frame.{Frame}
 use Rattle.pals_base.specs.declared.values.PortValue.{PortValue}
 use Rattle.pals_base.specs.declared.values.PortValue.TheVariants.{Absent}
 use Rattle.step_code.specs.InstructionEffects.{Next, Goes, Ends, Traps, step, on_result, on_two}
-use Rattle.step_vm.specs.declared.machine.Continuation.{Continuation}
+use Rattle.step_vm.specs.declared.instruction_effects.Continuation.{Continuation}
 use Rattle.step_vm.specs.declared.steps.RunResult.{RunResult}
 use Rattle.step_code.specs.proof.CodeRuns.{Outcome, run}
-use Rattle.step_code.specs.InstructionCounts.{senses}
+use Rattle.step_code.specs.InstructionsPerStep.{senses}
 use Rattle.step_code.specs.declared.instr.Instr.{Instr}
 use Rattle.step_code.specs.declared.instr.CodeParts.{CodeParts}
 use Rattle.step_code.specs.PathWeights.{weight_of}
 use Rattle.pals_base.specs.declared.values.Trap.{Trap}
 use Rattle.pals_base.specs.declared.behaviour.Op.{Op}
-use Rattle.step_vm.specs.declared.machine.CodeInputs.{CodeInputs}
-use Rattle.step_vm.specs.declared.machine.Continuation.TheVariants as onward
+use Rattle.step_vm.specs.declared.instruction_effects.CodeInputs.{CodeInputs}
+use Rattle.step_vm.specs.declared.instruction_effects.Continuation.TheVariants as onward
 use Rattle.step_vm.specs.declared.steps.RunResult.TheVariants as ended
 use Rattle.step_code.specs.proof.CodeRuns as outcome
 

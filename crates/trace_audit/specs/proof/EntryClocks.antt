@@ -1,7 +1,7 @@
 -- The clocks that entries read.
 use Rattle.std.specs.Prelude.{ℕ, Option, Some}
 use Rattle.run_laws.specs.TraceLines.{Timed}
-use Rattle.trace_audit.specs.declared.clocks.ClockReading.{ClockReading}
+use Rattle.trace_audit.specs.declared.entry_clocks.ClockReading.{ClockReading}
 
 abbrev pub timed_of : ClockReading → Timed
 timed_of clock = record { node = clock.node; reading = clock.reading }

@@ -1,12 +1,12 @@
 -- The form of each journal line, by what the code keeps of it.
 use Rattle.std.specs.Prelude.{ℕ, List, Option, option_map}
-use Rattle.trace_audit.specs.declared.forms.NodeLine.{NodeLine}
-use Rattle.trace_audit.specs.declared.forms.LinkLine.{LinkLine}
-use Rattle.trace_audit.specs.declared.forms.JournalLine.{JournalLine}
-use Rattle.trace_audit.specs.declared.forms.JournalLine.TheVariants.{OfNode, OfLink}
+use Rattle.trace_audit.specs.declared.journal_lines.NodeLine.{NodeLine}
+use Rattle.trace_audit.specs.declared.journal_lines.LinkLine.{LinkLine}
+use Rattle.trace_audit.specs.declared.journal_lines.JournalLine.{JournalLine}
+use Rattle.trace_audit.specs.declared.journal_lines.JournalLine.TheVariants.{OfNode, OfLink}
 use Rattle.run_laws.specs.LineForms as line
-use Rattle.trace_audit.specs.declared.forms.NodeLine.TheVariants as node
-use Rattle.trace_audit.specs.declared.forms.LinkLine.TheVariants as link
+use Rattle.trace_audit.specs.declared.journal_lines.NodeLine.TheVariants as node
+use Rattle.trace_audit.specs.declared.journal_lines.LinkLine.TheVariants as link
 
 abbrev pub node_form : List ℕ → NodeLine → line.Form
 node_form name (node.Start round reading) = line.StartLine name round reading

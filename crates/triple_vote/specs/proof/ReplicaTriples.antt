@@ -6,11 +6,11 @@ use Rattle.pals_base.specs.declared.values.Frame.{Frame}
 use Rattle.pals_model.specs.declared.design.Link.{Link}
 use Rattle.pals_model.specs.declared.design.Tap.{Tap}
 use Rattle.pals_model.specs.declared.design.DesignParts.{DesignParts}
-use Rattle.pals_model.specs.declared.rounds.Part.{Part}
+use Rattle.pals_model.specs.declared.inputs_and_parts.Part.{Part}
 use Rattle.pals_model.specs.declared.sources.PortSource.{PortSource}
 use Rattle.pals_model.specs.ComponentInputs.{all_sources}
 use Rattle.pals_model.specs.Composition.{no_frame, opening}
-use Rattle.pals_runs.specs.declared.pairs.VoteFault.{VoteFault}
+use Rattle.pals_runs.specs.declared.analysis_inputs.VoteFault.{VoteFault}
 use Rattle.sync_product.specs.declared.stage.Stage.{Stage}
 use Rattle.sync_product.specs.proof.ProductSizes.{stage_size, stage_sizes, message_sizes}
 use Rattle.sync_product.specs.proof.Rounds.{frames_of}

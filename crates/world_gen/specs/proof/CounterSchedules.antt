@@ -8,7 +8,7 @@ use Rattle.pals_runs.specs.declared.events.Event.{Event}
 use Rattle.pals_runs.specs.declared.events.Event.TheVariants.{Pass, Start, Step, Finish, Send, Arrive}
 use Rattle.bus_machine.specs.States.{Run}
 use Rattle.run_laws.specs.Worlds.{world_run}
-use Rattle.bus_machine.specs.proof.CounterMachine.{a, b, to_a, to_b}
+use Rattle.bus_machine.specs.proof.StoppedCounterRuns.{a, b, to_a, to_b}
 use Rattle.run_laws.specs.proof.CounterWorlds.{counters_world, refused}
 use Rattle.world_gen.specs.proof.Schedules.{schedule_at}
 use Rattle.pals_runs.specs.declared.events.EventFault.TheVariants as fault

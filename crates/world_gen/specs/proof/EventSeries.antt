@@ -10,9 +10,9 @@ use Rattle.pals_model.specs.declared.design.DesignParts.{DesignParts}
 use Rattle.pals_runs.specs.declared.events.Event.{Event}
 use Rattle.bus_machine.specs.Plans.{plan_of}
 use Rattle.run_laws.specs.Deadlines.{lesser}
-use Rattle.world_gen.specs.declared.courses.EventKind.{EventKind}
-use Rattle.world_gen.specs.declared.courses.EventKind.TheVariants.{Begin, Finish, Send, Arrive}
-use Rattle.world_gen.specs.declared.courses.EventSeries.{EventSeries}
+use Rattle.world_gen.specs.declared.event_series.EventKind.{EventKind}
+use Rattle.world_gen.specs.declared.event_series.EventKind.TheVariants.{Begin, Finish, Send, Arrive}
+use Rattle.world_gen.specs.declared.event_series.EventSeries.{EventSeries}
 use Rattle.world_gen.specs.proof.Schedules.{which, event_of, step_count, begins, send_time, arrive_time}
 use Rattle.pals_runs.specs.declared.events.Event.TheVariants as event
 

@@ -1,5 +1,5 @@
 use Rattle.std.proofs.Common.{refl}
-use Rattle.aadl_grammar.specs.proof.Machine.{move, step, ends, depth, fate}
+use Rattle.aadl_grammar.specs.proof.StackMachine.{move, step, ends, depth, fate}
 use Rattle.aadl_grammar.proofs.laws.worked_fates.Goals as goal
 
 pub returns-clause-transition : goal.returns-clause-transition

@@ -1,6 +1,6 @@
 use Rattle.std.proofs.Common.{◌∙◌, ◌∷◌, refl, arith}
 use Rattle.aadl_grammar.specs.proof.ParserAnswers.{here}
-use Rattle.aadl_grammar.proofs.SymbolRows.{takes_row, omits_unless, along, exits, no_reads}
+use Rattle.aadl_grammar.proofs.SymbolMoves.{takes_row, omits_unless, along, exits, no_reads}
 use Rattle.aadl_grammar.proofs.PartSequences.{marked, pushed}
 use Rattle.aadl_tree.specs.SpellingParts.{behind}
 use Rattle.aadl_tree.specs.Names.{identifier_parts}
@@ -8,7 +8,7 @@ use Rattle.aadl_tree.specs.proof.NameViews.{identifier_view}
 use Rattle.aadl_tree.specs.proof.PlaceMaps.{kept_place}
 use Rattle.aadl_tree.specs.declared.mark.Mark.TheVariants as k
 use Rattle.aadl_grammar.specs.proof.Symbols as s
-use Rattle.aadl_grammar.specs.proof.Machine.{move, depth}
+use Rattle.aadl_grammar.specs.proof.StackMachine.{move, depth}
 use Rattle.aadl_grammar.proofs.names.more_identifiers.Goals as goal
 
 pub returns-in_err-next : goal.returns-in_err-next

@@ -1,7 +1,7 @@
 use Rattle.std.proofs.Common.{◌+◌, ◌∙◌, ◌∷◌, [], ◌++◌, ap, sym, refl, arith}
 use Rattle.aadl_grammar.specs.proof.ParserAnswers.{here}
-use Rattle.aadl_grammar.proofs.SymbolRows.{takes_row, deep_row, omits_unless, begins_as, enters_as, before_closer}
-use Rattle.aadl_grammar.proofs.SymbolRows.{misses_at, along, exits, no_reads, too_deep, flag_runs, only_takes}
+use Rattle.aadl_grammar.proofs.SymbolMoves.{takes_row, deep_row, omits_unless, begins_as, enters_as, before_closer}
+use Rattle.aadl_grammar.proofs.SymbolMoves.{misses_at, along, exits, no_reads, too_deep, flag_runs, only_takes}
 use Rattle.aadl_grammar.proofs.PartSequences.{nothing, then, marked, respelled, shorter, flagged}
 use Rattle.aadl_tree.specs.SpellingParts.{plain}
 use Rattle.aadl_tree.specs.Values.{value_parts, values_parts, association_parts, associations_parts}
@@ -13,7 +13,7 @@ use Rattle.aadl_grammar.proofs.PropertyLists.{more_values_push, associations_pus
 use Rattle.aadl_grammar.proofs.PropertyLists.{association_begun}
 use Rattle.aadl_tree.specs.declared.mark.Mark.TheVariants as k
 use Rattle.aadl_grammar.specs.proof.Symbols as s
-use Rattle.aadl_grammar.specs.proof.Machine.{move, depth}
+use Rattle.aadl_grammar.specs.proof.StackMachine.{move, depth}
 use Rattle.aadl_grammar.proofs.values.+value.Goals as goal
 
 pub values-returns-in-Some : goal.values-returns-in-Some

@@ -1,7 +1,7 @@
 use Rattle.std.proofs.Common.{◌∙◌, ◌∷◌, [], ap, sym, refl, arith}
 use Rattle.aadl_grammar.specs.proof.ParserAnswers.{here}
-use Rattle.aadl_grammar.proofs.SymbolRows.{takes_row, deep_row, omits_unless, refuses_unless, begins_as, enters_as}
-use Rattle.aadl_grammar.proofs.SymbolRows.{along, exits, no_reads, too_deep}
+use Rattle.aadl_grammar.proofs.SymbolMoves.{takes_row, deep_row, omits_unless, refuses_unless, begins_as, enters_as}
+use Rattle.aadl_grammar.proofs.SymbolMoves.{along, exits, no_reads, too_deep}
 use Rattle.aadl_grammar.proofs.PartSequences.{nothing, respelled}
 use Rattle.aadl_tree.specs.Values.{properties_parts}
 use Rattle.aadl_tree.specs.proof.ValueViews.{associations_view}
@@ -9,7 +9,7 @@ use Rattle.aadl_tree.specs.proof.PlaceMaps.{kept_place}
 use Rattle.aadl_grammar.proofs.PropertyLists.{starts_at, braced}
 use Rattle.aadl_tree.specs.declared.mark.Mark.TheVariants as k
 use Rattle.aadl_grammar.specs.proof.Symbols as s
-use Rattle.aadl_grammar.specs.proof.Machine.{move, depth, syntax_at}
+use Rattle.aadl_grammar.specs.proof.StackMachine.{move, depth, syntax_at}
 use Rattle.aadl_grammar.proofs.values.properties.Goals as goal
 
 pub returns-in_default : goal.returns-in_default

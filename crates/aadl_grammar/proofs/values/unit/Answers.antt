@@ -1,9 +1,9 @@
 use Rattle.std.proofs.Common.{refl, arith}
 use Rattle.aadl_grammar.specs.proof.ParserAnswers.{here}
-use Rattle.aadl_grammar.proofs.SymbolRows.{takes_row, omits_unless, a_word_at}
+use Rattle.aadl_grammar.proofs.SymbolMoves.{takes_row, omits_unless, a_word_at}
 use Rattle.aadl_grammar.proofs.PartSequences.{nothing, named}
 use Rattle.aadl_grammar.specs.proof.Symbols as s
-use Rattle.aadl_grammar.specs.proof.Machine.{move, depth}
+use Rattle.aadl_grammar.specs.proof.StackMachine.{move, depth}
 use Rattle.aadl_grammar.proofs.values.unit.Goals as goal
 
 pub returns-in-Some : goal.returns-in-Some

@@ -2,7 +2,7 @@ use Rattle.std.proofs.Common.{rules, ◌∙◌, List, ℕ, subst}
 use Rattle.std.specs.Prelude.{◌≢◌}
 use Rattle.aadl_tree.specs.GrammarTrees.{IsTreeOf}
 use Rattle.aadl_tree.specs.proof.PackageViews.{placed}
-use Rattle.aadl_parse.specs.declared.fault.TextFault.TheVariants.{Memory}
+use Rattle.aadl_parse.specs.declared.text_fault.TextFault.TheVariants.{Memory}
 use Rattle.aadl_parse.specs.ParseResults.{IsFaultOfText}
 use Rattle.aadl_print.proofs.CanonicalReparse.{same_again, no_fault}
 use Rattle.aadl_print.proofs.round_trip.is_read_back.Goals as goal

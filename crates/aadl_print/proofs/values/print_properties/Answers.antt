@@ -1,6 +1,6 @@
 use Rattle.aadl_tree.specs.proof.PlaceMaps.{no_place}
 use Rattle.aadl_print.proofs.PrintedParts.{printed_append, closed}
-use Rattle.aadl_print.proofs.Sections.{braced}
+use Rattle.aadl_print.proofs.NonemptySections.{braced}
 use Rattle.aadl_print.proofs.values.print_properties.Goals as goal
 
 pub returns : goal.returns

@@ -1,5 +1,5 @@
 use Rattle.std.proofs.Common.{None, arith}
-use Rattle.aadl_uses.specs.proof.PortNumbers.{is_site}
+use Rattle.aadl_uses.specs.proof.NumbersByPort.{is_site}
 use Rattle.aadl_uses.proofs.FirstConnectionTables.{next_first, last_first}
 use Rattle.aadl_uses.proofs.connections.firsts_of.Goals as goal
 

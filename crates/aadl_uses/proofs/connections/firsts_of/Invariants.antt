@@ -1,8 +1,8 @@
 use Rattle.std.proofs.Common.{◌≡◌, drop}
 use Rattle.std.specs.List.{position_from}
 use Rattle.std.specs.Option.{option_or}
-use Rattle.aadl_names.specs.declared.site.PortPlace.{PortPlace}
-use Rattle.aadl_uses.specs.proof.PortNumbers.{is_site, number_of}
+use Rattle.aadl_names.specs.declared.port_place.PortPlace.{PortPlace}
+use Rattle.aadl_uses.specs.proof.NumbersByPort.{is_site, number_of}
 use Rattle.aadl_uses.specs.proof.FirstConnections.{first_into}
 use Rattle.aadl_uses.proofs.connections.firsts_of.Given as goal
 

@@ -1,6 +1,6 @@
 use Rattle.std.proofs.Common.{take}
 use Rattle.aadl_tree.specs.proof.PackageViews.{placed}
-use Rattle.aadl_uses.specs.proof.Recursion.{IsFirstOf}
+use Rattle.aadl_uses.specs.proof.FirstRecursion.{IsFirstOf}
 use Rattle.aadl_uses.proofs.recursion.first_of.Given as goal
 
 abbrev pub invariant-loop-suspect : goal.invariant-loop-suspect

@@ -4,7 +4,7 @@ use Rattle.aadl_tree.specs.proof.PlaceMaps.{kept_place}
 use Rattle.aadl_tree.specs.proof.DeclarationViews.{subcomponent_view}
 use Rattle.aadl_names.specs.declared.fault.PackageFault.TheVariants.{Recursive}
 use Rattle.aadl_uses.specs.proof.ContainmentGraphs.{Graph, IsWithin, LeadsBack}
-use Rattle.aadl_uses.specs.proof.Recursion.{IsSooner}
+use Rattle.aadl_uses.specs.proof.FirstRecursion.{IsSooner}
 use Rattle.aadl_uses.proofs.PackageContainment.{within}
 use Rattle.aadl_uses.proofs.Cycles.{sooner_new}
 use Rattle.aadl_uses.proofs.recursion.sooner.Goals as goal

@@ -1,6 +1,6 @@
 use Rattle.std.proofs.Common.{◌≡◌, [], map}
 use Rattle.analysis_fields.specs.Plants.{with_pair}
-use Rattle.scenario_values.specs.Outcomes.{through}
+use Rattle.scenario_values.specs.ResultCombinators.{through}
 use Rattle.scenario_values.specs.FieldValues.{entry_of}
 use Rattle.analysis_fields.proofs.plants.read_plants.Given as goal
 

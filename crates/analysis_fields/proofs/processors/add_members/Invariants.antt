@@ -1,6 +1,6 @@
 use Rattle.std.proofs.Common.{◌≡◌, map, drop}
 use Rattle.serde_json.specs.View.{view}
-use Rattle.scenario_values.specs.Outcomes.{through}
+use Rattle.scenario_values.specs.ResultCombinators.{through}
 use Rattle.scenario_values.specs.FaultPlaces.{place_text}
 use Rattle.analysis_fields.specs.Processors.{with_member}
 use Rattle.analysis_fields.proofs.processors.add_members.Given as goal

@@ -1,5 +1,5 @@
 use Rattle.std.proofs.Common.{rules, ◌≡◌, ◌∙◌, ◌++◌, length, take, drop, sym, ap, arith}
-use Rattle.list_lemmas.proofs.Lists.{take-written_whole}
+use Rattle.list_lemmas.proofs.ListOperations.{take-written_whole}
 use Rattle.pals_model.specs.declared.design.DesignParts.{DesignParts}
 use Rattle.pals_model.specs.ComponentInputs.{values_at}
 use Rattle.pals_report.specs.proof.TapPlaces.{tap_places}

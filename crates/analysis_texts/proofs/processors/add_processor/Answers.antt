@@ -3,7 +3,7 @@ use Rattle.std.proofs.lemmas.List.{length-map}
 use Rattle.pals_base.specs.declared.values.NodeNo.{NodeNo}
 use Rattle.round_budget.specs.proof.BudgetLaws.{AreMembers}
 use Rattle.round_budget.specs.Budgets.{numbers}
-use Rattle.round_budget.proofs.Members.{nodes_are_members, rising_few}
+use Rattle.round_budget.proofs.ProcessorMembers.{nodes_are_members, rising_few}
 use Rattle.analysis_texts.proofs.processors.add_processor.Goals as goal
 
 pub total-sum-requires-clause-within : goal.total-sum-requires-clause-within

@@ -2,7 +2,7 @@ use Rattle.std.proofs.Common.{◌≡◌, ◌<◌, [], ◌∷◌, ◌++◌, List,
 use Rattle.std.proofs.Common.{subst}
 use Rattle.std.specs.Prelude.{slice_index_or}
 use Rattle.pals_model.specs.RoundTexts.{line_end}
-use Rattle.pals_runs.specs.Journal.{spaced}
+use Rattle.pals_runs.specs.JournalLines.{spaced}
 use Rattle.analysis_fields.specs.PropertyValues.{PropertyValue}
 use Rattle.run_monitor.specs.WatchText.{names_of, violation_text, last_line}
 use Rattle.analysis_texts.specs.WatchedProperties.{named}

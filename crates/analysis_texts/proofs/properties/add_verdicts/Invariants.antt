@@ -5,7 +5,7 @@ use Rattle.analysis_fields.specs.PropertyValues.{PropertyValue}
 use Rattle.run_monitor.specs.proof.SeveralMonitors.{said_by}
 use Rattle.run_monitor.specs.FormulaSemantics.{holds}
 use Rattle.run_monitor.specs.WatchText.{verdict_line}
-use Rattle.run_monitor.specs.Violations.{verdicts}
+use Rattle.run_monitor.specs.FalseProperties.{verdicts}
 use Rattle.analysis_texts.specs.WatchedProperties.{formulas}
 use Rattle.analysis_texts.proofs.properties.add_verdicts.Given as goal
 

@@ -1,12 +1,12 @@
 use Rattle.std.proofs.Common.{rules, refl, ◌≡◌, ◌<◌, ◌+◌, ◌++◌, length, take, drop, IfSome, is_some, sym, ap, ◌∙◌}
 use Rattle.std.proofs.Common.{subst, arith}
-use Rattle.list_lemmas.proofs.Lists.{take-written_whole}
+use Rattle.list_lemmas.proofs.ListOperations.{take-written_whole}
 use Rattle.pals_model.specs.Composition.{comp}
 use Rattle.pals_model.specs.ComponentInputs.{values_at}
 use Rattle.pals_model.specs.RoundTexts.{text_of}
 use Rattle.run_monitor.specs.proof.SeveralMonitors.{HasWatched}
 use Rattle.run_monitor.specs.WatchText.{watched_lines, watched_rows}
-use Rattle.run_monitor.specs.Violations.{history, violation, is_violated}
+use Rattle.run_monitor.specs.FalseProperties.{history, violation, is_violated}
 use Rattle.analysis_texts.specs.WatchedProperties.{named, formulas}
 use Rattle.analysis_texts.proofs.RoundRows.{length_values_at}
 use Rattle.analysis_texts.proofs.WatchedRounds.{found_is, found_tells, found_within, rows_more, watched_whole}

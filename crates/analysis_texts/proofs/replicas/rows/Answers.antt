@@ -2,15 +2,15 @@ use Rattle.std.proofs.Common.{rules, ◌≡◌, ◌∙◌, ◌++◌, Bool, List,
 use Rattle.std.proofs.Common.{arith}
 use Rattle.std.specs.Prelude.{slice_index_or}
 use Rattle.std.proofs.lemmas.List.{length-map}
-use Rattle.list_lemmas.proofs.Lists.{take-written_whole}
+use Rattle.list_lemmas.proofs.ListOperations.{take-written_whole}
 use Rattle.pals_model.specs.declared.design.DesignParts.{DesignParts}
 use Rattle.pals_model.specs.ComponentInputs.{values_at}
-use Rattle.pals_runs.specs.declared.pairs.VoteFault.{VoteFault}
+use Rattle.pals_runs.specs.declared.analysis_inputs.VoteFault.{VoteFault}
 use Rattle.triple_vote.specs.proof.VoteLaws.{IsFault}
 use Rattle.triple_vote.specs.Replicas.{vcomp, vshown_by}
 use Rattle.triple_vote.specs.proof.VotedStates.{VotedState, vadvanced}
 use Rattle.triple_vote.specs.VotedText.{vreport}
-use Rattle.triple_vote.proofs.NumberedLists.{table-at}
+use Rattle.triple_vote.proofs.TabulatedLists.{table-at}
 use Rattle.analysis_texts.specs.proof.ReplicaLines.{all_names}
 use Rattle.analysis_texts.proofs.RoundRows.{length_values_at}
 use Rattle.analysis_texts.proofs.VotedRows.{MakesRound, voted_more}

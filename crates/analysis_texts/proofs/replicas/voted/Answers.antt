@@ -8,7 +8,7 @@ use Rattle.triple_vote.specs.VotedText.{vreport}
 use Rattle.analysis_texts.specs.VotedReplicas.{replicated_in, faults_of}
 use Rattle.analysis_texts.specs.proof.ReplicaLines.{all_names}
 use Rattle.analysis_texts.proofs.FilledTables.{length-table}
-use Rattle.analysis_texts.proofs.VotedFaults.{rounds_keep}
+use Rattle.analysis_texts.proofs.AllowedVoteFaults.{rounds_keep}
 use Rattle.analysis_texts.proofs.replicas.voted.Goals as goal
 
 pub rows-requires : goal.rows-requires

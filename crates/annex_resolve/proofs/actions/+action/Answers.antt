@@ -5,8 +5,8 @@ use mir.Syntax.{w64}
 use mir.Val.{SFits, to_z, of_z}
 use Rattle.pals_base.specs.Kinds as base
 use Rattle.pals_base.specs.PlainTrees.{For}
-use Rattle.pals_base.specs.proof.SourceTrees.{actions_along}
-use Rattle.pals_base.proofs.SourceTrees.{action_of-If, action_of-For}
+use Rattle.pals_base.specs.proof.TreeViews.{actions_along}
+use Rattle.pals_base.proofs.TreeViews.{action_of-If, action_of-For}
 use Rattle.aadl_tree.specs.declared.actions.Action.TheViews.{out-Actions, out-Choice, out-Loop}
 use Rattle.aadl_tree.specs.proof.PlaceMaps.{kept_place}
 use Rattle.aadl_tree.specs.proof.NameViews.{identifier_view, reference_view}
@@ -18,9 +18,9 @@ use Rattle.aadl_tree.specs.proof.ActionViews.{otherwise_of as listed_otherwise}
 use Rattle.aadl_tree.proofs.ActionViews.{view-Assign, view-Send, view-If, view-For, view-out-choice, view-out-loop}
 use Rattle.annex_resolve.specs.Scopes.{entry_named}
 use Rattle.annex_resolve.proofs.StructViews.{view-out-actions, view-out-block}
-use Rattle.annex_resolve.proofs.ActionLevels.{assigned, sent, same_action, one_action, next_action, all_actions}
-use Rattle.annex_resolve.proofs.ActionLevels.{no_actions, some_actions, same_block, branch_read, one_branch}
-use Rattle.annex_resolve.proofs.ActionLevels.{next_branch, chosen, looped}
+use Rattle.annex_resolve.proofs.ResolvedActions.{assigned, sent, same_action, one_action, next_action, all_actions}
+use Rattle.annex_resolve.proofs.ResolvedActions.{no_actions, some_actions, same_block, branch_read, one_branch}
+use Rattle.annex_resolve.proofs.ResolvedActions.{next_branch, chosen, looped}
 use Rattle.annex_resolve.proofs.actions.+action.Goals as goal
 
 pub resolve_action-returns-in_ok-add_if-in-Assign : goal.resolve_action-returns-in_ok-add_if-in-Assign

@@ -1,7 +1,7 @@
 use Rattle.std.proofs.Common.{ap, ◌∙◌}
 use Rattle.pals_base.specs.PlainTrees.{If, NoBranch}
-use Rattle.pals_base.specs.proof.SourceTrees.{actions_along, branches_along}
-use Rattle.pals_base.proofs.SourceTrees.{action_of-If}
+use Rattle.pals_base.specs.proof.TreeViews.{actions_along, branches_along}
+use Rattle.pals_base.proofs.TreeViews.{action_of-If}
 use Rattle.annex_resolve.proofs.actions.nothing.Goals as goal
 
 pub returns : goal.returns

@@ -1,4 +1,4 @@
-use Rattle.annex_resolve.proofs.OperandChains.{chained_several}
+use Rattle.annex_resolve.proofs.SeveralOperands.{chained_several}
 use Rattle.annex_resolve.proofs.expressions.chained.Goals as goal
 
 pub returns : goal.returns

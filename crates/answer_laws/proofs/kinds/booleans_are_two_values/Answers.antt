@@ -1,6 +1,6 @@
-use Rattle.answer_laws.proofs.BooleanRuns.{scenarios_fit, states_of_scenarios_fit, messages_of_scenarios_fit}
-use Rattle.answer_laws.proofs.BooleanRuns.{parts_of_scenarios_fit, faults_of_scenarios_fit, votes_of_scenarios_fit}
-use Rattle.answer_laws.proofs.BooleanRuns.{shown_of_scenarios_fit, fused_of_scenarios_fit, buses_of_scenarios_fit}
+use Rattle.answer_laws.proofs.BooleansInRuns.{scenarios_fit, states_of_scenarios_fit, messages_of_scenarios_fit}
+use Rattle.answer_laws.proofs.BooleansInRuns.{parts_of_scenarios_fit, faults_of_scenarios_fit, votes_of_scenarios_fit}
+use Rattle.answer_laws.proofs.BooleansInRuns.{shown_of_scenarios_fit, fused_of_scenarios_fit, buses_of_scenarios_fit}
 use Rattle.answer_laws.proofs.kinds.booleans_are_two_values.Goals as goal
 
 pub returns : goal.returns

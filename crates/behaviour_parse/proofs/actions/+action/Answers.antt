@@ -1,7 +1,7 @@
 use Rattle.std.proofs.Common.{◌∙◌, ◌∷◌, [], ◌++◌, ap, sym, refl, arith}
 use Rattle.aadl_grammar.specs.proof.ParserAnswers.{here}
-use Rattle.aadl_grammar.proofs.SymbolRows.{takes_row, deep_row, omits_unless, refuses_unless, begins_as, before_closer}
-use Rattle.aadl_grammar.proofs.SymbolRows.{misses_at, along, exits, no_reads, too_deep, only_takes}
+use Rattle.aadl_grammar.proofs.SymbolMoves.{takes_row, deep_row, omits_unless, refuses_unless, begins_as, before_closer}
+use Rattle.aadl_grammar.proofs.SymbolMoves.{misses_at, along, exits, no_reads, too_deep, only_takes}
 use Rattle.aadl_grammar.proofs.PartSequences.{nothing, then, marked, respelled, shorter, placed_at}
 use Rattle.std.specs.Prelude.{Some, None}
 use Rattle.std.proofs.lemmas.List.{append-nil}
@@ -15,7 +15,7 @@ use Rattle.behaviour_parse.proofs.ParsedActions.{loop_reads, choice_reads, choic
 use Rattle.behaviour_parse.proofs.ParsedActions.{not_ended, begins_from}
 use Rattle.aadl_tree.specs.declared.mark.Mark.TheVariants as k
 use Rattle.aadl_grammar.specs.proof.Symbols as s
-use Rattle.aadl_grammar.specs.proof.Machine.{move, depth, syntax_at}
+use Rattle.aadl_grammar.specs.proof.StackMachine.{move, depth, syntax_at}
 use Rattle.behaviour_parse.proofs.actions.+action.Goals as goal
 
 pub action-returns-in_err-inner : goal.action-returns-in_err-inner

@@ -7,7 +7,7 @@ use Rattle.aadl_tree.specs.SpellingParts.{token}
 use Rattle.aadl_tree.specs.Terminals.{whole}
 use Rattle.behaviour_parse.proofs.ParsedActions.{bound_runs, bound_refuses}
 use Rattle.aadl_tree.specs.declared.mark.Mark.TheVariants as k
-use Rattle.aadl_grammar.specs.proof.Machine.{move, depth, syntax_at}
+use Rattle.aadl_grammar.specs.proof.StackMachine.{move, depth, syntax_at}
 use Rattle.behaviour_parse.proofs.actions.bound.Goals as goal
 
 pub returns-in-Some : goal.returns-in-Some

@@ -1,8 +1,8 @@
 use Rattle.std.proofs.Common.{◌∙◌, ◌∷◌, arith}
-use Rattle.aadl_grammar.proofs.SymbolRows.{along, exits, no_reads}
+use Rattle.aadl_grammar.proofs.SymbolMoves.{along, exits, no_reads}
 use Rattle.aadl_grammar.proofs.PartSequences.{then}
 use Rattle.aadl_grammar.specs.proof.Symbols as s
-use Rattle.aadl_grammar.specs.proof.Machine.{move, depth}
+use Rattle.aadl_grammar.specs.proof.StackMachine.{move, depth}
 use Rattle.behaviour_parse.proofs.annex.body.Goals as goal
 
 pub returns-in_err-variables : goal.returns-in_err-variables

@@ -1,6 +1,6 @@
 use Rattle.std.proofs.Common.{◌∙◌, ◌∷◌, [], refl, arith}
 use Rattle.aadl_grammar.specs.proof.ParserAnswers.{here}
-use Rattle.aadl_grammar.proofs.SymbolRows.{omits_unless, enters_as, along, exits, no_reads}
+use Rattle.aadl_grammar.proofs.SymbolMoves.{omits_unless, enters_as, along, exits, no_reads}
 use Rattle.aadl_grammar.proofs.PartSequences.{pushed}
 use Rattle.aadl_tree.specs.Annexes.{state_parts}
 use Rattle.aadl_tree.specs.proof.DeclarationViews.{state_view}
@@ -8,7 +8,7 @@ use Rattle.aadl_tree.specs.proof.PlaceMaps.{kept_place}
 use Rattle.aadl_grammar.proofs.PropertyLists.{starts_at}
 use Rattle.behaviour_parse.proofs.DeclarationTerminals.{state_begun}
 use Rattle.aadl_grammar.specs.proof.Symbols as s
-use Rattle.aadl_grammar.specs.proof.Machine.{move, depth}
+use Rattle.aadl_grammar.specs.proof.StackMachine.{move, depth}
 use Rattle.behaviour_parse.proofs.annex.state_list.Goals as goal
 
 pub returns-in_err-next : goal.returns-in_err-next

@@ -5,10 +5,10 @@ use mir.Val.{SFits}
 use Rattle.pals_base.specs.Actions.{Effect, act, acts, act_first, for_each, numbers}
 use Rattle.pals_base.specs.SingleStep.{is_present}
 use Rattle.pals_base.specs.PlainTrees.{For}
-use Rattle.pals_base.specs.proof.SourceTrees.{action_of, actions_along, branches_along}
+use Rattle.pals_base.specs.proof.TreeViews.{action_of, actions_along, branches_along}
 use Rattle.behaviour_sem.specs.proof.ReadableFrames.{frame_of}
 use Rattle.behaviour_sem.specs.proof.StepOutcomes.{Left, Chose}
-use Rattle.behaviour_sem.specs.proof.ActionRuns.{effect}
+use Rattle.behaviour_sem.specs.proof.ActionExecution.{effect}
 use Rattle.behaviour_sem.proofs.ActionTrees.{act-If, act-For, turn_after, Left-chose-err, numbers-none, for_each-more}
 use Rattle.behaviour_sem.proofs.actions.+run.Goals as goal
 

@@ -4,8 +4,8 @@ use mir.Syntax.{w64}
 use mir.Val.{SFits}
 use Rattle.pals_base.specs.Expressions.{eval, eval_rest, on_value}
 use Rattle.pals_base.specs.SingleStep.{is_present}
-use Rattle.pals_base.specs.proof.SourceTrees.{tree_of, operands_along}
-use Rattle.pals_base.proofs.SourceTrees.{tree_of-Chain}
+use Rattle.pals_base.specs.proof.TreeViews.{tree_of, operands_along}
+use Rattle.pals_base.proofs.TreeViews.{tree_of-Chain}
 use Rattle.behaviour_sem.specs.proof.ReadableFrames.{frame_of}
 use Rattle.behaviour_sem.proofs.expressions.+eval.Goals as goal
 

@@ -4,7 +4,7 @@ use Rattle.pals_base.specs.declared.values.PortValue.{PortValue}
 use Rattle.pals_base.specs.declared.values.PortValue.TheVariants.{Absent}
 use Rattle.pals_base.specs.SingleStep.{Fired, holding, is_present}
 use Rattle.behaviour_sem.specs.proof.StepOutcomes.{Left}
-use Rattle.behaviour_sem.specs.proof.StepParts.{reacted}
+use Rattle.behaviour_sem.specs.proof.PartialSteps.{reacted}
 use Rattle.behaviour_sem.proofs.StepEnds.{with_held, fire-halted, fire-reacted}
 use Rattle.behaviour_sem.proofs.step.fire_into.Goals as goal
 

@@ -2,7 +2,7 @@ use Rattle.std.proofs.Common.{◌≡◌, drop, map}
 use Rattle.std.specs.Prelude.{filter, nat_eq}
 use Rattle.pals_base.specs.PlainTrees.{Edge}
 use Rattle.pals_base.specs.SingleStep.{first_open, is_present}
-use Rattle.behaviour_sem.specs.proof.StepParts.{fired}
+use Rattle.behaviour_sem.specs.proof.PartialSteps.{fired}
 use Rattle.behaviour_sem.proofs.transitions.advance.Given as goal
 
 -- nothing has changed, and no guard so far was true

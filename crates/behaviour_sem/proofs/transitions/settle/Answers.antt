@@ -4,8 +4,8 @@ use Rattle.pals_base.specs.Expressions.{on_value}
 use Rattle.pals_base.specs.SingleStep.{is_present, is_complete, completes, settled}
 use Rattle.behaviour_sem.specs.proof.StepOutcomes.{Left}
 use Rattle.behaviour_sem.specs.proof.TransitionMoves.{move}
-use Rattle.behaviour_sem.specs.proof.StepParts.{fired}
-use Rattle.behaviour_sem.proofs.TransitionSteps.{Left-stops, settled-more}
+use Rattle.behaviour_sem.specs.proof.PartialSteps.{fired}
+use Rattle.behaviour_sem.proofs.TransitionsAndInputs.{Left-stops, settled-more}
 use Rattle.behaviour_sem.proofs.transitions.settle.Goals as goal
 
 pub returns-in_err-advance-clause-leads : goal.returns-in_err-advance-clause-leads

@@ -1,4 +1,4 @@
-use Rattle.bus_machine.proofs.CounterMachine.{early_row}
+use Rattle.bus_machine.proofs.StoppedCounterRuns.{early_row}
 use Rattle.bus_machine.proofs.laws.early_arrival.Goals as goal
 
 pub returns : goal.returns

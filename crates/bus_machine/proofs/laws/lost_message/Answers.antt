@@ -1,4 +1,4 @@
-use Rattle.bus_machine.proofs.CounterMachine.{lost_row}
+use Rattle.bus_machine.proofs.StoppedCounterRuns.{lost_row}
 use Rattle.bus_machine.proofs.laws.lost_message.Goals as goal
 
 pub returns : goal.returns

@@ -1,5 +1,5 @@
 use Rattle.std.proofs.Common.{codes, decimal, [], ◌∷◌, refl}
-use Rattle.pals_runs.specs.Journal.{spaced}
+use Rattle.pals_runs.specs.JournalLines.{spaced}
 use Rattle.code_listing.specs.Listings.{range_line, design_lines}
 use Rattle.code_listing.proofs.AddedLines.{line_alone, line_behind, line_last}
 use Rattle.code_listing.proofs.design.add_bounds.Goals as goal

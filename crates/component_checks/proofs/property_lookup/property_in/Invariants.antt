@@ -1,7 +1,7 @@
 use Rattle.std.proofs.Common.{◌≡◌, drop}
 use Rattle.aadl_tree.specs.proof.ValueViews.{associations_view}
 use Rattle.aadl_tree.specs.proof.PlaceMaps.{kept_place}
-use Rattle.aadl_names.specs.Properties.{association_named, name_of}
+use Rattle.aadl_names.specs.RecognisedProperties.{association_named, name_of}
 use Rattle.component_checks.proofs.property_lookup.property_in.Given as goal
 
 -- what is left decides

@@ -3,7 +3,7 @@ use Rattle.aadl_tree.specs.proof.PlaceMaps.{kept_place}
 use Rattle.aadl_tree.specs.proof.PackageViews.{placed}
 use Rattle.aadl_tree.specs.proof.ValueViews.{association_view, associations_view}
 use Rattle.aadl_tree.specs.proof.DeclarationViews.{implementation_view}
-use Rattle.aadl_names.specs.Properties.{association_named, name_of}
+use Rattle.aadl_names.specs.RecognisedProperties.{association_named, name_of}
 use Rattle.component_checks.specs.PropertyLookup.{own_lists, first_in}
 use Rattle.component_checks.proofs.NamedAssociations.{root_given}
 use Rattle.component_checks.proofs.property_lookup.root_property.Goals as goal

@@ -1,7 +1,7 @@
 use Rattle.std.proofs.Common.{◌∙◌, ◌<◌, ◌%◌, sym, ap, arith, slice_index_or}
 use Rattle.pals_base.specs.Adaptors.{spread}
 use Rattle.pals_base.specs.declared.values.PortValue.TheVariants.{Absent}
-use Rattle.input_adaptors.proofs.SpreadPlaces.{spread-place, spread-none}
+use Rattle.input_adaptors.proofs.SpreadValues.{spread-place, spread-none}
 use Rattle.input_adaptors.proofs.faster.spread_place.Goals as goal
 
 pub returns-then-m-eq0 : goal.returns-then-m-eq0

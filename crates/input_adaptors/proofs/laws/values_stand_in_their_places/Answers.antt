@@ -1,4 +1,4 @@
-use Rattle.input_adaptors.proofs.SpreadPlaces.{slice_get-there, slice_get-absent}
+use Rattle.input_adaptors.proofs.SpreadValues.{slice_get-there, slice_get-absent}
 use Rattle.input_adaptors.proofs.laws.values_stand_in_their_places.Goals as goal
 
 pub returns-clause-there : goal.returns-clause-there

@@ -2,10 +2,10 @@ use Rattle.std.proofs.Common.{ap, ◌∙◌}
 use Rattle.aadl_tree.specs.proof.PackageViews.{placed}
 use Rattle.aadl_tree.specs.proof.DeclarationViews.{implementation_view}
 use Rattle.aadl_tree.specs.proof.PlaceMaps.{kept_place}
-use Rattle.aadl_names.specs.proof.FindingSoFar.{found}
+use Rattle.aadl_names.specs.proof.FirstFaultSoFar.{found}
 use Rattle.aadl_names.specs.ReferenceResolution.{type_numbered}
 use Rattle.aadl_names.specs.PackageFaults.{comes_first, behaviour_faults}
-use Rattle.aadl_names.proofs.FindingSoFar.{closed}
+use Rattle.aadl_names.proofs.FirstFaultSoFar.{closed}
 use Rattle.name_faults.proofs.NameUses.{for_all, same_uses, same_order}
 use Rattle.name_faults.proofs.behaviours.check_behaviour.Goals as goal
 

@@ -2,8 +2,8 @@ use Rattle.std.proofs.Common.{map, ap, ◌∙◌}
 use Rattle.aadl_tree.specs.proof.PackageViews.{placed}
 use Rattle.aadl_tree.specs.proof.DeclarationViews.{implementation_view, annex_view}
 use Rattle.aadl_tree.specs.proof.PlaceMaps.{kept_place}
-use Rattle.aadl_names.specs.proof.FindingSoFar.{found}
-use Rattle.aadl_names.specs.Behaviours.{behaviours}
+use Rattle.aadl_names.specs.proof.FirstFaultSoFar.{found}
+use Rattle.aadl_names.specs.BehaviourAnnexes.{behaviours}
 use Rattle.aadl_names.specs.PackageFaults.{annex_faults}
 use Rattle.name_faults.proofs.AnnexBehaviours.{next_annex, last_annex, as_annexes}
 use Rattle.name_faults.proofs.behaviours.check_behaviours.Goals as goal

@@ -2,8 +2,8 @@ use Rattle.std.proofs.Common.{◌≡◌, map, drop}
 use Rattle.aadl_tree.specs.proof.PackageViews.{placed}
 use Rattle.aadl_tree.specs.proof.DeclarationViews.{implementation_view, annex_view}
 use Rattle.aadl_tree.specs.proof.PlaceMaps.{kept_place}
-use Rattle.aadl_names.specs.proof.FindingSoFar.{found}
-use Rattle.aadl_names.specs.Behaviours.{behaviours}
+use Rattle.aadl_names.specs.proof.FirstFaultSoFar.{found}
+use Rattle.aadl_names.specs.BehaviourAnnexes.{behaviours}
 use Rattle.aadl_names.specs.ReferenceResolution.{is_thread}
 use Rattle.name_faults.specs.proof.ExpectedBehaviours.{behaviours_left}
 use Rattle.name_faults.proofs.behaviours.check_behaviours.Given as goal

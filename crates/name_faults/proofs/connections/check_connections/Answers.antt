@@ -8,7 +8,7 @@ use Rattle.aadl_tree.specs.proof.PackageViews.{placed}
 use Rattle.aadl_tree.specs.proof.DeclarationViews.{implementation_view, connection_view}
 use Rattle.aadl_tree.specs.proof.PlaceMaps.{kept_place}
 use Rattle.aadl_names.specs.PackageFaults.{connection_faults}
-use Rattle.aadl_names.proofs.FindingSoFar.{next_found, last_found}
+use Rattle.aadl_names.proofs.FirstFaultSoFar.{next_found, last_found}
 use Rattle.aadl_uses.specs.Wiring.{wire_of}
 use Rattle.name_faults.proofs.NumberedFindings.{made_of}
 use Rattle.name_faults.proofs.NumberedImplementations.{wires_are, joined}

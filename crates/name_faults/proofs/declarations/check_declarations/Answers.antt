@@ -5,11 +5,11 @@ use Rattle.std.specs.List.{flat_map, enumerate_from}
 use Rattle.aadl_tree.specs.proof.PackageViews.{placed}
 use Rattle.aadl_tree.specs.proof.DeclarationViews.{declaration_view}
 use Rattle.aadl_tree.specs.proof.PlaceMaps.{kept_place}
-use Rattle.aadl_names.specs.FirstFindings.{wrong_if}
-use Rattle.aadl_names.specs.proof.FindingSoFar.{found}
+use Rattle.aadl_names.specs.FirstFaults.{wrong_if}
+use Rattle.aadl_names.specs.proof.FirstFaultSoFar.{found}
 use Rattle.aadl_names.specs.Spelling.{spelled_name}
 use Rattle.aadl_names.specs.PackageFaults.{declaration_faults, wrong_names}
-use Rattle.aadl_names.proofs.FindingSoFar.{found_append}
+use Rattle.aadl_names.proofs.FirstFaultSoFar.{found_append}
 use Rattle.name_faults.proofs.NumberedFindings.{next_numbered, last_numbered, numbered}
 use Rattle.name_faults.proofs.declarations.check_declarations.Goals as goal
 

@@ -6,12 +6,12 @@ use Rattle.aadl_tree.specs.Names.{same_name}
 use Rattle.aadl_tree.specs.proof.PackageViews.{placed}
 use Rattle.aadl_tree.specs.proof.DeclarationViews.{implementation_view}
 use Rattle.aadl_tree.specs.proof.PlaceMaps.{kept_place}
-use Rattle.aadl_names.specs.FirstFindings.{wrong_if}
-use Rattle.aadl_names.specs.proof.FindingSoFar.{found}
+use Rattle.aadl_names.specs.FirstFaults.{wrong_if}
+use Rattle.aadl_names.specs.proof.FirstFaultSoFar.{found}
 use Rattle.aadl_names.specs.Spelling.{spelled_implementation}
 use Rattle.aadl_names.specs.ReferenceResolution.{type_numbered, type_of}
 use Rattle.aadl_names.specs.PackageFaults.{has_type}
-use Rattle.aadl_names.proofs.FindingSoFar.{found_append}
+use Rattle.aadl_names.proofs.FirstFaultSoFar.{found_append}
 use Rattle.name_faults.proofs.implementations.check_heading.Goals as goal
 
 pub returns : goal.returns

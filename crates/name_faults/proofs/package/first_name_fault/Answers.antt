@@ -1,8 +1,8 @@
 use Rattle.std.proofs.Common.{None, sym, ap, ◌∙◌}
 use Rattle.aadl_tree.specs.proof.PackageViews.{placed}
-use Rattle.aadl_names.specs.proof.FindingSoFar.{found}
+use Rattle.aadl_names.specs.proof.FirstFaultSoFar.{found}
 use Rattle.aadl_names.specs.PackageFaults.{wrong_names}
-use Rattle.aadl_names.proofs.FindingSoFar.{found_append}
+use Rattle.aadl_names.proofs.FirstFaultSoFar.{found_append}
 use Rattle.aadl_names.specs.proof.PortDuplicates.{beside_names}
 use Rattle.aadl_names.proofs.FirstFaults.{first_fault}
 use Rattle.name_faults.proofs.package.first_name_fault.Goals as goal

@@ -2,8 +2,8 @@ use Rattle.std.proofs.Common.{refl}
 use Rattle.std.specs.List.{flat_map}
 use Rattle.aadl_tree.specs.proof.ValueViews.{association_view, associations_view}
 use Rattle.aadl_tree.specs.proof.PlaceMaps.{kept_place}
-use Rattle.aadl_names.specs.Properties.{listed, shape_fault}
-use Rattle.aadl_names.proofs.FindingSoFar.{next_found}
+use Rattle.aadl_names.specs.RecognisedProperties.{listed, shape_fault}
+use Rattle.aadl_names.proofs.FirstFaultSoFar.{next_found}
 use Rattle.name_faults.proofs.properties.check_shapes.Goals as goal
 
 pub loop-association-preserved : goal.loop-association-preserved

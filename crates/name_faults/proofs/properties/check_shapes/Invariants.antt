@@ -2,8 +2,8 @@ use Rattle.std.proofs.Common.{◌≡◌, drop}
 use Rattle.std.specs.List.{flat_map}
 use Rattle.aadl_tree.specs.proof.ValueViews.{associations_view}
 use Rattle.aadl_tree.specs.proof.PlaceMaps.{kept_place}
-use Rattle.aadl_names.specs.proof.FindingSoFar.{found}
-use Rattle.aadl_names.specs.Properties.{listed, shape_fault}
+use Rattle.aadl_names.specs.proof.FirstFaultSoFar.{found}
+use Rattle.aadl_names.specs.RecognisedProperties.{listed, shape_fault}
 use Rattle.name_faults.proofs.properties.check_shapes.Given as goal
 
 -- what is left is still to be looked at

@@ -1,7 +1,7 @@
 use Rattle.std.proofs.Common.{◌≡◌, ◌++◌, drop}
 use Rattle.aadl_tree.specs.proof.ValueViews.{associations_view}
 use Rattle.aadl_tree.specs.proof.PlaceMaps.{kept_place}
-use Rattle.aadl_names.specs.Properties.{property_entries}
+use Rattle.aadl_names.specs.RecognisedProperties.{property_entries}
 use Rattle.name_faults.proofs.properties.property_entries.Given as goal
 
 -- what is left is still to be added

@@ -2,9 +2,9 @@ use Rattle.std.proofs.Common.{◌≡◌, map, drop}
 use Rattle.std.specs.List.{flat_map}
 use Rattle.aadl_tree.specs.proof.DeclarationViews.{transition_view}
 use Rattle.aadl_tree.specs.proof.PlaceMaps.{kept_place}
-use Rattle.aadl_names.specs.proof.FindingSoFar.{found}
+use Rattle.aadl_names.specs.proof.FirstFaultSoFar.{found}
 use Rattle.aadl_names.specs.PackageFaults.{transition_uses}
-use Rattle.name_faults.specs.proof.Scopes.{known_by, is_state_by}
+use Rattle.name_faults.specs.proof.BehaviourScopes.{known_by, is_state_by}
 use Rattle.name_faults.proofs.transitions.check_transitions.Given as goal
 
 -- what is left is still to be looked at

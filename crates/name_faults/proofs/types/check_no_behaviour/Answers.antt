@@ -3,7 +3,7 @@ use Rattle.std.specs.List.{flat_map}
 use Rattle.aadl_tree.specs.proof.DeclarationViews.{annex_view}
 use Rattle.aadl_tree.specs.proof.PlaceMaps.{kept_place}
 use Rattle.aadl_names.specs.PackageFaults as spec
-use Rattle.aadl_names.proofs.FindingSoFar.{next_found}
+use Rattle.aadl_names.proofs.FirstFaultSoFar.{next_found}
 use Rattle.name_faults.proofs.types.check_no_behaviour.Goals as goal
 
 pub loop-annex-preserved : goal.loop-annex-preserved

@@ -1,5 +1,5 @@
 use Rattle.node_threads.proofs.RunOutcomes.{run_outcome}
-use Rattle.node_threads.proofs.LockedSteps.{stays_same}
+use Rattle.node_threads.proofs.ChangesUnderLock.{stays_same}
 use Rattle.node_threads.proofs.threads.run_threads.Goals as goal
 
 pub returns : goal.returns

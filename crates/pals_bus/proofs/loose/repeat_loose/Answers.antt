@@ -1,7 +1,7 @@
 use Rattle.std.proofs.Common.{refl, sym, subst}
 use Rattle.pals_runs.specs.declared.events.Event.TheVariants as event
 use Rattle.bus_machine.specs.Machine.{Repeat}
-use Rattle.pals_bus.specs.proof.LooseEnds.{LooseEnds}
+use Rattle.pals_bus.specs.proof.LooseFaults.{LooseEnds}
 use Rattle.pals_bus.proofs.LooseEvents.{link_ends}
 use Rattle.pals_bus.proofs.loose.repeat_loose.Goals as goal
 

@@ -1,6 +1,6 @@
 use Rattle.std.proofs.Common.{sym, subst}
 use Rattle.pals_runs.specs.declared.events.Event.TheVariants as event
-use Rattle.pals_bus.specs.proof.LooseEnds.{LooseEnds}
+use Rattle.pals_bus.specs.proof.LooseFaults.{LooseEnds}
 use Rattle.pals_bus.proofs.LooseEvents.{step_ends}
 use Rattle.pals_bus.proofs.loose.step_loose.Goals as goal
 

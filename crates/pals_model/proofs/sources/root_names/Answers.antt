@@ -1,7 +1,7 @@
 use Rattle.std.proofs.Common.{◌≡◌, ◌+◌, ◌∷◌, map, drop, arith}
 use Rattle.std.proofs.lemmas.Grind.{common_steps}
 use Rattle.pals_model.specs.declared.design.Feed.{Feed}
-use Rattle.pals_model.proofs.DistinctNames.{naming_step}
+use Rattle.pals_model.proofs.RootInputNames.{naming_step}
 use Rattle.pals_model.proofs.sources.root_names.Goals as goal
 
 pub loop-feed-preserved : goal.loop-feed-preserved

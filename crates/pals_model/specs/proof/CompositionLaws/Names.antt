@@ -4,7 +4,7 @@ use Rattle.pals_model.specs.declared.design.Component.{Component}
 use Rattle.pals_model.specs.declared.design.Link.{Link}
 use Rattle.pals_model.specs.declared.design.DesignParts.{DesignParts}
 use Rattle.pals_model.specs.NamesInTexts.{target_name, link_name, node_named, link_named}
-use Rattle.pals_model.specs.Rules.{IsTarget, IsDesign}
+use Rattle.pals_model.specs.DesignRules.{IsTarget, IsDesign}
 
 -- ---- components
 -- a component is found by its path, and what a path finds has that path

@@ -6,7 +6,7 @@ use Rattle.pals_model.specs.declared.design.Feed.{Feed}
 use Rattle.pals_model.specs.declared.design.DesignParts.{DesignParts}
 use Rattle.pals_model.specs.ComponentInputs.{feed_names, root_inputs, root_of, place_of}
 use Rattle.pals_model.specs.PortKinds.{feed_kind, root_kind}
-use Rattle.pals_model.specs.Rules.{IsDesign}
+use Rattle.pals_model.specs.DesignRules.{IsDesign}
 
 -- each name stands once
 abbrev pub RootInputsDiffer : Type 0

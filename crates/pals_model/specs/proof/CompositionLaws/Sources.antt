@@ -7,7 +7,7 @@ use Rattle.pals_model.specs.declared.design.Link.{Link}
 use Rattle.pals_model.specs.declared.design.Feed.{Feed}
 use Rattle.pals_model.specs.declared.design.DesignParts.{DesignParts}
 use Rattle.pals_model.specs.ComponentInputs.{rate_of, root_of, link_goes_to, feed_goes_to, source_of, reading}
-use Rattle.pals_model.specs.Rules.{IsDesign}
+use Rattle.pals_model.specs.DesignRules.{IsDesign}
 use Rattle.pals_model.specs.declared.sources.PortSource.TheVariants as source
 
 -- ---- where it reads from

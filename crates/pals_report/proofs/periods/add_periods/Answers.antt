@@ -1,6 +1,6 @@
 use Rattle.std.proofs.Common.{◌++◌, codes, ap, ◌∙◌}
 use Rattle.pals_base.specs.PeriodBound.{least_period}
-use Rattle.pals_model.specs.Rules.{greatest_rate}
+use Rattle.pals_model.specs.DesignRules.{greatest_rate}
 use Rattle.pals_model.specs.RoundTexts.{line_end}
 use Rattle.pals_report.proofs.TextPrefixes.{last_on_ok, last_on_err}
 use Rattle.pals_report.specs.CheckReports.{time_line, shortest_word, period_lines}

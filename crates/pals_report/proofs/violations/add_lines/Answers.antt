@@ -2,7 +2,7 @@ use Rattle.std.proofs.Common.{◌++◌, ap, ◌∙◌, arith}
 use Rattle.pals_model.specs.RoundTexts.{line_end}
 use Rattle.pals_report.proofs.TextPrefixes.{begins_on_err}
 use Rattle.pals_report.proofs.ItemLines.{lines_turn, lines_all}
-use Rattle.pals_report.specs.Violations.{violation_line}
+use Rattle.pals_report.specs.ViolationLines.{violation_line}
 use Rattle.pals_report.proofs.violations.add_lines.Goals as goal
 
 pub returns-in_err-add_line-clause-err : goal.returns-in_err-add_line-clause-err

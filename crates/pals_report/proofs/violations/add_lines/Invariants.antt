@@ -1,6 +1,6 @@
 use Rattle.std.proofs.Common.{◌≡◌, ◌++◌, map, take}
 use Rattle.pals_model.specs.RoundTexts.{text_of}
-use Rattle.pals_report.specs.Violations.{violation_line}
+use Rattle.pals_report.specs.ViolationLines.{violation_line}
 use Rattle.pals_report.proofs.violations.add_lines.Given as goal
 
 -- the lines so far, of places in one text

@@ -5,8 +5,8 @@ use Rattle.scenario_values.specs.declared.fault.ScenarioFault.TheVariants.{Memor
 use Rattle.scenario_json.specs.Scenarios.{Means}
 use Rattle.pals_top.specs.AnalysisAnswers.{command_of}
 use Rattle.pals_top.proofs.AnalysisAnswers.{refused, analysed}
-use Rattle.pals_top.proofs.Refusals.{bundle_refused}
-use Rattle.pals_top.proofs.ScenarioFaults.{faults_said}
+use Rattle.pals_top.proofs.RefusalAnswers.{bundle_refused}
+use Rattle.pals_top.proofs.ScenarioFaultAnswers.{faults_said}
 use Rattle.pals_top.proofs.analysis.answer_analysis.Goals as goal
 
 pub returns-in-Err : goal.returns-in-Err

@@ -1,6 +1,6 @@
 use Rattle.std.proofs.Common.{inr}
 use Rattle.std.proofs.lemmas.Result.{IfOk-weaker}
-use Rattle.pals_top.proofs.Refusals.{bundle_refused}
+use Rattle.pals_top.proofs.RefusalAnswers.{bundle_refused}
 use Rattle.pals_top.proofs.check.answer_check.Goals as goal
 
 pub returns-in-Err : goal.returns-in-Err

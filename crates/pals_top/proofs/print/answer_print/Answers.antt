@@ -1,6 +1,6 @@
 use Rattle.std.proofs.Common.{inr}
 use Rattle.std.proofs.lemmas.Result.{IfOk-weaker}
-use Rattle.pals_top.proofs.Refusals.{text_refused}
+use Rattle.pals_top.proofs.RefusalAnswers.{text_refused}
 use Rattle.pals_top.proofs.print.answer_print.Goals as goal
 
 pub returns-in-Err : goal.returns-in-Err

@@ -4,11 +4,11 @@ use Rattle.pals_runs.specs.declared.commands.Command.TheVariants.{Run}
 use Rattle.pals_top.specs.declared.answer.Answer.{Answer}
 use Rattle.pals_top.specs.declared.answer.Answer.TheVariants.{Usage}
 use Rattle.pals_top.specs.declared.status.TheConstants.{USAGE}
-use Rattle.pals_top.specs.AnswerTexts.{usage_line}
+use Rattle.pals_top.specs.CommonAnswerTexts.{usage_line}
 use Rattle.pals_top.specs.Answers.{IsAnswer}
 use Rattle.pals_top.specs.ProgramInput.{reading}
 use Rattle.pals_top.specs.CommandWords.{form, IsWordsEnd}
-use Rattle.pals_top.proofs.Endings.{answered_by, cut_short_by, no_memory_by, of_words, none_of_words}
+use Rattle.pals_top.proofs.ProgramEndings.{answered_by, cut_short_by, no_memory_by, of_words, none_of_words}
 use Rattle.pals_top.proofs.program.pals.Goals as goal
 
 pub returns-in-Ok-Run : goal.returns-in-Ok-Run

@@ -1,7 +1,7 @@
 use Rattle.std.proofs.Common.{subst}
-use Rattle.pals_top.specs.ExecutionKinds.{Run}
+use Rattle.pals_top.specs.ExecutionCommands.{Run}
 use Rattle.pals_top.specs.proof.CodedBundles.{IsMeaning}
-use Rattle.pals_top.specs.proof.Statuses.{status_of, text_of}
+use Rattle.pals_top.specs.proof.StatusAndText.{status_of, text_of}
 use Rattle.pals_top.proofs.ExecutionAnswers.{refused}
 use Rattle.pals_top.proofs.run.run_bundle.Goals as goal
 

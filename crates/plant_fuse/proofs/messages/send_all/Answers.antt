@@ -2,24 +2,24 @@ use Rattle.std.proofs.Common.{◌≡◌, ◌∙◌, ℕ, ◌<◌, List, None, So
 use Rattle.std.proofs.Common.{arith}
 use Rattle.std.proofs.lemmas.List.{length-map}
 use Rattle.std.proofs.lemmas.Option.{slice_get-get_or}
-use Rattle.list_lemmas.proofs.Lists.{filled_more}
+use Rattle.list_lemmas.proofs.ListOperations.{filled_more}
 use Rattle.pals_base.specs.declared.values.PortValue.{PortValue}
 use Rattle.pals_model.specs.declared.design.DesignParts.{DesignParts}
 use Rattle.pals_model.specs.declared.design.Link.{Link}
 use Rattle.pals_model.specs.ComponentInputs.{rate_of}
-use Rattle.pals_model.specs.Rules.{IsLink}
+use Rattle.pals_model.specs.DesignRules.{IsLink}
 use Rattle.pals_model.proofs.FirstElements.{at_element}
 use Rattle.sync_product.specs.proof.ProductSizes.{message_sizes}
 use Rattle.sync_product.proofs.SizePreservation.{same_sizes}
 use Rattle.sync_product.proofs.ComponentLists.{count_of_sized}
-use Rattle.sync_product.proofs.MessageRows.{sized_message}
+use Rattle.sync_product.proofs.LinkMessages.{sized_message}
 use Rattle.sync_product.proofs.PortColumns.{length-cut, length-column}
 use Rattle.plant_fuse.specs.proof.Partners.{is_inside}
 use Rattle.plant_fuse.specs.proof.Messages.{sent_on}
 use Rattle.sync_product.proofs.StepRoom.{count_of_stages}
-use Rattle.plant_fuse.proofs.PartnerCounts.{count_of_partners}
-use Rattle.plant_fuse.proofs.PairRuns.{partner_entry}
-use Rattle.plant_fuse.proofs.MessageRows.{sent_item}
+use Rattle.plant_fuse.proofs.PartnerListLength.{count_of_partners}
+use Rattle.plant_fuse.proofs.PairWork.{partner_entry}
+use Rattle.plant_fuse.proofs.LinkMessages.{sent_item}
 use Rattle.plant_fuse.proofs.messages.send_all.Goals as goal
 
 abbrev no_link : Link

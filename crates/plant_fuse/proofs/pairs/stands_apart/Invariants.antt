@@ -1,5 +1,5 @@
 use Rattle.std.proofs.Common.{◌≡◌, ◌≢◌, ℕ, ◌<◌, slice_get, Some}
-use Rattle.pals_runs.specs.declared.pairs.Pair.{Pair}
+use Rattle.pals_runs.specs.declared.analysis_inputs.Pair.{Pair}
 use Rattle.plant_fuse.specs.FusedComposition.{AreApart}
 use Rattle.plant_fuse.proofs.pairs.stands_apart.Given as goal
 

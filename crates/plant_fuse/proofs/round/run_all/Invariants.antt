@@ -1,8 +1,8 @@
 use Rattle.std.proofs.Common.{◌≡◌, ◌<◌, ℕ, map, slice_get, Some}
-use Rattle.pals_runs.specs.declared.pairs.Pair.{Pair}
+use Rattle.pals_runs.specs.declared.analysis_inputs.Pair.{Pair}
 use Rattle.sync_product.specs.proof.Rounds.{frames_of}
 use Rattle.sync_product.specs.proof.ProductSizes.{part_size, stage_size}
-use Rattle.plant_fuse.specs.proof.RoundRuns.{AreAlone, IsRun}
+use Rattle.plant_fuse.specs.proof.RoundWork.{AreAlone, IsRun}
 use Rattle.plant_fuse.proofs.round.run_all.Given as goal
 
 -- the components that stand in no pair and the first pairs have made their steps, and the sizes stay

@@ -3,7 +3,7 @@ use Rattle.std.proofs.lemmas.List.{take_more_set, get_or-set_same, length-take-l
 use Rattle.pals_base.specs.declared.values.PortValue.{PortValue}
 use Rattle.pals_base.specs.SingleStep.{fire}
 use Rattle.sync_product.specs.proof.ProductSizes.{StageSize, stage_size}
-use Rattle.sync_product.proofs.RowSizes.{count_of_rows, length_of_row}
+use Rattle.sync_product.proofs.TupleLengths.{count_of_rows, length_of_row}
 use Rattle.plant_fuse.specs.proof.PairSides.{seat_of, side_vector, row_before, work}
 use Rattle.plant_fuse.proofs.PairSteps.{row_before_take, both_more}
 use Rattle.plant_fuse.proofs.sides.make_steps.Goals as goal

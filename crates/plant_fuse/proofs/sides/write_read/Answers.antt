@@ -2,7 +2,7 @@ use Rattle.std.proofs.Common.{◌≡◌, ◌∙◌, ◌+◌, ap, sym, length, ta
 use Rattle.std.specs.Option.{option_copied}
 use Rattle.std.proofs.lemmas.Grind.{common_steps}
 use Rattle.std.proofs.lemmas.List.{length-map, get_or-map}
-use Rattle.list_lemmas.proofs.Lists.{filled_more, filled_all}
+use Rattle.list_lemmas.proofs.ListOperations.{filled_more, filled_all}
 use Rattle.plant_fuse.specs.proof.PairSides.{seat_of, side_value}
 use Rattle.plant_fuse.proofs.sides.write_read.Goals as goal
 

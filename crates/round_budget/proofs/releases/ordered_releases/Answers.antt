@@ -3,7 +3,7 @@ use Rattle.std.specs.Prelude.{IsTrue}
 use Rattle.std.proofs.lemmas.List.{append-nil}
 use Rattle.std.proofs.lemmas.List.Sorted.{IsPermutation-map, sum_by-IsPermutation, answers_always}
 use Rattle.round_budget.specs.Budgets.{Release, releases, releases_in, in_order, precedes, serve, numbers}
-use Rattle.round_budget.proofs.Elements.{pairs_from}
+use Rattle.round_budget.proofs.ListQuantifiers.{pairs_from}
 use Rattle.round_budget.proofs.BudgetLaws.{served_in_order}
 use Rattle.round_budget.specs.proof.ReleaseValues.{release_value}
 use Rattle.round_budget.proofs.SortedUniqueness.{AreSame, only_one, same_in_order, all_not_after, all_before}

@@ -9,7 +9,7 @@ use Rattle.step_code.specs.declared.instr.CodeParts.{CodeParts}
 use Rattle.step_code.specs.CappedWeights.{capped}
 use Rattle.step_code.specs.PathWeights.{weight_of}
 use Rattle.round_budget.specs.Budgets.{most_in, most_of, numbers}
-use Rattle.round_budget.proofs.Members.{member_at}
+use Rattle.round_budget.proofs.ProcessorMembers.{member_at}
 use Rattle.round_budget.proofs.sums.total.Goals as goal
 
 pub bounds-codes-member : goal.bounds-codes-member

@@ -1,4 +1,4 @@
-use Rattle.run_laws.proofs.WorldReadings.{times_are_readings}
+use Rattle.run_laws.proofs.WorldTimeRanges.{times_are_readings}
 use Rattle.run_laws.proofs.world_laws.times_are_readings.Goals as goal
 
 pub returns : goal.returns

@@ -1,7 +1,7 @@
 use Rattle.std.proofs.Common.{◌≡◌, ◌∙◌, ◌<◌, Bool, List, length, ap, arith}
 use Rattle.std.proofs.lemmas.Grind.{common_steps}
 use Rattle.std.proofs.lemmas.Option.{slice_get_within}
-use Rattle.run_monitor.specs.declared.forms.FlatForm.{FlatForm}
+use Rattle.run_monitor.specs.declared.flat_form.FlatForm.{FlatForm}
 use Rattle.run_monitor.specs.proof.FormBits.{bit_at, row_of, row_bit}
 use Rattle.run_monitor.proofs.BitWrites.{stay_more, seen_more}
 use Rattle.run_monitor.proofs.bits.see_row.Goals as goal

@@ -1,8 +1,8 @@
 use Rattle.std.proofs.Common.{◌+◌, Some, refl, sym, ap, ◌∙◌, subst}
 use Rattle.std.proofs.lemmas.Option.{slice_get-get_or}
-use Rattle.node_threads.specs.declared.ends.NodeEnd.TheVariants as end
+use Rattle.node_threads.specs.declared.node_end.NodeEnd.TheVariants as end
 use Rattle.run_texts.specs.proof.NodeEnds.{AreFirst}
-use Rattle.run_texts.proofs.NodeEnds.{one_done, ended_next}
+use Rattle.run_texts.proofs.FirstEndedNode.{one_done, ended_next}
 use Rattle.run_texts.proofs.ends.first_ended.Goals as goal
 use Rattle.run_texts.proofs.ends.first_ended.Goals.{in-Finished, in-ClockEnded}
 

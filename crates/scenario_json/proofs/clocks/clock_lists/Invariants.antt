@@ -1,7 +1,7 @@
 use Rattle.std.proofs.Common.{◌≡◌, [], length, map, replicate}
 use Rattle.pals_clock.specs.Clock.{unpicked}
 use Rattle.scenario_json.specs.Clocks.{with_clock}
-use Rattle.scenario_values.specs.Outcomes.{through}
+use Rattle.scenario_values.specs.ResultCombinators.{through}
 use Rattle.scenario_values.specs.FieldValues.{entry_of}
 use Rattle.scenario_json.proofs.clocks.clock_lists.Given as goal
 

@@ -1,7 +1,7 @@
 use Rattle.std.proofs.Common.{◌≡◌, [], length, map, drop}
 use Rattle.scenario_json.specs.Events.{with_event}
 use Rattle.serde_json.specs.View.{view}
-use Rattle.scenario_values.specs.Outcomes.{through}
+use Rattle.scenario_values.specs.ResultCombinators.{through}
 use Rattle.scenario_json.proofs.events.read_events.Given as goal
 
 -- what is made so far, and what is meant

@@ -2,7 +2,7 @@ use Rattle.std.proofs.Common.{◌≡◌, [], map, drop}
 use Rattle.scenario_values.specs.FaultPlaces.{place_text}
 use Rattle.scenario_json.specs.Events.{with_number}
 use Rattle.serde_json.specs.View.{view}
-use Rattle.scenario_values.specs.Outcomes.{through}
+use Rattle.scenario_values.specs.ResultCombinators.{through}
 use Rattle.scenario_json.proofs.events.reading_parts.Given as goal
 
 -- what is made so far, and what is meant

@@ -1,6 +1,6 @@
 use Rattle.std.proofs.Common.{◌≡◌, [], length, map, drop}
 use Rattle.serde_json.specs.View.{view}
-use Rattle.scenario_values.specs.Outcomes.{through}
+use Rattle.scenario_values.specs.ResultCombinators.{through}
 use Rattle.scenario_json.specs.Traces.{with_line}
 use Rattle.scenario_json.proofs.traces.read_trace.Given as goal
 

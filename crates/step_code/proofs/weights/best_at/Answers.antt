@@ -3,7 +3,7 @@ use Rattle.std.specs.Prelude.{slice_get}
 use Rattle.std.proofs.lemmas.Option.{slice_get-get_or, get_or_from_slice_get}
 use Rattle.step_code.specs.declared.instr.Instr.TheVariants.{Push}
 use Rattle.step_code.specs.PathWeights.{onward, greatest, weight_at}
-use Rattle.step_code.specs.proof.VerifierChecks.{AreThere}
+use Rattle.step_code.specs.proof.VerifierAnswers.{AreThere}
 use Rattle.step_code.specs.CappedWeights.{capped}
 use Rattle.step_code.proofs.ReachedHeights.{known_there}
 use Rattle.step_code.proofs.VerifiedPlaces.{verified_known}

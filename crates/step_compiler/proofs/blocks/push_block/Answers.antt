@@ -1,11 +1,11 @@
 use Rattle.std.proofs.Common.{◌∙◌, ◌+◌, ◌<◌, [], ◌∷◌, ◌++◌, length, drop, slice_index_or, sym, ap, arith}
-use Rattle.list_lemmas.proofs.Lists.{drop-next}
+use Rattle.list_lemmas.proofs.ListOperations.{drop-next}
 use Rattle.pals_base.specs.SingleStep.{is_complete}
 use Rattle.step_code.specs.CodeLengths.{length_edges}
 use Rattle.step_compiler.specs.BlockLayout.{block_code}
 use Rattle.step_compiler.specs.proof.BlockLengths.{in_list, leaving_among}
 use Rattle.step_compiler.proofs.PlacedCode.{block-length}
-use Rattle.step_compiler.proofs.AppendedParts.{more_parts}
+use Rattle.step_compiler.proofs.AppendedCode.{more_parts}
 use Rattle.step_compiler.proofs.LayoutSplits.{leaving_split}
 use Rattle.step_compiler.proofs.blocks.push_block.Goals as goal
 

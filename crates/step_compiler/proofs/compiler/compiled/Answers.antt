@@ -8,7 +8,7 @@ use Rattle.step_compiler.specs.proof.BlockOrder.{block_order}
 use Rattle.step_compiler.specs.LoopDepths.{depth_edges}
 use Rattle.step_compiler.specs.proof.BlockLengths.{in_list, block_starts, compiled}
 use Rattle.step_compiler.specs.BlockLayout.{start_of, blocks_code, entry_of}
-use Rattle.step_compiler.proofs.OrderCompleteness.{order_within}
+use Rattle.step_compiler.proofs.BlockOrderCompleteness.{order_within}
 use Rattle.step_compiler.proofs.compiler.compiled.Goals as goal
 
 pub starts-requires : goal.starts-requires

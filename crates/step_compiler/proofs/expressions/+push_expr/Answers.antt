@@ -1,13 +1,13 @@
 use Rattle.std.proofs.Common.{◌≡◌, ◌∙◌, ◌+◌, pos, ◌∷◌, ◌++◌, length, drop, refl, sym, ap, arith}
 use Rattle.list_lemmas.proofs.Results.{OnOk-weaker}
-use Rattle.pals_base.specs.proof.SourceTrees.{tree_of, operands_along}
+use Rattle.pals_base.specs.proof.TreeViews.{tree_of, operands_along}
 use Rattle.pals_base.specs.PlainTrees.{Chain}
-use Rattle.pals_base.proofs.SourceTrees.{tree_of-Chain}
+use Rattle.pals_base.proofs.TreeViews.{tree_of-Chain}
 use Rattle.step_code.specs.declared.instr.Instr.TheVariants as code
 use Rattle.step_code.specs.CodeLengths.{operand_length, length_of}
-use Rattle.step_compiler.specs.ActionLayout.{operand_code, code_of, code_rest}
+use Rattle.step_compiler.specs.TreeInstructions.{operand_code, code_of, code_rest}
 use Rattle.step_compiler.proofs.PlacedCode.{code-length, operand-length}
-use Rattle.step_compiler.proofs.AppendedParts.{both_parts, more_parts, next_operand, behind_three}
+use Rattle.step_compiler.proofs.AppendedCode.{both_parts, more_parts, next_operand, behind_three}
 use Rattle.step_compiler.proofs.expressions.+push_expr.Goals as goal
 
 pub push_expr-returns-in_ok-push_expr-in-Chain : goal.push_expr-returns-in_ok-push_expr-in-Chain

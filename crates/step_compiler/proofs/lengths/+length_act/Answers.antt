@@ -1,6 +1,6 @@
 use Rattle.std.proofs.Common.{◌∙◌, ap, arith}
-use Rattle.pals_base.specs.proof.SourceTrees.{action_of, actions_along, branches_along}
-use Rattle.pals_base.proofs.SourceTrees.{action_of-If, action_of-For}
+use Rattle.pals_base.specs.proof.TreeViews.{action_of, actions_along, branches_along}
+use Rattle.pals_base.proofs.TreeViews.{action_of-If, action_of-For}
 use Rattle.step_code.specs.CappedWeights.{capped}
 use Rattle.step_code.specs.CodeLengths.{length_act, length_acts, length_branches}
 use Rattle.step_compiler.proofs.lengths.+length_act.Goals as goal

@@ -1,5 +1,5 @@
 use Rattle.std.proofs.Common.{◌≡◌, ◌≤◌, ◌+◌, ◌-◌, ◌^◌, drop}
-use Rattle.pals_base.specs.proof.SourceTrees.{actions_along, branches_along}
+use Rattle.pals_base.specs.proof.TreeViews.{actions_along, branches_along}
 use Rattle.step_code.specs.CappedWeights.{capped}
 use Rattle.step_code.specs.CodeLengths.{length_acts, length_branches}
 use Rattle.step_compiler.proofs.lengths.+length_act.Given as goal

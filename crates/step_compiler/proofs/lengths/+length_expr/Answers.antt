@@ -1,6 +1,6 @@
 use Rattle.std.proofs.Common.{◌∙◌, ap, arith}
-use Rattle.pals_base.specs.proof.SourceTrees.{tree_of, operands_along}
-use Rattle.pals_base.proofs.SourceTrees.{tree_of-Chain}
+use Rattle.pals_base.specs.proof.TreeViews.{tree_of, operands_along}
+use Rattle.pals_base.proofs.TreeViews.{tree_of-Chain}
 use Rattle.step_code.specs.CappedWeights.{capped}
 use Rattle.step_code.specs.CodeLengths.{length_of, length_rest}
 use Rattle.step_compiler.proofs.lengths.+length_expr.Goals as goal

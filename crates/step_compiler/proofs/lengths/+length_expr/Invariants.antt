@@ -1,5 +1,5 @@
 use Rattle.std.proofs.Common.{◌≡◌, ◌≤◌, ◌+◌, ◌-◌, ◌^◌, drop}
-use Rattle.pals_base.specs.proof.SourceTrees.{operands_along}
+use Rattle.pals_base.specs.proof.TreeViews.{operands_along}
 use Rattle.step_code.specs.CappedWeights.{capped}
 use Rattle.step_code.specs.CodeLengths.{length_rest}
 use Rattle.step_compiler.proofs.lengths.+length_expr.Given as goal

@@ -3,13 +3,13 @@ use Rattle.std.specs.Prelude.{slice_get}
 use Rattle.list_lemmas.proofs.Results.{OnOk-weaker}
 use Rattle.pals_base.specs.SingleStep.{completes, is_complete}
 use Rattle.pals_base.specs.PlainTrees.{Edge}
-use Rattle.pals_base.specs.proof.SourceTrees.{trigger_of, actions_along}
+use Rattle.pals_base.specs.proof.TreeViews.{trigger_of, actions_along}
 use Rattle.step_code.specs.CodeLengths.{length_trigger}
-use Rattle.step_compiler.specs.ActionLayout.{code_acts}
+use Rattle.step_compiler.specs.TreeInstructions.{code_acts}
 use Rattle.step_compiler.specs.BlockLayout.{trigger_code, last_instr, past}
 use Rattle.step_compiler.specs.proof.BlockLengths.{in_list}
 use Rattle.step_compiler.proofs.PlacedCode.{trigger-length}
-use Rattle.step_compiler.proofs.AppendedParts.{between}
+use Rattle.step_compiler.proofs.AppendedCode.{between}
 use Rattle.step_compiler.proofs.transitions.push_transition.Goals as goal
 
 pub returns : goal.returns

@@ -1,18 +1,18 @@
 use Rattle.std.proofs.Common.{◌≡◌, ◌∙◌, List, ap, sym, refl, length, map, slice_get, arith}
 use Rattle.std.proofs.lemmas.List.{length-map}
 use Rattle.std.proofs.lemmas.Option.{slice_get-get_or}
-use Rattle.list_lemmas.proofs.Lists.{filled_more}
+use Rattle.list_lemmas.proofs.ListOperations.{filled_more}
 use Rattle.pals_base.specs.declared.values.PortValue.{PortValue}
 use Rattle.pals_base.specs.PeriodBound.{sent_steps}
 use Rattle.pals_model.specs.declared.design.Component.{Component}
 use Rattle.pals_model.specs.declared.design.Link.{Link}
-use Rattle.pals_model.specs.Rules.{IsLink}
+use Rattle.pals_model.specs.DesignRules.{IsLink}
 use Rattle.pals_model.proofs.FirstElements.{at_element}
 use Rattle.sync_product.specs.proof.ProductSizes.{stage_size, stage_size_of, stage_sizes, message_sizes}
 use Rattle.sync_product.specs.proof.Rounds.{sent_by}
 use Rattle.sync_product.proofs.SizePreservation.{same_sizes}
 use Rattle.sync_product.proofs.ComponentLists.{count_of_sized, within_same}
-use Rattle.sync_product.proofs.MessageRows.{sized_message, sent_item}
+use Rattle.sync_product.proofs.LinkMessages.{sized_message, sent_item}
 use Rattle.sync_product.proofs.PortColumns.{length-cut, length-column}
 use Rattle.pals_model.specs.ComponentInputs.{rate_of}
 use Rattle.sync_product.proofs.messages.send_all.Goals as goal

@@ -1,11 +1,11 @@
 use Rattle.std.proofs.Common.{◌≡◌, ◌∙◌, ℕ, List, ap, sym, length, map, slice_index_or, arith}
 use Rattle.std.proofs.lemmas.List.{length-map, get_or-map}
-use Rattle.list_lemmas.proofs.Lists.{filled_more}
+use Rattle.list_lemmas.proofs.ListOperations.{filled_more}
 use Rattle.pals_base.specs.declared.values.PortValue.{PortValue}
 use Rattle.pals_base.specs.StepSequences.{column}
 use Rattle.sync_product.proofs.SizePreservation.{same_sizes}
 use Rattle.sync_product.proofs.PortColumns.{cut_whole, length-column}
-use Rattle.sync_product.proofs.RowSizes.{size_of_out, count_of_outs}
+use Rattle.sync_product.proofs.TupleLengths.{size_of_out, count_of_outs}
 use Rattle.sync_product.proofs.stage.write_taps.Goals as goal
 
 pub write_column-requires : goal.write_column-requires

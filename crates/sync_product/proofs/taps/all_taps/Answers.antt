@@ -1,8 +1,8 @@
 use Rattle.std.proofs.Common.{◌∙◌, ◌++◌, ◌∷◌, ℕ, List, [], ap, sym, length, map, take, set, slice_index_or, arith}
 use Rattle.std.proofs.lemmas.List.{take_all, take_more}
-use Rattle.list_lemmas.proofs.Lists.{length-map_enumerate_from}
+use Rattle.list_lemmas.proofs.ListOperations.{length-map_enumerate_from}
 use Rattle.pals_model.specs.declared.design.Component.{Component}
-use Rattle.pals_model.specs.Rules.{IsTap}
+use Rattle.pals_model.specs.DesignRules.{IsTap}
 use Rattle.pals_model.proofs.FirstElements.{at_element}
 use Rattle.sync_product.specs.proof.ProductSizes.{tap_ports}
 use Rattle.sync_product.proofs.ComponentLists.{item_at}

@@ -1,6 +1,6 @@
 use Rattle.std.proofs.Common.{◌≡◌, ◌∙◌, ◌+◌, nat_lt, ap, length, take, arith}
 use Rattle.std.proofs.lemmas.Grind.{common_steps}
-use Rattle.list_lemmas.proofs.Lists.{filled_more, filled_all}
+use Rattle.list_lemmas.proofs.ListOperations.{filled_more, filled_all}
 use Rattle.pals_base.specs.StepSequences.{column, cut}
 use Rattle.sync_product.specs.proof.Rounds.{place_before}
 use Rattle.sync_product.proofs.PortColumns.{cut_column-at, length-cut, length-column}

@@ -4,7 +4,7 @@ use Rattle.pals_model.specs.declared.design.Link.{Link}
 use Rattle.bus_machine.specs.States.{no_link}
 use Rattle.pals_bus.proofs.Openings.{map_more}
 use Rattle.pals_model.specs.Delays.{AreDelays}
-use Rattle.pals_model.specs.Rules.{IsGamma}
+use Rattle.pals_model.specs.DesignRules.{IsGamma}
 use Rattle.timed_world.proofs.OpeningWorlds.{least_fit}
 use Rattle.timed_world.proofs.opening.least_delays.Goals as goal
 

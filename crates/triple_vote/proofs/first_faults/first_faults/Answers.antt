@@ -1,7 +1,7 @@
 use Rattle.std.proofs.Common.{◌∙◌, length, sym, arith}
 use Rattle.std.proofs.lemmas.Bool.{eqb-true}
 use Rattle.std.proofs.lemmas.List.{nil_from_length}
-use Rattle.triple_vote.proofs.EarliestFaults.{filled_none, filled_put, first_all, first_of_none}
+use Rattle.triple_vote.proofs.FaultTables.{filled_none, filled_put, first_all, first_of_none}
 use Rattle.triple_vote.proofs.first_faults.first_faults.Goals as goal
 
 pub returns-then-is_empty : goal.returns-then-is_empty

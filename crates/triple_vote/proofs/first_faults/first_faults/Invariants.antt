@@ -1,4 +1,4 @@
-use Rattle.triple_vote.proofs.EarliestFaults.{IsFilled}
+use Rattle.triple_vote.proofs.FaultTables.{IsFilled}
 use Rattle.triple_vote.proofs.first_faults.first_faults.Given as goal
 
 -- the faults from this number on are in the table

@@ -1,5 +1,5 @@
 use Rattle.std.proofs.Common.{◌∙◌, sym, arith}
-use Rattle.triple_vote.proofs.EarliestFaults.{placed_within}
+use Rattle.triple_vote.proofs.FaultTables.{placed_within}
 use Rattle.triple_vote.proofs.first_faults.put_fault.Goals as goal
 
 pub set-requires : goal.set-requires

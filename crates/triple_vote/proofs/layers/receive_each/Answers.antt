@@ -1,5 +1,5 @@
 use Rattle.std.proofs.Common.{◌<◌, length, arith}
-use Rattle.triple_vote.proofs.LayerLists.{received_more, heard_room, heard_stay}
+use Rattle.triple_vote.proofs.LayerUpdates.{received_more, heard_room, heard_stay}
 use Rattle.triple_vote.proofs.layers.receive_each.Goals as goal
 
 pub receive_all-requires-clause-at : goal.receive_all-requires-clause-at

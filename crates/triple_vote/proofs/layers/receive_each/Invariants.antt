@@ -1,5 +1,5 @@
 use Rattle.triple_vote.specs.proof.ReplicaTriples.{AreHeard}
-use Rattle.triple_vote.proofs.LayerLists.{ReceivedTo}
+use Rattle.triple_vote.proofs.LayerUpdates.{ReceivedTo}
 use Rattle.triple_vote.proofs.layers.receive_each.Given as goal
 
 -- the replicas of the first layers have received

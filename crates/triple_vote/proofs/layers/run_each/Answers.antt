@@ -3,7 +3,7 @@ use Rattle.std.proofs.lemmas.List.{get_or_default}
 use Rattle.std.proofs.lemmas.Option.{slice_get_within}
 use Rattle.pals_base.specs.declared.values.PortValue.{PortValue}
 use Rattle.triple_vote.specs.proof.ReplicaLayers.{IsMade}
-use Rattle.triple_vote.proofs.LayerLists.{made_more, stay_more, three_more, room_at}
+use Rattle.triple_vote.proofs.LayerUpdates.{made_more, stay_more, three_more, room_at}
 use Rattle.triple_vote.proofs.layers.run_each.Goals as goal
 
 pub run-requires-clause-room : goal.run-requires-clause-room

@@ -1,7 +1,7 @@
 use Rattle.std.proofs.Common.{◌≡◌, map}
 use Rattle.sync_product.specs.proof.ProductSizes.{stage_size}
 use Rattle.triple_vote.specs.proof.ReplicaTriples.{AreThree, StayPut}
-use Rattle.triple_vote.proofs.LayerLists.{MadeTo}
+use Rattle.triple_vote.proofs.LayerUpdates.{MadeTo}
 use Rattle.triple_vote.proofs.layers.run_each.Given as goal
 
 -- the first layers have made the round, and all stand where they stood

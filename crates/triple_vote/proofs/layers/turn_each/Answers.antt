@@ -1,5 +1,5 @@
 use Rattle.std.proofs.Common.{refl, arith}
-use Rattle.triple_vote.proofs.LayerLists.{turned_more, turned_all}
+use Rattle.triple_vote.proofs.LayerUpdates.{turned_more, turned_all}
 use Rattle.triple_vote.proofs.layers.turn_each.Goals as goal
 
 pub loop-at-init : goal.loop-at-init

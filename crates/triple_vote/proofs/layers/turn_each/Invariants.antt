@@ -1,4 +1,4 @@
-use Rattle.triple_vote.proofs.LayerLists.{TurnedTo}
+use Rattle.triple_vote.proofs.LayerUpdates.{TurnedTo}
 use Rattle.triple_vote.proofs.layers.turn_each.Given as goal
 
 -- the first layers have gone over, and the others are as they were

@@ -4,7 +4,7 @@ use mir.Syntax.{w64}
 use mir.Val.{SFits}
 use Rattle.bus_machine.specs.States.{Run}
 use Rattle.world_gen.specs.Rings.{ring_component}
-use Rattle.world_gen.proofs.NumberedLists.{length-numbered}
+use Rattle.world_gen.proofs.TabulatedLists.{length-numbered}
 use Rattle.world_texts.proofs.RingSums.{part_is_there, last_number}
 use Rattle.world_texts.proofs.ring_text.number.Goals as goal
 

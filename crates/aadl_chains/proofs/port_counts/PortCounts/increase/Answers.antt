@@ -1,6 +1,6 @@
 use Rattle.std.proofs.Common.{◌≡◌, ◌+◌, ◌∙◌, ap, min, cond, subst, Some}
 use Rattle.std.specs.Map.{lookup}
-use Rattle.aadl_chains.specs.proof.Ports.{same_port}
+use Rattle.aadl_chains.specs.proof.PortSets.{same_port}
 use Rattle.aadl_chains.proofs.PortCountTables.{taken_updated}
 use Rattle.aadl_chains.proofs.port_counts.PortCounts.increase.Goals as goal
 

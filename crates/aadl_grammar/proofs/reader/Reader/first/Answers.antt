@@ -1,5 +1,5 @@
 use Rattle.aadl_grammar.specs.proof.ParserAnswers.{here}
-use Rattle.aadl_grammar.proofs.FirstTerminals.{spots_cons, spots_past}
+use Rattle.aadl_grammar.proofs.TerminalSpots.{spots_cons, spots_past}
 use Rattle.aadl_grammar.proofs.reader.Reader.first.Goals as goal
 
 pub returns : goal.returns

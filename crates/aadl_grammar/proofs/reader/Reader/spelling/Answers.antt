@@ -1,6 +1,6 @@
 use Rattle.std.proofs.Common.{sym, subst, List, ℕ}
 use Rattle.std.specs.Str.{IsUtf8}
-use Rattle.aadl_grammar.proofs.FirstTerminals.{word_is_text, ok_of}
+use Rattle.aadl_grammar.proofs.TerminalSpots.{word_is_text, ok_of}
 use Rattle.aadl_grammar.proofs.reader.Reader.spelling.Goals as goal
 
 pub unwrap-text-requires : goal.unwrap-text-requires

@@ -1,6 +1,6 @@
 use Rattle.std.proofs.Common.{arith}
 use Rattle.aadl_print.proofs.PrintedParts.{printed_append, closed}
-use Rattle.aadl_print.proofs.Sections.{printed_section}
+use Rattle.aadl_print.proofs.NonemptySections.{printed_section}
 use Rattle.aadl_print.proofs.declarations.ImplementationPrintItem.print.Goals as goal
 
 pub returns : goal.returns

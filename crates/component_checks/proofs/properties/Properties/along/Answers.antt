@@ -1,10 +1,10 @@
 use Rattle.std.proofs.Common.{ap, ◌∙◌}
 use Rattle.std.specs.Prelude.{slice_index_or}
 use Rattle.aadl_tree.specs.proof.PackageViews.{placed}
-use Rattle.aadl_uses.specs.declared.thread_places.SubAt.{SubAt}
+use Rattle.aadl_uses.specs.declared.thread_locations.SubAt.{SubAt}
 use Rattle.component_checks.specs.PropertyLookup.{lists_at}
 use Rattle.component_checks.specs.proof.ComponentProperties.{timed_by, nearer}
-use Rattle.component_checks.proofs.ComponentProperties.{along_turn}
+use Rattle.component_checks.proofs.PropertiesByNumber.{along_turn}
 use Rattle.component_checks.proofs.properties.Properties.along.Goals as goal
 
 pub loop-sub-preserved : goal.loop-sub-preserved

@@ -3,7 +3,7 @@ use Rattle.std.proofs.Common.{is_some, sym, ap, ◌∙◌, subst, rules, arith}
 use Rattle.std.specs.List.{position}
 use Rattle.std.proofs.lemmas.Grind.{common_steps}
 use Rattle.std.proofs.lemmas.List.Edits.{length-remove}
-use Rattle.pals_model.specs.declared.flight.FlightCopy.{FlightCopy}
+use Rattle.pals_model.specs.declared.flight_copy.FlightCopy.{FlightCopy}
 use Rattle.pals_model.specs.Flights.{is_of, oldest}
 use Rattle.link_buffers.specs.declared.ring.RingEntry.{RingEntry}
 use Rattle.link_buffers.specs.proof.Rings.{copies_of, AreTopped}

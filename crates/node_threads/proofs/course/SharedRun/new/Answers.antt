@@ -1,9 +1,9 @@
 use Rattle.std.proofs.Common.{◌≡◌, List, length, replicate, sym, ap, ◌∙◌, subst}
 use Rattle.pals_model.specs.declared.design.Component.{Component}
 use Rattle.pals_model.specs.declared.design.DesignParts.{DesignParts}
-use Rattle.pals_model.specs.Rules.{IsDesign}
-use Rattle.node_threads.specs.declared.ends.NodeNote.{NodeNote}
-use Rattle.node_threads.specs.declared.ends.NodeNote.TheVariants as note
+use Rattle.pals_model.specs.DesignRules.{IsDesign}
+use Rattle.node_threads.specs.declared.node_end.NodeNote.{NodeNote}
+use Rattle.node_threads.specs.declared.node_end.NodeNote.TheVariants as note
 use Rattle.node_threads.specs.proof.SharedCourses.{course_of, IsCourse}
 use Rattle.node_threads.proofs.CourseOpenings.{course_opens}
 use Rattle.node_threads.proofs.course.SharedRun.new.Goals as goal

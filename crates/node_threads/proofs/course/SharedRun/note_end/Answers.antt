@@ -1,7 +1,7 @@
 use Rattle.std.proofs.Common.{List, sym, subst}
-use Rattle.node_threads.specs.declared.ends.NodeNote.{NodeNote}
+use Rattle.node_threads.specs.declared.node_end.NodeNote.{NodeNote}
 use Rattle.node_threads.specs.proof.SharedCourses.{course_of, IsCourse, Stays}
-use Rattle.node_threads.proofs.LockedSteps.{note_keeps}
+use Rattle.node_threads.proofs.ChangesUnderLock.{note_keeps}
 use Rattle.node_threads.proofs.course.SharedRun.note_end.Goals as goal
 
 pub invariant_of-self : goal.invariant_of-self

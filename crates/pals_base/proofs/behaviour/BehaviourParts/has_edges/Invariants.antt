@@ -1,6 +1,6 @@
 use Rattle.std.proofs.Common.{◌≡◌, drop}
 use Rattle.std.specs.List.{list_all}
-use Rattle.pals_base.specs.Rules.{is_edge}
+use Rattle.pals_base.specs.BehaviourRules.{is_edge}
 use Rattle.pals_base.proofs.behaviour.BehaviourParts.has_edges.Given as goal
 
 -- all are sound exactly where those that are left are

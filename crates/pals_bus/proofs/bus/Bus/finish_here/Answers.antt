@@ -4,7 +4,7 @@ use Rattle.pals_runs.specs.declared.journal.JournalEntry.TheVariants as entry
 use Rattle.pals_node.specs.proof.NodeValues.{NodeValue}
 use Rattle.pals_bus.specs.declared.fields.BusFields.{BusFields}
 use Rattle.pals_bus.proofs.NodeCalls.{Turned}
-use Rattle.pals_bus.proofs.CallOutcomes.{Stands, finishes}
+use Rattle.pals_bus.proofs.CallResults.{Stands, finishes}
 use Rattle.pals_bus.proofs.bus.Bus.finish_here.Goals as goal
 
 pub invariant_of-self-2 : goal.invariant_of-self-2

@@ -1,6 +1,6 @@
 use Rattle.std.proofs.Common.{◌≡◌, ◌↔◌, ◌∙◌, ◌<◌, nat_lt, length, sym, subst, IsTrue, arith, rules, tests}
 use Rattle.std.proofs.lemmas.List.{get_or_default}
-use Rattle.pals_bus.specs.proof.AbsentItems.{no_queue}
+use Rattle.pals_bus.specs.proof.Placeholders.{no_queue}
 use Rattle.pals_bus.specs.proof.DueMessages.{HasDue}
 use Rattle.pals_bus.specs.proof.BusInvariant.{value_of}
 use Rattle.pals_bus.specs.BusValues.{BusValue}

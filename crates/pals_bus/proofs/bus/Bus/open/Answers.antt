@@ -1,12 +1,12 @@
 use Rattle.std.proofs.Common.{◌∙◌, None, false, map, length, refl, ap, subst}
 use Rattle.pals_model.specs.declared.design.DesignParts.{DesignParts}
 use Rattle.pals_model.specs.declared.design.Link.{Link}
-use Rattle.pals_model.specs.Rules.{IsDesign}
+use Rattle.pals_model.specs.DesignRules.{IsDesign}
 use Rattle.pals_node.specs.proof.NodeValues.{NodeValue}
 use Rattle.pals_bus.specs.declared.fields.BusFields.{BusFields}
-use Rattle.pals_bus.specs.proof.AbsentItems.{no_flight, no_queue}
+use Rattle.pals_bus.specs.proof.Placeholders.{no_flight, no_queue}
 use Rattle.pals_bus.specs.proof.LinksFrom.{AreOutgoing}
-use Rattle.pals_bus.specs.proof.BusPartValues.{codes_in}
+use Rattle.pals_bus.specs.proof.NodeAndCodeValues.{codes_in}
 use Rattle.pals_bus.proofs.Openings.{IsOpening, opening_keeps, opening_shows}
 use Rattle.pals_bus.proofs.bus.Bus.open.Goals as goal
 

@@ -6,7 +6,7 @@ use Rattle.pals_node.specs.proof.NodeValues.{NodeValue}
 use Rattle.pals_bus.specs.declared.fields.BusFields.{BusFields}
 use Rattle.pals_bus.specs.proof.NodeLists.{node_of}
 use Rattle.pals_bus.proofs.NodeCalls.{Turned}
-use Rattle.pals_bus.proofs.CallOutcomes.{HasRoundRoom, is_ready, starts, misses}
+use Rattle.pals_bus.proofs.CallResults.{HasRoundRoom, is_ready, starts, misses}
 use Rattle.pals_bus.proofs.bus.Bus.start.Goals as goal
 
 pub invariant_of-self-in-Err : goal.invariant_of-self-in-Err

@@ -5,7 +5,7 @@ use Rattle.pals_node.specs.proof.NodeValues.{NodeValue}
 use Rattle.pals_node.specs.proof.Answers.{StepEnds}
 use Rattle.pals_bus.specs.declared.fields.BusFields.{BusFields}
 use Rattle.pals_bus.proofs.NodeCalls.{Turned}
-use Rattle.pals_bus.proofs.CallOutcomes.{reserved, refuses, steps}
+use Rattle.pals_bus.proofs.CallResults.{reserved, refuses, steps}
 use Rattle.pals_bus.proofs.bus.Bus.step.Goals as goal
 
 pub returns-in-Err-clause-cause : goal.returns-in-Err-clause-cause

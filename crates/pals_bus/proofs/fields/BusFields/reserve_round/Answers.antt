@@ -5,7 +5,7 @@ use Rattle.pals_model.specs.declared.design.DesignParts.{DesignParts}
 use Rattle.pals_model.specs.declared.design.Link.{Link}
 use Rattle.pals_bus.specs.declared.fields.BusFields.{BusFields}
 use Rattle.pals_bus.specs.proof.LinksFrom.{links_from}
-use Rattle.pals_bus.specs.proof.Queues.{HasQueueRoomFor, HasQueueRoomOn}
+use Rattle.pals_bus.specs.proof.DueQueues.{HasQueueRoomFor, HasQueueRoomOn}
 use Rattle.pals_bus.specs.proof.RoundMessages.{HasRoomFor, HasRoomOn}
 use Rattle.pals_bus.proofs.LinksFrom.{numbers_within, room_for, queue_room_for}
 use Rattle.pals_bus.proofs.ReservedRoom.{more_room, held}

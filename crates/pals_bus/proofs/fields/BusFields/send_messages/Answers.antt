@@ -3,13 +3,13 @@ use Rattle.std.specs.Prelude.{option_map, slice_index_or, slice_set}
 use Rattle.std.specs.Arc.{arc_value}
 use Rattle.std.specs.Vec.Iter.{into_iter_items}
 use Rattle.pals_base.specs.declared.limits.TheConstants.{HOUR}
-use Rattle.pals_model.specs.declared.flight.FlightCopy.{FlightCopy}
+use Rattle.pals_model.specs.declared.flight_copy.FlightCopy.{FlightCopy}
 use Rattle.pals_model.specs.Delays.{delay_of}
 use Rattle.bus_machine.specs.States.{link_at}
 use Rattle.pals_bus.specs.declared.fields.BusFields.{BusFields}
-use Rattle.pals_bus.specs.proof.AbsentItems.{no_link_no, no_queue}
+use Rattle.pals_bus.specs.proof.Placeholders.{no_link_no, no_queue}
 use Rattle.pals_bus.specs.proof.LinksFrom.{no_numbers}
-use Rattle.pals_bus.specs.proof.Queues.{with_due}
+use Rattle.pals_bus.specs.proof.DueQueues.{with_due}
 use Rattle.pals_bus.proofs.NextLinks.{reaches_more}
 use Rattle.pals_bus.proofs.SendLoop.{CanSend, Sending, own_links, sending_all, sending_delay, sending_more}
 use Rattle.pals_bus.proofs.SendLoop.{sending_places, sending_room, sending_queue_room, message_left}

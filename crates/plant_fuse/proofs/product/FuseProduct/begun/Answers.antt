@@ -3,16 +3,16 @@ use Rattle.std.specs.Arc.{arc_value}
 use Rattle.pals_base.specs.declared.values.PortValue.{PortValue}
 use Rattle.pals_base.specs.declared.values.Frame.{Frame}
 use Rattle.pals_model.specs.declared.design.DesignParts.{DesignParts}
-use Rattle.pals_model.specs.declared.rounds.Part.{Part}
+use Rattle.pals_model.specs.declared.inputs_and_parts.Part.{Part}
 use Rattle.pals_model.specs.Composition.{opening}
-use Rattle.pals_runs.specs.declared.pairs.Pair.{Pair}
+use Rattle.pals_runs.specs.declared.analysis_inputs.Pair.{Pair}
 use Rattle.sync_product.specs.proof.ProductSizes.{part_size, stage_sizes}
 use Rattle.sync_product.specs.proof.Rounds.{frames_of}
 use Rattle.sync_product.specs.proof.ProductStates.{opening_parts}
 use Rattle.sync_product.proofs.OpeningProducts.{opening_fits, opening_frames, opening_messages_fit}
 use Rattle.plant_fuse.specs.FusedComposition.{ArePairs}
 use Rattle.plant_fuse.specs.proof.DesignTables.{AreTables}
-use Rattle.plant_fuse.specs.proof.State.{FuseState}
+use Rattle.plant_fuse.specs.proof.FuseState.{FuseState}
 use Rattle.plant_fuse.proofs.product.FuseProduct.begun.Goals as goal
 
 pub invariant_of-result : goal.invariant_of-result

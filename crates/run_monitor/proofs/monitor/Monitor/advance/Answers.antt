@@ -1,5 +1,5 @@
 use Rattle.std.proofs.Common.{◌∙◌, Bool, true, List, ap, sym, subst, slice_get}
-use Rattle.run_monitor.specs.declared.forms.FlatForm.{FlatForm}
+use Rattle.run_monitor.specs.declared.flat_form.FlatForm.{FlatForm}
 use Rattle.run_monitor.specs.proof.MonitorState.{MonitorState, said, Advances}
 use Rattle.run_monitor.specs.proof.FormBits.{bit_at, next_bit, AreNext}
 use Rattle.run_monitor.proofs.MonitorHistories.{state, advances}

@@ -1,10 +1,10 @@
 use Rattle.std.proofs.Common.{◌≡◌, ◌∙◌, ℕ, ap, sym, subst, length, map, arith}
 use Rattle.std.specs.Arc.{arc_value}
-use Rattle.list_lemmas.proofs.Lists.{length-map_enumerate_from}
+use Rattle.list_lemmas.proofs.ListOperations.{length-map_enumerate_from}
 use Rattle.pals_model.specs.declared.design.Component.{Component}
 use Rattle.pals_model.specs.declared.design.DesignParts.{DesignParts}
-use Rattle.pals_model.specs.Rules.{IsDesign}
-use Rattle.sync_product.specs.declared.reads.RoundInputs.{RoundInputs}
+use Rattle.pals_model.specs.DesignRules.{IsDesign}
+use Rattle.sync_product.specs.declared.round_inputs.RoundInputs.{RoundInputs}
 use Rattle.sync_product.specs.proof.ProductSizes.{part_size, part_size_of, part_sizes, stage_size, stage_sizes}
 use Rattle.sync_product.specs.proof.ProductSizes.{tap_ports}
 use Rattle.sync_product.specs.proof.Rounds.{frames_of, sent_by}

@@ -1,7 +1,7 @@
 use Rattle.std.proofs.Common.{◌∙◌, ℕ, ◌<◌, ap, sym, refl, length, slice_get, arith}
 use Rattle.std.proofs.lemmas.Option.{slice_get_read}
 use Rattle.std.specs.Arc.{arc_value}
-use Rattle.list_lemmas.proofs.Lists.{length-map_enumerate_from}
+use Rattle.list_lemmas.proofs.ListOperations.{length-map_enumerate_from}
 use Rattle.pals_model.specs.declared.design.Component.{Component}
 use Rattle.sync_product.specs.proof.ProductStates.{ProductState}
 use Rattle.sync_product.specs.proof.ProductSizes.{part_size, part_size_of, part_sizes, tap_ports}

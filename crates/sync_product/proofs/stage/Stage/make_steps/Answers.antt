@@ -7,7 +7,7 @@ use Rattle.pals_base.proofs.UpwardNumbers.{map_upwards_more}
 use Rattle.pals_base.proofs.StepSequences.{frame_after-append, outputs-append}
 use Rattle.sync_product.specs.proof.Rounds.{brought}
 use Rattle.sync_product.specs.proof.ProductSizes.{StageSize, stage_size}
-use Rattle.sync_product.proofs.RowSizes.{count_of_rows, length_of_row}
+use Rattle.sync_product.proofs.TupleLengths.{count_of_rows, length_of_row}
 use Rattle.sync_product.proofs.stage.Stage.make_steps.Goals as goal
 
 pub make_step-requires-clause-row : goal.make_step-requires-clause-row

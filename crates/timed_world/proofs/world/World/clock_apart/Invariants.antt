@@ -1,6 +1,6 @@
 use Rattle.std.proofs.Common.{◌≡◌}
 use Rattle.run_laws.specs.EventFaults.{clock_apart}
-use Rattle.timed_world.proofs.FaultTable.{readings_left}
+use Rattle.timed_world.proofs.FaultSearch.{readings_left}
 use Rattle.timed_world.proofs.world.World.clock_apart.Given as goal
 
 abbrev pub invariant-loop-index : goal.invariant-loop-index

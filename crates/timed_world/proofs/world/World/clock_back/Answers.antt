@@ -4,7 +4,7 @@ use Rattle.pals_runs.specs.declared.events.EventFault.{EventFault}
 use Rattle.pals_runs.specs.declared.events.EventFault.TheVariants as fault
 use Rattle.run_laws.specs.EventFaults.{Reading, clock_back}
 use Rattle.timed_world.specs.proof.WorldValues.{WorldValue, world_of}
-use Rattle.timed_world.proofs.FaultTable.{readings_left, readings_more, goes_past, has_found, below_found, below_past}
+use Rattle.timed_world.proofs.FaultSearch.{readings_left, readings_more, goes_past, has_found, below_found, below_past}
 use Rattle.timed_world.proofs.world.World.clock_back.Goals as goal
 
 pub returns-then-reading-before : goal.returns-then-reading-before

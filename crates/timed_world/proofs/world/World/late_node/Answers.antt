@@ -2,7 +2,7 @@ use Rattle.std.proofs.Common.{ℕ, ◌+◌, ◌<◌, length, Option, sym, ◌∙
 use Rattle.pals_runs.specs.declared.events.EventFault.{EventFault}
 use Rattle.run_laws.specs.EventFaults.{node_past}
 use Rattle.timed_world.specs.proof.WorldValues.{world_of}
-use Rattle.timed_world.proofs.FaultTable.{numbers_left, numbers_all, numbers_more, goes_past, has_found}
+use Rattle.timed_world.proofs.FaultSearch.{numbers_left, numbers_all, numbers_more, goes_past, has_found}
 use Rattle.timed_world.proofs.world.World.late_node.Goals as goal
 
 pub returns-in-Some : goal.returns-in-Some

@@ -1,11 +1,11 @@
 use Rattle.std.proofs.Common.{◌≡◌, ◌++◌, length, take, drop, sym, ap, ◌∙◌, arith}
-use Rattle.list_lemmas.proofs.Lists.{take-written_whole}
+use Rattle.list_lemmas.proofs.ListOperations.{take-written_whole}
 use Rattle.list_lemmas.proofs.Results.{OnOk-weaker}
 use Rattle.pals_model.specs.declared.design.DesignParts.{DesignParts}
 use Rattle.pals_model.specs.ComponentInputs.{values_at}
 use Rattle.pals_model.specs.RoundTexts.{composed_lines, row}
 use Rattle.sync_product.specs.proof.ProductStates.{ProductState}
-use Rattle.trace_audit.specs.declared.lines.RowText.{RowText}
+use Rattle.trace_audit.specs.declared.row_text.RowText.{RowText}
 use Rattle.trace_audit.specs.proof.RemainingLines.{HasLeft}
 use Rattle.trace_audit.proofs.ReportRows.{length-values_at, parts_made}
 use Rattle.trace_audit.proofs.rows.AuditedRows.make_row.Goals as goal

@@ -9,7 +9,7 @@ use Rattle.triple_vote.specs.proof.VotedStates.{VotedState}
 use Rattle.triple_vote.specs.proof.ReplicaTriples.{parts_in}
 use Rattle.triple_vote.proofs.AdvancedStates.{received_read, before_three}
 use Rattle.triple_vote.proofs.VotedMessages.{no_link}
-use Rattle.triple_vote.proofs.LayerLists.{heard_room}
+use Rattle.triple_vote.proofs.LayerUpdates.{heard_room}
 use Rattle.triple_vote.proofs.TupleLengths.{tuple_within}
 use Rattle.triple_vote.proofs.product.VoteProduct.received.Goals as goal
 

@@ -1,0 +1,159 @@
+-- The terminals that may not follow a symbol since they would still belong to it, as a table, and checks of all rows
+-- that none of them does.
+use Rattle.std.proofs.Common.{◌≡◌, ℕ, Bool, true, false, cond, not, ◌&&◌, ◌||◌, ◌==◌, List, [], ◌∷◌, ◌++◌, refl}
+use Rattle.aadl_tree.specs.declared.mark.Mark.TheVariants as k
+use Rattle.aadl_grammar.specs.proof.Symbols.{Class, a_word, the, Symbol, Row}
+use Rattle.aadl_grammar.specs.proof.Symbols as s
+use Rattle.aadl_grammar.specs.proof.ParseTable.{rows, can_omit}
+use Rattle.aadl_grammar.specs.proof.StackMachine.{class_number}
+
+abbrev pub among : ℕ → List Class → Bool
+among n [] = false
+among n (c ∷ cs) = n == class_number c || among n cs
+
+abbrev pub firsts : List Row → List Class
+firsts [] = []
+firsts (r ∷ rs) = r.first ∷ firsts rs
+
+-- the classes that the symbols begin with, as far as they are not left out
+abbrev pub first_of : List Symbol → List Class
+first_of [] = []
+first_of (x ∷ f) = firsts (rows x) ++ cond (can_omit x) (first_of f) []
+
+abbrev pub nullable : List Symbol → Bool
+nullable [] = true
+nullable (x ∷ f) = can_omit x && nullable f
+
+abbrev after_reference : List Class
+after_reference = the k.Dot ∷ the k.Scope ∷ []
+
+abbrev after_value : List Class
+after_value = a_word ∷ the k.Range ∷ the k.Dot ∷ the k.Scope ∷ []
+
+abbrev after_term : List Class
+after_term = the k.Tick ∷ the k.Star ∷ the k.Slash ∷ the k.Mod ∷ the k.Rem ∷ []
+
+abbrev after_sum : List Class
+after_sum = the k.Plus ∷ the k.Minus ∷ after_term
+
+abbrev after_relation : List Class
+after_relation =
+    the k.Equal ∷ the k.NotEqual ∷ the k.Less ∷ the k.LessOrEqual ∷ the k.Greater ∷ the k.GreaterOrEqual ∷ after_sum
+
+abbrev after_expression : List Class
+after_expression = the k.And ∷ the k.Or ∷ the k.Xor ∷ after_relation
+
+abbrev after_actions : List Class
+after_actions = a_word ∷ the k.If ∷ the k.For ∷ the k.Semicolon ∷ after_expression
+
+-- what may not stand behind a symbol, since it would still belong to it
+unfoldable pub tail : Symbol → List Class
+tail s.name = the k.Scope ∷ []
+tail s.names = the k.Scope ∷ []
+tail s.path = the k.Dot ∷ []
+tail s.paths = the k.Dot ∷ []
+tail s.more_identifiers = the k.Comma ∷ []
+tail s.reference = after_reference
+tail s.dot_identifier = the k.Dot ∷ []
+tail s.unit = a_word ∷ []
+tail s.quantity = a_word ∷ []
+tail s.upper = a_word ∷ the k.Range ∷ []
+tail s.value = after_value
+tail s.values = the k.Comma ∷ firsts (rows s.value) ++ after_value
+tail s.more_values = the k.Comma ∷ after_value
+tail s.constant = the k.Constant ∷ []
+tail s.applies = the k.Applies ∷ the k.Comma ∷ the k.Dot ∷ []
+tail s.more_paths = the k.Comma ∷ the k.Dot ∷ []
+tail s.associations = a_word ∷ []
+tail s.properties = the k.BraceOpen ∷ []
+tail s.primary = the k.Tick ∷ []
+tail s.fresh = the k.Tick ∷ []
+tail s.factor = the k.Tick ∷ []
+tail s.term = after_term
+tail s.factors = after_term
+tail s.sum = after_sum
+tail s.terms = after_sum
+tail s.compared = after_relation
+tail s.relation = after_relation
+tail s.relations = after_expression
+tail s.after_and = after_relation
+tail s.after_or = after_relation
+tail s.expression = after_expression
+tail s.after_target = after_expression
+tail s.action = after_expression
+tail s.actions = after_actions
+tail s.mores = after_actions
+tail s.after_semicolon = after_actions
+tail s.body = after_actions
+tail s.elsifs = the k.Elsif ∷ after_actions
+tail s.otherwise = the k.Else ∷ after_actions
+tail s.variable_list = a_word ∷ []
+tail s.variables = the k.Variables ∷ a_word ∷ []
+tail s.initial = the k.Initial ∷ []
+tail s.complete = the k.Complete ∷ []
+tail s.state_list = a_word ∷ []
+tail s.states = the k.States ∷ a_word ∷ []
+tail s.guard = firsts (rows s.guard) ++ after_expression
+tail s.effect = the k.BraceOpen ∷ []
+tail s.transition_list = a_word ∷ []
+tail s.transitions = the k.Transitions ∷ a_word ∷ []
+tail s.annexes = the k.Annex ∷ []
+tail s.data_type = a_word ∷ after_reference
+tail s.feature_list = a_word ∷ []
+tail s.feature_section = a_word ∷ []
+tail s.features = the k.Features ∷ a_word ∷ []
+tail s.subcomponent_list = a_word ∷ []
+tail s.subcomponent_section = a_word ∷ []
+tail s.subcomponents = the k.Subcomponents ∷ a_word ∷ []
+tail s.connection_end = the k.Dot ∷ []
+tail s.connection_list = a_word ∷ []
+tail s.connection_section = a_word ∷ []
+tail s.connections = the k.Connections ∷ a_word ∷ []
+tail s.property_section = a_word ∷ []
+tail s.own_properties = the k.Properties ∷ a_word ∷ []
+tail s.declarations = firsts (rows s.declarations)
+tail s.more_names = the k.Comma ∷ the k.Scope ∷ []
+tail s.withs = the k.With ∷ []
+tail _ = []
+
+-- no class is in both lists
+abbrev pub apart : List Class → List Class → Bool
+apart [] ds = true
+apart (c ∷ cs) ds = not (among (class_number c) ds) && apart cs ds
+
+-- each class of the first list is in the second
+abbrev pub covers : List Class → List Class → Bool
+covers [] ds = true
+covers (c ∷ cs) ds = among (class_number c) ds && covers cs ds
+
+abbrev pub distinct : List Class → Bool
+distinct [] = true
+distinct (c ∷ cs) = not (among (class_number c) cs) && distinct cs
+
+-- What may stand behind the symbols, one behind another, decides where each ends; the first list is what may not
+-- stand behind all of them.
+abbrev pub settled : List Class → List Symbol → Bool
+settled outer [] = true
+settled outer (x ∷ f) = apart (first_of f) (tail x) && ((not (nullable f) || covers (tail x) outer) && settled outer f)
+
+abbrev pub rows_settled : List Class → List Row → Bool
+rows_settled outer [] = true
+rows_settled outer (r ∷ rs) = settled outer r.wanted && rows_settled outer rs
+
+abbrev pub omits_settled : Bool → Symbol → Bool
+omits_settled false x = true
+omits_settled true x = covers (firsts (rows x)) (tail x)
+
+pub distinct_firsts : (x : Symbol) → distinct (firsts (rows x)) ≡ true
+distinct_firsts s.identifier = refl
+distinct_firsts _ = refl
+
+pub settled_rows : (x : Symbol) → rows_settled (tail x) (rows x) ≡ true
+unfolding tail
+settled_rows s.identifier = refl
+settled_rows _ = refl
+
+pub settled_omits : (x : Symbol) → omits_settled (can_omit x) x ≡ true
+unfolding tail
+settled_omits s.identifier = refl
+settled_omits _ = refl

@@ -1,0 +1,112 @@
+-- What is checked of the parse table for nesting: each production opens or closes as its terminal does, and an `if`
+-- that closes stands only behind its `end`.
+use Rattle.std.proofs.Common.{◌≡◌, ℕ, ◌+◌, ◌-◌, Bool, true, false, cond, not, ◌&&◌, ◌||◌, ◌==◌, List, [], ◌∷◌, refl}
+use Rattle.aadl_tree.specs.declared.mark.Mark.{Mark}
+use Rattle.aadl_tree.specs.declared.mark.Mark.TheVariants as k
+use Rattle.aadl_tree.specs.Terminals.{Kind, word, whole, real, quoted, unread, mark, other}
+use Rattle.aadl_tree.specs.Grammar.{opened, is_end}
+use Rattle.aadl_grammar.specs.proof.Symbols.{Class, the, Symbol, Row}
+use Rattle.aadl_grammar.specs.proof.Symbols as s
+use Rattle.aadl_grammar.specs.proof.ParseTable.{rows, can_omit}
+use Rattle.aadl_tree.specs.proof.MarkNumbers.{mark_number}
+use Rattle.aadl_grammar.specs.proof.StackMachine.{class_number, kind_number, closes, depth}
+use Rattle.aadl_grammar.proofs.DerivationTrees.ForbiddenFollowers.{among, firsts}
+
+abbrev pub openers : List Class
+openers = the k.If ∷ the k.ParenOpen ∷ the k.BracketOpen ∷ the k.BraceOpen ∷ the k.AnnexOpen ∷ the k.GuardOpen ∷ []
+
+abbrev pub closers : List Class
+closers = the k.ParenClose ∷ the k.BracketClose ∷ the k.BraceClose ∷ the k.AnnexClose ∷ the k.GuardClose ∷ []
+
+-- the nesting behind a terminal of this number, where `end` does not stand before it
+abbrev pub shift : ℕ → ℕ → ℕ
+shift n x = cond (among x openers) (n + 1) (cond (among x closers) (n - 1) n)
+
+pub shift_is : (n : ℕ) (kind : Kind) → opened n false kind ≡ shift n (kind_number kind)
+shift_is n (word w) = refl
+shift_is n (whole w) = refl
+shift_is n (real w) = refl
+shift_is n (quoted w) = refl
+shift_is n (unread w) = refl
+shift_is n (other w) = refl
+shift_is n (mark k.If) = refl
+shift_is n (mark _) = refl
+
+pub end_is : (kind : Kind) → is_end kind ≡ (kind_number kind == class_number (the k.End))
+end_is (word w) = refl
+end_is (whole w) = refl
+end_is (real w) = refl
+end_is (quoted w) = refl
+end_is (unread w) = refl
+end_is (other w) = refl
+end_is (mark k.If) = refl
+end_is (mark _) = refl
+
+-- behind `end` all terminals but `if` open and close as ever
+pub opened_same : (n : ℕ) (ended : Bool) (kind : Kind) → (kind_number kind == class_number (the k.If)) ≡ false
+    → opened n ended kind ≡ opened n false kind
+opened_same n false kind e = refl
+opened_same n true (word w) e = refl
+opened_same n true (whole w) e = refl
+opened_same n true (real w) e = refl
+opened_same n true (quoted w) e = refl
+opened_same n true (unread w) e = refl
+opened_same n true (other w) e = refl
+opened_same n true (mark k.If) e = cc
+opened_same n true (mark _) e = refl
+
+-- the symbol that takes the `if` behind `end`
+abbrev pub closing : Symbol → Bool
+closing s.closing_if = true
+closing _ = false
+
+-- symbols that stand in no stack but for that one: openers, `if` and `end` by themselves
+abbrev pub odd : Symbol → Bool
+odd (s.only m) = among (mark_number m) (the k.End ∷ openers)
+odd s.closing_if = true
+odd _ = false
+
+abbrev pub plain : List Symbol → Bool
+plain [] = true
+plain (x ∷ f) = not (odd x) && plain f
+
+-- `if` does not begin the symbol, nor what stands behind it
+abbrev pub blunt : Symbol → Bool
+blunt x = not (can_omit x) && (not (among (class_number (the k.If)) (firsts (rows x))) && not (odd x))
+
+-- what may be wanted behind `end`
+abbrev pub closing_first : List Symbol → Bool
+closing_first [] = false
+closing_first (x ∷ f) = (closing x || blunt x) && plain f
+
+abbrev pub good : Bool → List Symbol → Bool
+good true f = closing_first f
+good false f = plain f
+
+-- what is open before the terminal of this number, and behind it
+abbrev pub changes : ℕ → ℕ → ℕ → Bool
+changes x before behind =
+    cond (among x openers) (behind == before + 1) (cond (among x closers) (behind + 1 == before) (behind == before))
+
+abbrev pub row_shifts : Symbol → Row → Bool
+row_shifts x r =
+    changes (class_number r.first) (closes x) (depth r.wanted)
+    && good (class_number r.first == class_number (the k.End)) r.wanted
+
+abbrev pub rows_shift : Symbol → List Row → Bool
+rows_shift x [] = true
+rows_shift x (r ∷ rs) = row_shifts x r && rows_shift x rs
+
+only_shift : (m : Mark) → (odd (s.only m) || rows_shift (s.only m) (rows (s.only m))) ≡ true
+unfolding depth
+only_shift k.If = refl
+only_shift _ = refl
+
+pub rows_shifted : (x : Symbol) → (odd x || rows_shift x (rows x)) ≡ true
+unfolding depth
+rows_shifted (s.only m) = only_shift m
+rows_shifted _ = refl
+
+pub omits_close_nothing : (x : Symbol) → (not (can_omit x) || (closes x == 0)) ≡ true
+omits_close_nothing s.identifier = refl
+omits_close_nothing _ = refl

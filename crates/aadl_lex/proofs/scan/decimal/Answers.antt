@@ -1,8 +1,0 @@
-use Rattle.std.proofs.Common.{arith}
-use Rattle.aadl_lex.proofs.ScanLengths.{decimal_over}
-use Rattle.aadl_lex.proofs.scan.decimal.Goals as goal
-
-pub returns-then-value-digit : goal.returns-then-value-digit
-returns-then-value-digit c =
-    decimal_over c.args.text.now c.loop-byte.byte-index c.loop-byte.value c.from-digit.result (omega arith)
-    c.loop-byte.invariant.same (cc) c.from-digit.ensures (omega arith)

@@ -1,0 +1,41 @@
+-- Loops that keep the first finding so far: one turn, and the end.
+use Rattle.std.proofs.Common.{◌≡◌, ◌<◌, ◌≤◌, ◌+◌, ℕ, ◌∙◌, sym, ap, refl, List, [], ◌∷◌, ◌++◌, Option, length, drop}
+use Rattle.std.proofs.Common.{get_or, arith, Result, Ok, Err}
+use Rattle.std.proofs.lemmas.Grind.{common_steps}
+use Rattle.std.specs.Prelude.{OnOk}
+use Rattle.list_lemmas.proofs.ListOperations.{drop-next}
+use Rattle.aadl_names.specs.declared.fault.PackageFault.{PackageFault}
+use Rattle.aadl_names.specs.proof.FirstFaultSoFar.{earlier, found}
+
+pub found_append : (first : Option PackageFault) (a b : List PackageFault)
+    → found first (a ++ b) ≡ found (found first a) b
+found_append first [] b = refl
+found_append first (x ∷ a) b = found_append (earlier first x) a b
+
+pub none_left : {A : Type 0} (xs : List A) (i : ℕ) → length xs ≤ i → drop i xs ≡ []
+none_left xs i past = grind (arith, common_steps)
+
+-- One turn of a loop finds what is wrong with the first of the things that are left.
+pub next_found : {A : Type 0} (parts : List A → List PackageFault) (here : A → List PackageFault)
+    → ((x : A) (xs : List A) → parts (x ∷ xs) ≡ here x ++ parts xs)
+    → (xs : List A) (i : ℕ) (x : A) (whole before after : (Option PackageFault)) → i < length xs → x ≡ get_or xs i x
+    → whole ≡ found before (parts (drop i xs)) → after ≡ found before (here x)
+    → whole ≡ found after (parts (drop (i + 1) xs))
+next_found parts here splits xs i x whole before after within is left more =
+    left ∙ ap (λ (l : List _). found before (parts l)) (drop-next xs i x within is)
+    ∙ ap (found before) (splits x (drop (i + 1) xs))
+    ∙ found_append before (here x) (parts (drop (i + 1) xs))
+    ∙ ap (λ (p : Option PackageFault). found p (parts (drop (i + 1) xs))) (sym more)
+
+-- Behind the last turn nothing is left.
+pub last_found : {A : Type 0} (parts : List A → List PackageFault) (xs : List A) (i : ℕ)
+    (whole now : (Option PackageFault))
+    → length xs ≤ i → parts [] ≡ [] → whole ≡ found now (parts (drop i xs)) → now ≡ whole
+last_found parts xs i whole now past none left =
+    sym (left ∙ ap (λ (l : List _). found now (parts l)) (none_left xs i past) ∙ ap (found now) none)
+
+-- What the last call leaves is the whole.
+pub closed : {T E : Type 0} (r : Result T E) (now last whole : (Option PackageFault)) → last ≡ whole
+    → OnOk r (now ≡ last) → OnOk r (now ≡ whole)
+closed (Ok x) now last whole e is = is ∙ e
+closed (Err x) now last whole e is = tt

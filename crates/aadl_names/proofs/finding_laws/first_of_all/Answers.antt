@@ -1,6 +1,0 @@
-use Rattle.std.proofs.Common.{refl}
-use Rattle.aadl_names.proofs.FirstFaults.{first_fault}
-use Rattle.aadl_names.proofs.finding_laws.first_of_all.Goals as goal
-
-pub returns : goal.returns
-returns c = λ tree root. first_fault tree root _ refl

@@ -1,0 +1,41 @@
+//! Names that are declared twice.
+#![tactic(auto, using(crate::proofs::FirstFaultSoFar::found_append))]
+
+ghost use Rattle.std.specs.Prelude.{◌≡◌, OnOk};
+ghost use Rattle.aadl_names.specs.proof.FirstFaultSoFar.{found};
+ghost use Rattle.aadl_names.specs.proof.NameTables.{value_of};
+ghost use Rattle.aadl_names.specs.proof.EarliestDeclarations.{again_by};
+ghost use Rattle.aadl_names.specs.DuplicateNames.{twice};
+
+use crate::earliest_places::{earliest_of, is_before};
+use crate::spelled_name::SpelledName;
+use crate::fault_finder::Finder;
+use crate::numbered_place::NumberedPlace;
+use crate::name_table::NameTable;
+use std::alloc::AllocError;
+
+/// Finds the declarations that have the name of an earlier one.
+pub fn check_twice(finder: &mut Finder, entries: &[SpelledName]) -> Result<(), AllocError>
+    ensures { OnOk result (finder.new ≡ found finder.old (twice entries.now)) }
+{
+    let table = earliest_of(finder.alloc(), entries)?;
+    for entry in entries {
+        check_entry(finder, &table, entry)?;
+    }
+    Ok(())
+}
+
+// Finds that an entry stands behind the earliest one of its name.
+fn check_entry(
+    finder: &mut Finder,
+    table: &NameTable<NumberedPlace>,
+    entry: &SpelledName,
+) -> Result<(), AllocError>
+    ensures { OnOk result (finder.new ≡ found finder.old (again_by (value_of table.now entry.now.name) entry.now)) }
+{
+    let earliest = table.value(finder.alloc(), entry.name.as_str())?;
+    if is_before(earliest, entry.at) {
+        finder.twice(entry.name.as_str(), entry.at)?;
+    }
+    Ok(())
+}

@@ -1,0 +1,210 @@
+use Rattle.std.proofs.Common.{◌∙◌, ◌∷◌, [], refl, arith}
+use Rattle.aadl_grammar.specs.proof.ParserAnswers.{here}
+use Rattle.aadl_grammar.proofs.SymbolMoves.{begins_as, along, exits, no_reads}
+use Rattle.aadl_grammar.proofs.PartSequences.{nothing, then, marked}
+use Rattle.aadl_tree.specs.declared.mark.Mark.TheVariants as k
+use Rattle.aadl_grammar.specs.proof.Symbols as s
+use Rattle.aadl_grammar.specs.proof.StackMachine.{move, depth}
+use Rattle.aadl_parse.proofs.declaration_members.connection.Goals as goal
+
+pub returns-in_err-name : goal.returns-in_err-name
+unfolding move depth
+returns-in_err-name c = record {
+  runs =
+      λ outer below h. exits _ _ _ _ _ _ _ c.from_residual.ensures.1
+      (along _ _ _ (begins_as outer c.args.reader.now.end s.connection s.identifier
+      (s.only k.Colon ∷ s.only k.Port ∷ s.connection_end ∷ s.only k.Arrow ∷ s.connection_end ∷ s.properties
+      ∷ s.only k.Semicolon ∷ []) (below) (here c.args.reader.now c.args.at) refl refl refl)
+      (c.in_err-name.ensures.runs outer
+      (s.only k.Colon ∷ s.only k.Port ∷ s.connection_end ∷ s.only k.Arrow ∷ s.connection_end
+      ∷ s.properties ∷ s.only k.Semicolon ∷ below) (omega arith)));
+  reads = no_reads _ _ _ c.from_residual.ensures.1;
+}
+
+pub returns-in_err-colon : goal.returns-in_err-colon
+unfolding move depth
+returns-in_err-colon c = record {
+  runs =
+      λ outer below h. exits _ _ _ _ _ _ _ c.from_residual-in_err-colon.ensures.1
+      (along _ _ _ (begins_as outer c.args.reader.now.end s.connection s.identifier
+      (s.only k.Colon ∷ s.only k.Port ∷ s.connection_end ∷ s.only k.Arrow ∷ s.connection_end ∷ s.properties
+      ∷ s.only k.Semicolon ∷ []) (below) (here c.args.reader.now c.args.at) refl refl refl
+      ∙ c.in_ok-name.ensures.runs outer
+      (s.only k.Colon ∷ s.only k.Port ∷ s.connection_end ∷ s.only k.Arrow ∷ s.connection_end ∷ s.properties
+      ∷ s.only k.Semicolon ∷ below) (omega arith))
+      (c.in_err-colon.ensures.runs outer
+      (s.only k.Port ∷ s.connection_end ∷ s.only k.Arrow ∷ s.connection_end ∷ s.properties
+      ∷ s.only k.Semicolon ∷ below) (omega arith)));
+  reads = no_reads _ _ _ c.from_residual-in_err-colon.ensures.1;
+}
+
+pub returns-in_err-port : goal.returns-in_err-port
+unfolding move depth
+returns-in_err-port c = record {
+  runs =
+      λ outer below h. exits _ _ _ _ _ _ _ c.from_residual-in_err-port.ensures.1
+      (along _ _ _ (begins_as outer c.args.reader.now.end s.connection s.identifier
+      (s.only k.Colon ∷ s.only k.Port ∷ s.connection_end ∷ s.only k.Arrow ∷ s.connection_end ∷ s.properties
+      ∷ s.only k.Semicolon ∷ []) (below) (here c.args.reader.now c.args.at) refl refl refl
+      ∙ c.in_ok-name.ensures.runs outer
+      (s.only k.Colon ∷ s.only k.Port ∷ s.connection_end ∷ s.only k.Arrow ∷ s.connection_end ∷ s.properties
+      ∷ s.only k.Semicolon ∷ below) (omega arith)
+      ∙ c.in_ok-colon.ensures.runs outer
+      (s.only k.Port ∷ s.connection_end ∷ s.only k.Arrow ∷ s.connection_end ∷ s.properties ∷ s.only k.Semicolon
+      ∷ below) (omega arith)) (c.in_err-port.ensures.runs outer
+      (s.connection_end ∷ s.only k.Arrow ∷ s.connection_end ∷ s.properties ∷ s.only k.Semicolon ∷ below)
+      (omega arith)));
+  reads = no_reads _ _ _ c.from_residual-in_err-port.ensures.1;
+}
+
+pub returns-in_err-source : goal.returns-in_err-source
+unfolding move depth
+returns-in_err-source c = record {
+  runs =
+      λ outer below h. exits _ _ _ _ _ _ _ c.from_residual-in_err-source.ensures.1
+      (along _ _ _ (begins_as outer c.args.reader.now.end s.connection s.identifier
+      (s.only k.Colon ∷ s.only k.Port ∷ s.connection_end ∷ s.only k.Arrow ∷ s.connection_end ∷ s.properties
+      ∷ s.only k.Semicolon ∷ []) (below) (here c.args.reader.now c.args.at) refl refl refl
+      ∙ c.in_ok-name.ensures.runs outer
+      (s.only k.Colon ∷ s.only k.Port ∷ s.connection_end ∷ s.only k.Arrow ∷ s.connection_end ∷ s.properties
+      ∷ s.only k.Semicolon ∷ below) (omega arith)
+      ∙ c.in_ok-colon.ensures.runs outer
+      (s.only k.Port ∷ s.connection_end ∷ s.only k.Arrow ∷ s.connection_end ∷ s.properties ∷ s.only k.Semicolon
+      ∷ below) (omega arith)
+      ∙ c.in_ok-port.ensures.runs outer
+      (s.connection_end ∷ s.only k.Arrow ∷ s.connection_end ∷ s.properties ∷ s.only k.Semicolon ∷ below)
+      (omega arith)) (c.in_err-source.ensures.runs outer
+      (s.only k.Arrow ∷ s.connection_end ∷ s.properties ∷ s.only k.Semicolon ∷ below) (omega arith)));
+  reads = no_reads _ _ _ c.from_residual-in_err-source.ensures.1;
+}
+
+pub returns-in_err-arrow : goal.returns-in_err-arrow
+unfolding move depth
+returns-in_err-arrow c = record {
+  runs =
+      λ outer below h. exits _ _ _ _ _ _ _ c.from_residual-in_err-arrow.ensures.1
+      (along _ _ _ (begins_as outer c.args.reader.now.end s.connection s.identifier
+      (s.only k.Colon ∷ s.only k.Port ∷ s.connection_end ∷ s.only k.Arrow ∷ s.connection_end ∷ s.properties
+      ∷ s.only k.Semicolon ∷ []) (below) (here c.args.reader.now c.args.at) refl refl refl
+      ∙ c.in_ok-name.ensures.runs outer
+      (s.only k.Colon ∷ s.only k.Port ∷ s.connection_end ∷ s.only k.Arrow ∷ s.connection_end ∷ s.properties
+      ∷ s.only k.Semicolon ∷ below) (omega arith)
+      ∙ c.in_ok-colon.ensures.runs outer
+      (s.only k.Port ∷ s.connection_end ∷ s.only k.Arrow ∷ s.connection_end ∷ s.properties ∷ s.only k.Semicolon
+      ∷ below) (omega arith)
+      ∙ c.in_ok-port.ensures.runs outer
+      (s.connection_end ∷ s.only k.Arrow ∷ s.connection_end ∷ s.properties ∷ s.only k.Semicolon ∷ below)
+      (omega arith)
+      ∙ c.in_ok-source.ensures.runs outer
+      (s.only k.Arrow ∷ s.connection_end ∷ s.properties ∷ s.only k.Semicolon ∷ below) (omega arith))
+      (c.in_err-arrow.ensures.runs outer (s.connection_end ∷ s.properties ∷ s.only k.Semicolon ∷ below)
+      (omega arith)));
+  reads = no_reads _ _ _ c.from_residual-in_err-arrow.ensures.1;
+}
+
+pub returns-in_err-target : goal.returns-in_err-target
+unfolding move depth
+returns-in_err-target c = record {
+  runs =
+      λ outer below h. exits _ _ _ _ _ _ _ c.from_residual-in_err-target.ensures.1
+      (along _ _ _ (begins_as outer c.args.reader.now.end s.connection s.identifier
+      (s.only k.Colon ∷ s.only k.Port ∷ s.connection_end ∷ s.only k.Arrow ∷ s.connection_end ∷ s.properties
+      ∷ s.only k.Semicolon ∷ []) (below) (here c.args.reader.now c.args.at) refl refl refl
+      ∙ c.in_ok-name.ensures.runs outer
+      (s.only k.Colon ∷ s.only k.Port ∷ s.connection_end ∷ s.only k.Arrow ∷ s.connection_end ∷ s.properties
+      ∷ s.only k.Semicolon ∷ below) (omega arith)
+      ∙ c.in_ok-colon.ensures.runs outer
+      (s.only k.Port ∷ s.connection_end ∷ s.only k.Arrow ∷ s.connection_end ∷ s.properties ∷ s.only k.Semicolon
+      ∷ below) (omega arith)
+      ∙ c.in_ok-port.ensures.runs outer
+      (s.connection_end ∷ s.only k.Arrow ∷ s.connection_end ∷ s.properties ∷ s.only k.Semicolon ∷ below)
+      (omega arith)
+      ∙ c.in_ok-source.ensures.runs outer
+      (s.only k.Arrow ∷ s.connection_end ∷ s.properties ∷ s.only k.Semicolon ∷ below) (omega arith)
+      ∙ c.in_ok-arrow.ensures.runs outer (s.connection_end ∷ s.properties ∷ s.only k.Semicolon ∷ below) (omega arith))
+      (c.in_err-target.ensures.runs outer (s.properties ∷ s.only k.Semicolon ∷ below) (omega arith)));
+  reads = no_reads _ _ _ c.from_residual-in_err-target.ensures.1;
+}
+
+pub returns-in_err-properties : goal.returns-in_err-properties
+unfolding move depth
+returns-in_err-properties c = record {
+  runs =
+      λ outer below h. exits _ _ _ _ _ _ _ c.from_residual-in_err-properties.ensures.1
+      (along _ _ _ (begins_as outer c.args.reader.now.end s.connection s.identifier
+      (s.only k.Colon ∷ s.only k.Port ∷ s.connection_end ∷ s.only k.Arrow ∷ s.connection_end ∷ s.properties
+      ∷ s.only k.Semicolon ∷ []) (below) (here c.args.reader.now c.args.at) refl refl refl
+      ∙ c.in_ok-name.ensures.runs outer
+      (s.only k.Colon ∷ s.only k.Port ∷ s.connection_end ∷ s.only k.Arrow ∷ s.connection_end ∷ s.properties
+      ∷ s.only k.Semicolon ∷ below) (omega arith)
+      ∙ c.in_ok-colon.ensures.runs outer
+      (s.only k.Port ∷ s.connection_end ∷ s.only k.Arrow ∷ s.connection_end ∷ s.properties ∷ s.only k.Semicolon
+      ∷ below) (omega arith)
+      ∙ c.in_ok-port.ensures.runs outer
+      (s.connection_end ∷ s.only k.Arrow ∷ s.connection_end ∷ s.properties ∷ s.only k.Semicolon ∷ below)
+      (omega arith)
+      ∙ c.in_ok-source.ensures.runs outer
+      (s.only k.Arrow ∷ s.connection_end ∷ s.properties ∷ s.only k.Semicolon ∷ below) (omega arith)
+      ∙ c.in_ok-arrow.ensures.runs outer (s.connection_end ∷ s.properties ∷ s.only k.Semicolon ∷ below) (omega arith)
+      ∙ c.in_ok-target.ensures.runs outer (s.properties ∷ s.only k.Semicolon ∷ below) (omega arith))
+      (c.in_err-properties.ensures.runs outer (s.only k.Semicolon ∷ below) (omega arith)));
+  reads = no_reads _ _ _ c.from_residual-in_err-properties.ensures.1;
+}
+
+pub returns-in_err-end : goal.returns-in_err-end
+unfolding move depth
+returns-in_err-end c = record {
+  runs =
+      λ outer below h. exits _ _ _ _ _ _ _ c.from_residual-in_err-end.ensures.1
+      (along _ _ _ (begins_as outer c.args.reader.now.end s.connection s.identifier
+      (s.only k.Colon ∷ s.only k.Port ∷ s.connection_end ∷ s.only k.Arrow ∷ s.connection_end ∷ s.properties
+      ∷ s.only k.Semicolon ∷ []) (below) (here c.args.reader.now c.args.at) refl refl refl
+      ∙ c.in_ok-name.ensures.runs outer
+      (s.only k.Colon ∷ s.only k.Port ∷ s.connection_end ∷ s.only k.Arrow ∷ s.connection_end ∷ s.properties
+      ∷ s.only k.Semicolon ∷ below) (omega arith)
+      ∙ c.in_ok-colon.ensures.runs outer
+      (s.only k.Port ∷ s.connection_end ∷ s.only k.Arrow ∷ s.connection_end ∷ s.properties ∷ s.only k.Semicolon
+      ∷ below) (omega arith)
+      ∙ c.in_ok-port.ensures.runs outer
+      (s.connection_end ∷ s.only k.Arrow ∷ s.connection_end ∷ s.properties ∷ s.only k.Semicolon ∷ below)
+      (omega arith)
+      ∙ c.in_ok-source.ensures.runs outer
+      (s.only k.Arrow ∷ s.connection_end ∷ s.properties ∷ s.only k.Semicolon ∷ below) (omega arith)
+      ∙ c.in_ok-arrow.ensures.runs outer (s.connection_end ∷ s.properties ∷ s.only k.Semicolon ∷ below) (omega arith)
+      ∙ c.in_ok-target.ensures.runs outer (s.properties ∷ s.only k.Semicolon ∷ below) (omega arith)
+      ∙ c.in_ok-properties.ensures.runs outer (s.only k.Semicolon ∷ below) (omega arith))
+      (c.in_err-end.ensures.runs outer (below) (omega arith)));
+  reads = no_reads _ _ _ c.from_residual-in_err-end.ensures.1;
+}
+
+pub returns : goal.returns
+unfolding move depth
+returns c = record {
+  runs =
+      λ outer below h. begins_as outer c.args.reader.now.end s.connection s.identifier
+      (s.only k.Colon ∷ s.only k.Port ∷ s.connection_end ∷ s.only k.Arrow ∷ s.connection_end ∷ s.properties
+      ∷ s.only k.Semicolon ∷ []) (below) (here c.args.reader.now c.args.at) refl refl refl
+      ∙ c.in_ok-name.ensures.runs outer
+      (s.only k.Colon ∷ s.only k.Port ∷ s.connection_end ∷ s.only k.Arrow ∷ s.connection_end ∷ s.properties
+      ∷ s.only k.Semicolon ∷ below) (omega arith)
+      ∙ c.in_ok-colon.ensures.runs outer
+      (s.only k.Port ∷ s.connection_end ∷ s.only k.Arrow ∷ s.connection_end ∷ s.properties ∷ s.only k.Semicolon
+      ∷ below) (omega arith)
+      ∙ c.in_ok-port.ensures.runs outer
+      (s.connection_end ∷ s.only k.Arrow ∷ s.connection_end ∷ s.properties ∷ s.only k.Semicolon ∷ below)
+      (omega arith)
+      ∙ c.in_ok-source.ensures.runs outer
+      (s.only k.Arrow ∷ s.connection_end ∷ s.properties ∷ s.only k.Semicolon ∷ below) (omega arith)
+      ∙ c.in_ok-arrow.ensures.runs outer (s.connection_end ∷ s.properties ∷ s.only k.Semicolon ∷ below) (omega arith)
+      ∙ c.in_ok-target.ensures.runs outer (s.properties ∷ s.only k.Semicolon ∷ below) (omega arith)
+      ∙ c.in_ok-properties.ensures.runs outer (s.only k.Semicolon ∷ below) (omega arith)
+      ∙ c.in_ok-end.ensures.runs outer (below) (omega arith);
+  reads =
+      then c.in_ok-name.ensures.reads
+      (marked c.in_ok-colon.ensures.reads
+      (marked c.in_ok-port.ensures.reads
+      (then c.in_ok-source.ensures.reads
+      (marked c.in_ok-arrow.ensures.reads
+      (then c.in_ok-target.ensures.reads
+      (then c.in_ok-properties.ensures.reads (marked c.in_ok-end.ensures.reads nothing)))))));
+}

@@ -1,0 +1,41 @@
+use Rattle.std.proofs.Common.{◌∙◌, ◌∷◌, [], refl, arith}
+use Rattle.aadl_grammar.specs.proof.ParserAnswers.{here}
+use Rattle.aadl_grammar.proofs.SymbolMoves.{begins_as, along, exits, no_reads}
+use Rattle.aadl_grammar.proofs.PartSequences.{then}
+use Rattle.aadl_grammar.specs.proof.Symbols as s
+use Rattle.aadl_grammar.specs.proof.StackMachine.{move, depth}
+use Rattle.aadl_parse.proofs.declaration_members.connection_end.Goals as goal
+
+pub returns-in_err-first : goal.returns-in_err-first
+unfolding move depth
+returns-in_err-first c = record {
+  runs =
+      λ outer below h. exits _ _ _ _ _ _ _ c.from_residual.ensures.1
+      (along _ _ _ (begins_as outer c.args.reader.now.end s.connection_end s.identifier (s.dot_identifier ∷ []) (below)
+      (here c.args.reader.now c.args.at) refl refl refl)
+      (c.in_err-first.ensures.runs outer (s.dot_identifier ∷ below) (omega arith)));
+  reads = no_reads _ _ _ c.from_residual.ensures.1;
+}
+
+pub returns-in_err-second : goal.returns-in_err-second
+unfolding move depth
+returns-in_err-second c = record {
+  runs =
+      λ outer below h. exits _ _ _ _ _ _ _ c.from_residual-in_err-second.ensures.1
+      (along _ _ _ (begins_as outer c.args.reader.now.end s.connection_end s.identifier (s.dot_identifier ∷ []) (below)
+      (here c.args.reader.now c.args.at) refl refl refl
+      ∙ c.in_ok-first.ensures.runs outer (s.dot_identifier ∷ below) (omega arith))
+      (c.in_err-second.ensures.runs outer (below) (omega arith)));
+  reads = no_reads _ _ _ c.from_residual-in_err-second.ensures.1;
+}
+
+pub returns : goal.returns
+unfolding move depth
+returns c = record {
+  runs =
+      λ outer below h. begins_as outer c.args.reader.now.end s.connection_end s.identifier (s.dot_identifier ∷ [])
+      (below) (here c.args.reader.now c.args.at) refl refl refl
+      ∙ c.in_ok-first.ensures.runs outer (s.dot_identifier ∷ below) (omega arith)
+      ∙ c.in_ok-second.ensures.runs outer (below) (omega arith);
+  reads = then c.in_ok-first.ensures.reads c.in_ok-second.ensures.reads;
+}

@@ -1,0 +1,27 @@
+//! Whether two trees mean the same, wherever they stand in a text.
+ghost use Rattle.std.specs.Prelude.{◌≡◌, ◌↔◌, IsTrue};
+ghost use Rattle.aadl_tree.specs.proof.PackageViews.{meaning};
+
+mod actions;
+mod annex;
+mod declarations;
+mod expressions;
+mod lists;
+mod names;
+mod values;
+
+use crate::package::PackageTree;
+pub use actions::{same_actions, same_block};
+pub use expressions::same_expression;
+pub use lists::{Same, same_items, same_option};
+pub use values::{same_associations, same_value};
+
+/// Whether two trees are the same except for their places. Names are compared as they are spelled.
+pub fn same(a: &PackageTree, b: &PackageTree) -> bool
+    ensures { IsTrue result ↔ (meaning a.now ≡ meaning b.now) }
+{
+    a.name.same(&b.name)
+        && same_items(a.withs.as_slice(), b.withs.as_slice())
+        && same_items(a.declarations.as_slice(), b.declarations.as_slice())
+        && a.end_name.same(&b.end_name)
+}

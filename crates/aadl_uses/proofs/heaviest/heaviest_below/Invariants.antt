@@ -1,8 +1,0 @@
-use Rattle.std.proofs.Common.{None}
-use Rattle.aadl_uses.proofs.KnownPrefixes.{FrontOf}
-use Rattle.aadl_uses.specs.proof.PathWeights.{IsHeaviest}
-use Rattle.aadl_uses.proofs.heaviest.heaviest_below.Given as goal
-
-abbrev pub invariant-loop-at : goal.invariant-loop-at
-invariant-loop-at l =
-    FrontOf (IsHeaviest l.limit l.graph l.marks l.weights) None l.graph l.order.keys l.at l.found.items

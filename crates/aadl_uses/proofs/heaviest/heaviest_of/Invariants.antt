@@ -1,8 +1,0 @@
-use Rattle.aadl_uses.proofs.SubcomponentCounts.{Begun}
-use Rattle.aadl_uses.specs.proof.PathWeights.{IsGreatestOf, path_weight}
-use Rattle.aadl_uses.proofs.heaviest.heaviest_of.Given as goal
-
--- of the paths that begin with the subcomponents so far
-abbrev pub invariant-loop-sub : goal.invariant-loop-sub
-invariant-loop-sub l =
-    IsGreatestOf (Begun l.graph l.marks l.number l.sub) (path_weight l.graph l.weights l.number) l.limit l.heaviest

@@ -1,0 +1,7 @@
+use Rattle.std.proofs.Common.{[]}
+use Rattle.aadl_uses.proofs.KnownPrefixes.{FrontOf}
+use Rattle.aadl_uses.proofs.PathLists.{IsListedIn}
+use Rattle.aadl_uses.proofs.paths_to_marked.paths_below.Given as goal
+
+abbrev pub invariant-loop-at : goal.invariant-loop-at
+invariant-loop-at l = FrontOf (IsListedIn l.graph l.marks l.used.keys) [] l.graph l.order.keys l.at l.paths

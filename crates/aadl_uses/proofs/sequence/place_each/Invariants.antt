@@ -1,5 +1,0 @@
-use Rattle.aadl_uses.specs.proof.ContainmentOrders.{ArePlaced}
-use Rattle.aadl_uses.proofs.sequence.place_each.Given as goal
-
-abbrev pub invariant-loop-number : goal.invariant-loop-number
-invariant-loop-number l = ArePlaced l.graph l.number l.fn.order.keys l.order.keys

@@ -1,7 +1,0 @@
-use Rattle.std.proofs.Common.{◌≡◌, Some, reverse, take}
-use Rattle.aadl_tree.specs.proof.PackageViews.{placed}
-use Rattle.aadl_uses.specs.Uses.{standing}
-use Rattle.aadl_uses.proofs.thread_places.standing.Given as goal
-
-abbrev pub invariant-loop-sub : goal.invariant-loop-sub
-invariant-loop-sub l = standing (placed l.uses.names.tree.now) l.root (reverse (take l.sub-index l.path)) ≡ Some l.here

@@ -1,0 +1,11 @@
+-- A code of properties as pairs of a name's bytes and a formula.
+use Rattle.std.specs.Prelude.{ℕ, List, refl}
+use Rattle.std.specs.Coded.{Coded, code_by, coded×, coded_ℕ, coded_list}
+use Rattle.pals_runs.specs.Formula.{Formula}
+use Rattle.pals_runs.specs.proof.FormulaEncoding.{formula_code}
+use Rattle.analysis_fields.specs.PropertyValues.{PropertyValue}
+
+abbrev pub property_code : Coded PropertyValue
+property_code =
+    code_by (List ℕ × Formula) (coded× (coded_list coded_ℕ) formula_code) (λ p. (p.name, p.form))
+    (λ p. record { name = p.0; form = p.1 }) (λ _. refl)

@@ -1,0 +1,25 @@
+//! What holds of the design that a bundle means. The law is the contract of a function that does
+//! nothing.
+ghost use Rattle.std.specs.Prelude.{ℕ, List, []};
+ghost use Rattle.pals_model.specs.declared.design.DesignParts.{DesignParts};
+ghost use Rattle.pals_model.specs.DesignRules.{IsDesign};
+ghost use Rattle.aadl_tree.specs.Declarations.{PackageTree};
+ghost use Rattle.aadl_instance.specs.FlattenedDesign.{Parts, IsFlat};
+ghost use Rattle.model_violations.specs.Violations.{shown_by, AreViolations};
+ghost use Rattle.bundle_designs.specs.ParsedBundles.{IsParsed};
+ghost use Rattle.bundle_designs.specs.BundleMeanings.{IsAccepted};
+ghost use Rattle.answer_laws.specs.proof.BundleContents.{MeansDesign};
+
+use design_laws::packages::designs_of_texts_keep_their_rules;
+
+/// The design that a bundle means keeps the rules of designs, so its period is at least the least one
+/// that the bound allows. A bundle means a design where its design text has a tree, the package has an
+/// instance below the root, and the list of all that is wrong with that instance is empty.
+pub fn accepted_designs_keep_their_rules()
+    ensures rules { (root bundle : List ℕ) (design : DesignParts) (scenario : List ℕ)
+        → IsAccepted root bundle design scenario → IsDesign design }
+    ensures there { (root bundle text scenario : List ℕ) (tree : PackageTree ℕ) (parts : Parts) → IsParsed bundle text scenario tree
+        → IsFlat tree root parts → AreViolations tree (shown_by tree parts) [] → MeansDesign root bundle }
+{
+    designs_of_texts_keep_their_rules();
+}

@@ -1,0 +1,34 @@
+-- Claims that a part of a step leads from one state and its outputs so far to another.
+use Rattle.std.specs.Prelude.{ℕ, List, Bool, length, None, Result}
+use Rattle.pals_base.specs.declared.values.Trap.{Trap}
+use Rattle.pals_base.specs.declared.values.PortValue.{PortValue}
+use Rattle.pals_base.specs.declared.behaviour.BehaviourParts.{BehaviourParts}
+use Rattle.pals_base.specs.Expressions.{on_value}
+use Rattle.pals_base.specs.SingleStep.{Fired, along, dispatched, settled}
+use Rattle.behaviour_sem.specs.declared.expressions.StepInputs.{StepInputs}
+use Rattle.behaviour_sem.specs.declared.early_end.EarlyEnd.{EarlyEnd}
+use Rattle.behaviour_sem.specs.declared.transitions.StepState.{StepState}
+use Rattle.behaviour_sem.specs.proof.StepOutcomes.{Left}
+use Rattle.behaviour_sem.specs.proof.ReadableFrames.{fresh}
+
+-- where a step stands, and the outputs so far
+abbrev pub Standing : Type 0
+Standing = StepState × List PortValue
+
+-- where a step stands, as a frame that no trap halted, and its outputs
+abbrev pub fired : Standing → StepInputs → Fired
+fired at inputs =
+    record {
+      frame = record { state = at.0.state; vars = at.0.vars.items; held = inputs.held.now; halt = None };
+      outs = at.1;
+    }
+
+-- a part of a step with this answer leads from here to there as is meant
+abbrev pub Leads : Result (Unit {0}) EarlyEnd → (List Bool → Fired → Result Fired Trap) → StepInputs → Standing
+    → Standing → Type 0
+Leads result meant inputs before after = Left result (fired after inputs) (meant (fresh inputs) (fired before inputs))
+
+-- the whole step from a state: its dispatch transition, and on to a complete state
+abbrev pub reacted : BehaviourParts → ℕ → List Bool → Fired → Result Fired Trap
+reacted b state fresh' at =
+    on_value (along (dispatched b state) fresh' at) (λ next. settled (length b.states) b fresh' next)

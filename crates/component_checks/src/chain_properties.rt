@@ -1,0 +1,70 @@
+//! What the list of a connection says of the chains that it carries.
+ghost use Rattle.std.specs.Prelude.{◌≡◌, IfOk, codes, option_map, option_copied};
+ghost use Rattle.aadl_tree.specs.proof.PlaceMaps.{kept_place};
+ghost use Rattle.aadl_tree.specs.proof.ValueViews.{association_view, associations_view, value_view};
+ghost use Rattle.aadl_names.specs.RecognisedProperties.{text_of};
+ghost use Rattle.component_checks.specs.proof.ChainProperties.{carried_by, adaptor_of};
+ghost use Rattle.component_checks.specs.Rates.{adaptor_named};
+ghost use Rattle.component_checks.specs.Threads.{says};
+
+use crate::adaptor_named;
+use crate::property_lookup::property_in;
+use crate::quotes::unquoted;
+use crate::word_values::is_word;
+use aadl_names::PropertyName;
+use aadl_tree::{Association, Value};
+use pals_base::{Adaptor, NoMemory};
+use std::alloc::Global;
+
+/// What the list of a connection says of the chains that it carries.
+#[derive(Clone, Copy)]
+pub struct ChainProperties {
+    /// Whether they are delayed.
+    pub delayed: bool,
+    /// Their adaptor: none is given, or a text, which may name no adaptor.
+    pub adaptor: Option<Option<Adaptor>>,
+}
+
+impl ChainProperties {
+    /// What a list says.
+    pub fn of(alloc: Global, list: &[Association]) -> Result<ChainProperties, NoMemory>
+        ensures { IfOk result (λ carried. carried ≡ carried_by (associations_view kept_place list.now)) }
+    {
+        let timing = property_in(list, PropertyName::Timing);
+        let adaptor = adaptor_of(property_in(list, PropertyName::Adaptor));
+        Ok(ChainProperties {
+            delayed: is_delayed(alloc, timing)?,
+            adaptor,
+        })
+    }
+}
+
+// Whether the timing that is given is delayed.
+fn is_delayed(alloc: Global, given: Option<&Association>) -> Result<bool, NoMemory>
+    ensures { IfOk result (λ delayed. delayed ≡ says (codes "Delayed") (option_map (association_view kept_place) (option_copied given.entry))) }
+{
+    match given {
+        Some(given) => is_word(alloc, "Delayed", &given.value),
+        None => Ok(false),
+    }
+}
+
+// The adaptor that is given, if it is a text.
+fn adaptor_of(given: Option<&Association>) -> Option<Option<Adaptor>>
+    ensures { result ≡ adaptor_of (option_map (association_view kept_place) (option_copied given.entry)) }
+{
+    match given {
+        Some(given) => adaptor_in(&given.value),
+        None => None,
+    }
+}
+
+// The adaptor of a text, if it is a text.
+fn adaptor_in(value: &Value) -> Option<Option<Adaptor>>
+    ensures { result ≡ option_map adaptor_named (text_of (value_view kept_place value.now)) }
+{
+    match value {
+        Value::Text(bytes) => Some(adaptor_named(unquoted(bytes.as_slice()))),
+        _ => None,
+    }
+}

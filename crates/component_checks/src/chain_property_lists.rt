@@ -1,0 +1,66 @@
+//! What the lists of the connections of a package say, each list read once.
+ghost use Rattle.std.specs.Prelude.{◌≡◌, IfOk, map};
+ghost use Rattle.aadl_tree.specs.proof.PlaceMaps.{kept_place};
+ghost use Rattle.aadl_tree.specs.proof.PackageViews.{placed};
+ghost use Rattle.aadl_tree.specs.proof.DeclarationViews.{connection_view, declaration_view};
+ghost use Rattle.component_checks.specs.proof.ChainProperties as spec;
+
+use crate::chain_properties::ChainProperties;
+use aadl_tree::{Connection, Declaration, PackageTree};
+use pals_base::{Items, NoMemory};
+use std::alloc::Global;
+
+/// What stands at a number in the list of a number.
+pub fn carried_at(
+    carried: &[Items<ChainProperties>],
+    list: usize,
+    number: usize,
+) -> Option<ChainProperties>
+    ensures { result ≡ spec.carried_at carried.now list number }
+{
+    match carried.get(list) {
+        Some(carried) => carried.as_slice().get(number).copied(),
+        None => None,
+    }
+}
+
+// What connections say, in order.
+fn connections_of(
+    alloc: Global,
+    connections: &[Connection],
+) -> Result<Items<ChainProperties>, NoMemory>
+    ensures { IfOk result (λ carried. carried ≡ map (λ c. spec.carried_by c.properties) (map (connection_view kept_place) connections.now)) }
+{
+    let mut carried = Items::new(alloc);
+    for connection in connections {
+        carried.push(ChainProperties::of(alloc, connection.properties.as_slice())?)?;
+    }
+    Ok(carried)
+}
+
+// What the connections of a declaration say.
+fn connections_in(
+    alloc: Global,
+    declaration: &Declaration,
+) -> Result<Items<ChainProperties>, NoMemory>
+    ensures { IfOk result (λ carried. carried ≡ spec.connections_carried (declaration_view kept_place declaration.now)) }
+{
+    match declaration {
+        Declaration::Type(_) => Ok(Items::new(alloc)),
+        Declaration::Implementation(x) => connections_of(alloc, x.connections.as_slice()),
+    }
+}
+
+/// What the connections of a package say, by the numbers of their declarations and their own there.
+pub fn all_of_connections(
+    alloc: Global,
+    tree: &PackageTree,
+) -> Result<Items<Items<ChainProperties>>, NoMemory>
+    ensures { IfOk result (λ carried. carried ≡ map spec.connections_carried (placed tree.now).declarations) }
+{
+    let mut carried = Items::new(alloc);
+    for declaration in &tree.declarations {
+        carried.push(connections_in(alloc, declaration)?)?;
+    }
+    Ok(carried)
+}

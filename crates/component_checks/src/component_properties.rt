@@ -1,0 +1,77 @@
+//! What lists of properties say of a component.
+ghost use Rattle.std.specs.Prelude.{◌≡◌, ◌∷◌, [], IfOk, option_map, option_copied};
+ghost use Rattle.aadl_tree.specs.proof.PlaceMaps.{kept_place};
+ghost use Rattle.aadl_tree.specs.proof.ValueViews.{association_view, associations_view};
+ghost use Rattle.component_checks.specs.proof.ComponentProperties.{period_at, dispatch_at, timed_by, nearer};
+
+use crate::property_lookup::property_in;
+use crate::times::time_within;
+use crate::word_values::is_word;
+use aadl_names::PropertyName;
+use aadl_tree::Association;
+use pals_base::{Nanos, NoMemory};
+use std::alloc::Global;
+
+/// What lists of properties say of a component, the nearest list first.
+#[derive(Clone, Copy)]
+pub struct ComponentProperties {
+    /// The period in nanoseconds, where one is given; none above an hour.
+    pub period: Option<Option<Nanos>>,
+    /// Whether the dispatch is periodic, where one is given.
+    pub periodic: Option<bool>,
+}
+
+impl ComponentProperties {
+    /// What no list says.
+    pub fn none() -> ComponentProperties
+        ensures { result ≡ timed_by [] }
+    {
+        ComponentProperties {
+            period: None,
+            periodic: None,
+        }
+    }
+
+    /// What one list says.
+    #[tactic(auto, using(crate::proofs::NamedAssociations::first_of_one))]
+    pub fn of(alloc: Global, list: &[Association]) -> Result<ComponentProperties, NoMemory>
+        ensures { IfOk result (λ timed. timed ≡ timed_by (associations_view kept_place list.now ∷ [])) }
+    {
+        let period = period_at(property_in(list, PropertyName::Period));
+        let dispatch = property_in(list, PropertyName::Dispatch);
+        Ok(ComponentProperties {
+            period,
+            periodic: dispatch_at(alloc, dispatch)?,
+        })
+    }
+
+    /// The same, and where nothing is given what lists further out say.
+    pub fn or(self, further: ComponentProperties) -> ComponentProperties
+        ensures { result ≡ nearer self further }
+    {
+        ComponentProperties {
+            period: self.period.or(further.period),
+            periodic: self.periodic.or(further.periodic),
+        }
+    }
+}
+
+// The period that is given.
+fn period_at(given: Option<&Association>) -> Option<Option<Nanos>>
+    ensures { result ≡ period_at (option_map (association_view kept_place) (option_copied given.entry)) }
+{
+    match given {
+        Some(given) => Some(time_within(&given.value)),
+        None => None,
+    }
+}
+
+// Whether the dispatch that is given is periodic.
+fn dispatch_at(alloc: Global, given: Option<&Association>) -> Result<Option<bool>, NoMemory>
+    ensures { IfOk result (λ periodic. periodic ≡ dispatch_at (option_map (association_view kept_place) (option_copied given.entry))) }
+{
+    match given {
+        Some(given) => Ok(Some(is_word(alloc, "Periodic", &given.value)?)),
+        None => Ok(None),
+    }
+}

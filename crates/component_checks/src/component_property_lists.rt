@@ -1,0 +1,150 @@
+//! What the lists of a package say of its components, each list read once.
+ghost use Rattle.std.specs.Prelude.{◌≡◌, IfOk, map};
+ghost use Rattle.aadl_tree.specs.proof.PlaceMaps.{kept_place};
+ghost use Rattle.aadl_tree.specs.proof.PackageViews.{placed};
+ghost use Rattle.aadl_tree.specs.proof.DeclarationViews.{declaration_view};
+ghost use Rattle.aadl_names.specs.ReferenceResolution.{implementation_at, subcomponents_of};
+ghost use Rattle.component_checks.specs.PropertyLookup.{lists_at, root_lists};
+ghost use Rattle.component_checks.specs.proof.ComponentProperties as spec;
+ghost use Rattle.component_checks.specs.proof.ComponentProperties.{timed_by};
+
+use crate::component_properties::ComponentProperties;
+use aadl_tree::{Declaration, PackageTree};
+use aadl_uses::{SubAt, Uses};
+use pals_base::{Items, NoMemory};
+use std::alloc::Global;
+
+/// What stands at a number, or nothing.
+pub fn numbered(timed: &[ComponentProperties], number: Option<usize>) -> ComponentProperties
+    ensures { result ≡ spec.numbered timed.now number }
+{
+    let Some(number) = number else {
+        return ComponentProperties::none();
+    };
+    match timed.get(number) {
+        Some(timed) => *timed,
+        None => ComponentProperties::none(),
+    }
+}
+
+/// What stands at a number in the list of a number, or nothing.
+pub fn numbered_in(
+    timed: &[Items<ComponentProperties>],
+    list: usize,
+    number: usize,
+) -> ComponentProperties
+    ensures { result ≡ spec.numbered_in timed.now list number }
+{
+    match timed.get(list) {
+        Some(timed) => numbered(timed.as_slice(), Some(number)),
+        None => ComponentProperties::none(),
+    }
+}
+
+// What a type says.
+fn of_type(alloc: Global, declaration: &Declaration) -> Result<ComponentProperties, NoMemory>
+    ensures { IfOk result (λ timed. timed ≡ spec.type_timed (declaration_view kept_place declaration.now)) }
+{
+    match declaration {
+        Declaration::Type(x) => ComponentProperties::of(alloc, x.properties.as_slice()),
+        Declaration::Implementation(_) => Ok(ComponentProperties::none()),
+    }
+}
+
+/// What the types of a package say, by their numbers.
+pub fn all_of_types(
+    alloc: Global,
+    tree: &PackageTree,
+) -> Result<Items<ComponentProperties>, NoMemory>
+    ensures { IfOk result (λ types. types ≡ map spec.type_timed (placed tree.now).declarations) }
+{
+    let mut types = Items::new(alloc);
+    for declaration in &tree.declarations {
+        types.push(of_type(alloc, declaration)?)?;
+    }
+    Ok(types)
+}
+
+// What the implementation of a number says, and its type.
+fn own_of(
+    alloc: Global,
+    uses: &Uses<'_>,
+    types: &[ComponentProperties],
+    number: usize,
+) -> Result<ComponentProperties, NoMemory>
+    requires { types.now ≡ map spec.type_timed (placed uses.now.names.tree.now).declarations }
+    ensures { IfOk result (λ timed. timed ≡ timed_by (root_lists (placed uses.now.names.tree.now) number)) }
+{
+    let Some(x) = uses.implementation(number) else {
+        return Ok(ComponentProperties::none());
+    };
+    let own = ComponentProperties::of(alloc, x.properties.as_slice())?;
+    Ok(own.or(numbered(types, uses.type_number(number))))
+}
+
+/// What the implementations of a package say, and their types, by their numbers.
+pub fn all_own(
+    alloc: Global,
+    uses: &Uses<'_>,
+    types: &[ComponentProperties],
+) -> Result<Items<ComponentProperties>, NoMemory>
+    requires { types.now ≡ map spec.type_timed (placed uses.now.names.tree.now).declarations }
+    ensures { IfOk result (λ own. own ≡ map (spec.own_timed (placed uses.now.names.tree.now)) (placed uses.now.names.tree.now).declarations) }
+{
+    let mut own = Items::new(alloc);
+    for number in 0..uses.len() {
+        own.push(own_of(alloc, uses, types, number)?)?;
+    }
+    Ok(own)
+}
+
+// What a subcomponent says, its implementation and that one's type.
+fn sub_of(
+    alloc: Global,
+    uses: &Uses<'_>,
+    own: &[ComponentProperties],
+    at: SubAt,
+) -> Result<ComponentProperties, NoMemory>
+    requires { own.now ≡ map (spec.own_timed (placed uses.now.names.tree.now)) (placed uses.now.names.tree.now).declarations }
+    ensures { IfOk result (λ timed. timed ≡ timed_by (lists_at (placed uses.now.names.tree.now) at)) }
+{
+    let Some(sub) = uses.subcomponent(at.declaration, at.sub) else {
+        return Ok(ComponentProperties::none());
+    };
+    let said = ComponentProperties::of(alloc, sub.properties.as_slice())?;
+    Ok(said.or(numbered(own, uses.below(at.declaration, at.sub))))
+}
+
+// What the subcomponents of the declaration of a number say, in order.
+fn subs_of(
+    alloc: Global,
+    uses: &Uses<'_>,
+    own: &[ComponentProperties],
+    declaration: usize,
+) -> Result<Items<ComponentProperties>, NoMemory>
+    requires { own.now ≡ map (spec.own_timed (placed uses.now.names.tree.now)) (placed uses.now.names.tree.now).declarations }
+    ensures { IfOk result (λ timed. timed ≡ map (spec.sub_timed (placed uses.now.names.tree.now))
+        (subcomponents_of (implementation_at (placed uses.now.names.tree.now) declaration))) }
+{
+    let mut timed = Items::new(alloc);
+    for sub in 0..uses.targets(declaration).len() {
+        timed.push(sub_of(alloc, uses, own, SubAt { declaration, sub })?)?;
+    }
+    Ok(timed)
+}
+
+/// What the subcomponents of a package say, by the numbers of their declarations and their own there.
+pub fn all_of_subs(
+    alloc: Global,
+    uses: &Uses<'_>,
+    own: &[ComponentProperties],
+) -> Result<Items<Items<ComponentProperties>>, NoMemory>
+    requires { own.now ≡ map (spec.own_timed (placed uses.now.names.tree.now)) (placed uses.now.names.tree.now).declarations }
+    ensures { IfOk result (λ subs. subs ≡ map (spec.subs_timed (placed uses.now.names.tree.now)) (placed uses.now.names.tree.now).declarations) }
+{
+    let mut subs = Items::new(alloc);
+    for declaration in 0..uses.len() {
+        subs.push(subs_of(alloc, uses, own, declaration)?)?;
+    }
+    Ok(subs)
+}

@@ -1,8 +1,0 @@
-use Rattle.std.proofs.Common.{◌≡◌, map, take, Some}
-use Rattle.aadl_tree.specs.proof.PackageViews.{placed}
-use Rattle.design_laws.specs.InstanceDesigns.{all_of, feed_in}
-use Rattle.model_checks.proofs.design.feeds.Given as goal
-
-abbrev pub invariant-loop-chain : goal.invariant-loop-chain
-invariant-loop-chain l =
-    Some l.feeds ≡ all_of (map (feed_in (placed l.properties.uses.now.names.tree.now)) (take l.chain-index l.chains))

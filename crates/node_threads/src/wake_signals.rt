@@ -1,0 +1,67 @@
+//! What waiting threads sleep on: one `Condvar` for each node, and one for the calling thread. Who sleeps
+//! and who is woken is seen by other threads alone, so no clause speaks of it.
+ghost use Rattle.std.specs.Prelude.{◌≡◌, IfOk, vec_len};
+
+use crate::sleeper::Sleeper;
+use crate::locked::Locked;
+use pals_base::{NoMemory, NodeNo};
+use std::alloc::Global;
+use std::sync::{Condvar, Mutex, MutexGuard, Wait};
+
+/// A bell for each node, and one for the calling thread.
+#[derive(Drop)]
+pub struct WakeSignals {
+    nodes: Vec<Condvar>,
+    caller: Condvar,
+}
+
+impl WakeSignals {
+    /// The bells of a run of `count` nodes.
+    pub fn new(alloc: Global, count: u32) -> Result<WakeSignals, NoMemory>
+        ensures { IfOk result (λ bells. vec_len bells.nodes ≡ count) }
+    {
+        let mut nodes = Vec::new(alloc);
+        for _node in 0..count {
+            nodes.push(Condvar::new())?;
+        }
+        Ok(WakeSignals {
+            nodes,
+            caller: Condvar::new(),
+        })
+    }
+
+    /// Sleeps until a node need not wait, and gives the lock back that it was given.
+    pub fn sleep<'a, R: Wait>(
+        &self,
+        rt: &R,
+        locked: MutexGuard<'a, Locked>,
+        node: NodeNo,
+    ) -> MutexGuard<'a, Locked> {
+        match self.nodes.get(node.0 as usize) {
+            None => locked,
+            Some(bell) => bell.wait_while(rt, locked, |locked| locked.sleeps(node)),
+        }
+    }
+
+    /// Sleeps until some node of the calling thread need not wait. Answers whether none of them has
+    /// anything left to do.
+    pub fn sleep_caller<R: Wait>(&self, rt: &R, lock: &Mutex<Locked>) -> bool {
+        let locked = self
+            .caller
+            .wait_while(rt, lock.lock(rt), |locked| locked.caller_sleeps());
+        locked.caller_is_over()
+    }
+
+    /// Wakes the thread of a bell, if there is one.
+    pub fn ring(&self, bell: Option<Sleeper>) {
+        match bell {
+            None => {}
+            Some(Sleeper::Caller) => self.caller.notify_one(),
+            Some(Sleeper::Node(number)) => {
+                if let Some(bell) = self.nodes.get(number) {
+                    bell.notify_one();
+                }
+            }
+        }
+    }
+}

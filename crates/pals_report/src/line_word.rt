@@ -1,0 +1,136 @@
+//! Lines, word by word.
+ghost use Rattle.std.specs.Prelude.{◌≡◌, ◌++◌, map, Some, OnOk, OnErr};
+ghost use Rattle.pals_model.specs.NamesInTexts.{in_port_name};
+ghost use Rattle.pals_model.specs.RoundTexts.{line_end};
+ghost use Rattle.pals_runs.specs.JournalLines.{node_word, link_word, reading_word, spaced};
+ghost use Rattle.pals_report.specs.proof.LineWords.{word_text};
+ghost use Rattle.pals_report.specs.proof.PartialWrites.{BeginsWith};
+
+use crate::{add_tuple, whole_or_none};
+use itoa::Buffer;
+use pals_base::{Kind, LinkNo, Nanos, NoMemory, NodeNo, PortValue};
+use pals_model::{Component, DesignParts};
+
+/// A word of a line.
+#[derive(Clone, Copy)]
+pub enum LineWord<'a> {
+    /// These bytes.
+    Bytes(&'a [u8]),
+    /// A number in decimal.
+    Number(u64),
+    /// A number of up to 128 bits in decimal.
+    Wide(u128),
+    /// A number in decimal, with `-` where it is negative.
+    Signed(i64),
+    /// The name of a loop's slot: `#` and its number among the slots of loops.
+    LoopSlot(u64),
+    /// The name of an in port: a path, `.` and a name.
+    Port(&'a [u8], &'a [u8]),
+    /// A tuple of values of one type.
+    Tuple(Kind, &'a [PortValue]),
+}
+
+// Adds a word.
+fn add_word(out: &mut Vec<u8>, word: LineWord<'_>) -> Result<(), NoMemory>
+    ensures ok { OnOk result (out.new.items ≡ out.old.items ++ word_text word.entry) }
+    ensures err { OnErr result (BeginsWith out.new.items out.old.items) }
+{
+    match word {
+        LineWord::Bytes(bytes) => out.extend_from_slice(bytes),
+        LineWord::Number(number) => out.extend_from_slice(Buffer::new().format(number).as_bytes()),
+        LineWord::Wide(number) => out.extend_from_slice(Buffer::new().format(number).as_bytes()),
+        LineWord::Signed(number) => out.extend_from_slice(Buffer::new().format(number).as_bytes()),
+        LineWord::LoopSlot(number) => {
+            out.extend_from_slice(b"#")?;
+            out.extend_from_slice(Buffer::new().format(number).as_bytes())
+        }
+        LineWord::Port(path, name) => {
+            out.extend_from_slice(path)?;
+            out.extend_from_slice(b".")?;
+            out.extend_from_slice(name)
+        }
+        LineWord::Tuple(kind, tuple) => add_tuple(out, kind, tuple),
+    }
+}
+
+// Adds words, with one space between each two.
+fn add_words(out: &mut Vec<u8>, words: &[LineWord<'_>]) -> Result<(), NoMemory>
+    ensures ok { OnOk result
+        (out.new.items ≡ out.old.items ++ spaced (map word_text words.now)) }
+    ensures err { OnErr result (BeginsWith out.new.items out.old.items) }
+{
+    let [first, rest @ ..] = words else {
+        return Ok(());
+    };
+    add_word(out, *first)?;
+    for word in rest {
+        out.extend_from_slice(b" ")?;
+        add_word(out, *word)?;
+    }
+    Ok(())
+}
+
+// Adds words and the end of their line.
+fn add_whole_line(out: &mut Vec<u8>, words: &[LineWord<'_>]) -> Result<(), NoMemory>
+    ensures ok { OnOk result
+        (out.new.items ≡ out.old.items ++ spaced (map word_text words.now) ++ line_end) }
+    ensures err { OnErr result (BeginsWith out.new.items out.old.items) }
+{
+    add_words(out, words)?;
+    out.extend_from_slice(b"\n")
+}
+
+/// Adds a line of words. If there is not enough memory, nothing is added.
+pub fn add_line(out: &mut Vec<u8>, words: &[LineWord<'_>]) -> Result<(), NoMemory>
+    ensures ok { OnOk result
+        (out.new.items ≡ out.old.items ++ spaced (map word_text words.now) ++ line_end) }
+    ensures err { OnErr result (out.new.items ≡ out.old.items) }
+{
+    let start = out.len();
+    let written = add_whole_line(out, words);
+    whole_or_none(out, start, written)
+}
+
+/// The path of a component, empty where there is none.
+pub fn node_word(design: &DesignParts, node: NodeNo) -> LineWord<'_>
+    ensures { word_text result ≡ node_word design.now node.0 }
+{
+    match design.component(node) {
+        Some(component) => LineWord::Bytes(component.path.as_bytes()),
+        None => LineWord::Bytes(b""),
+    }
+}
+
+// The name of an in port of a component.
+fn port_word(component: &Component, port: u32) -> LineWord<'_>
+    ensures { word_text result ≡ in_port_name (Some component.now) port }
+{
+    let path = component.path.as_bytes();
+    match component.behaviour.ins().get(port as usize) {
+        Some(port) => LineWord::Port(path, port.name.as_bytes()),
+        None => LineWord::Port(path, b""),
+    }
+}
+
+/// The name of a link: that of the in port that it goes to.
+pub(crate) fn link_word(design: &DesignParts, link: LinkNo) -> LineWord<'_>
+    ensures { word_text result ≡ link_word design.now link.0 }
+{
+    let Some(link) = design.links.get(link.0 as usize) else {
+        return LineWord::Bytes(b"");
+    };
+    match design.component(link.target) {
+        Some(component) => port_word(component, link.in_port),
+        None => LineWord::Bytes(b""),
+    }
+}
+
+/// A reading, or `_` where there is none.
+pub(crate) fn reading_word(reading: Option<Nanos>) -> LineWord<'static>
+    ensures { word_text result ≡ reading_word reading }
+{
+    match reading {
+        Some(reading) => LineWord::Number(reading),
+        None => LineWord::Bytes(b"_"),
+    }
+}

@@ -1,0 +1,24 @@
+//! Where the parts of a round come from.
+ghost use Rattle.std.specs.Prelude.{◌≡◌, ℕ, Option, option_copied, slice_get};
+ghost use Rattle.pals_model.specs.declared.inputs_and_parts.Part.{Part};
+
+use pals_base::NodeNo;
+use pals_model::Part;
+
+/// What the components that are shown left after a round.
+pub trait RoundParts {
+    ghost part_of: { Self → ℕ → Option Part };
+
+    /// The part of a component, or none where the component is not shown.
+    fn part(&self, node: NodeNo) -> Option<&Part>
+        ensures { option_copied result ≡ part_of self.now node.0 };
+}
+
+/// The parts of all components, by their numbers.
+impl RoundParts for &[Part] {
+    ghost part_of = { λ parts node. slice_get parts.now node };
+
+    fn part(&self, node: NodeNo) -> Option<&Part> {
+        self.get(node.0 as usize)
+    }
+}

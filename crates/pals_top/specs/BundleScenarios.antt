@@ -1,0 +1,33 @@
+-- That a bundle means a design and a scenario; or that its scenario has a fault, and the text that names it.
+use Rattle.std.specs.Prelude.{◌≡◌, ◌≢◌, ℕ, List, ◌++◌, Ok, Err}
+use Rattle.pals_model.specs.declared.design.DesignParts.{DesignParts}
+use Rattle.pals_model.specs.RoundTexts.{line_end}
+use Rattle.pals_runs.specs.declared.commands.Command.{Command}
+use Rattle.scenario_values.specs.declared.fault.ScenarioFault.{ScenarioFault}
+use Rattle.scenario_values.specs.declared.fault.ScenarioFault.TheVariants.{Memory}
+use Rattle.scenario_json.specs.declared.scenario.Scenario.{Scenario}
+use Rattle.scenario_json.specs.Scenarios.{Means}
+use Rattle.pals_report.specs.ScenarioFaultLines.{scenario_fault_line}
+use Rattle.bundle_designs.specs.BundleMeanings.{IsAccepted}
+use Rattle.pals_top.specs.declared.status.TheConstants.{SCENARIO_REFUSED}
+
+-- The bundle means this design and this scenario.
+pub record HasScenario (root bundle : List ℕ) (command : Command) (design : DesignParts)
+    (scenario : Scenario) : Type 0 where
+  pub bytes : List ℕ
+  pub accepted : IsAccepted root bundle design bytes
+  pub means : Means bytes design command (Ok scenario)
+
+-- The bundle means a design, its scenario has a fault, and the text names the first one.
+pub record HasScenarioFault (root bundle : List ℕ) (command : Command) (text : List ℕ) : Type 0 where
+  pub design : DesignParts
+  pub bytes : List ℕ
+  pub accepted : IsAccepted root bundle design bytes
+  pub fault : ScenarioFault
+  pub faulty : Means bytes design command (Err fault)
+  pub named : fault ≢ Memory
+  pub text_is : text ≡ scenario_fault_line fault ++ line_end
+
+abbrev pub IsScenarioRefused : List ℕ → List ℕ → Command → ℕ → List ℕ → Type 0
+IsScenarioRefused root bundle command status text =
+    (status ≡ SCENARIO_REFUSED) × HasScenarioFault root bundle command text

@@ -1,0 +1,17 @@
+-- The list of partners is as long as the list of components.
+use Rattle.std.proofs.Common.{◌≡◌, ◌∙◌, List, length, ap}
+use Rattle.std.proofs.lemmas.List.{length-map}
+use Rattle.pals_base.specs.StepSequences.{upwards}
+use Rattle.pals_model.specs.declared.design.DesignParts.{DesignParts}
+use Rattle.pals_runs.specs.declared.analysis_inputs.Pair.{Pair}
+use Rattle.sync_product.proofs.TupleLengths.{length-upwards}
+use Rattle.plant_fuse.specs.declared.tables.Tables.{Tables}
+use Rattle.plant_fuse.specs.proof.Partners.{partner_of}
+use Rattle.plant_fuse.specs.proof.DesignTables.{AreTables}
+
+pub count_of_partners : (design : DesignParts) (pairs : List Pair) (tables : Tables) → AreTables design pairs tables
+    → length tables.partners ≡ length design.components
+count_of_partners design pairs tables are =
+    ap length are.partners_are
+    ∙ length-map (upwards 0 (length design.components)) (partner_of pairs)
+    ∙ length-upwards 0 (length design.components)

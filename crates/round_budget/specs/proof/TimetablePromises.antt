@@ -1,0 +1,20 @@
+-- What a timetable promises.
+use Rattle.std.specs.Prelude.{◌≡◌, ℕ, true, false, List, map, flat_map}
+use Rattle.pals_base.specs.StepSequences.{upwards}
+use Rattle.step_code.specs.declared.instr.CodeParts.{CodeParts}
+use Rattle.pals_model.specs.declared.design.DesignParts.{DesignParts}
+use Rattle.round_budget.specs.Budgets.{budget, by_most, total, fits, timetable}
+use Rattle.round_budget.specs.proof.RoundTimetableLine.{line_in_round}
+use Rattle.round_budget.specs.declared.timetables.BudgetEnd.{BudgetEnd}
+use Rattle.round_budget.specs.declared.timetables.BudgetEnd.TheVariants.{Over, Memory}
+
+-- over, with the sum, exactly where it does not fit; else there was not enough memory
+abbrev pub IsEnd : DesignParts → List CodeParts → ℕ → List ℕ → BudgetEnd → Type 0
+IsEnd design codes nanos members (Over sum) = (sum ≡ total nanos codes members) × (fits design.gamma sum ≡ false)
+IsEnd design codes nanos members Memory = fits design.gamma (total nanos codes members) ≡ true
+
+-- what is served in any number of rounds, each step counted from its round's alarm, is the timetable round by round
+abbrev pub TimetableIsEach : DesignParts → List CodeParts → ℕ → List ℕ → Type 0
+TimetableIsEach design codes nanos members = (rounds : ℕ) →
+    map (line_in_round design) (budget design members rounds nanos (by_most codes))
+    ≡ flat_map (λ (round : ℕ). timetable design codes nanos members) (upwards 0 rounds)

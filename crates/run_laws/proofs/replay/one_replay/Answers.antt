@@ -1,5 +1,0 @@
-use Rattle.run_laws.proofs.JournalStates.{one_replay}
-use Rattle.run_laws.proofs.replay.one_replay.Goals as goal
-
-pub returns : goal.returns
-returns c = one_replay

@@ -1,5 +1,0 @@
-use Rattle.run_laws.proofs.JournalStates.{one_step}
-use Rattle.run_laws.proofs.replay.one_step.Goals as goal
-
-pub returns : goal.returns
-returns c = one_step

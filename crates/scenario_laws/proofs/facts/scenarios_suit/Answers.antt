@@ -1,5 +1,0 @@
-use Rattle.scenario_laws.proofs.FieldLaws.{scenarios_suit}
-use Rattle.scenario_laws.proofs.facts.scenarios_suit.Goals as goal
-
-pub returns : goal.returns
-returns c = scenarios_suit

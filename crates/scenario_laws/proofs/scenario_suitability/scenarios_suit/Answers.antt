@@ -1,0 +1,5 @@
+use Rattle.scenario_laws.proofs.FieldLaws.{scenarios_suit}
+use Rattle.scenario_laws.proofs.scenario_suitability.scenarios_suit.Goals as goal
+
+pub returns : goal.returns
+returns c = scenarios_suit

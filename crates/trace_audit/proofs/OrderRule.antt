@@ -1,0 +1,143 @@
+-- An entry tells the round and step that its event has on the bus, or breaks rule `Order`; and which stop it owes
+-- behind it.
+use Rattle.std.proofs.Common.{◌≡◌, ◌≢◌, ℕ, nat_eq, Bool, true, false, ◌&&◌, List, ◌∷◌, Option, Some, None, refl, sym}
+use Rattle.std.proofs.Common.{ap, ap₂, ◌∙◌}
+use Rattle.std.specs.Prelude.{is_some, is_none, option_and_then}
+use Rattle.std.specs.Option.{option_map_or, unwrap_or}
+use Rattle.std.proofs.lemmas.Bool.{and_parts, eqb-true, eq-eqb, and_right}
+use Rattle.pals_base.specs.declared.values.NodeNo.{NodeNo}
+use Rattle.pals_runs.specs.declared.journal.Arrived.{Arrived}
+use Rattle.pals_runs.specs.declared.journal.Arrived.TheVariants.{Kept, Ignored, Early}
+use Rattle.pals_runs.specs.declared.journal.Stop.{Stop}
+use Rattle.pals_runs.specs.declared.journal.Stop.TheVariants as stop
+use Rattle.pals_runs.specs.declared.journal.JournalEntry.{JournalEntry}
+use Rattle.pals_runs.specs.declared.journal.JournalEntry.TheVariants as entry
+use Rattle.pals_runs.specs.declared.journal.Phase.{Phase}
+use Rattle.pals_runs.specs.declared.journal.Phase.TheVariants.{Waiting, Running, Between, Holding, Done}
+use Rattle.pals_runs.specs.declared.verdicts.TraceRule.TheVariants as rule
+use Rattle.bus_machine.specs.Nodes.{round_of}
+use Rattle.bus_machine.specs.NodeEvents.{is_waiting, next_step, running_step}
+use Rattle.bus_machine.specs.States.{Run, BusState, node_at}
+use Rattle.bus_machine.specs.Machine.{BusEvent, Step, arrival, early_stop}
+use Rattle.bus_machine.specs.Replay.{entries, stop_entry}
+use Rattle.run_laws.specs.TraceLines.{event_of, timed}
+use Rattle.run_laws.specs.TraceRules.{broken, falls, first_entry, fits, is_in_order, same_result, tells_stop, too_early}
+use Rattle.run_laws.specs.TraceRules.{waits}
+use Rattle.run_laws.specs.TraceVerdicts.{second_entry}
+use Rattle.pals_node.specs.proof.Answers.{is_busy}
+use Rattle.trace_audit.specs.proof.FirstBrokenRule.{first_rule}
+use Rattle.trace_audit.specs.proof.OwedStops.{owed_by, stop_of}
+use Rattle.trace_audit.proofs.BrokenRules.{refused, unfit}
+
+-- ---- phases
+pub busy_waits : (p : Phase) → is_busy p ≡ true → is_waiting p ≡ false
+busy_waits Waiting busy = sym busy
+busy_waits (Running i) busy = refl
+busy_waits (Between i) busy = refl
+busy_waits Holding busy = refl
+busy_waits Done busy = refl
+
+pub none_between : (p : Phase) → ((i : ℕ) → p ≢ Between i) → is_some (next_step p) ≡ false
+none_between Waiting none = refl
+none_between (Running i) none = refl
+none_between (Between i) none = absurd (none i refl)
+none_between Holding none = refl
+none_between Done none = refl
+
+pub none_running : (p : Phase) → ((i : ℕ) → p ≢ Running i) → is_some (running_step p) ≡ false
+none_running Waiting none = refl
+none_running (Running i) none = absurd (none i refl)
+none_running (Between i) none = refl
+none_running Holding none = refl
+none_running Done none = refl
+
+-- ---- steps
+pub next_is : (step : ℕ) (p : Phase) → option_map_or (nat_eq step) (next_step p) false ≡ true → next_step p ≡ Some step
+next_is step p is = by (next_step p) is
+  where
+    by : (o : Option ℕ) → option_map_or (nat_eq step) o false ≡ true → o ≡ Some step
+    by None is' = absurd (cc)
+    by (Some i) is' = ap Some (sym (eqb-true step i is'))
+
+pub step_fits : (run : Run) (s : BusState) (node : NodeNo) (round step : ℕ) (reading : Option ℕ)
+    → round ≡ round_of (node_at s node.0) → next_step (node_at s node.0).phase ≡ Some step
+    → fits run s (entry.Step node round step reading) ≡ true
+step_fits run s node round step reading here next =
+    ap₂ (λ a b. a && b) (eq-eqb round (round_of (node_at s node.0)) here)
+    (ap (λ o. nat_eq step (unwrap_or o 0)) next ∙ eq-eqb step step refl)
+
+pub step_first : (run : Run) (s : BusState) (node : NodeNo) (round step : ℕ) (reading : Option ℕ)
+    → round ≡ round_of (node_at s node.0) → next_step (node_at s node.0).phase ≡ Some step
+    → first_entry (entries run s (Step node reading)) ≡ Some (entry.Step node round step reading)
+step_first run s node round step reading here next =
+    ap₂ (λ r o. Some (entry.Step node r (unwrap_or o 0) reading)) (sym here) next
+
+-- another step than the next one, or none
+pub step_breaks : (run : Run) (s : BusState) (readings : List ℕ) (node : NodeNo) (round step : ℕ) (reading : Option ℕ)
+    → option_map_or (nat_eq step) (next_step (node_at s node.0).phase) false ≡ false
+    → Some rule.Order ≡ broken run s readings (entry.Step node round step reading)
+step_breaks run s readings node round step reading is = by (next_step (node_at s node.0).phase) refl is
+  where
+    by : (o : Option ℕ) → next_step (node_at s node.0).phase ≡ o → option_map_or (nat_eq step) o false ≡ false
+        → Some rule.Order ≡ broken run s readings (entry.Step node round step reading)
+    by None none is' =
+        refused run s readings (entry.Step node round step reading) (Step node reading) refl (ap is_some none)
+    by (Some i) next is' =
+        unfit run s readings (entry.Step node round step reading)
+        (and_right (nat_eq round (round_of (node_at s node.0)))
+        (nat_eq step (unwrap_or (next_step (node_at s node.0).phase) 0))
+        (ap (λ o. nat_eq step (unwrap_or o 0)) next ∙ is'))
+
+-- ---- arrivals
+pub results_same : (a b : Arrived) → same_result a b ≡ true → a ≡ b
+results_same Kept Kept same = refl
+results_same Kept Ignored same = absurd (cc)
+results_same Kept Early same = absurd (cc)
+results_same Ignored Kept same = absurd (cc)
+results_same Ignored Ignored same = refl
+results_same Ignored Early same = absurd (cc)
+results_same Early Kept same = absurd (cc)
+results_same Early Ignored same = absurd (cc)
+results_same Early Early same = refl
+
+-- ---- what is owed behind an entry
+second_of : (x : JournalEntry) (o : Option Stop) → second_entry (x ∷ stop_entry o) ≡ stop_of o
+second_of x None = refl
+second_of x (Some why) = refl
+
+second : Run → BusState → Option BusEvent → Option JournalEntry
+second run s o = option_and_then (λ event. second_entry (entries run s event)) o
+
+second_is : (run : Run) (s : BusState) (e : JournalEntry) → fits run s e ≡ true
+    → second run s (event_of run.design e) ≡ owed_by e
+unfolding second
+second_is run s (entry.Arrive link round reading outcome) fit =
+    second_of (entry.Arrive link round reading (arrival run s link round))
+    (early_stop link round reading (arrival run s link round))
+    ∙ ap (λ a. stop_of (early_stop link round reading a)) (sym (results_same outcome (arrival run s link round) fit))
+second_is run s (entry.Start node round reading) fit = refl
+second_is run s (entry.Step node round step reading) fit = refl
+second_is run s (entry.Finish node round) fit = refl
+second_is run s (entry.Send node round reading) fit = refl
+second_is run s (entry.Drop link round) fit = refl
+second_is run s (entry.Repeat link round) fit = refl
+second_is run s (entry.Stopped (stop.Missed link round reading cause)) fit = refl
+second_is run s (entry.Stopped (stop.Early link round reading)) fit = refl
+
+ordered_by : (run : Run) (s : BusState) (readings : List ℕ) (e : JournalEntry) (b : Bool) → is_in_order run s e ≡ b
+    → broken run s readings e ≡ None → is_in_order run s e ≡ true
+ordered_by run s readings e true is none = is
+ordered_by run s readings e false is none =
+    let order : Some rule.Order ≡ broken run s readings e =
+    sym (ap (λ b. first_rule b (falls readings (timed run.design e)) (too_early run s e) (waits run s e)
+    (tells_stop run s e (event_of run.design e))) is) in
+    absurd (cc)
+
+pub owed_behind : (run : Run) (s : BusState) (readings : List ℕ) (e : JournalEntry) (event : BusEvent)
+    → event_of run.design e ≡ Some event → broken run s readings e ≡ None
+    → second_entry (entries run s event) ≡ owed_by e
+unfolding second
+owed_behind run s readings e event is none =
+    let order = ordered_by run s readings e (is_in_order run s e) refl none in
+    let fit = (and_parts (is_none s.stop && option_map_or _ (event_of run.design e) true) (fits run s e) order).1 in
+    ap (second run s) (sym is) ∙ second_is run s e fit

@@ -1,8 +1,0 @@
-use Rattle.std.proofs.Common.{◌≡◌, drop}
-use Rattle.trace_audit.proofs.DoneNodes.{least_of}
-use Rattle.bus_machine.specs.States.{finished_by_all}
-use Rattle.trace_audit.proofs.ends.finished_by_all.Given as goal
-
--- the least of the rounds so far, and of those of the nodes that are left
-abbrev pub invariant-loop-node : goal.invariant-loop-node
-invariant-loop-node l = least_of l.rounds (drop l.node l.bus.state.nodes) ≡ finished_by_all l.bus.run l.bus.state

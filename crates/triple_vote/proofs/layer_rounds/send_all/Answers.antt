@@ -1,0 +1,41 @@
+use Rattle.std.proofs.Common.{◌∙◌, ap, sym, length, arith}
+use Rattle.pals_model.specs.declared.design.Link.{Link}
+use Rattle.sync_product.specs.proof.Rounds.{sent_by}
+use Rattle.triple_vote.specs.proof.ReplicaLayers.{is_there}
+use Rattle.triple_vote.proofs.TupleWrites.{filled_all}
+use Rattle.triple_vote.proofs.StageMessages.{message_fits, message_sizes_stay, message_sent}
+use Rattle.triple_vote.proofs.layer_rounds.send_all.Goals as goal
+
+pub write_column-requires : goal.write_column-requires
+write_column-requires c =
+    message_fits c.args.design.now c.links-link-items.ensures.rules c.args.there.now c.args.stages.now c.requires.stages
+    c.loop-number.sent c.loop-number.invariant.sizes
+    c.links-link-items.result.now c.loop-number.number _ c.index_mut-message.result.now c.index-stages-link.result
+    c.links-link-items.ensures.value c.loop-number-test.true
+    c.index_mut-message.ensures.value c.index-stages-link.is
+    ∙ ap length (sym c.as_slice.ensures.value)
+
+pub loop-number-preserved : goal.loop-number-preserved
+loop-number-preserved c = record {
+  sizes =
+      message_sizes_stay c.args.design.now c.links-link-items.ensures.rules c.args.there.now c.args.stages.now
+      c.requires.stages c.loop-number.sent c.loop-number.invariant.sizes
+      c.links-link-items.result.now c.loop-number.number _ c.index_mut-message.result.now c.index-stages-link.result
+      c.links-link-items.ensures.value c.loop-number-test.true
+      c.index_mut-message.ensures.value c.index-stages-link.is c.as_slice.result.now c.write_column.new.to
+      c.as_slice.ensures.value c.write_column.ensures;
+  done =
+      message_sent c.args.design.now c.links-link-items.ensures.rules c.args.there.now c.args.stages.now
+      c.requires.stages c.loop-number.sent c.loop-number.invariant.sizes
+      c.links-link-items.result.now c.loop-number.number _ c.index_mut-message.result.now c.index-stages-link.result
+      c.links-link-items.ensures.value c.loop-number-test.true
+      c.index_mut-message.ensures.value c.index-stages-link.is c.as_slice.result.now c.write_column.new.to
+      c.as_slice.ensures.value c.write_column.ensures
+      c.loop-number.invariant.done;
+}
+
+pub returns-clause-sent : goal.returns-clause-sent
+returns-clause-sent c =
+    filled_all c.args.design.now.links (λ (x : Link). is_there c.args.there.now x.source.0)
+    (λ at (x : Link). sent_by c.args.stages.now x) c.loop-number.sent c.loop-number.number
+    (omega (arith, ap length c.links-link-items.ensures.value, c.loop-number-test.false)) c.loop-number.invariant.done
