@@ -1,4 +1,5 @@
--- Subcomponents that close a cycle are those that lead back.
+-- The first subcomponent that leads back to where it stands, and so closes a cycle, among those that were looked at
+-- one after another.
 use Rattle.std.proofs.Common.{◌≡◌, ◌⊎◌, inl, inr, ℕ, ◌<◌, ◌≤◌, ◌+◌, true, false, List, [], ◌∷◌, ◌++◌, Option, Some}
 use Rattle.std.proofs.Common.{None, length, get_or, take, Contains, refl, sym, ap, subst, ◌∙◌, arith, Result, Ok, Err}
 use Rattle.std.proofs.Common.{IfOk}

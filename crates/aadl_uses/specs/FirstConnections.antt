@@ -1,4 +1,4 @@
--- The first connection into a port, and those behind it.
+-- Connections into a port into which one that stands before them goes.
 use Rattle.std.specs.Prelude.{◌≡◌, ℕ, ◌<◌, List, Option, Some, slice_get}
 use Rattle.std.specs.Option.{option_and_then}
 use Rattle.aadl_names.specs.declared.port_place.PortPlace.{PortPlace}

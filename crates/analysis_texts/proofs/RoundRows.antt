@@ -1,4 +1,4 @@
--- The rows of rounds that go one after the other.
+-- What a product has after one more round, and the row that the round adds to the text.
 use Rattle.std.proofs.Common.{◌≡◌, ℕ, zero, suc, ◌+◌, ◌<◌, List, [], ◌∷◌, ◌++◌, length, map, sym, ap, ◌∙◌, arith}
 use Rattle.std.proofs.Common.{get_or, refl, ap₂, add-one, add-zero, zero-add, append-nil}
 use Rattle.std.proofs.lemmas.List.{length-map}

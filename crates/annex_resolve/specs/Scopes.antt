@@ -1,4 +1,4 @@
--- What names stand for in a behaviour.
+-- What names stand for in a behaviour, where they are read, set or sent; and how findings are made.
 use Rattle.std.specs.Prelude.{ℕ, ◌+◌, pos, Bool, true, false, List, [], ◌∷◌, ◌++◌, Option, Some, None, find}
 use Rattle.std.specs.Prelude.{if◌then◌else◌}
 use Rattle.pals_base.specs.declared.behaviour.Kind.{Kind}

@@ -1,5 +1,5 @@
--- The numbers of a design, and what refuses each: a number that is missing or refused is None, and silences what
--- needs it.
+-- The skew, ranges, bounds and rates of a design, and what refuses each: one that is missing or refused is None, and
+-- silences what needs it.
 use Rattle.std.specs.Prelude.{ℕ, ◌/◌, ◌%◌, Bool, not, ◌&&◌, nat_eq, nat_le, Option, Some, None, if◌then◌else◌}
 use Rattle.std.specs.Option.{option_and_then}
 use Rattle.pals_base.specs.declared.values.Gamma.{Gamma}

@@ -1,4 +1,4 @@
--- Lists of findings that have one finding at most at each place, all at places of the text's parts.
+-- Lists of faults that have one at most at each place, all at places of the text's parts.
 use Rattle.std.proofs.Common.{◌≡◌, ◌⊎◌, inl, inr, ◌∙◌, ℕ, Bool, true, false, cond, List, [], ◌∷◌, ◌++◌, Contains, refl}
 use Rattle.std.proofs.Common.{sym, subst, append_assoc, arith}
 use Rattle.std.specs.Prelude.{flat_map}

@@ -1,4 +1,4 @@
--- Whether there is a finding of some kind can be told, and the first one is found, one kind after another.
+-- Whether there is a fault of some kind can be told, and the first one is found, one kind after another.
 use Rattle.std.proofs.Common.{◌≡◌, ◌⊎◌, inl, inr, ℕ, zero, suc, ◌<◌, ◌≤◌, [], ◌∷◌, Contains, Option, None, refl, sym}
 use Rattle.std.proofs.Common.{subst, arith}
 use Rattle.std.proofs.lemmas.Bool.{cases_lt}

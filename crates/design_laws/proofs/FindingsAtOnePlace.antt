@@ -1,4 +1,4 @@
--- Of the findings in a package's names, those of one kind at one place are equal.
+-- Of the faults in a package's names, those of one kind at one place are equal.
 use Rattle.std.proofs.Common.{◌≡◌, ◌⊎◌, inl, inr, ◌∙◌, ℕ, List, Contains, refl, sym, ap}
 use Rattle.aadl_tree.specs.Declarations.{PackageTree, package_parts}
 use Rattle.aadl_tree.specs.GrammarTrees.{IsTreeOf}

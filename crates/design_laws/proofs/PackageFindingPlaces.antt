@@ -1,4 +1,4 @@
--- Of the findings that are possible in a package, each place has at most one.
+-- Of the faults in names that are possible in a package, each place has at most one.
 use Rattle.std.proofs.Common.{ℕ, List, [], ◌∷◌, ◌++◌, Contains}
 use Rattle.std.specs.Prelude.{flat_map}
 use Rattle.std.proofs.lemmas.List.Elements.{Contains-append_left}

@@ -1,4 +1,4 @@
--- The first limit that is passed, or that none is.
+-- The first limit that an instance exceeds, or that it exceeds none.
 use Rattle.std.proofs.Common.{◌≡◌, ◌⊎◌, inl, inr, ℕ, suc, ◌+◌, ◌<◌, ◌≤◌, min, Bool, true, false, ◌&&◌, ◌||◌, nat_eq}
 use Rattle.std.proofs.Common.{nat_lt, List, [], ◌∷◌, length, reverse, get_or, Contains, AllPairs, Option, Some, None}
 use Rattle.std.proofs.Common.{refl, sym, ap, subst, ◌∙◌, arith}

@@ -1,5 +1,5 @@
--- Events one after the other: one relation of states for another, one more event, the next event of a list, and the
--- text so far.
+-- Events one after the other and the lines told of them: one relation of states for another, one more event, the
+-- next event of a list, and the text so far.
 use Rattle.std.proofs.Common.{◌≡◌, ◌∙◌, ℕ, ◌+◌, ◌<◌, List, [], ◌∷◌, ◌++◌, length, take, refl, sym, ap, subst}
 use Rattle.std.proofs.Common.{append_assoc, append-nil}
 use Rattle.std.specs.Prelude.{slice_index_or}

@@ -1,4 +1,5 @@
--- For loops that collect the things of one kind, as `ins_in` and `outs_in` do: what they have after one more thing.
+-- For loops that keep what passes a test, as `ins_in` and `outs_in` do, or take the first of what is made of the
+-- rest, as `first_behaviour` does: what they have after one more thing.
 use Rattle.std.proofs.Common.{◌≡◌, ◌∙◌, ℕ, ◌+◌, ◌<◌, Bool, true, false, not, cond, List, [], ◌∷◌, ◌++◌, length, map}
 use Rattle.std.proofs.Common.{filter, take, drop, get_or, Option, Some, None, refl, sym, ap, arith}
 use Rattle.std.specs.Prelude.{slice_get}

@@ -1,4 +1,5 @@
--- What contracts see of a bus, from its fields.
+-- What follows from the bus invariant: the nodes that are there, their states, their agreement with the composition,
+-- and how many rounds they have finished.
 use Rattle.std.proofs.Common.{◌≡◌, ◌∙◌, ℕ, ◌<◌, ◌≤◌, length, slice_get, Some, ap, arith}
 use Rattle.std.specs.Prelude.{slice_index_or}
 use Rattle.std.specs.Arc.{arc_value}

@@ -1,4 +1,5 @@
--- The passes of a schedule are within the bounds: no last allowed time lies before the next moment.
+-- A schedule keeps all deadlines: none of a node or of a message in flight lies before the next moment, so each Pass
+-- is within the bounds, and behind it the world has come along its schedule up to that moment.
 use Rattle.std.proofs.Common.{◌≡◌, inl, inr, ℕ, suc, ◌+◌, ◌-◌, ◌*◌, ◌<◌, ◌≤◌, Bool, true, cond, List, [], length}
 use Rattle.std.proofs.Common.{slice_get, Some, None, refl, sym, ap, ◌∙◌, subst, arith}
 use Rattle.std.specs.Prelude.{max, replicate, if◌then◌else◌, slice_index_or}

@@ -1,4 +1,4 @@
--- A schedule up to a time, and one moment more.
+-- A schedule as it is made, moment by moment: up to a time, with one moment more, and whole once no moment is left.
 use Rattle.std.proofs.Common.{◌≡◌, ◌≢◌, ℕ, suc, ◌+◌, ◌<◌, ◌≤◌, List, [], ◌∷◌, ◌++◌, length, Some, None, sym, ap, ap₂}
 use Rattle.std.proofs.Common.{◌∙◌, subst, append_assoc, add-one, All}
 use Rattle.std.specs.Prelude.{replicate}

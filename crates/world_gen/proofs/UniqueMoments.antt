@@ -1,4 +1,5 @@
--- A design's schedule has a list of moments, and only one: nothing comes after the last round.
+-- Each run has one schedule: nothing comes after the last round, so its list of moments exists; and it is the only
+-- one.
 use Rattle.std.proofs.Common.{◌≡◌, ◌≢◌, inl, inr, ℕ, zero, suc, ◌+◌, ◌*◌, ◌<◌, ◌≤◌, nat_eq, Bool, true, false, List, []}
 use Rattle.std.proofs.Common.{◌∷◌, ◌++◌, length, Option, Some, None, refl, sym, ap, ◌∙◌, subst, arith}
 use Rattle.std.specs.Prelude.{flat_map, if◌then◌else◌}

@@ -1,4 +1,5 @@
--- A ring's codes are short enough, and its sum of numbers fits in 64 bits and is that of the last round's parts.
+-- The sum of a ring's numbers fits in 64 bits and is that of the last round's parts; its codes are short enough, and
+-- a ring that has gone through its schedule has all nodes done.
 use Rattle.std.proofs.Common.{◌≡◌, ◌∙◌, ℕ, zero, suc, ◌+◌, ◌-◌, ◌*◌, ◌<◌, ◌≤◌, List, [], ◌∷◌, length, map, fold, Option}
 use Rattle.std.proofs.Common.{Some, None, slice_get, pos, ◌+ℤ◌, ◌≤ℤ◌, refl, sym, ap, ap₂, subst, arith, lit≤}
 use Rattle.std.proofs.Common.{FitsSigned, w64, to_z, of_z}

@@ -1,4 +1,5 @@
--- Events of timed worlds, as a bus undergoes them.
+-- What is told of timed events, event by event, and that in the end it is the text of their world, or their first
+-- fault.
 use Rattle.std.proofs.Common.{◌≡◌, ◌∙◌, inl, inr, ℕ, ◌+◌, ◌<◌, Bool, true, false, List, [], ◌++◌, length, take, Some}
 use Rattle.std.proofs.Common.{None, refl, sym, ap, subst, append-nil}
 use Rattle.std.specs.Prelude.{slice_index_or, if◌then◌else◌}

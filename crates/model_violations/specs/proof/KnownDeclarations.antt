@@ -1,4 +1,4 @@
--- Whether all declarations are known whose properties are looked through.
+-- A table of names that knows the names of a list, whatever the capitals, and no others.
 use Rattle.std.specs.Prelude.{◌≡◌, ℕ, List}
 use Rattle.aadl_tree.specs.Names.{same_name}
 use Rattle.std.specs.List.{list_any}

@@ -1,4 +1,5 @@
--- Schedules of two counters: of one step a round, for two rounds, and of four steps a round, of which three are sent.
+-- Schedules of two counters: of one step a round, for two rounds, and of four steps a round, of which three are
+-- sent; and the faults of events that leave the latter.
 use Rattle.std.specs.Prelude.{◌≡◌, ℕ, List, [], ◌∷◌, ◌++◌, map, Some, None}
 use Rattle.pals_model.specs.declared.design.Component.{Component}
 use Rattle.pals_model.specs.declared.design.DesignParts.{DesignParts}
