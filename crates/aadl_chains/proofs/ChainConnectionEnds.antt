@@ -15,7 +15,7 @@ use Rattle.aadl_uses.specs.Wiring.{wires_at}
 use Rattle.aadl_chains.specs.proof.PortsJoinedInside.{is_thread_at, is_in_at, Reaches, of_thread, of_inner}
 use Rattle.aadl_chains.specs.proof.PortsJoinedOutside.{LeadsOut, of_root, of_own, of_beside, LeadsFrom}
 use Rattle.aadl_chains.specs.Chains.{Port, Place, port_at, Goes, Leads, is_in, IsStart, IsEnd}
-use Rattle.aadl_chains.specs.proof.DeclaredConnections.{MayLeave, MayEnter, NotBothOwn, AreDeclared}
+use Rattle.aadl_chains.specs.proof.DeclaredEnds.{MayLeave, MayEnter, NotBothOwn, AreDeclared}
 use Rattle.aadl_chains.specs.proof.ConnectionsOnChains.{IsOnWay}
 use Rattle.aadl_chains.proofs.ConnectionsOnChains.{port, opposed, next_at, below_at, is_in-at, thread_from}
 use Rattle.aadl_chains.proofs.ConnectionsOnChains.{wire_of_goes, among_goes, Chained}

@@ -12,7 +12,7 @@ use Rattle.aadl_names.specs.ReferenceResolution.{implementation_at, is_thread, s
 use Rattle.aadl_uses.specs.Uses.{below, standing, component_at}
 use Rattle.aadl_chains.specs.Chains.{Port, Place, port_at, Goes, Leads, is_in, IsStart}
 use Rattle.aadl_chains.specs.proof.PortsJoinedInside.{is_in_at}
-use Rattle.aadl_chains.specs.proof.DeclaredConnections.{MayEnter}
+use Rattle.aadl_chains.specs.proof.DeclaredEnds.{MayEnter}
 use Rattle.aadl_chains.proofs.ConnectionsOnChains.{is_in-at}
 use Rattle.aadl_chains.specs.proof.SoundConnections.{IsSound, Passes}
 

@@ -11,7 +11,7 @@ use Rattle.aadl_uses.specs.Uses.{standing}
 use Rattle.aadl_uses.specs.proof.DeclarationWires.{connection_into}
 use Rattle.aadl_chains.specs.Chains.{Port, Place, Goes, Leads}
 use Rattle.aadl_chains.specs.proof.Walks.{Crossing, Climb, nowhere, at_root, crosses, climb_along, climb_into, climb}
-use Rattle.aadl_chains.proofs.EnteringConnections.{Entered, entered, goes_into}
+use Rattle.aadl_chains.proofs.FirstIncomingConnections.{Entered, entered, goes_into}
 
 abbrev port : List ℕ → ℕ → Port
 port path p = record { path = path; port = p }

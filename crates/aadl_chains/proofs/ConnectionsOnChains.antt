@@ -22,7 +22,7 @@ use Rattle.aadl_uses.proofs.DeclarationTables.{listed}
 use Rattle.aadl_chains.specs.proof.PortsJoinedInside.{is_thread_at, is_in_at, Reaches, of_thread, of_inner}
 use Rattle.aadl_chains.specs.proof.PortsJoinedOutside.{LeadsOut, of_root, of_own, of_beside, LeadsFrom}
 use Rattle.aadl_chains.specs.Chains.{Port, Place, port_at, Goes, Leads, is_in, IsStart, IsEnd, IsChain}
-use Rattle.aadl_chains.specs.proof.DeclaredConnections.{MayLeave, MayEnter, NotBothOwn, AreDeclared}
+use Rattle.aadl_chains.specs.proof.DeclaredEnds.{MayLeave, MayEnter, NotBothOwn, AreDeclared}
 use Rattle.aadl_chains.specs.proof.ConnectionsOnChains.{IsOnWay}
 
 pub opposed : (b : Bool) → b ≡ true → b ≡ false → ⊥

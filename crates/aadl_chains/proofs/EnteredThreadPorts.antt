@@ -12,13 +12,13 @@ use Rattle.aadl_uses.specs.Wiring.{wires_at}
 use Rattle.aadl_uses.specs.proof.DeclarationWires.{connection_into, first_into_at}
 use Rattle.aadl_chains.specs.proof.PortsJoinedInside.{is_thread_at, is_in_at, ReachesIn}
 use Rattle.aadl_chains.specs.Chains.{Port}
-use Rattle.aadl_chains.specs.proof.DeclaredConnections.{AreDeclared}
+use Rattle.aadl_chains.specs.proof.DeclaredEnds.{AreDeclared}
 use Rattle.aadl_chains.proofs.ConnectionsOnChains.{opposed, is_in-at}
 use Rattle.aadl_chains.specs.proof.LimitedCounts.{IsNumber}
 use Rattle.aadl_chains.specs.proof.Walks.{Crossing, at_root, crosses, climb, IsThreadPort}
 use Rattle.aadl_chains.specs.proof.EnteredPortCounts.{ComesFrom, EndsLink, Through, Deeper, AmongFirst, FromOwn, FromThread}
 use Rattle.aadl_chains.proofs.LimitedCounts.{no_number, one_number, both_numbers, image_number}
-use Rattle.aadl_chains.proofs.EnteringConnections.{first_wire, into_first, known_into}
+use Rattle.aadl_chains.proofs.FirstIncomingConnections.{first_wire, into_first, known_into}
 use Rattle.aadl_chains.proofs.SubcomponentWalks.{last_of, same_ends, port_outer, port_inner, climb_outer, root_outer}
 use Rattle.aadl_chains.proofs.SubcomponentWalks.{Within, Itself, crossing_outer, crossing_kept, root_kept, root_crosses}
 use Rattle.aadl_chains.proofs.SubcomponentWalks.{below_of, thread_itself}

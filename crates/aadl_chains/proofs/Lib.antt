@@ -7,10 +7,10 @@ pub mod ConnectionsOnChains
 pub mod ChainConnectionEnds
 pub mod FoundFaults
 pub mod EndFaults
-pub mod DeclaredConnections
+pub mod DeclaredEnds
 pub mod ChainsFromEnds
 pub mod LimitedCounts
-pub mod EnteringConnections
+pub mod FirstIncomingConnections
 pub mod ChainsOfWalks
 pub mod WalksOfChains
 pub mod LinksByWalks
@@ -19,6 +19,6 @@ pub mod EnteredThreadPorts
 pub mod PortCountTables
 pub mod LinkLimits
 pub mod SoundConnections
-pub mod Routes
+pub mod TracedChains
 pub mod OutermostFirstWalks
 pub mod WholeWalks

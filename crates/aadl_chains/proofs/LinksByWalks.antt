@@ -14,12 +14,12 @@ use Rattle.aadl_uses.specs.ThreadsBelow.{IsThreadAt}
 use Rattle.aadl_uses.specs.proof.ThreadCounts.{is_thread_in}
 use Rattle.aadl_chains.specs.proof.PortsJoinedInside.{is_thread_at, is_in_at}
 use Rattle.aadl_chains.specs.Chains.{Port, Place, Goes, Leads, is_in, IsStart, IsEnd}
-use Rattle.aadl_chains.specs.proof.DeclaredConnections.{AreDeclared}
+use Rattle.aadl_chains.specs.proof.DeclaredEnds.{AreDeclared}
 use Rattle.aadl_chains.proofs.ConnectionsOnChains.{opposed, is_in-at}
 use Rattle.aadl_chains.specs.proof.Walks.{Crossing, at_root, crosses, climb, OneEach, IsThreadPort}
 use Rattle.aadl_chains.specs.Links.{Ends, not_own, is_crossing, Carries, IsLink, IsFeed, IsTap}
 use Rattle.aadl_uses.specs.proof.DeclarationWires.{connection_into}
-use Rattle.aadl_chains.proofs.EnteringConnections.{Entered, goes_into, known_into, into_of_goes}
+use Rattle.aadl_chains.proofs.FirstIncomingConnections.{Entered, goes_into, known_into, into_of_goes}
 use Rattle.aadl_chains.proofs.ChainsOfWalks.{Rooted, rooted, crossed}
 use Rattle.aadl_chains.proofs.WalksOfChains.{Crosses, Down, down, into_own, from_inner, never_both, MetRoot}
 use Rattle.aadl_chains.proofs.WalksOfChains.{MetCrossing, met}

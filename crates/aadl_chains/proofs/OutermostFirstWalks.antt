@@ -18,12 +18,12 @@ use Rattle.aadl_uses.proofs.PackageContainment.{below-same}
 use Rattle.aadl_uses.specs.proof.DeclarationWires.{connection_into}
 use Rattle.aadl_uses.specs.proof.ContainmentOrders.{IsOrder}
 use Rattle.aadl_chains.specs.proof.PortsJoinedInside.{is_in_at}
-use Rattle.aadl_chains.specs.proof.DeclaredConnections.{MayLeave, AreDeclared}
+use Rattle.aadl_chains.specs.proof.DeclaredEnds.{MayLeave, AreDeclared}
 use Rattle.aadl_chains.proofs.ConnectionsOnChains.{next_at}
-use Rattle.aadl_chains.specs.declared.walks.ConnectionInto.{ConnectionInto}
+use Rattle.aadl_chains.specs.declared.chain_tracing.ConnectionInto.{ConnectionInto}
 use Rattle.aadl_chains.specs.proof.Walks.{Crossing, Climb, nowhere, crosses, climb, climb_by, climb_along, climb_into}
 use Rattle.aadl_chains.specs.proof.OutermostFirstWalks.{entry}
-use Rattle.aadl_chains.proofs.EnteringConnections.{known, some_first, first_at}
+use Rattle.aadl_chains.proofs.FirstIncomingConnections.{known, some_first, first_at}
 use Rattle.aadl_chains.proofs.ChainsOfWalks.{crossed}
 
 -- ---- one step of a path

@@ -19,19 +19,19 @@ use Rattle.aadl_uses.specs.proof.PackageContainment.{containment}
 use Rattle.aadl_uses.specs.proof.ThreadCounts.{is_thread_in}
 use Rattle.aadl_uses.proofs.PackageContainment.{below-same}
 use Rattle.aadl_uses.specs.declared.connections.Wire.{Wire}
-use Rattle.aadl_uses.specs.FirstConnections.{IsSecond}
+use Rattle.aadl_uses.specs.SecondConnections.{IsSecond}
 use Rattle.aadl_uses.specs.Wiring.{wires_at}
 use Rattle.aadl_chains.specs.declared.port_set.PortAt.{PortAt}
 use Rattle.aadl_chains.specs.proof.PortSets.{same_port}
 use Rattle.aadl_chains.specs.proof.PortsJoinedInside.{is_thread_at, is_in_at, port_at}
 use Rattle.aadl_chains.specs.Chains.{Port}
-use Rattle.aadl_chains.specs.proof.DeclaredConnections.{MayEnter, AreDeclared}
+use Rattle.aadl_chains.specs.proof.DeclaredEnds.{MayEnter, AreDeclared}
 use Rattle.aadl_chains.proofs.ConnectionsOnChains.{is_in-at}
 use Rattle.aadl_chains.specs.proof.LimitedCounts.{IsNumber}
 use Rattle.aadl_chains.specs.proof.EnteredPortCounts.{ComesFrom, Through, AmongFirst, FromOwn, taken, taken_by, AreTaken}
 use Rattle.aadl_chains.specs.proof.EnteredPortCounts.{AreTakenBelow, IsTaken, IsNew, AreAdded}
 use Rattle.aadl_chains.proofs.LimitedCounts.{no_number, same_number}
-use Rattle.aadl_chains.proofs.EnteringConnections.{first_if, second_never, first_wire}
+use Rattle.aadl_chains.proofs.FirstIncomingConnections.{first_if, second_never, first_wire}
 use Rattle.aadl_chains.proofs.EnteredThreadPorts.{through_number, own_from, own_to, one_through, thread_number}
 use Rattle.aadl_chains.proofs.EnteredThreadPorts.{no_thread_number, none_first, more_first}
 

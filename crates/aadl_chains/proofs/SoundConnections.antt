@@ -10,7 +10,7 @@ use Rattle.aadl_names.specs.ReferenceResolution.{implementation_at}
 use Rattle.aadl_uses.specs.proof.ThreadCounts.{is_thread_in}
 use Rattle.aadl_uses.specs.declared.connections.Wire.{Wire}
 use Rattle.aadl_uses.specs.Wiring.{wire_of, wires_of, wires_at}
-use Rattle.aadl_chains.specs.proof.DeclaredConnections.{MayEnter, AreDeclared}
+use Rattle.aadl_chains.specs.proof.DeclaredEnds.{MayEnter, AreDeclared}
 use Rattle.aadl_chains.specs.proof.SoundConnections.{IsSound}
 use Rattle.aadl_chains.specs.proof.Walks.{OneEach}
 

@@ -16,7 +16,7 @@ use Rattle.aadl_chains.specs.proof.PortsJoinedInside.{is_thread_at}
 use Rattle.aadl_chains.specs.Chains.{Port, is_in}
 use Rattle.aadl_chains.specs.proof.Walks.{Crossing, Climb, nowhere, at_root, crosses, climb_by, climb_along, climb_into}
 use Rattle.aadl_chains.specs.proof.Walks.{climb, IsThreadPort}
-use Rattle.aadl_chains.proofs.EnteringConnections.{Entered, entered}
+use Rattle.aadl_chains.proofs.FirstIncomingConnections.{Entered, entered}
 
 abbrev port : List ℕ → ℕ → Port
 port path p = record { path = path; port = p }

@@ -14,11 +14,11 @@ use Rattle.aadl_uses.specs.ThreadsBelow.{IsThreadAt}
 use Rattle.aadl_uses.specs.proof.DeclarationWires.{connection_into}
 use Rattle.aadl_chains.specs.proof.PortsJoinedInside.{is_in_at, Reaches, of_thread, of_inner}
 use Rattle.aadl_chains.specs.Chains.{Port, Place, port_at, Goes, Leads, is_in, IsStart}
-use Rattle.aadl_chains.specs.proof.DeclaredConnections.{MayLeave, MayEnter, NotBothOwn, AreDeclared}
+use Rattle.aadl_chains.specs.proof.DeclaredEnds.{MayLeave, MayEnter, NotBothOwn, AreDeclared}
 use Rattle.aadl_chains.proofs.ConnectionsOnChains.{opposed, next_at, below_at, is_in-at, thread_from}
 use Rattle.aadl_chains.specs.proof.Walks.{Crossing, at_root, crosses, climb, OneEach}
 use Rattle.aadl_chains.specs.Links.{not_own, is_crossing}
-use Rattle.aadl_chains.proofs.EnteringConnections.{into_of_goes, Known, known}
+use Rattle.aadl_chains.proofs.FirstIncomingConnections.{into_of_goes, Known, known}
 use Rattle.aadl_chains.proofs.ChainsOfWalks.{climb_own, climb_inner}
 
 abbrev port : List ℕ → ℕ → Port

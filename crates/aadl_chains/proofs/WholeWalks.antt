@@ -9,14 +9,14 @@ use Rattle.aadl_uses.specs.Uses.{below, standing}
 use Rattle.aadl_uses.specs.proof.DeclarationWires.{connection_into}
 use Rattle.aadl_chains.specs.proof.PortsJoinedInside.{is_thread_at, is_in_at}
 use Rattle.aadl_chains.specs.Chains.{Port}
-use Rattle.aadl_chains.specs.proof.DeclaredConnections.{AreDeclared}
-use Rattle.aadl_chains.specs.declared.walks.ChainStart.{ChainStart}
-use Rattle.aadl_chains.specs.declared.walks.PortBelow.{PortBelow}
+use Rattle.aadl_chains.specs.proof.DeclaredEnds.{AreDeclared}
+use Rattle.aadl_chains.specs.declared.chain_tracing.ChainStart.{ChainStart}
+use Rattle.aadl_chains.specs.declared.chain_tracing.PortBelow.{PortBelow}
 use Rattle.aadl_chains.specs.proof.Walks.{Crossing, at_root, crosses, climb, OneEach, IsThreadPort}
-use Rattle.aadl_chains.specs.proof.Routes.{Descends, Traces, TracesTap}
+use Rattle.aadl_chains.specs.proof.TracedChains.{Descends, Traces, TracesTap}
 use Rattle.aadl_chains.specs.proof.OutermostFirstWalks.{route_from, route_from_root}
 use Rattle.aadl_chains.proofs.OutermostFirstWalks.{crossing_from}
-use Rattle.aadl_chains.proofs.Routes.{traces_itself, traces_root, traces_none_over, traces_over, no_tap_over, tap_over}
+use Rattle.aadl_chains.proofs.TracedChains.{traces_itself, traces_root, traces_none_over, traces_over, no_tap_over, tap_over}
 
 same_sub : (s p t q : ℕ) → Inner s p ≡ Inner t q → s ≡ t
 same_sub s p t q e = cc e

@@ -10,7 +10,7 @@ use Rattle.aadl_names.specs.ReferenceResolution.{implementation_at, connections_
 use Rattle.aadl_names.specs.PackageFaults.{goes_in}
 use Rattle.aadl_uses.specs.Uses.{standing, component_at, IsInUse}
 use Rattle.aadl_uses.specs.ThreadsBelow.{IsThreadAt}
-use Rattle.aadl_uses.specs.FirstConnections.{IsSecond}
+use Rattle.aadl_uses.specs.SecondConnections.{IsSecond}
 use Rattle.aadl_uses.specs.Wiring.{wires_at}
 
 -- a port of the component at a path

@@ -2,12 +2,12 @@
 pub mod PortSets
 pub mod PortsJoinedInside
 pub mod PortsJoinedOutside
-pub mod DeclaredConnections
+pub mod DeclaredEnds
 pub mod ConnectionsOnChains
 pub mod FoundFaults
 pub mod SoundConnections
 pub mod Walks
 pub mod LimitedCounts
 pub mod EnteredPortCounts
-pub mod Routes
+pub mod TracedChains
 pub mod OutermostFirstWalks

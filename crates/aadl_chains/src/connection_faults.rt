@@ -9,7 +9,7 @@ ghost use Rattle.aadl_uses.specs.Uses.{IsInUse};
 ghost use Rattle.aadl_uses.specs.Wiring.{wires_at};
 ghost use Rattle.aadl_uses.specs.proof.ContainmentOrders.{IsOrder};
 ghost use Rattle.aadl_chains.specs.Chains.{IsEndFault};
-ghost use Rattle.aadl_chains.specs.proof.DeclaredConnections.{AreDeclared};
+ghost use Rattle.aadl_chains.specs.proof.DeclaredEnds.{AreDeclared};
 ghost use Rattle.aadl_chains.specs.proof.ConnectionsOnChains.{AreWays};
 ghost use Rattle.aadl_chains.specs.proof.FoundFaults.{FindsAll, IsFoundIn, IsFoundAt, dead_end, second};
 

@@ -8,7 +8,7 @@ pub mod link_limit;
 pub mod outer_joins;
 pub mod port_counts;
 pub mod port_set;
-pub mod walks;
+pub mod chain_tracing;
 pub mod joined_ports;
 
 pub use connection_faults::first_end_fault;
@@ -16,5 +16,5 @@ pub use inner_joins::InnerJoins;
 pub use link_limit::has_too_many_links;
 pub use outer_joins::{OuterJoins, PortSearch};
 pub use port_set::{PortAt, Ports};
-pub use walks::{ChainRoute, ChainStart, trace_back, trace_tap};
+pub use chain_tracing::{ChainRoute, ChainStart, trace_back, trace_tap};
 pub use joined_ports::JoinedPorts;

@@ -6,7 +6,7 @@ ghost use Rattle.aadl_uses.specs.Wiring.{wires_at};
 ghost use Rattle.aadl_uses.specs.proof.ContainmentOrders.{IsOrder};
 ghost use Rattle.aadl_chains.specs.declared.port_set.PortAt.{PortAt};
 ghost use Rattle.aadl_chains.specs.proof.PortSets.{same_port};
-ghost use Rattle.aadl_chains.specs.proof.DeclaredConnections.{AreDeclared};
+ghost use Rattle.aadl_chains.specs.proof.DeclaredEnds.{AreDeclared};
 ghost use Rattle.aadl_chains.specs.proof.LimitedCounts.{IsNumber};
 ghost use Rattle.aadl_chains.specs.proof.EnteredPortCounts.{taken, taken_by, Through, AreTaken, AreTakenBelow, IsTaken};
 ghost use Rattle.aadl_chains.specs.proof.EnteredPortCounts.{AreAdded};

@@ -26,7 +26,7 @@ use Rattle.aadl_grammar.proofs.UniquePlacedTrees.KeptTerminals.{same_package}
 use Rattle.aadl_grammar.proofs.Fates.GrammarLanguages.{packages}
 use Rattle.aadl_grammar.specs.proof.CanonicalRoundTrip.{HasTree}
 use Rattle.aadl_grammar.proofs.AdjacentTerminals.{neighbours}
-use Rattle.aadl_grammar.proofs.OmissionNesting.{kept_shallow}
+use Rattle.aadl_grammar.proofs.KeptTerminalNesting.{kept_shallow}
 use Rattle.aadl_grammar.proofs.PossibleTerminals.{Said, kept_said}
 use Rattle.aadl_grammar.proofs.CanonLexing.{outer}
 use Rattle.aadl_grammar.proofs.TokenTerminals.{text_said}

@@ -8,4 +8,4 @@ pub mod FateMeanings
 pub mod GrammarLanguages
 pub mod ExclusiveFates
 pub mod Answers
-pub mod OneTerminalFates
+pub mod FirstTerminalFates

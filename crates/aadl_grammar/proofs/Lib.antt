@@ -1,4 +1,4 @@
-pub mod ListHeads
+pub mod HeadsAndTails
 pub mod DerivationTrees
 pub mod ProductionTrees
 pub mod ProductionSoundness
@@ -15,7 +15,7 @@ pub mod QualifiedReferences
 pub mod SignedQuantities
 pub mod PropertyLists
 mod KeywordLists
-mod ParseTableWays
+mod ReachabilityWitnesses
 mod OnlyListedKeywords
 mod ReachedKeywords
 pub mod TokensOrFault
@@ -25,7 +25,7 @@ pub mod AdjacencyRules
 pub mod AdjacencyInvariant
 pub mod AdjacencyChecks
 pub mod AdjacentTerminals
-pub mod OmissionNesting
+pub mod KeptTerminalNesting
 pub mod LiteralLexing
 pub mod PossibleTerminals
 pub mod TerminalRelexing
@@ -33,7 +33,7 @@ pub mod TerminalSeparation
 pub mod NoAnnexEnds
 pub mod TextPieces
 pub mod CanonLexing
-pub mod KeywordSpellings
+pub mod CanonicalKeywords
 pub mod TokenTerminals
 pub mod CanonicalUtf8
 pub mod CanonicalRoundTrip

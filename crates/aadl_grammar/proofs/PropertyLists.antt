@@ -10,7 +10,7 @@ use Rattle.aadl_tree.specs.SpellingParts.{Part, plain}
 use Rattle.aadl_tree.specs.Values as v
 use Rattle.aadl_tree.specs.proof.ValueViews.{value_view, values_view, association_view, associations_view}
 use Rattle.aadl_tree.specs.proof.PlaceMaps.{kept_place}
-use Rattle.aadl_grammar.proofs.ListHeads.{heads}
+use Rattle.aadl_grammar.proofs.HeadsAndTails.{heads}
 use Rattle.aadl_grammar.specs.proof.Symbols.{a_word, a_quoted, Row}
 use Rattle.aadl_grammar.specs.proof.Symbols as s
 use Rattle.aadl_grammar.specs.proof.StackMachine.{Stack}

@@ -9,7 +9,7 @@ use Rattle.aadl_tree.specs.declared.mark.Mark.{Mark}
 use Rattle.aadl_tree.specs.proof.MarkNumbers.{mark_number}
 use Rattle.aadl_tree.specs.Terminals.{Kind, mark, word, Spot}
 use Rattle.aadl_tree.specs.Names.{Identifier}
-use Rattle.aadl_tree.specs.declared.limits.TheConstants.{GREATEST_NESTING}
+use Rattle.aadl_tree.specs.declared.nesting_limit.TheConstants.{GREATEST_NESTING}
 use Rattle.aadl_tree.specs.Grammar.{place}
 use Rattle.aadl_grammar.specs.proof.Symbols.{the, Symbol, Row}
 use Rattle.aadl_grammar.specs.proof.Symbols as s
@@ -18,9 +18,9 @@ use Rattle.aadl_grammar.specs.proof.StackMachine.{Stack, Move, takes, omitted, r
 use Rattle.aadl_grammar.specs.proof.StackMachine.{move_by, move, depth, Fate, syntax_at, deep_at, fate}
 use Rattle.aadl_grammar.proofs.DerivationTrees.ForbiddenFollowers.{among, firsts}
 use Rattle.aadl_grammar.proofs.DerivationTrees.Derivations.{move_omits, move_refuses}
-use Rattle.aadl_grammar.proofs.Fates.OneTerminalFates.{move_at, fate_by, fate_is, fate_takes, fate_deep, fate_omits}
-use Rattle.aadl_grammar.proofs.Fates.OneTerminalFates.{fate_refuses, fate_expands, fate_enters, fate_passes, NoneFits}
-use Rattle.aadl_grammar.proofs.Fates.OneTerminalFates.{none_own, fits_itself}
+use Rattle.aadl_grammar.proofs.Fates.FirstTerminalFates.{move_at, fate_by, fate_is, fate_takes, fate_deep, fate_omits}
+use Rattle.aadl_grammar.proofs.Fates.FirstTerminalFates.{fate_refuses, fate_expands, fate_enters, fate_passes, NoneFits}
+use Rattle.aadl_grammar.proofs.Fates.FirstTerminalFates.{none_own, fits_itself}
 use Rattle.aadl_grammar.specs.declared.reader.Reader.{Reader}
 use Rattle.aadl_grammar.specs.declared.parse_fault.ParseFault.{ParseFault}
 use Rattle.aadl_grammar.specs.declared.parse_fault.ParseFault.TheVariants.{Memory, Syntax, TooDeep}

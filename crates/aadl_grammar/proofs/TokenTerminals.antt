@@ -28,7 +28,7 @@ use Rattle.aadl_grammar.proofs.LiteralLexing.{at_seam}
 use Rattle.aadl_grammar.proofs.PossibleTerminals.{is_inside, Spoken, a_word, a_number, a_real, a_string, an_annex}
 use Rattle.aadl_grammar.proofs.PossibleTerminals.{a_keyword, a_symbol, opens, closes, behind, Said}
 use Rattle.aadl_grammar.proofs.TerminalRelexing.{after_inside, word_then, whole_then, real_then, quoted_then}
-use Rattle.aadl_grammar.proofs.KeywordSpellings.{keyword_fixed, symbol_fixed, keyword_behind, symbol_behind}
+use Rattle.aadl_grammar.proofs.CanonicalKeywords.{keyword_fixed, symbol_fixed, keyword_behind, symbol_behind}
 
 -- a piece of a text, between two bytes of one byte each
 utf8_front : (w rest : List ℕ) (y : ℕ) → y < 128 → IsUtf8 (w ++ y ∷ rest) → IsUtf8 (w ++ y ∷ [])

@@ -1,6 +1,6 @@
 //! Laws of the machine. Each function does nothing; its contract is proved.
 ghost use Rattle.std.specs.Prelude.{◌≡◌, ◌↔◌, ◌+◌, ℕ, List, [], ◌∷◌, map};
-ghost use Rattle.aadl_tree.specs.declared.limits.TheConstants.{GREATEST_NESTING};
+ghost use Rattle.aadl_tree.specs.declared.nesting_limit.TheConstants.{GREATEST_NESTING};
 ghost use Rattle.aadl_tree.specs.Terminals.{Kind, mark, Spot, kinds_of};
 ghost use Rattle.aadl_tree.specs.declared.mark.Mark.TheVariants as k;
 ghost use Rattle.aadl_tree.specs.SpellingParts.{Spells, Written, kept};

@@ -8,15 +8,15 @@ use Rattle.aadl_uses.specs.ThreadsBelow.{IsThreadAt, PathBefore}
 use Rattle.aadl_chains.specs.proof.PortsJoinedInside.{is_thread_at}
 use Rattle.aadl_chains.specs.Chains.{Port, is_in, IsEnd}
 use Rattle.aadl_chains.specs.Links.{Ends, IsLink, IsFeed, IsTap}
-use Rattle.aadl_chains.specs.declared.walks.ChainStart.{ChainStart}
-use Rattle.aadl_chains.specs.declared.walks.ChainStart.TheVariants as begins
-use Rattle.aadl_chains.specs.declared.walks.ChainRoute.{ChainRoute}
-use Rattle.aadl_chains.specs.proof.Routes.{begin_port, route_ends, IsOfKind, IsRoute, IsTapRoute, Traces, TracesTap}
+use Rattle.aadl_chains.specs.declared.chain_tracing.ChainStart.{ChainStart}
+use Rattle.aadl_chains.specs.declared.chain_tracing.ChainStart.TheVariants as begins
+use Rattle.aadl_chains.specs.declared.chain_tracing.ChainRoute.{ChainRoute}
+use Rattle.aadl_chains.specs.proof.TracedChains.{begin_port, route_ends, IsOfKind, IsRoute, IsTapRoute, Traces, TracesTap}
 use Rattle.aadl_instance.specs.declared.chain.Chain.{Chain}
 use Rattle.aadl_instance.specs.declared.chain_search.Incoming.{Incoming}
 use Rattle.aadl_instance.specs.Instances.{chain_in}
 use Rattle.aadl_instance.specs.proof.ChainsSoFar.{HasPort, IsBegin, AreInto, AreTapsTo, with_chain}
-use Rattle.aadl_instance.proofs.DeclaredPorts.{begins_there}
+use Rattle.aadl_instance.proofs.DeclaredEndPorts.{begins_there}
 use Rattle.aadl_instance.proofs.ChainsSoFar.{into_skip, into_link, into_feed, in_by, taps_more, taps_skip, not_root}
 
 module _ (tree : PackageTree ℕ) (root : ℕ) where

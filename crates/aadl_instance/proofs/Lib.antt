@@ -5,7 +5,7 @@ pub mod FaultPrecedence
 pub mod Roots
 pub mod FirstFaultUniqueness
 pub mod OrderedLists
-pub mod DeclaredPorts
+pub mod DeclaredEndPorts
 pub mod ChainsSoFar
 pub mod ChainEnds
 pub mod DepthFirstOrder

@@ -15,7 +15,7 @@ use Rattle.aadl_uses.specs.proof.ThreadCounts.{thread_marks}
 use Rattle.aadl_uses.proofs.PackageContainment.{below-same}
 use Rattle.aadl_uses.proofs.ThreadCounts.{thread_from, marked_from}
 use Rattle.aadl_uses.specs.proof.ContainmentGraphs.{below_in}
-use Rattle.aadl_uses.specs.proof.MarkedCounts.{stands_at, IsMarkedAt}
+use Rattle.aadl_uses.specs.proof.MarkedPathCounts.{stands_at, IsMarkedAt}
 use Rattle.aadl_uses.specs.proof.PathWeights as weights
 use Rattle.aadl_uses.specs.proof.PathWeights.{path_weight, IsGreatest, IsGreatestOf, IsHeaviest}
 use Rattle.aadl_uses.specs.ThreadLocations.{name_at, names_along, dotted_names, spelled_path, ThreadWith}

@@ -12,7 +12,7 @@ use Rattle.aadl_tree.specs.Declarations.{Implementation, Declaration, type, impl
 use Rattle.aadl_names.specs.ReferenceResolution.{implementation_in, is_root, is_system, is_thread, root_number}
 use Rattle.aadl_uses.specs.proof.ThreadCounts.{is_thread_in}
 use Rattle.aadl_chains.specs.proof.PortsJoinedInside.{is_thread_at}
-use Rattle.aadl_chains.proofs.EnteringConnections.{first_at}
+use Rattle.aadl_chains.proofs.FirstIncomingConnections.{first_at}
 use Rattle.aadl_instance.specs.Faults.{IsRoot}
 
 system_of : (name : List ℕ) (d : Declaration ℕ) → is_root name d ≡ true

@@ -8,7 +8,7 @@ ghost use Rattle.aadl_instance.specs.proof.FaultlessPackages.{IsChecked};
 ghost use Rattle.aadl_instance.specs.Instances.{IsInstance};
 
 use crate::chain_search::{incoming_of, taps_of};
-use crate::chain_map::ChainMap;
+use crate::numbered_ends::ChainMap;
 use crate::instance::Instance;
 use crate::port_numbers::PortNumbers;
 use crate::{Checked, check_package};

@@ -4,10 +4,10 @@
 
 mod chain_search;
 mod behaviour_sizes;
-mod chain_map;
+mod numbered_ends;
 mod flattening;
 pub mod instance;
-pub mod laws;
+pub mod fault_laws;
 pub mod limits;
 mod port_numbers;
 pub mod checked_package;

@@ -14,8 +14,8 @@ use Rattle.aadl_names.specs.DuplicatesByNamespace.{type_entry, implementation_en
 use Rattle.aadl_names.specs.DuplicatesByNamespace.{twice_in, twice_names}
 use Rattle.aadl_names.specs.PackageFaults.{wrong_names, package_faults}
 use Rattle.aadl_names.specs.proof.PortDuplicates.{beside, beside_in_behaviour, beside_in_first, beside_in, beside_names}
-use Rattle.aadl_names.proofs.CoveringFaultLists.{Covers, covers_itself, covers_append, covers_all, first_of_more}
-use Rattle.aadl_names.proofs.CoveringFaultLists.{found_is_first}
+use Rattle.aadl_names.proofs.SameFirstFaults.{Covers, covers_itself, covers_append, covers_all, first_of_more}
+use Rattle.aadl_names.proofs.SameFirstFaults.{found_is_first}
 use Rattle.aadl_names.proofs.PortDuplicates.{beside_covers}
 
 behaviour_covers : (tree : PackageTree ℕ) (x : Implementation ℕ) (annex : AnnexTree ℕ)

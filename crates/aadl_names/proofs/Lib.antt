@@ -6,7 +6,7 @@ pub mod NumberedDeclarations
 pub mod EarliestDeclarations
 pub mod GrowingLists
 pub mod ListMembers
-pub mod CoveringFaultLists
+pub mod SameFirstFaults
 pub mod PortDuplicates
 pub mod FirstFaults
 pub mod PlaceOrder

@@ -27,7 +27,7 @@ use Rattle.aadl_names.specs.proof.EarliestDeclarations.{sooner, earliest, is_bef
 use Rattle.aadl_names.proofs.EarliestDeclarations.{any_before}
 use Rattle.aadl_names.specs.proof.PortDuplicates.{entry_again, again_beside, port_again, beside_each, beside}
 use Rattle.aadl_names.proofs.ListMembers.{from_all, among_all, passing, is_here, only_here}
-use Rattle.aadl_names.proofs.CoveringFaultLists.{Covers, NotBehind, found_is_first, first_covers, not_itself}
+use Rattle.aadl_names.proofs.SameFirstFaults.{Covers, NotBehind, found_is_first, first_covers, not_itself}
 
 -- ---- names
 same_from : (a b : List ℕ) → same_name a b ≡ true → folded a ≡ folded b

@@ -9,10 +9,10 @@ use Rattle.aadl_tree.specs.Actions.{Action, assign, send, choose, loop, Actions,
 use Rattle.aadl_tree.specs.Actions.{no_elsifs, elsif, Otherwise, no_otherwise, otherwise, Block, no_block, block}
 use Rattle.aadl_names.specs.declared.fault.PackageFault.{PackageFault}
 use Rattle.aadl_names.specs.declared.fault.PackageFault.TheVariants.{Unknown, Twice, WrongKind}
-use Rattle.aadl_names.specs.declared.role.Role.{Role}
-use Rattle.aadl_names.specs.declared.role.Role.TheVariants.{Receives, Gives, Varies, Turns}
-use Rattle.aadl_names.specs.declared.role.Usage.{Usage}
-use Rattle.aadl_names.specs.declared.role.Usage.TheVariants.{Set, Send, Read, Fresh}
+use Rattle.aadl_names.specs.declared.name_roles.Role.{Role}
+use Rattle.aadl_names.specs.declared.name_roles.Role.TheVariants.{Receives, Gives, Varies, Turns}
+use Rattle.aadl_names.specs.declared.name_roles.Usage.{Usage}
+use Rattle.aadl_names.specs.declared.name_roles.Usage.TheVariants.{Set, Send, Read, Fresh}
 
 -- what names stand for
 abbrev pub Known : Type 0

@@ -20,14 +20,14 @@ use Rattle.aadl_names.specs.ReferenceResolution.{target_of, implementation_in, s
 use Rattle.aadl_names.specs.RecognisedProperties.{list_faults}
 use Rattle.aadl_names.specs.DuplicatesByNamespace.{twice_names}
 use Rattle.aadl_names.specs.BehaviourAnnexes.{behaviours, variables_in, variables_of, states_of}
-use Rattle.aadl_names.specs.declared.role.Role.{Role}
-use Rattle.aadl_names.specs.declared.role.Role.TheVariants.{Receives, Gives, Varies}
+use Rattle.aadl_names.specs.declared.name_roles.Role.{Role}
+use Rattle.aadl_names.specs.declared.name_roles.Role.TheVariants.{Receives, Gives, Varies}
 use Rattle.aadl_names.specs.declared.port_place.PortPlace.{PortPlace}
 use Rattle.aadl_names.specs.declared.port_place.PortPlace.TheVariants.{Own, Inner}
 use Rattle.aadl_names.specs.AnnexNames.{Known, either, expression_uses, block_uses}
 use Rattle.aadl_tree.specs.declared.declarations.Category.TheVariants as categories
 use Rattle.aadl_tree.specs.declared.declarations.Direction.TheVariants as directions
-use Rattle.aadl_names.specs.declared.property_holder.PropertyHolder.TheVariants as holders
+use Rattle.aadl_names.specs.declared.recognised_properties.PropertyHolder.TheVariants as holders
 
 -- ---- annexes
 abbrev pub role_in : Direction → Role

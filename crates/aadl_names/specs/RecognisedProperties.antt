@@ -12,16 +12,16 @@ use Rattle.aadl_tree.specs.Values.{UnsignedNumber, whole_figure, real_figure, Qu
 use Rattle.aadl_tree.specs.Values.{number, no_values, value, Association, association, Associations, no_associations}
 use Rattle.aadl_tree.specs.Values.{associate}
 use Rattle.aadl_names.specs.declared.fault.PackageFault.{PackageFault}
-use Rattle.aadl_names.specs.declared.property_holder.PropertyName.{PropertyName}
-use Rattle.aadl_names.specs.declared.property_holder.PropertyName.TheVariants.{Period, Dispatch, Timing, Adaptor, Skew}
-use Rattle.aadl_names.specs.declared.property_holder.PropertyName.TheVariants.{Execution, Network, Initial}
-use Rattle.aadl_names.specs.declared.property_holder.PropertyHolder.{PropertyHolder}
+use Rattle.aadl_names.specs.declared.recognised_properties.PropertyName.{PropertyName}
+use Rattle.aadl_names.specs.declared.recognised_properties.PropertyName.TheVariants.{Period, Dispatch, Timing, Adaptor, Skew}
+use Rattle.aadl_names.specs.declared.recognised_properties.PropertyName.TheVariants.{Execution, Network, Initial}
+use Rattle.aadl_names.specs.declared.recognised_properties.PropertyHolder.{PropertyHolder}
 use Rattle.aadl_names.specs.declared.spelled_name.SpelledName.{SpelledName}
 use Rattle.aadl_names.specs.FirstFaults.{wrong_if}
 use Rattle.aadl_names.specs.Spelling.{spelled_name}
 use Rattle.aadl_names.specs.ReferenceResolution.{is_thread}
 use Rattle.aadl_names.specs.DuplicateNames.{twice}
-use Rattle.aadl_names.specs.declared.property_holder.PropertyHolder.TheVariants as holders
+use Rattle.aadl_names.specs.declared.recognised_properties.PropertyHolder.TheVariants as holders
 
 abbrev pub listed : Associations ℕ → List (Association ℕ)
 listed no_associations = []

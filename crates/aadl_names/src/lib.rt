@@ -2,20 +2,20 @@
 //! so far. Laws: places rise along a tree, and the first of what is looked at is the first of all that is wrong.
 #![tactic(auto)]
 
-pub mod connection_ends;
+pub mod type_ports;
 pub mod earliest_places;
 pub mod spelled_name;
 pub mod fault;
 pub mod fault_finder;
 pub mod first_fault_laws;
-pub mod property_holder;
+pub mod recognised_properties;
 pub mod name_comparison;
 pub mod names;
 pub mod declarations_by_number;
 pub mod place_laws;
-pub mod role;
+pub mod name_roles;
 pub mod port_place;
-pub mod spelling;
+pub mod name_texts;
 pub mod numbered_place;
 pub mod name_table;
 pub mod duplicate_names;
@@ -24,9 +24,9 @@ pub mod time_units;
 pub use spelled_name::SpelledName;
 pub use fault::PackageFault;
 pub use fault_finder::Finder;
-pub use property_holder::{PropertyHolder, PropertyName};
+pub use recognised_properties::{PropertyHolder, PropertyName};
 pub use names::Names;
-pub use role::{Role, Usage};
+pub use name_roles::{Role, Usage};
 pub use port_place::PortPlace;
 pub use numbered_place::NumberedPlace;
 pub use name_table::NameTable;

@@ -18,7 +18,7 @@ use Rattle.aadl_grammar.proofs.Fates.ExclusiveFates.{fails_once, fails_not_deep,
 use Rattle.aadl_grammar.proofs.Fates.FateMeanings.{fails_no_text, deep_not_shallow}
 use Rattle.aadl_grammar.proofs.UniquePlacedTrees.All.{one_placed_package}
 use Rattle.aadl_grammar.proofs.Fates.GrammarLanguages.{packages}
-use Rattle.aadl_grammar.proofs.Fates.OneTerminalFates.{fate_end, fate_left}
+use Rattle.aadl_grammar.proofs.Fates.FirstTerminalFates.{fate_end, fate_left}
 use Rattle.aadl_grammar.specs.declared.parse_fault.ParseFault.{ParseFault}
 use Rattle.aadl_grammar.specs.declared.parse_fault.ParseFault.TheVariants as parsing
 use Rattle.aadl_grammar.specs.declared.terminal.Terminal.{Terminal}

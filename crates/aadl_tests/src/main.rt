@@ -8,7 +8,7 @@ mod text_faults;
 mod first_name_faults;
 mod packages;
 mod text_checks;
-mod threads;
+mod thread_limit;
 
 use behaviours::behaviour;
 use case_files::{Answers, asked, check, text_of};

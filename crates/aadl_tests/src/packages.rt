@@ -1,6 +1,6 @@
 //! Packages: the first name that is wrong in one, what stands in what, and which implementation contains
 //! itself.
-use crate::{containment, first_name_faults, threads};
+use crate::{containment, first_name_faults, thread_limit};
 use aadl_parse::parse;
 use aadl_tree::PackageTree;
 use case_files::{Answers, asked, text_of};
@@ -13,7 +13,7 @@ fn told(alloc: Global, asked: &str, text: &str, tree: &PackageTree) -> Result<St
         "names" => first_name_faults::first_fault(alloc, text, tree),
         "cycles" => containment::first_cycle(alloc, text, tree),
         "in use" => containment::in_use(alloc, tree),
-        _ => threads::counted(alloc, tree),
+        _ => thread_limit::counted(alloc, tree),
     }
 }
 

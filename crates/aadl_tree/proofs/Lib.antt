@@ -12,5 +12,5 @@ pub mod SymbolTokens
 pub mod EmptyPackage
 pub mod MarkNumbers
 pub mod ListSearch
-pub mod MarkBeginnings
+pub mod MarkFirstBytes
 pub mod PlaceMaps

@@ -1,6 +1,6 @@
 -- What the texts of the grammar are, and where terminals stop being the beginning of one.
 use Rattle.std.specs.Prelude.{ℕ, ◌≡◌, ◌+◌, ◌-◌, ◌≤◌, Bool, true, false, List, [], ◌∷◌, ◌++◌}
-use Rattle.aadl_tree.specs.declared.limits.TheConstants.{GREATEST_NESTING}
+use Rattle.aadl_tree.specs.declared.nesting_limit.TheConstants.{GREATEST_NESTING}
 use Rattle.aadl_tree.specs.Terminals.{Kind, mark, Spot, kinds_of}
 use Rattle.aadl_tree.specs.SpellingParts.{Spells}
 use Rattle.aadl_tree.specs.Annexes.{AnnexTree, annex_tree_parts}

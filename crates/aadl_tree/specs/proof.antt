@@ -1,6 +1,6 @@
 -- What the theorem of the program does not rest on: definitions of contracts below it, of laws, and of proofs.
 pub mod MarkNumbers
-pub mod MarkBeginnings
+pub mod MarkFirstBytes
 pub mod PlaceMaps
 pub mod ExampleTransition
 pub mod NameViews

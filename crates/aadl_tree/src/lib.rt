@@ -12,7 +12,7 @@ pub mod annex;
 pub mod declarations;
 pub mod expressions;
 pub mod laws;
-pub mod limits;
+pub mod nesting_limit;
 pub mod mark;
 pub mod same;
 pub mod names;
@@ -34,7 +34,7 @@ pub use expressions::{
     Expression, Factor, LeadingSign, LogicOperator, MultiplyOperator, Primary, Relation,
     RelationOperator, Sign, Sum, Term,
 };
-pub use limits::GREATEST_NESTING;
+pub use nesting_limit::GREATEST_NESTING;
 pub use mark::Mark;
 pub use same::{Same, same};
 pub use names::{Identifier, Identifiers, Name, Path, Reference};

@@ -13,7 +13,7 @@ use Rattle.aadl_names.proofs.Lookups.{lookup-push}
 use Rattle.aadl_uses.specs.declared.connections.Wire.{Wire}
 use Rattle.aadl_uses.specs.proof.NumbersByPort.{same_site, is_site, number_of}
 use Rattle.aadl_uses.specs.proof.FirstConnections.{first_into, is_before}
-use Rattle.aadl_uses.specs.FirstConnections.{target_in, IsSecond}
+use Rattle.aadl_uses.specs.SecondConnections.{target_in, IsSecond}
 
 -- ---- ports
 

@@ -2,11 +2,11 @@ pub mod GraphSearches
 pub mod RecursionSuspects
 pub mod ContainmentSequences
 pub mod KnownPrefixes
-pub mod MarkedCounts
+pub mod MarkedPathCounts
 pub mod HeaviestPaths
 pub mod PathLists
 pub mod PackageContainment
-pub mod Cycles
+pub mod FirstRecursion
 pub mod ThreadCounts
 pub mod ThreadPaths
 pub mod PathDescent

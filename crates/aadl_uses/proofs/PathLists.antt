@@ -3,7 +3,7 @@ use Rattle.std.proofs.Common.{◌≡◌, ℕ, ◌+◌, ◌<◌, ◌≤◌, Bool,
 use Rattle.std.proofs.Common.{refl, sym, ap, ◌∙◌, append_assoc}
 use Rattle.std.proofs.lemmas.List.{take_more, take_all, map-append}
 use Rattle.aadl_uses.specs.proof.ContainmentGraphs.{Graph}
-use Rattle.aadl_uses.specs.proof.MarkedCounts.{IsMarkedAt, AreListed}
+use Rattle.aadl_uses.specs.proof.MarkedPathCounts.{IsMarkedAt, AreListed}
 use Rattle.aadl_uses.specs.ThreadsBelow.{path_before}
 
 -- ---- paths behind others

@@ -22,10 +22,10 @@ use Rattle.aadl_uses.specs.proof.PackageContainment.{targets_in, containment}
 use Rattle.aadl_uses.specs.ThreadsBelow.{Lists, MoreThan, IsThreadAt, PathBefore, path_before}
 use Rattle.aadl_uses.specs.proof.ThreadCounts.{is_thread_in, is_thread_declaration, thread_marks, AreCounted}
 use Rattle.aadl_uses.proofs.PackageContainment.{standing-same, and_then_same}
-use Rattle.aadl_uses.proofs.Cycles.{kept_as_is, regrouped}
+use Rattle.aadl_uses.proofs.FirstRecursion.{kept_as_is, regrouped}
 use Rattle.aadl_uses.specs.proof.ContainmentGraphs.{Graph, below_in, reached_by}
 use Rattle.aadl_uses.specs.proof.ContainmentOrders.{IsOrder}
-use Rattle.aadl_uses.specs.proof.MarkedCounts.{stands_at, IsMarkedAt, Among, Ordered, AreListed, Counted}
+use Rattle.aadl_uses.specs.proof.MarkedPathCounts.{stands_at, IsMarkedAt, Among, Ordered, AreListed, Counted}
 
 -- ---- paths from outside and from inside
 stands_end : (g : Graph) (n s : ℕ) (p : List ℕ)

@@ -1,6 +1,6 @@
 pub mod Uses
 pub mod ThreadsBelow
 pub mod ThreadLocations
-pub mod FirstConnections
+pub mod SecondConnections
 pub mod Wiring
 pub mod proof

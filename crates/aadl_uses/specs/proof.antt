@@ -2,7 +2,7 @@
 pub mod ContainmentGraphs
 pub mod RecursionSuspects
 pub mod ContainmentOrders
-pub mod MarkedCounts
+pub mod MarkedPathCounts
 pub mod PathsToMarked
 pub mod PathWeights
 pub mod PackageContainment

@@ -1,7 +1,7 @@
 //! How many marked declarations there are below others, counted up to a limit on declarations alone.
 ghost use Rattle.std.specs.Prelude.{◌≡◌, ◌+◌, ◌<◌, ℕ, min, length, slice_index, slice_index_or, slice_set, false, IfOk};
-ghost use Rattle.aadl_uses.specs.proof.MarkedCounts as spec;
-ghost use Rattle.aadl_uses.specs.proof.MarkedCounts.{AreCounted, Counted};
+ghost use Rattle.aadl_uses.specs.proof.MarkedPathCounts as spec;
+ghost use Rattle.aadl_uses.specs.proof.MarkedPathCounts.{AreCounted, Counted};
 ghost use Rattle.aadl_uses.specs.proof.ContainmentOrders.{IsOrder};
 
 use crate::containment::Containment;

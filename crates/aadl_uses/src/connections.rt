@@ -3,7 +3,7 @@ ghost use Rattle.std.specs.Prelude.{◌≡◌, ◌↔◌, None, Some, IfOk, OnOk
 ghost use Rattle.std.specs.Option.{option_or};
 ghost use Rattle.aadl_names.specs.declared.port_place.PortPlace.{PortPlace};
 ghost use Rattle.aadl_uses.specs.proof.NumbersByPort.{is_site, number_of};
-ghost use Rattle.aadl_uses.specs.FirstConnections as spec;
+ghost use Rattle.aadl_uses.specs.SecondConnections as spec;
 ghost use Rattle.aadl_uses.specs.proof.FirstConnections as inner;
 
 use aadl_names::PortPlace;
@@ -40,7 +40,7 @@ impl Model for Connections {
     ghost use Rattle.aadl_names.specs.declared.port_place.PortPlace.{PortPlace};
     ghost use Rattle.aadl_uses.specs.declared.connections.Wire.{Wire};
     ghost use Rattle.aadl_uses.specs.proof.NumbersByPort.{number_of};
-    ghost use Rattle.aadl_uses.specs.FirstConnections as spec;
+    ghost use Rattle.aadl_uses.specs.SecondConnections as spec;
     ghost use Rattle.aadl_uses.specs.proof.FirstConnections as inner;
 
     ghost Value = { List Wire };

@@ -5,7 +5,7 @@ ghost use Rattle.aadl_uses.specs.proof.ContainmentGraphs.{targets_in, IsWithin, 
 ghost use Rattle.aadl_uses.specs.proof.RecursionSuspects as spec;
 ghost use Rattle.aadl_uses.specs.proof.RecursionSuspects.{AreSuspected};
 
-use crate::below::reached;
+use crate::reached_declarations::reached;
 use crate::containment::Containment;
 use crate::declaration_levels::levels;
 use std::alloc::{AllocError, Global};

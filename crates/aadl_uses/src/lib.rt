@@ -3,10 +3,10 @@
 //! threads below a root: where each stands, and by which path it is known.
 #![tactic(auto)]
 
-pub mod below;
+pub mod reached_declarations;
 pub mod connections;
 pub mod below_counts;
-mod port_places;
+mod ports_of_ends;
 pub mod containment;
 mod path_weights;
 mod declaration_levels;
@@ -15,13 +15,13 @@ pub mod recursion;
 pub mod containment_order;
 pub mod cycle_suspects;
 mod thread_locations;
-mod threads_below;
+mod paths_to_threads;
 mod implementation_types;
 pub mod uses;
-pub mod wires;
-mod wiring;
+pub mod package_wires;
+mod resolved_connections;
 
-pub use below::reached;
+pub use reached_declarations::reached;
 pub use connections::{Connections, Wire};
 pub use below_counts::counts_below;
 pub use containment::Containment;
@@ -31,6 +31,6 @@ pub use recursion::first_recursive;
 pub use containment_order::order;
 pub use cycle_suspects::{leads_back, suspects};
 pub use thread_locations::{SubAt, ThreadAt, standing, thread_at, threads_at};
-pub use threads_below::thread_paths;
+pub use paths_to_threads::thread_paths;
 pub use uses::Uses;
-pub use wires::Wires;
+pub use package_wires::Wires;

@@ -1,6 +1,6 @@
 pub mod Plants
 pub mod Processors
 pub mod Properties
-pub mod PropertyValues
-pub mod Replicas
+pub mod NamedFormulas
+pub mod ReplicasAndFaults
 pub mod proof

@@ -18,7 +18,7 @@ use Rattle.analysis_fields.specs.declared.formulas.FormulaWord.{FormulaWord}
 use Rattle.analysis_fields.specs.declared.limits.TheConstants.{PROPERTIES, FORMS, LEVELS}
 use Rattle.scenario_values.specs.ResultCombinators.{◌>>=◌, given, only_if, through}
 use Rattle.scenario_values.specs.FaultPlaces.{inside}
-use Rattle.analysis_fields.specs.PropertyValues.{PropertyValue}
+use Rattle.analysis_fields.specs.NamedFormulas.{PropertyValue}
 use Rattle.scenario_values.specs.FieldValues.{values_in, elements, entries, text, number, is_whole}
 use Rattle.scenario_values.specs.NameLookup.{node_at}
 use Rattle.analysis_fields.specs.declared.formulas.FormulaWord.TheVariants as role

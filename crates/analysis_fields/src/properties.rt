@@ -33,7 +33,7 @@ impl Drop for Property {
 }
 
 impl Model for Property {
-    ghost use Rattle.analysis_fields.specs.PropertyValues.{PropertyValue};
+    ghost use Rattle.analysis_fields.specs.NamedFormulas.{PropertyValue};
     ghost use Rattle.analysis_fields.specs.proof.PropertyEncoding.{property_code};
 
     ghost Value = { PropertyValue };

@@ -3,9 +3,9 @@ ghost use Rattle.std.specs.Prelude.{◌≡◌, ◌≤◌, ◌∷◌, ◌++◌, [
 ghost use Rattle.serde_json.specs.View.{view};
 ghost use Rattle.scenario_values.specs.ResultCombinators.{Answers, Shows};
 ghost use Rattle.scenario_values.specs.FaultPlaces.{place_text};
-ghost use Rattle.analysis_fields.specs.Replicas.{source_in, target_in, kind_in, replicas_of, fault_values, replica_at};
-ghost use Rattle.analysis_fields.specs.Replicas.{link_from, ends_of, fault_behind, fault_of, copies_at, kind_at};
-ghost use Rattle.analysis_fields.specs.Replicas.{place_of, fault_in, with_fault, faults_in};
+ghost use Rattle.analysis_fields.specs.ReplicasAndFaults.{source_in, target_in, kind_in, replicas_of, fault_values, replica_at};
+ghost use Rattle.analysis_fields.specs.ReplicasAndFaults.{link_from, ends_of, fault_behind, fault_of, copies_at, kind_at};
+ghost use Rattle.analysis_fields.specs.ReplicasAndFaults.{place_of, fault_in, with_fault, faults_in};
 
 use crate::limits::REPLICAS;
 use crate::replicas::is_among;
@@ -126,7 +126,7 @@ pub struct FaultEnds {
 }
 
 // A component that is replicated.
-#[tactic(auto, unfolding(crate::specs::Replicas::replica_at))]
+#[tactic(auto, unfolding(crate::specs::ReplicasAndFaults::replica_at))]
 fn replica_at(
     alloc: Global,
     names: &DesignNames<'_>,
@@ -144,7 +144,7 @@ fn replica_at(
 }
 
 // A link that goes out from a component.
-#[tactic(auto, unfolding(crate::specs::Replicas::link_from))]
+#[tactic(auto, unfolding(crate::specs::ReplicasAndFaults::link_from))]
 fn link_from(
     alloc: Global,
     names: &DesignNames<'_>,
@@ -162,7 +162,7 @@ fn link_from(
 }
 
 // The replica that sends, and the link on which it sends.
-#[tactic(auto, unfolding(crate::specs::Replicas::ends_of))]
+#[tactic(auto, unfolding(crate::specs::ReplicasAndFaults::ends_of))]
 fn ends_of(
     alloc: Global,
     names: &DesignNames<'_>,
@@ -184,7 +184,7 @@ fn ends_of(
 }
 
 // How many replicas receive on a link.
-#[tactic(auto, unfolding(crate::specs::Replicas::copies_at))]
+#[tactic(auto, unfolding(crate::specs::ReplicasAndFaults::copies_at))]
 fn copies_at(names: &DesignNames<'_>, replicas: &[NodeNo], link: LinkNo) -> u64
     ensures value { result ≡ copies_at names.now replicas.now link.0 }
     ensures small { result ≤ 3 }
@@ -194,7 +194,7 @@ fn copies_at(names: &DesignNames<'_>, replicas: &[NodeNo], link: LinkNo) -> u64
 }
 
 // The type of what a link carries.
-#[tactic(auto, unfolding(crate::specs::Replicas::kind_at))]
+#[tactic(auto, unfolding(crate::specs::ReplicasAndFaults::kind_at))]
 fn kind_at(names: &DesignNames<'_>, link: LinkNo) -> Kind
     ensures { result ≡ kind_at names.now link.0 }
 {
@@ -202,7 +202,7 @@ fn kind_at(names: &DesignNames<'_>, link: LinkNo) -> Kind
 }
 
 // The replica of the target, the round and the values, behind the ends.
-#[tactic(auto, unfolding(crate::specs::Replicas::fault_behind))]
+#[tactic(auto, unfolding(crate::specs::ReplicasAndFaults::fault_behind))]
 fn fault_behind(
     alloc: Global,
     names: &DesignNames<'_>,
@@ -235,7 +235,7 @@ fn fault_behind(
 }
 
 // A fault from parts whose kinds are right.
-#[tactic(auto, unfolding(crate::specs::Replicas::fault_of))]
+#[tactic(auto, unfolding(crate::specs::ReplicasAndFaults::fault_of))]
 fn fault_of(
     alloc: Global,
     names: &DesignNames<'_>,
@@ -251,7 +251,7 @@ fn fault_of(
 }
 
 // A fault. The form of all its parts is looked at first.
-#[tactic(auto, unfolding(crate::specs::Replicas::fault_in, crate::specs::Replicas::fault_from))]
+#[tactic(auto, unfolding(crate::specs::ReplicasAndFaults::fault_in, crate::specs::ReplicasAndFaults::fault_from))]
 fn read_fault(
     alloc: Global,
     names: &DesignNames<'_>,
@@ -283,7 +283,7 @@ fn read_fault(
 }
 
 // One more fault, which stands at no place of those before it; these are their places.
-#[tactic(auto, unfolding(crate::specs::Replicas::with_fault))]
+#[tactic(auto, unfolding(crate::specs::ReplicasAndFaults::with_fault))]
 fn next_fault(
     alloc: Global,
     names: &DesignNames<'_>,
@@ -307,7 +307,7 @@ fn next_fault(
 
 /// The faults of replicas, no two of which stand at one place. The time that it takes is in line
 /// with the values.
-#[tactic(auto, unfolding(crate::specs::Replicas::faults_in))]
+#[tactic(auto, unfolding(crate::specs::ReplicasAndFaults::faults_in))]
 pub fn read_faults(
     alloc: Global,
     names: &DesignNames<'_>,

@@ -6,14 +6,14 @@ use Rattle.pals_base.specs.declared.values.NodeNo.{NodeNo}
 use Rattle.pals_base.specs.StepSequences.{upwards}
 use Rattle.pals_model.specs.declared.design.Link.{Link}
 use Rattle.pals_model.specs.declared.design.DesignParts.{DesignParts}
-use Rattle.pals_runs.specs.declared.analysis_inputs.VoteFault.{VoteFault}
+use Rattle.pals_runs.specs.declared.vote_faults_and_pairs.VoteFault.{VoteFault}
 use Rattle.analysis_fields.specs.declared.replica_faults.RoundFault.{RoundFault}
 use Rattle.analysis_fields.specs.proof.AnalysisFacts.{IsFaultOf}
-use Rattle.analysis_fields.specs.Replicas.{source_in as named_source}
+use Rattle.analysis_fields.specs.ReplicasAndFaults.{source_in as named_source}
 use Rattle.triple_vote.specs.Replicas.{source_in}
 use Rattle.triple_vote.specs.proof.VoteLaws.{IsFault}
 use Rattle.triple_vote.proofs.TabulatedLists.{table-at}
-use Rattle.analysis_texts.specs.VotedReplicas.{faults_of}
+use Rattle.analysis_texts.specs.VoteInputs.{faults_of}
 use Rattle.analysis_texts.proofs.FilledTables.{length-table}
 
 same_source : (o : Option Link) → source_in o ≡ named_source o

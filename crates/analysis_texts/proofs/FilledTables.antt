@@ -12,12 +12,12 @@ use Rattle.std.proofs.lemmas.List.Folds.{list_any_more}
 use Rattle.pals_base.specs.declared.values.NodeNo.{NodeNo}
 use Rattle.pals_base.specs.StepSequences.{upwards}
 use Rattle.pals_base.proofs.UpwardNumbers.{map_upwards_more}
-use Rattle.pals_runs.specs.declared.analysis_inputs.VoteFault.{VoteFault}
+use Rattle.pals_runs.specs.declared.vote_faults_and_pairs.VoteFault.{VoteFault}
 use Rattle.analysis_fields.specs.declared.replica_faults.RoundFault.{RoundFault}
-use Rattle.analysis_fields.specs.Replicas.{is_among}
+use Rattle.analysis_fields.specs.ReplicasAndFaults.{is_among}
 use Rattle.triple_vote.specs.VotedText.{replica_name}
 use Rattle.triple_vote.proofs.TabulatedLists.{length-upwards, table-at}
-use Rattle.analysis_texts.specs.VotedReplicas.{faults_of}
+use Rattle.analysis_texts.specs.VoteInputs.{faults_of}
 use Rattle.analysis_texts.specs.proof.ReplicaLines.{filed}
 
 pub length-table : {A : Type 0} (f : ℕ → A) (n : ℕ) → length (map f (upwards 0 n)) ≡ n

@@ -1,4 +1,4 @@
-pub mod RoundRows
+pub mod ProductRounds
 pub mod LineBlocks
 pub mod WatchedRounds
 pub mod FilledTables

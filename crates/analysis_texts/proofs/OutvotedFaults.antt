@@ -13,12 +13,12 @@ use Rattle.pals_model.specs.RoundTexts.{report}
 use Rattle.pals_model.specs.DesignRules.{IsDesign}
 use Rattle.analysis_fields.specs.declared.replica_faults.RoundFault.{RoundFault}
 use Rattle.analysis_fields.specs.proof.AnalysisFacts.{IsFaultOf}
-use Rattle.analysis_fields.specs.Replicas.{is_among}
+use Rattle.analysis_fields.specs.ReplicasAndFaults.{is_among}
 use Rattle.triple_vote.specs.OutvotedFaults.{AreOutvoted}
 use Rattle.triple_vote.specs.Replicas.{is_replicated}
 use Rattle.triple_vote.specs.VotedText.{vreport, thrice}
 use Rattle.triple_vote.proofs.VotedReports.{report_is_thrice, thrice_without_replicas}
-use Rattle.analysis_texts.specs.VotedReplicas.{replicated_in, faults_of}
+use Rattle.analysis_texts.specs.VoteInputs.{replicated_in, faults_of}
 use Rattle.analysis_texts.proofs.AllowedVoteFaults.{faults_keep}
 
 -- a component without replicas has no faults

@@ -12,7 +12,7 @@ use Rattle.pals_model.specs.declared.inputs_and_parts.Env.{Env}
 use Rattle.pals_model.specs.RoundTexts.{line_end, text_of, round_line}
 use Rattle.pals_runs.specs.Formula.{Formula}
 use Rattle.pals_runs.specs.JournalLines.{spaced}
-use Rattle.analysis_fields.specs.PropertyValues.{PropertyValue}
+use Rattle.analysis_fields.specs.NamedFormulas.{PropertyValue}
 use Rattle.run_monitor.specs.FormulaSemantics.{holds}
 use Rattle.run_monitor.specs.WatchText.{names_of, formulas_of, verdict_line, watched_lines, violation_text, last_line}
 use Rattle.run_monitor.specs.WatchText.{watched_rows, watch_text}
@@ -20,9 +20,9 @@ use Rattle.run_monitor.specs.FalseProperties.{history, verdicts, violation, is_v
 use Rattle.run_monitor.specs.proof.SeveralMonitors.{MonitorsState, HasWatched}
 use Rattle.run_monitor.specs.declared.false_property.FalseProperty.{FalseProperty}
 use Rattle.run_monitor.proofs.FirstFalseProperty.{violated_is_first, others_hold}
-use Rattle.run_monitor.proofs.PropertyRows.{rows_go_on}
+use Rattle.run_monitor.proofs.WatchTextGrowth.{rows_go_on}
 use Rattle.run_monitor.proofs.HistoryGrowth.{history_has_rounds}
-use Rattle.analysis_texts.specs.WatchedProperties.{named, formulas}
+use Rattle.analysis_texts.specs.MonitoredFormulas.{named, formulas}
 use Rattle.analysis_texts.proofs.LineBlocks.{line_before, line_behind}
 
 formulas_of-named : (properties : List PropertyValue) → formulas_of (named properties) ≡ formulas properties

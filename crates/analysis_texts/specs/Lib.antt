@@ -1,4 +1,4 @@
 pub mod BudgetedProcessors
-pub mod VotedReplicas
-pub mod WatchedProperties
+pub mod VoteInputs
+pub mod MonitoredFormulas
 pub mod proof

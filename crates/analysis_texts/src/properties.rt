@@ -10,7 +10,7 @@ ghost use Rattle.run_monitor.specs.WatchText.{names_of, verdict_line, watched_li
 ghost use Rattle.run_monitor.specs.WatchText.{watch_text};
 ghost use Rattle.pals_runs.specs.Formula.{Formula};
 ghost use Rattle.run_monitor.specs.proof.SeveralMonitors.{said_by, HasWatched, WatchesRound};
-ghost use Rattle.analysis_texts.specs.WatchedProperties.{named, formulas};
+ghost use Rattle.analysis_texts.specs.MonitoredFormulas.{named, formulas};
 
 use analysis_fields::Property;
 use pals_base::{NoMemory, PortValue};

@@ -1,8 +1,8 @@
 //! Which components have replicas, and the names of these.
 ghost use Rattle.std.specs.Prelude.{◌≡◌, ◌<◌, length, map, true, slice_set, IfOk};
 ghost use Rattle.pals_base.specs.StepSequences.{upwards};
-ghost use Rattle.analysis_fields.specs.Replicas.{is_among};
-ghost use Rattle.analysis_texts.specs.VotedReplicas.{replicated_in};
+ghost use Rattle.analysis_fields.specs.ReplicasAndFaults.{is_among};
+ghost use Rattle.analysis_texts.specs.VoteInputs.{replicated_in};
 ghost use Rattle.analysis_texts.specs.proof.ReplicaLines.{names_of, all_names};
 
 use pals_base::{Items, NoMemory, NodeNo, Text};

@@ -8,7 +8,7 @@ use Rattle.pals_base.specs.declared.behaviour.Kind.{Kind}
 use Rattle.pals_base.specs.declared.behaviour.Act.{Act}
 use Rattle.pals_base.specs.declared.behaviour.Branch.{Branch}
 use Rattle.pals_base.specs.PlainTrees as plain
-use Rattle.pals_base.specs.Kinds as base
+use Rattle.pals_base.specs.TypingRules as base
 use Rattle.pals_base.specs.proof.TreeViews.{tree_of, action_of as act_tree, actions_along, branches_along}
 use Rattle.aadl_tree.specs.declared.actions.Bound.{Bound}
 use Rattle.aadl_tree.specs.declared.actions.Action as source_action
@@ -25,7 +25,7 @@ use Rattle.annex_resolve.specs.declared.scope.Scope.{Scope}
 use Rattle.annex_resolve.specs.declared.scope.DeclaredName.{DeclaredName}
 use Rattle.annex_resolve.specs.declared.violation.Violation.{Violation}
 use Rattle.annex_resolve.specs.declared.violation.TheConstants.{BAD_TYPE, LOOP_TOO_LONG}
-use Rattle.annex_resolve.specs.Scopes.{found_if, entry_named, kind_of, may_set, may_send, given_to, with_loop}
+use Rattle.annex_resolve.specs.NamesAndFindings.{found_if, entry_named, kind_of, may_set, may_send, given_to, with_loop}
 use Rattle.annex_resolve.specs.ExpressionTypes.{whole_types, kind_named}
 use Rattle.annex_resolve.specs.ResolvedTrees.{signed, expression_of, action_of, actions_of, mores_of, elsifs_of}
 use Rattle.annex_resolve.specs.ResolvedTrees.{otherwise_of, block_of}

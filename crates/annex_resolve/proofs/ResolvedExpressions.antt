@@ -39,7 +39,7 @@ use Rattle.annex_resolve.specs.ExpressionTypes.{relations_types, expression_kind
 use Rattle.annex_resolve.specs.ResolvedTrees.{truth_of, primary_of, chained, multiply_op, sign_op, relation_op}
 use Rattle.annex_resolve.specs.ResolvedTrees.{logic_op, factor_of, factors_of, term_of, terms_of, sum_of, relation_of}
 use Rattle.annex_resolve.specs.ResolvedTrees.{relations_of, expression_of}
-use Rattle.annex_resolve.specs.Scopes.{finding, found_if, entry_named, read_of, or_zero}
+use Rattle.annex_resolve.specs.NamesAndFindings.{finding, found_if, entry_named, read_of, or_zero}
 use Rattle.annex_resolve.specs.declared.violation.TheConstants.{BAD_TYPE}
 use Rattle.annex_resolve.specs.proof.ResolutionResults.{Reads, ReadsOperands}
 use Rattle.annex_resolve.proofs.ResolvedSums.{put_last, take_next, one_more, several, factors-push, factors_types-push}

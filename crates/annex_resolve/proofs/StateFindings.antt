@@ -10,11 +10,11 @@ use Rattle.pals_base.specs.declared.behaviour.BehaviourParts.{BehaviourParts}
 use Rattle.pals_base.specs.PlainTrees.{Edge}
 use Rattle.aadl_tree.specs.Annexes.{Transition, AnnexTree}
 use Rattle.annex_resolve.specs.declared.scope.Scope.{Scope}
-use Rattle.annex_resolve.specs.declared.declared_values.DeclaredValues.{DeclaredValues}
+use Rattle.annex_resolve.specs.declared.ports_and_variables.DeclaredValues.{DeclaredValues}
 use Rattle.annex_resolve.specs.declared.states.StateAt.{StateAt}
 use Rattle.annex_resolve.specs.declared.violation.Violation.{Violation}
-use Rattle.annex_resolve.specs.Behaviours.{states_of, transitions_of, edge_of, parts_by, behaviour_of}
-use Rattle.annex_resolve.specs.Behaviours.{transition_findings, rule_findings, annex_findings}
+use Rattle.annex_resolve.specs.BehavioursAndFindings.{states_of, transitions_of, edge_of, parts_by, behaviour_of}
+use Rattle.annex_resolve.specs.BehavioursAndFindings.{transition_findings, rule_findings, annex_findings}
 use Rattle.annex_resolve.proofs.ResolvedSums.{take_next}
 
 numbered_next : {A B : Type 0} (f : ℕ × A → List B) (xs : List A) (i : ℕ) (x : A) → i < length xs → x ≡ get_or xs i x

@@ -1,7 +1,7 @@
-pub mod Scopes
+pub mod NamesAndFindings
 pub mod ExpressionTypes
 pub mod ResolvedTrees
 pub mod ActionFindings
 pub mod CycleRules
-pub mod Behaviours
+pub mod BehavioursAndFindings
 pub mod proof

@@ -4,11 +4,11 @@ ghost use Rattle.std.specs.Option.{unwrap_or};
 ghost use Rattle.std.specs.List.{enumerate_from};
 ghost use Rattle.aadl_tree.specs.proof.PlaceMaps.{kept_place};
 ghost use Rattle.aadl_tree.specs.proof.DeclarationViews.{annex_tree_view, transition_view};
-ghost use Rattle.annex_resolve.specs.Scopes.{found_if};
-ghost use Rattle.annex_resolve.specs.Behaviours.{transitions_of, parts_by, state_rules, rule_findings, behaviour_of};
-ghost use Rattle.annex_resolve.specs.Behaviours.{annex_findings};
+ghost use Rattle.annex_resolve.specs.NamesAndFindings.{found_if};
+ghost use Rattle.annex_resolve.specs.BehavioursAndFindings.{transitions_of, parts_by, state_rules, rule_findings, behaviour_of};
+ghost use Rattle.annex_resolve.specs.BehavioursAndFindings.{annex_findings};
 
-use crate::declared_values::DeclaredValues;
+use crate::ports_and_variables::DeclaredValues;
 use crate::cycles::cyclic_states;
 use crate::scope::Scope;
 use crate::states::{StateAt, declared_states, first_initial, has_initial, states_of};

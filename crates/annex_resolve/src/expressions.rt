@@ -9,7 +9,7 @@ ghost use Rattle.aadl_tree.specs.proof.NameViews.{identifier_view};
 ghost use Rattle.aadl_tree.specs.proof.ExpressionViews.{leading_view, primary_view, factor_view, factors_view};
 ghost use Rattle.aadl_tree.specs.proof.ExpressionViews.{term_view, terms_view, sum_view, relation_view, relations_view};
 ghost use Rattle.aadl_tree.specs.proof.ExpressionViews.{expression_view};
-ghost use Rattle.annex_resolve.specs.Scopes.{kind_of, read_of};
+ghost use Rattle.annex_resolve.specs.NamesAndFindings.{kind_of, read_of};
 ghost use Rattle.annex_resolve.specs.ExpressionTypes.{fits, misfit, read_kind, is_equality, sides_misfit, primary_kind};
 ghost use Rattle.annex_resolve.specs.ExpressionTypes.{factor_kind, term_kind, total_kind, relation_kind};
 ghost use Rattle.annex_resolve.specs.ExpressionTypes.{expression_kind, primary_types, factor_types, term_types};

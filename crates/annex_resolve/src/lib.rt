@@ -3,11 +3,11 @@
 #![tactic(auto)]
 
 pub mod actions;
-pub mod declared_values;
+pub mod ports_and_variables;
 pub mod cycles;
 pub mod expressions;
 pub mod laws;
-pub mod loops;
+pub mod loop_turns;
 pub mod annex;
 pub mod scope;
 pub mod states;
@@ -17,7 +17,7 @@ pub mod violation;
 pub mod departures;
 
 pub use actions::resolve_block;
-pub use declared_values::DeclaredValues;
+pub use ports_and_variables::DeclaredValues;
 pub use expressions::{Typed, expect, fits, resolve_whole};
 pub use annex::resolve_annex;
 pub use scope::{DeclaredName, Meaning, Scope};

@@ -28,7 +28,7 @@ use Rattle.answer_laws.proofs.ExistencePremises.{ExistenceLaws}
 use Rattle.answer_laws.proofs.ExistingTrees.{IsRefused, tree_or_refused}
 use Rattle.answer_laws.proofs.ExistingDesigns.{HasDesign, HasRefusal, design_or_refused}
 use Rattle.answer_laws.proofs.ExistingReports.{has_report}
-use Rattle.answer_laws.proofs.CodeLengths.{long_or_short}
+use Rattle.answer_laws.proofs.OverlongCodes.{long_or_short}
 use Rattle.answer_laws.proofs.UniqueCallAnswers.{AnswerIsDecided}
 use Rattle.answer_laws.proofs.ExistingResults.{by_analysis, by_execution}
 

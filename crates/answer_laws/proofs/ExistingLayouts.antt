@@ -9,7 +9,7 @@ use Rattle.pals_model.specs.DesignRules.{IsComponent, IsDesign}
 use Rattle.step_code.specs.declared.instr.CodeParts.{CodeParts}
 use Rattle.step_compiler.specs.LaidOutCode.{IsLaidOut, AreLaidOut}
 use Rattle.step_compiler.specs.proof.LayoutLaws.{HasLayout}
-use Rattle.design_codes.specs.Behaviours.{behaviours}
+use Rattle.design_codes.specs.DesignBehaviours.{behaviours}
 
 none_laid : AreLaidOut [] []
 none_laid = record { count = refl; each = λ k b code e f. absurd (none-some b e) }

@@ -9,10 +9,10 @@ use Rattle.pals_model.specs.declared.design.DesignParts.{DesignParts}
 use Rattle.pals_clock.specs.declared.clock.Clocks.{Clocks}
 use Rattle.pals_runs.specs.declared.commands.Command.{Command}
 use Rattle.pals_runs.specs.declared.events.Event.{Event}
-use Rattle.pals_runs.specs.declared.analysis_inputs.Pair.{Pair}
+use Rattle.pals_runs.specs.declared.vote_faults_and_pairs.Pair.{Pair}
 use Rattle.analysis_fields.specs.declared.replica_faults.RoundFault.{RoundFault}
 use Rattle.analysis_fields.specs.declared.processors.Processor.{Processor}
-use Rattle.analysis_fields.specs.PropertyValues.{PropertyValue}
+use Rattle.analysis_fields.specs.NamedFormulas.{PropertyValue}
 use Rattle.scenario_values.specs.declared.fault.ScenarioFault.{ScenarioFault}
 use Rattle.scenario_values.specs.ResultCombinators.{◌>>=◌}
 use Rattle.scenario_values.specs.FieldValues.{entries}
@@ -22,7 +22,7 @@ use Rattle.scenario_json.specs.Scenarios.{is_field, only_known, rounds_in, input
 use Rattle.scenario_json.specs.Scenarios.{delays_field, trace_field, properties_field, replicas_field, faults_field}
 use Rattle.scenario_json.specs.Scenarios.{plants_field, processors_field, fields_in, scen, Means}
 use Rattle.answer_laws.proofs.FittingInputs.{ListsFit, inputs_field_fit}
-use Rattle.answer_laws.proofs.FittingFaults.{RoundFaultFits, faults_field_fit}
+use Rattle.answer_laws.proofs.FittingFaultValues.{RoundFaultFits, faults_field_fit}
 
 -- the values of its inputs, and those of its faults
 pub record ValuesFit (design : DesignParts) (scenario : Scenario) : Type 0 where

@@ -17,7 +17,7 @@ pub mod ReadStatuses
 pub mod RunEnds
 pub mod RunAnswers
 mod FittingInputs
-mod FittingFaults
+mod FittingFaultValues
 mod FittingFields
 mod BooleansInRuns
 mod ExistencePremises
@@ -26,7 +26,7 @@ mod ExistingDesigns
 mod ExistingReports
 mod LooseWorldEnds
 mod ExistingLooseWorlds
-mod CodeLengths
+mod OverlongCodes
 mod ExistingLayouts
 mod ExistingRuns
 mod ExistingResults

@@ -7,7 +7,7 @@ use Rattle.pals_clock.specs.declared.clock.Clocks.{Clocks}
 use Rattle.pals_clock.specs.declared.clock.Clocks.TheVariants.{Meet, Lists}
 use Rattle.pals_model.specs.RoundTexts.{line_end, report}
 use Rattle.pals_runs.specs.declared.journal.Phase.TheVariants.{Done}
-use Rattle.pals_report.specs.VerdictLines.{clock_end_line}
+use Rattle.pals_report.specs.ClocksAndVerdicts.{clock_end_line}
 use Rattle.bus_machine.specs.declared.node_action.NodeAction.{NodeAction}
 use Rattle.bus_machine.specs.Agreement.{Agrees}
 use Rattle.bus_machine.specs.proof.MachineLaws.{IsRunOf}

@@ -11,7 +11,7 @@ use Rattle.pals_top.specs.AnalysisCommands.{Analysis, Sync, Watch, Vote, Fuse}
 use Rattle.pals_top.specs.ExecutionCommands.{Execution, TimedWorld, LooseWorld, Run, Audit, Budget}
 use Rattle.pals_top.specs.AnalysisAnswers.{Makes as analyses}
 use Rattle.pals_top.specs.ExecutionAnswers.{command_of, Makes as executes}
-use Rattle.design_codes.specs.Behaviours.{behaviours}
+use Rattle.design_codes.specs.DesignBehaviours.{behaviours}
 use Rattle.pals_top.specs.Budget.{processors_of}
 use Rattle.pals_top.specs.proof.PrivateFunctions.{is_run}
 use Rattle.answer_laws.proofs.UniquenessPremises.{ExecutionLaws}

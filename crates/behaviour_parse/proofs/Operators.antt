@@ -21,7 +21,7 @@ use Rattle.aadl_tree.specs.Expressions as e
 use Rattle.aadl_tree.specs.proof.ExpressionViews.{factor_view, factors_view, term_view, terms_view, relation_view}
 use Rattle.aadl_tree.specs.proof.ExpressionViews.{relations_view}
 use Rattle.aadl_tree.specs.proof.PlaceMaps.{kept_place}
-use Rattle.aadl_tree.specs.declared.limits.TheConstants.{GREATEST_NESTING}
+use Rattle.aadl_tree.specs.declared.nesting_limit.TheConstants.{GREATEST_NESTING}
 use Rattle.aadl_grammar.specs.proof.Symbols as s
 use Rattle.aadl_grammar.specs.proof.ParseTable.{on}
 use Rattle.aadl_grammar.specs.proof.StackMachine.{Stack, takes, move, depth, fate}

@@ -15,7 +15,7 @@ use Rattle.aadl_grammar.specs.proof.StackMachine.{fate, annex_body, syntax_at}
 use Rattle.aadl_grammar.proofs.Fates.Answers.{answers_text, answers_fault, answers_depth}
 use Rattle.aadl_grammar.proofs.UniquePlacedTrees.All.{one_placed_behaviour}
 use Rattle.aadl_grammar.proofs.Fates.GrammarLanguages.{behaviours}
-use Rattle.aadl_grammar.proofs.Fates.OneTerminalFates.{fate_end, fate_left}
+use Rattle.aadl_grammar.proofs.Fates.FirstTerminalFates.{fate_end, fate_left}
 use Rattle.aadl_grammar.specs.declared.parse_fault.ParseFault.{ParseFault}
 use Rattle.aadl_grammar.specs.declared.parse_fault.ParseFault.TheVariants.{Memory, Syntax, TooDeep}
 use Rattle.aadl_grammar.specs.declared.terminal.Terminal.{Terminal}

@@ -12,7 +12,7 @@ use Rattle.aadl_tree.specs.declared.actions.Block.{Block}
 use Rattle.aadl_tree.specs.declared.actions.Loop.{Loop}
 use Rattle.aadl_tree.specs.declared.actions.Action.TheOpen.{Choice-F}
 use Rattle.aadl_tree.specs.declared.actions.Action.TheViews.{out-roll-Choice}
-use Rattle.aadl_tree.specs.declared.limits.TheConstants.{GREATEST_NESTING}
+use Rattle.aadl_tree.specs.declared.nesting_limit.TheConstants.{GREATEST_NESTING}
 use Rattle.aadl_tree.specs.Grammar.{place}
 use Rattle.aadl_tree.specs.Terminals.{Kind, whole, Spot}
 use Rattle.aadl_tree.specs.SpellingParts.{Part, plain, may, last_semicolon}

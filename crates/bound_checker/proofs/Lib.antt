@@ -1,2 +1,2 @@
-pub mod Euclid
+pub mod CommonDivisors
 pub mod Multiples

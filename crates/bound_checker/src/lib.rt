@@ -6,7 +6,7 @@
 mod bound;
 mod divisors;
 pub mod laws;
-mod multiple;
+mod shortest_period;
 
 pub use bound::{backoff, least_period, meets};
-pub use multiple::least_multiple;
+pub use shortest_period::least_multiple;

@@ -17,7 +17,7 @@ use Rattle.bus_machine.specs.NodeEvents.{slot_at}
 use Rattle.bus_machine.specs.States.{Run, BusState, node_at, no_node, flight_at, link_at, with_node, with_flight}
 use Rattle.bus_machine.specs.MissedStarts.{sent_rounds, rounds_sent_on}
 use Rattle.bus_machine.specs.Agreement.{NodeAgrees, SlotAgrees, IsCopy, Agrees}
-use Rattle.bus_machine.proofs.InputVectors.{SlotsAgree}
+use Rattle.bus_machine.proofs.InputAgreement.{SlotsAgree}
 
 -- ---- a stop
 pub with_stop_agrees : (run : Run) (s : BusState) (why : Option Stop) → Agrees run s

@@ -1,9 +1,9 @@
 pub mod StoppedCounterRuns
 pub mod ListsAndFlights
-pub mod InputVectors
+pub mod InputAgreement
 pub mod NodeAgreement
 pub mod AgreementChanges
 pub mod NodeEventAgreement
-pub mod ReplayAgreement
+pub mod RunAgreement
 pub mod TargetExamples
 pub mod NodeQuantities

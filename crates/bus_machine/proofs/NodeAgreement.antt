@@ -39,7 +39,7 @@ use Rattle.bus_machine.specs.States.{Run}
 use Rattle.bus_machine.specs.Agreement.{IsAtRest, IsUnderWay, IsInRound, IsHeld, PhaseAgrees, PartsAgree, NodeAgrees}
 use Rattle.bus_machine.specs.Agreement.{reached}
 use Rattle.bus_machine.proofs.ListsAndFlights.{cut_places}
-use Rattle.bus_machine.proofs.InputVectors.{SlotsAgree, vectors_agree}
+use Rattle.bus_machine.proofs.InputAgreement.{SlotsAgree, vectors_agree}
 
 abbrev as_stepped : Frame → List (List PortValue) → Stepped
 as_stepped frame tuples = record { frame = frame; tuples = tuples }

@@ -18,7 +18,7 @@ use Rattle.pals_model.specs.Delays.{delay_of}
 use Rattle.pals_model.specs.ComponentInputs.{values_at}
 use Rattle.pals_model.specs.Composition.{msg}
 use Rattle.pals_model.specs.DesignRules.{IsComponent}
-use Rattle.pals_model.proofs.FirstElements.{at_element}
+use Rattle.pals_model.proofs.FirstMatches.{at_element}
 use Rattle.pals_runs.specs.declared.journal.Phase.{Phase}
 use Rattle.pals_runs.specs.declared.journal.Phase.TheVariants.{Waiting, Running, Between, Holding, Done}
 use Rattle.bus_machine.specs.Plans.{component_at, plan_of}
@@ -32,7 +32,7 @@ use Rattle.bus_machine.specs.Machine.{after_start, on_step, flight_after_send, a
 use Rattle.bus_machine.specs.Agreement.{SlotAgrees, IsCopy, Agrees}
 use Rattle.bus_machine.specs.proof.MachineLaws.{IsRunOf}
 use Rattle.bus_machine.proofs.ListsAndFlights.{numbered_at}
-use Rattle.bus_machine.proofs.InputVectors.{SlotsAgree}
+use Rattle.bus_machine.proofs.InputAgreement.{SlotsAgree}
 use Rattle.bus_machine.proofs.NodeAgreement.{starts, steps_on, finishes, finish_keeps, sends, MaySend, may_send_of}
 use Rattle.bus_machine.proofs.NodeAgreement.{sends_message}
 use Rattle.bus_machine.proofs.AgreementChanges.{with_stop_agrees, with_flights_agrees, node_set, is_component}

@@ -3,7 +3,7 @@ use crate::calls::{
     bus_of, count, finish, finish_here, is_in_flight, meet, phase, repeat, send, start, step,
     take_due, tells,
 };
-use case_files::designs::{TURN, TWO_COUNTERS};
+use case_files::example_designs::{TURN, TWO_COUNTERS};
 use pals_base::{LinkNo, Nanos, NoMemory, NodeNo};
 use pals_bus::{Bus, DueEnd, Meet};
 use pals_node::Finished;

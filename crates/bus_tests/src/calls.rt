@@ -4,7 +4,7 @@ ghost use Rattle.pals_base.specs.declared.limits.TheConstants.{ROUNDS};
 ghost use Rattle.pals_model.specs.Delays.{AreDelays};
 ghost use Rattle.pals_bus.specs.proof.Meeting.{GoesAt};
 
-use crate::designs::design_of;
+use crate::accepted_design::design_of;
 use design_codes::compile_all;
 use loose_world::add_journal;
 use pals_base::limits::READING;

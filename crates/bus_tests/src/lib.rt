@@ -7,7 +7,7 @@ mod buses;
 #[cfg(test)]
 mod calls;
 #[cfg(test)]
-mod designs;
+mod accepted_design;
 #[cfg(test)]
 mod nodes;
 #[cfg(test)]

@@ -2,8 +2,8 @@
 ghost use Rattle.std.specs.Prelude.{◌≡◌, ◌≤◌, IfOk};
 ghost use Rattle.pals_base.specs.declared.limits.TheConstants.{ROUNDS};
 
-use crate::designs::design_of;
-use case_files::designs::{TURN, TWO_COUNTERS};
+use crate::accepted_design::design_of;
+use case_files::example_designs::{TURN, TWO_COUNTERS};
 use pals_base::{Nanos, NodeNo, PortValue};
 use pals_model::Design;
 use pals_node::{FinishEnd, Finished, Job, Node, NodePlan, SendEnd, StartEnd, StepEnd};

@@ -19,9 +19,9 @@
 //! Other lines are remarks.
 #![tactic(auto)]
 
-mod answers;
-pub mod designs;
+mod answer_checks;
+pub mod example_designs;
 mod case_texts;
 
-pub use answers::{Answers, asked, check, check_answer, word};
+pub use answer_checks::{Answers, asked, check, check_answer, word};
 pub use case_texts::text_of;

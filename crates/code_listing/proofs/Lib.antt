@@ -5,7 +5,7 @@ pub mod LineGroups
 pub mod PlainNames
 pub mod PortNames
 pub mod ToldInstrs
-pub mod ToldComponents
+pub mod ToldDeclarations
 pub mod ToldComponentBlocks
 pub mod ToldLinks
 pub mod UnbrokenLines

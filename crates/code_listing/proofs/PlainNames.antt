@@ -13,7 +13,7 @@ use Rattle.pals_base.specs.Names.{is_word}
 use Rattle.pals_base.specs.BehaviourRules.{IsBehaviour, has_word}
 use Rattle.pals_model.specs.NamesInTexts.{port_name}
 use Rattle.pals_model.specs.RoundTexts.{state_name}
-use Rattle.pals_model.proofs.FirstElements.{at_element}
+use Rattle.pals_model.proofs.FirstMatches.{at_element}
 use Rattle.pals_model.proofs.WordBytes.{all_pass}
 use Rattle.code_listing.specs.Listings.{slot_word, slot_name}
 use Rattle.code_listing.proofs.LinesAndWords.{is_plain, word_plain, decimal_plain}

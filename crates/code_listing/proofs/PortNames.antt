@@ -19,7 +19,7 @@ use Rattle.pals_model.specs.declared.design.DesignParts.{DesignParts}
 use Rattle.pals_model.specs.NamesInTexts.{port_name, in_port_name, target_name}
 use Rattle.pals_model.specs.PortKinds.{ins_in, outs_in}
 use Rattle.pals_model.specs.DesignRules.{IsDesign, IsSource, IsTarget}
-use Rattle.pals_model.proofs.FirstElements.{at_element}
+use Rattle.pals_model.proofs.FirstMatches.{at_element}
 use Rattle.pals_model.proofs.ShapeLaws.{component_at, is_behaviour}
 use Rattle.pals_model.proofs.WordBytes.{IsWithout, all_pass, word_without, splits_at_last}
 use Rattle.pals_report.specs.CheckReports.{out_port_name, source_name}

@@ -31,7 +31,7 @@ use Rattle.code_listing.proofs.LinesAndWords.{is_plain, same_words, path_plain}
 use Rattle.code_listing.proofs.PlainNames.{HasPlainNames, names_are_plain, state_plain}
 use Rattle.code_listing.proofs.LineGroups.{begins, EndsAt, no_end, parted, all_begin, none_begins, run_parted}
 use Rattle.code_listing.proofs.LineGroups.{items_told, cons_told}
-use Rattle.code_listing.proofs.ToldComponents.{number_told, IsFit, port_told, variable_told, states_told}
+use Rattle.code_listing.proofs.ToldDeclarations.{number_told, IsFit, port_told, variable_told, states_told}
 use Rattle.code_listing.proofs.ToldInstrs.{instrs_told}
 
 -- ---- the lines of one component, by runs of one form

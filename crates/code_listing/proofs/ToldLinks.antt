@@ -19,7 +19,7 @@ use Rattle.pals_model.specs.declared.design.DesignParts.{DesignParts}
 use Rattle.pals_model.specs.ComponentInputs.{rate_of, rate_in}
 use Rattle.pals_model.specs.NamesInTexts.{port_name, in_port_name, target_name, link_name}
 use Rattle.pals_model.specs.DesignRules.{IsDesign, IsComponent, IsSource, IsTarget, IsLink, IsFeed, IsTap}
-use Rattle.pals_model.proofs.FirstElements.{at_element}
+use Rattle.pals_model.proofs.FirstMatches.{at_element}
 use Rattle.pals_runs.specs.JournalLines.{spaced}
 use Rattle.pals_report.specs.CheckReports.{adaptor_text, and_adaptor, out_port_name, source_name, link_line, feed_line}
 use Rattle.pals_report.specs.CheckReports.{tap_line}

@@ -31,7 +31,7 @@ use Rattle.code_listing.proofs.LinesAndWords.{is_plain, is_one_line, path_plain,
 use Rattle.code_listing.proofs.PlainNames.{HasPlainNames, names_are_plain, state_plain}
 use Rattle.code_listing.proofs.ToldComponentBlocks.{behind_states, behind_vars, behind_outs, behind_ins, path_line}
 use Rattle.code_listing.proofs.ToldComponentBlocks.{tail_lines, lines_are}
-use Rattle.code_listing.proofs.ToldComponents.{kind_plain}
+use Rattle.code_listing.proofs.ToldDeclarations.{kind_plain}
 use Rattle.code_listing.proofs.ToldInstrs.{words_plain}
 use Rattle.code_listing.proofs.ToldLinks.{link_words, link_line-is, link_plain, feed_words, feed_line-is, feed_plain}
 use Rattle.code_listing.proofs.ToldLinks.{tap_words, tap_line-is, tap_plain}

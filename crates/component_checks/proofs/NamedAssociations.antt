@@ -10,7 +10,7 @@ use Rattle.aadl_tree.specs.declared.values.Association.{Association as source}
 use Rattle.aadl_tree.specs.Values.{Association, Associations, association, associate}
 use Rattle.aadl_tree.specs.proof.NameViews.{name_view, path_view}
 use Rattle.aadl_tree.specs.proof.ValueViews.{value_view, association_view}
-use Rattle.aadl_names.specs.declared.property_holder.PropertyName.{PropertyName}
+use Rattle.aadl_names.specs.declared.recognised_properties.PropertyName.{PropertyName}
 use Rattle.aadl_tree.specs.Declarations.{Implementation, PackageTree}
 use Rattle.aadl_names.specs.RecognisedProperties.{counts, is_named, name_of, association_named}
 use Rattle.aadl_names.specs.ReferenceResolution.{implementation_at, type_number, type_numbered}

@@ -8,8 +8,8 @@ use Rattle.std.proofs.lemmas.Option.{none-some, same_Some}
 use Rattle.pals_base.specs.declared.values.Gamma.{Gamma}
 use Rattle.bound_checker.specs.proof.OverflowLimits.{IsWithinHour}
 use Rattle.pals_base.specs.declared.limits.TheConstants.{HOUR}
-use Rattle.component_checks.specs.DesignNumbers.{within_hour, range_within, not_zero, in_order, skew_of, range_of}
-use Rattle.component_checks.specs.DesignNumbers.{gamma_by}
+use Rattle.component_checks.specs.BoundsAndRates.{within_hour, range_within, not_zero, in_order, skew_of, range_of}
+use Rattle.component_checks.specs.BoundsAndRates.{gamma_by}
 
 pub product_fits : (a b : ℕ) → a < 2 ^ 64 → b < 2 ^ 64 → a * b < 2 ^ 128
 product_fits a b h k = mul-lt a b (2 ^ 64) (2 ^ 64) h k

@@ -1,5 +1,5 @@
-pub mod DesignNumbers
-pub mod Rates
+pub mod BoundsAndRates
+pub mod RateFindings
 pub mod PropertyLookup
 pub mod Times
 pub mod Threads

@@ -4,14 +4,14 @@ use Rattle.std.specs.Option.{option_and_then, is_some}
 use Rattle.pals_base.specs.declared.values.Gamma.{Gamma}
 use Rattle.aadl_tree.specs.Values.{Association}
 use Rattle.aadl_tree.specs.Declarations.{Implementation, PackageTree}
-use Rattle.aadl_names.specs.declared.property_holder.PropertyName.{PropertyName}
-use Rattle.aadl_names.specs.declared.property_holder.PropertyName.TheVariants.{Period, Skew, Execution, Network}
+use Rattle.aadl_names.specs.declared.recognised_properties.PropertyName.{PropertyName}
+use Rattle.aadl_names.specs.declared.recognised_properties.PropertyName.TheVariants.{Period, Skew, Execution, Network}
 use Rattle.aadl_names.specs.ReferenceResolution.{implementation_at}
 use Rattle.aadl_names.specs.RecognisedProperties.{association_at}
 use Rattle.annex_resolve.specs.declared.violation.Violation.{Violation}
-use Rattle.annex_resolve.specs.Scopes.{found_if}
-use Rattle.component_checks.specs.DesignNumbers.{within_hour, range_within, skew_of, range_of, gamma_by}
-use Rattle.component_checks.specs.Rates.{bound_findings}
+use Rattle.annex_resolve.specs.NamesAndFindings.{found_if}
+use Rattle.component_checks.specs.BoundsAndRates.{within_hour, range_within, skew_of, range_of, gamma_by}
+use Rattle.component_checks.specs.RateFindings.{bound_findings}
 use Rattle.annex_resolve.specs.declared.violation.TheConstants.{NO_PERIOD, GAMMA_MISSING, GAMMA_ORDER}
 use Rattle.component_checks.specs.PropertyLookup.{root_lists, first_in}
 use Rattle.component_checks.specs.Times.{time_at, range_at, shown}

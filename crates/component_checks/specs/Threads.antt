@@ -4,15 +4,15 @@ use Rattle.std.specs.Option.{option_and_then}
 use Rattle.aadl_tree.specs.Names.{Reference, same_name}
 use Rattle.aadl_tree.specs.Values.{Association}
 use Rattle.aadl_tree.specs.Declarations.{Subcomponent, PackageTree}
-use Rattle.aadl_names.specs.declared.property_holder.PropertyName.TheVariants.{Period, Dispatch}
+use Rattle.aadl_names.specs.declared.recognised_properties.PropertyName.TheVariants.{Period, Dispatch}
 use Rattle.aadl_names.specs.Spelling.{spelled_reference}
 use Rattle.aadl_names.specs.RecognisedProperties.{association_value, reference_of}
 use Rattle.aadl_uses.specs.declared.thread_locations.SubAt.{SubAt}
 use Rattle.aadl_uses.specs.declared.thread_locations.ThreadAt.{ThreadAt}
 use Rattle.annex_resolve.specs.declared.violation.Violation.{Violation}
-use Rattle.annex_resolve.specs.Scopes.{found_if}
-use Rattle.component_checks.specs.DesignNumbers.{within_hour, rate_of}
-use Rattle.component_checks.specs.Rates.{period_findings}
+use Rattle.annex_resolve.specs.NamesAndFindings.{found_if}
+use Rattle.component_checks.specs.BoundsAndRates.{within_hour, rate_of}
+use Rattle.component_checks.specs.RateFindings.{period_findings}
 use Rattle.annex_resolve.specs.declared.violation.TheConstants.{NOT_PERIODIC}
 use Rattle.component_checks.specs.PropertyLookup.{lists_along, root_lists, sub_lists, innermost, first_in}
 use Rattle.component_checks.specs.Times.{time_at}

@@ -4,14 +4,14 @@ use Rattle.std.specs.Prelude.{if◌then◌else◌}
 use Rattle.std.specs.Option.{option_and_then}
 use Rattle.pals_base.specs.declared.limits.TheConstants.{HOUR}
 use Rattle.aadl_tree.specs.Values.{Value, Association, Associations}
-use Rattle.aadl_names.specs.declared.property_holder.PropertyName.{PropertyName}
-use Rattle.aadl_names.specs.declared.property_holder.PropertyName.TheVariants.{Period, Dispatch, Timing, Adaptor, Skew}
-use Rattle.aadl_names.specs.declared.property_holder.PropertyName.TheVariants.{Execution, Network, Initial}
-use Rattle.aadl_names.specs.declared.property_holder.PropertyHolder.{PropertyHolder}
+use Rattle.aadl_names.specs.declared.recognised_properties.PropertyName.{PropertyName}
+use Rattle.aadl_names.specs.declared.recognised_properties.PropertyName.TheVariants.{Period, Dispatch, Timing, Adaptor, Skew}
+use Rattle.aadl_names.specs.declared.recognised_properties.PropertyName.TheVariants.{Execution, Network, Initial}
+use Rattle.aadl_names.specs.declared.recognised_properties.PropertyHolder.{PropertyHolder}
 use Rattle.aadl_names.specs.RecognisedProperties.{association_at, association_value, listed, counts, is_named, name_of}
 use Rattle.aadl_names.specs.RecognisedProperties.{recognised, time_of, range_of}
 use Rattle.annex_resolve.specs.declared.violation.Violation.{Violation}
-use Rattle.annex_resolve.specs.Scopes.{found_if}
+use Rattle.annex_resolve.specs.NamesAndFindings.{found_if}
 use Rattle.annex_resolve.specs.declared.violation.TheConstants.{NUMBER_TOO_BIG}
 
 -- what an association gives, if there is one

@@ -4,7 +4,7 @@ ghost use Rattle.aadl_tree.specs.proof.PlaceMaps.{kept_place};
 ghost use Rattle.aadl_tree.specs.proof.ValueViews.{association_view, associations_view, value_view};
 ghost use Rattle.aadl_names.specs.RecognisedProperties.{text_of};
 ghost use Rattle.component_checks.specs.proof.ChainProperties.{carried_by, adaptor_of};
-ghost use Rattle.component_checks.specs.Rates.{adaptor_named};
+ghost use Rattle.component_checks.specs.RateFindings.{adaptor_named};
 ghost use Rattle.component_checks.specs.Threads.{says};
 
 use crate::adaptor_named;

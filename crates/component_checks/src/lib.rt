@@ -6,8 +6,8 @@
 pub mod adaptors;
 pub mod chain_properties;
 pub mod chain_property_lists;
-pub mod design_numbers;
-pub mod properties;
+pub mod bounds_and_rates;
+pub mod package_properties;
 pub mod property_lookup;
 pub mod quotes;
 pub mod periods;
@@ -21,6 +21,6 @@ pub mod word_values;
 
 pub use adaptors::{Carrier, adaptor_named};
 pub use chain_properties::ChainProperties;
-pub use design_numbers::{gamma_by, range_of, rate_of, skew_of};
-pub use properties::Properties;
+pub use bounds_and_rates::{gamma_by, range_of, rate_of, skew_of};
+pub use package_properties::Properties;
 pub use periods::{add_bound_findings, add_period_findings};

@@ -7,7 +7,7 @@ ghost use Rattle.aadl_tree.specs.proof.PackageViews.{placed};
 ghost use Rattle.aadl_tree.specs.proof.ValueViews.{association_view};
 ghost use Rattle.component_checks.specs.Roots as spec;
 
-use crate::properties::Properties;
+use crate::package_properties::Properties;
 use crate::property_lookup::root_property;
 use crate::threads::{add_named, root_period};
 use crate::times::{range_within, shown, time_within};

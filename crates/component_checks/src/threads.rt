@@ -1,10 +1,10 @@
 //! What is wrong with components.
 ghost use Rattle.std.specs.Prelude.{◌≡◌, ◌++◌, OnOk};
 ghost use Rattle.aadl_tree.specs.proof.PackageViews.{placed};
-ghost use Rattle.annex_resolve.specs.Scopes.{found_if};
+ghost use Rattle.annex_resolve.specs.NamesAndFindings.{found_if};
 ghost use Rattle.component_checks.specs.Threads as spec;
 
-use crate::properties::Properties;
+use crate::package_properties::Properties;
 use crate::property_lookup::innermost;
 use crate::{add_period_findings, rate_of};
 use aadl_tree::PackageTree;

@@ -7,7 +7,7 @@ ghost use Rattle.aadl_tree.specs.proof.NameViews.{identifier_view};
 ghost use Rattle.aadl_tree.specs.proof.ValueViews.{figure_view, quantity_view, value_view, association_view};
 ghost use Rattle.aadl_tree.specs.proof.ValueViews.{associations_view};
 ghost use Rattle.aadl_names.specs.RecognisedProperties as properties;
-ghost use Rattle.component_checks.specs.DesignNumbers.{within_hour, range_within};
+ghost use Rattle.component_checks.specs.BoundsAndRates.{within_hour, range_within};
 ghost use Rattle.component_checks.specs.Times as spec;
 
 use aadl_names::name_comparison::is_spelled;

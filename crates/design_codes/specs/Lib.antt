@@ -1,2 +1,2 @@
 pub mod OverlongCodes
-pub mod Behaviours
+pub mod DesignBehaviours

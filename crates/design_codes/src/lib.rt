@@ -5,7 +5,7 @@ ghost use Rattle.std.specs.Prelude.{IfOk, IfErr};
 ghost use Rattle.pals_bus.specs.proof.NodeAndCodeValues.{AreCodes};
 ghost use Rattle.step_compiler.specs.LaidOutCode.{AreLaidOut};
 ghost use Rattle.design_codes.specs.OverlongCodes.{AreShort, IsCause};
-ghost use Rattle.design_codes.specs.Behaviours.{behaviours};
+ghost use Rattle.design_codes.specs.DesignBehaviours.{behaviours};
 
 use pals_base::{Items, NoMemory, NodeNo};
 use pals_model::Design;

@@ -14,11 +14,11 @@ use Rattle.aadl_tree.specs.Declarations.{Implementation, implementation, Package
 use Rattle.aadl_tree.specs.proof.GrammarTrees.{IsGiven}
 use Rattle.aadl_names.specs.PackageFaults.{package_faults}
 use Rattle.aadl_uses.specs.declared.thread_locations.ThreadAt.{ThreadAt}
-use Rattle.component_checks.specs.Rates.{bound_findings}
+use Rattle.component_checks.specs.RateFindings.{bound_findings}
 use Rattle.design_laws.proofs.BoundsAndRates.{leaves_time}
 use Rattle.component_checks.specs.Threads.{root_period, thread_rate, greater_rate, greatest_rate}
 use Rattle.component_checks.specs.Roots.{root_gamma, at_root, place_of, missing_findings, order_findings}
-use Rattle.aadl_names.specs.declared.property_holder.PropertyName.TheVariants.{Period}
+use Rattle.aadl_names.specs.declared.recognised_properties.PropertyName.TheVariants.{Period}
 use Rattle.aadl_instance.specs.FlattenedDesign.{Parts, IsFlat}
 use Rattle.design_laws.specs.proof.PackageNames.{NamesDiffer, AreNamed}
 use Rattle.model_violations.specs.Violations.{Shown, shown_by, rates_of, AreViolations}
@@ -28,7 +28,7 @@ use Rattle.design_laws.specs.InstanceDesigns.{IsDesignOf}
 use Rattle.design_laws.proofs.FaultlessParts.{all_parts}
 use Rattle.design_laws.proofs.NoViolations.{nothing_found}
 use Rattle.design_laws.specs.PackageDesigns.{IsDesignIn}
-use Rattle.design_laws.proofs.WordNames.{has_words}
+use Rattle.design_laws.proofs.NamesFromTokens.{has_words}
 
 -- ---- the names of a package that some text has
 pub given_names : ((tree : PackageTree ℕ) (root n : ℕ) (x : Implementation ℕ) → IsGiven tree

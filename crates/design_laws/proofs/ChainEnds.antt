@@ -20,7 +20,7 @@ use Rattle.aadl_chains.specs.Chains.{Port, port_of, is_in}
 use Rattle.aadl_instance.specs.declared.chain.ChainEnd.TheVariants.{Thread}
 use Rattle.aadl_instance.specs.Instances.{same_direction, node_at, goes_as, port_number}
 use Rattle.annex_resolve.specs.ExpressionTypes.{kind_in}
-use Rattle.annex_resolve.specs.Behaviours.{behaviour_of}
+use Rattle.annex_resolve.specs.BehavioursAndFindings.{behaviour_of}
 use Rattle.component_checks.specs.Types as types
 use Rattle.component_checks.specs.Threads.{thread_rate}
 use Rattle.model_violations.specs.ChainEnds.{thread_in, flat, end_kind, end_rate}

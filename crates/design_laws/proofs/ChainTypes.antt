@@ -24,7 +24,7 @@ use Rattle.annex_resolve.specs.declared.violation.TheConstants.{BAD_TYPE}
 use Rattle.annex_resolve.specs.ExpressionTypes.{kind_in, same_kind, fits}
 use Rattle.design_laws.proofs.EmptyFindingLists.{none_at, is_right}
 use Rattle.component_checks.specs.Types.{port_findings}
-use Rattle.model_violations.specs.Carriers.{carries}
+use Rattle.model_violations.specs.ConnectionsAndCarriers.{carries}
 use Rattle.model_violations.specs.ConnectionFindings.{site_port, site_kind, kind_at, ends_findings, delay_findings}
 use Rattle.model_violations.specs.ConnectionFindings.{connection_findings, connections_findings}
 use Rattle.model_violations.specs.UsedDeclarations.{IsUse}

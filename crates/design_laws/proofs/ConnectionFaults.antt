@@ -14,7 +14,7 @@ use Rattle.aadl_names.specs.ReferenceResolution.{implementation_at, connections_
 use Rattle.aadl_uses.specs.proof.PackageContainment.{containment, FirstIn}
 use Rattle.aadl_uses.specs.Uses.{IsInUse}
 use Rattle.aadl_uses.specs.declared.connections.Wire.{Wire}
-use Rattle.aadl_uses.specs.FirstConnections.{IsSecond, target_in}
+use Rattle.aadl_uses.specs.SecondConnections.{IsSecond, target_in}
 use Rattle.aadl_uses.specs.proof.FirstConnections.{is_before, first_into}
 use Rattle.aadl_uses.specs.Wiring.{wire_of, wires_of, wires_at}
 use Rattle.aadl_uses.proofs.FirstConnectionTables.{is_second-tells, no_second}
@@ -22,14 +22,14 @@ use Rattle.aadl_uses.specs.proof.ContainmentOrders.{IsOrder}
 use Rattle.aadl_chains.specs.proof.PortsJoinedOutside.{opposite, LeadsFrom, leads_from}
 use Rattle.aadl_chains.proofs.JoinedOutsideByConnection.{leads_to, leads_found}
 use Rattle.aadl_chains.specs.Chains.{IsEndFault}
-use Rattle.aadl_chains.specs.proof.DeclaredConnections.{AreDeclared}
+use Rattle.aadl_chains.specs.proof.DeclaredEnds.{AreDeclared}
 use Rattle.aadl_chains.specs.proof.ConnectionsOnChains.{IsOnWay}
 use Rattle.aadl_chains.specs.proof.FoundFaults.{IsFoundAt, IsFoundIn, dead_end, second}
 use Rattle.aadl_chains.proofs.EndFaults.{both_found, nothing_at, ways_tell, no_source, no_target, end_fault}
 use Rattle.aadl_chains.proofs.EndFaults.{found_fault}
-use Rattle.design_laws.proofs.FindingSearches.{Finds, none_found, alike_found, Below, found_below, first_in}
-use Rattle.design_laws.proofs.InwardPorts.{inside}
-use Rattle.design_laws.proofs.OutwardPorts.{is_used, outside}
+use Rattle.design_laws.proofs.FaultSearches.{Finds, none_found, alike_found, Below, found_below, first_in}
+use Rattle.design_laws.proofs.PortsReachingThreads.{inside}
+use Rattle.design_laws.proofs.PortsLeadingOut.{is_used, outside}
 
 -- a connection is wired
 wire_if : (tree : PackageTree ℕ) (o : Option (Implementation ℕ)) (k : ℕ) (link : Connection ℕ)

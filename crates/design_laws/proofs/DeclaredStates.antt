@@ -21,12 +21,12 @@ use Rattle.aadl_names.specs.PackageFaults.{is_among, known_in, state_uses, guard
 use Rattle.aadl_names.specs.PackageFaults.{behaviour_faults, annex_faults, declaration_faults, wrong_names}
 use Rattle.aadl_names.specs.PackageFaults.{package_faults}
 use Rattle.annex_resolve.specs.declared.states.StateAt.{StateAt}
-use Rattle.annex_resolve.specs.Behaviours.{states_of, first_number, state_number, transitions_of}
+use Rattle.annex_resolve.specs.BehavioursAndFindings.{states_of, first_number, state_number, transitions_of}
 use Rattle.design_laws.specs.proof.FittingAnnexNames.{is_declared}
 use Rattle.design_laws.proofs.EmptyFindingLists.{none_at}
 use Rattle.design_laws.proofs.PairwiseDistinctNames.{same_turned, all_none}
 use Rattle.design_laws.proofs.PartitionedPairs.{all_true}
-use Rattle.design_laws.proofs.ThreadNames.{same_states}
+use Rattle.design_laws.proofs.ThreadMemberNames.{same_states}
 
 -- ---- the first that passes is one of them, where some passes
 abbrev place : {X : Type 0} → (X → Bool) → List X → ℕ

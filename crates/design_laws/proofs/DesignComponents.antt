@@ -26,13 +26,13 @@ use Rattle.aadl_uses.specs.ThreadLocations.{spelled_path, thread_at}
 use Rattle.aadl_instance.specs.BehaviourSizes.{count_in, variable_count, state_count}
 use Rattle.aadl_instance.specs.FlattenedDesign.{Parts, IsFlat}
 use Rattle.annex_resolve.specs.ExpressionTypes.{kind_named}
-use Rattle.annex_resolve.specs.Behaviours.{state_at, states_in, states_of, declared, behaviour_of}
+use Rattle.annex_resolve.specs.BehavioursAndFindings.{state_at, states_in, states_of, declared, behaviour_of}
 use Rattle.component_checks.specs.Roots.{root_findings}
 use Rattle.component_checks.specs.Threads.{thread_rate, thread_findings, greater_rate, greatest_rate}
 use Rattle.model_violations.specs.PortsAndVariables.{ins_in, outs_in, first_of, variable_of, variables_in, variables_of}
 use Rattle.model_violations.specs.PortsAndVariables.{named_of, var_of, values_of, scope_of}
 use Rattle.model_violations.specs.ThreadBehaviours.{first_annex, behaviour_by, behaviour_in}
-use Rattle.model_violations.proofs.CollectingLoops.{ports_both}
+use Rattle.model_violations.proofs.FilteringLoops.{ports_both}
 use Rattle.design_laws.specs.proof.PackageNames.{AreNamed}
 use Rattle.design_laws.proofs.PartitionedPairs.{pairs_from, all_unmapped}
 use Rattle.design_laws.proofs.PairwiseDistinctNames.{all_none}

@@ -5,7 +5,7 @@ use Rattle.std.specs.Prelude.{flat_map, filter, slice_get}
 use Rattle.std.specs.List.{list_all, enumerate_from}
 use Rattle.std.proofs.lemmas.Bool.{and_from, not-false}
 use Rattle.pals_base.specs.StepSequences.{upwards}
-use Rattle.annex_resolve.specs.Scopes.{found_if}
+use Rattle.annex_resolve.specs.NamesAndFindings.{found_if}
 
 pub nothing_left : {X : Type 0} (xs ys : List X) → xs ++ ys ≡ [] → (xs ≡ []) × (ys ≡ [])
 nothing_left [] ys e = (refl, e)

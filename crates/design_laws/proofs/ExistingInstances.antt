@@ -8,9 +8,9 @@ use Rattle.aadl_uses.specs.ThreadsBelow.{Lists, IsThreadAt, PathBefore}
 use Rattle.aadl_uses.specs.proof.ThreadCounts.{thread_marks}
 use Rattle.aadl_uses.proofs.PackageContainment.{within}
 use Rattle.aadl_uses.proofs.ThreadCounts.{threads_listed}
-use Rattle.aadl_uses.proofs.Cycles.{no_way_back}
-use Rattle.aadl_chains.specs.proof.DeclaredConnections.{AreDeclared}
-use Rattle.aadl_chains.proofs.DeclaredConnections.{declared}
+use Rattle.aadl_uses.proofs.FirstRecursion.{no_way_back}
+use Rattle.aadl_chains.specs.proof.DeclaredEnds.{AreDeclared}
+use Rattle.aadl_chains.proofs.DeclaredEnds.{declared}
 use Rattle.aadl_chains.specs.Links.{Ends, IsLink, IsFeed, IsTap, TargetBefore, PortBefore}
 use Rattle.aadl_chains.specs.proof.Walks.{OneEach}
 use Rattle.aadl_uses.specs.proof.ContainmentGraphs.{LeadsBack}
@@ -27,7 +27,7 @@ use Rattle.design_laws.proofs.FirstFaultChecks.{each_package_begins}
 use Rattle.design_laws.specs.proof.PackageOutcomes.{HasFirstFault, HasInstance}
 use Rattle.design_laws.proofs.ListedLinks.{links, feeds}
 use Rattle.design_laws.proofs.ListedTaps.{taps}
-use Rattle.design_laws.proofs.PassedLimits.{FirstOrNone, first}
+use Rattle.design_laws.proofs.FirstExceededLimits.{FirstOrNone, first}
 
 module _ (tree : PackageTree ℕ) (name : List ℕ) (is : IsSound tree name) where
   acyclic : (n s : ℕ) → LeadsBack (containment tree) n s → ⊥

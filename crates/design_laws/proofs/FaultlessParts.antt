@@ -21,7 +21,7 @@ use Rattle.design_laws.proofs.PairwiseDistinctNames.{where_true}
 use Rattle.model_violations.specs.IgnoredProperties.{is_number, is_root_type}
 use Rattle.component_checks.specs.Roots.{root_findings}
 use Rattle.component_checks.specs.Threads.{greatest_rate, thread_findings}
-use Rattle.model_violations.specs.Carriers.{carries}
+use Rattle.model_violations.specs.ConnectionsAndCarriers.{carries}
 use Rattle.model_violations.specs.ChainFindings.{link_findings, feed_findings, tap_findings}
 use Rattle.model_violations.specs.UsedDeclarations.{IsUse, uses_type, type_used}
 use Rattle.model_violations.specs.DeclarationFindings.{type_findings, implementation_findings, declaration_findings}

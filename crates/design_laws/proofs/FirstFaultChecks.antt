@@ -9,20 +9,20 @@ use Rattle.aadl_names.specs.FirstFaults.{FirstOf}
 use Rattle.aadl_names.specs.proof.FirstFaultSoFar.{found}
 use Rattle.aadl_names.specs.ReferenceResolution.{root_number}
 use Rattle.aadl_names.specs.PackageFaults.{package_faults}
-use Rattle.aadl_names.proofs.CoveringFaultLists.{found_is_first}
+use Rattle.aadl_names.proofs.SameFirstFaults.{found_is_first}
 use Rattle.aadl_uses.specs.proof.PackageContainment.{containment, targets_in, FirstIn}
 use Rattle.aadl_uses.specs.Uses.{IsInUse, IsRecursive}
 use Rattle.aadl_uses.proofs.PackageContainment.{within, in_use_by}
-use Rattle.aadl_uses.proofs.Cycles.{no_way_back}
+use Rattle.aadl_uses.proofs.FirstRecursion.{no_way_back}
 use Rattle.aadl_chains.specs.Chains.{IsEndFault}
-use Rattle.aadl_chains.proofs.DeclaredConnections.{declared}
+use Rattle.aadl_chains.proofs.DeclaredEnds.{declared}
 use Rattle.aadl_instance.proofs.Roots.{is_root_at, root_declared}
 use Rattle.aadl_instance.proofs.FaultPrecedence.{name_fault, recursion_fault, end_fault, no_root, root_fault}
 use Rattle.design_laws.proofs.ReachedDeclarations.{reach}
 use Rattle.design_laws.proofs.ContainmentOrders.{order}
 use Rattle.design_laws.specs.proof.PackageOutcomes.{HasFirstFault}
 use Rattle.design_laws.proofs.SoundPackages.{IsSound}
-use Rattle.design_laws.proofs.Recursion.{first_recursive}
+use Rattle.design_laws.proofs.FirstRecursion.{first_recursive}
 use Rattle.design_laws.proofs.ConnectionFaults.{first_end}
 
 -- all that a root contains

@@ -14,8 +14,8 @@ use Rattle.aadl_tree.specs.Declarations.{Feature, Subcomponent, ConnectionEnd, C
 use Rattle.aadl_tree.specs.Declarations.{Implementation, Declaration, type, implementation, PackageTree}
 use Rattle.aadl_names.specs.declared.fault.PackageFault.{PackageFault}
 use Rattle.aadl_names.specs.declared.fault.PackageFault.TheVariants.{Twice}
-use Rattle.aadl_names.specs.declared.property_holder.PropertyHolder.{PropertyHolder}
-use Rattle.aadl_names.specs.declared.property_holder.PropertyHolder.TheVariants as holders
+use Rattle.aadl_names.specs.declared.recognised_properties.PropertyHolder.{PropertyHolder}
+use Rattle.aadl_names.specs.declared.recognised_properties.PropertyHolder.TheVariants as holders
 use Rattle.aadl_names.specs.declared.port_place.PortPlace.{PortPlace}
 use Rattle.aadl_names.specs.BehaviourAnnexes.{behaviour_in, behaviours}
 use Rattle.aadl_names.specs.ReferenceResolution.{target_of, is_thread}

@@ -5,13 +5,13 @@ use Rattle.aadl_uses.specs.proof.PackageContainment.{containment}
 use Rattle.aadl_uses.specs.proof.ContainmentOrders.{IsOrder}
 use Rattle.aadl_chains.specs.proof.PortsJoinedInside.{is_thread_at}
 use Rattle.aadl_chains.specs.Chains.{Port, Leads}
-use Rattle.aadl_chains.specs.proof.DeclaredConnections.{AreDeclared}
-use Rattle.aadl_chains.specs.declared.walks.ChainStart.TheVariants as begins
+use Rattle.aadl_chains.specs.proof.DeclaredEnds.{AreDeclared}
+use Rattle.aadl_chains.specs.declared.chain_tracing.ChainStart.TheVariants as begins
 use Rattle.aadl_chains.specs.Links.{Ends, IsLink, IsFeed}
-use Rattle.aadl_chains.specs.proof.Routes.{route_ends, IsGiver}
+use Rattle.aadl_chains.specs.proof.TracedChains.{route_ends, IsGiver}
 use Rattle.aadl_chains.proofs.OutermostFirstWalks.{crossing_from}
 use Rattle.aadl_chains.proofs.LinksByWalks.{link_from, link_met, feed_met}
-use Rattle.aadl_chains.proofs.Routes.{traces_nothing, traces_itself, traces_root, traces_none_over}
+use Rattle.aadl_chains.proofs.TracedChains.{traces_nothing, traces_itself, traces_root, traces_none_over}
 use Rattle.aadl_chains.specs.proof.Walks.{Climb, Crossing, nowhere, at_root, crosses, climb, OneEach, IsThreadPort}
 use Rattle.design_laws.proofs.TerminatingDescent.{Gives, gives}
 

@@ -9,7 +9,7 @@ use Rattle.std.proofs.lemmas.List.Recursion.{is_position_or_len}
 use Rattle.std.proofs.lemmas.Option.{slice_get-map, slice_get_within}
 use Rattle.pals_base.specs.SingleStep.{may_begin}
 use Rattle.annex_resolve.specs.declared.states.StateAt.{StateAt}
-use Rattle.annex_resolve.specs.Behaviours.{declared, first_initial, has_initial}
+use Rattle.annex_resolve.specs.BehavioursAndFindings.{declared, first_initial, has_initial}
 
 abbrev place : List StateAt → ℕ
 place [] = 0

@@ -23,9 +23,9 @@ use Rattle.aadl_instance.specs.FlattenedDesign.{Parts, IsFlat}
 use Rattle.aadl_chains.specs.Links as walks
 use Rattle.aadl_instance.specs.Instances.{node_at, port_number, port_name, end_by, end_in, chain_at}
 use Rattle.annex_resolve.specs.ExpressionTypes.{kind_in}
-use Rattle.model_violations.specs.Carriers.{connection_of, adaptor_text}
+use Rattle.model_violations.specs.ConnectionsAndCarriers.{connection_of, adaptor_text}
 use Rattle.model_violations.specs.ChainFindings.{rated}
-use Rattle.component_checks.specs.Rates.{adaptor_named}
+use Rattle.component_checks.specs.RateFindings.{adaptor_named}
 use Rattle.design_laws.proofs.AllowedAdaptors.{Fits, fits}
 use Rattle.model_violations.specs.PortsAndVariables.{or_integer}
 use Rattle.model_violations.specs.UsedDeclarations.{IsUse}

@@ -13,8 +13,8 @@ pub mod WordIdentifiers
 pub mod DistinctPackageNames
 pub mod PackageNames
 pub mod PartitionedPairs
-pub mod ThreadNames
-pub mod DeclaredTypes
+pub mod ThreadMemberNames
+pub mod DeclaredKinds
 pub mod DeclaredStates
 pub mod SoundThreadBehaviour
 pub mod FaultlessParts
@@ -30,7 +30,7 @@ pub mod UniqueLists
 pub mod AsymmetricOrders
 pub mod UniqueSorts
 pub mod UniqueDesigns
-pub mod WordNames
+pub mod NamesFromTokens
 pub mod AcceptedPackages
 pub mod PortNumbers
 pub mod ChainTypes
@@ -42,16 +42,16 @@ pub mod UniqueChainStarts
 pub mod DesignLinks
 pub mod AcceptedInstances
 pub mod DesignsOfSoundPackages
-pub mod FindingPlaces
-pub mod ExpressionFindingPlaces
-pub mod ActionFindingPlaces
+pub mod DistinctFaultPlaces
+pub mod ExpressionFaultPlaces
+pub mod ActionFaultPlaces
 pub mod PossibleNameFaults
-pub mod AnnexFindingPlaces
-pub mod PackageFindingPlaces
+pub mod AnnexFaultPlaces
+pub mod PackageFaultPlaces
 pub mod NameFaultCoverage
 pub mod FoundNameFaults
 pub mod RepeatedDeclarations
-pub mod FindingsAtOnePlace
+pub mod FaultsAtOnePlace
 pub mod UniqueFirstFaults
 pub mod LeastNumbers
 mod InsertionSort
@@ -61,17 +61,17 @@ mod ReachedDeclarations
 mod ContainmentOrders
 mod ListedPaths
 mod SoundPackages
-mod FindingSearches
-mod Recursion
-mod InwardPorts
-mod OutwardPorts
+mod FaultSearches
+mod FirstRecursion
+mod PortsReachingThreads
+mod PortsLeadingOut
 mod ConnectionFaults
 mod FirstFaultChecks
 mod IncomingLinks
 mod ListedLinks
 mod TerminatingDescent
 mod ListedTaps
-mod PassedLimits
+mod FirstExceededLimits
 pub mod ExistingInstances
 mod MemoryFreeLists
 mod MemoryFreeAnnexes

@@ -12,14 +12,14 @@ use Rattle.aadl_uses.specs.proof.DeclarationWires.{connection_into}
 use Rattle.aadl_uses.specs.proof.ContainmentOrders.{IsOrder}
 use Rattle.aadl_chains.specs.proof.PortsJoinedInside.{is_thread_at, is_in_at}
 use Rattle.aadl_chains.specs.Chains.{Port, Leads}
-use Rattle.aadl_chains.specs.proof.DeclaredConnections.{AreDeclared}
+use Rattle.aadl_chains.specs.proof.DeclaredEnds.{AreDeclared}
 use Rattle.aadl_chains.proofs.ConnectionsOnChains.{is_in-at, next_at}
 use Rattle.aadl_chains.specs.Links.{Ends, IsTap, PortBefore}
 use Rattle.aadl_chains.specs.proof.Walks.{OneEach}
-use Rattle.aadl_chains.specs.proof.Routes.{IsGiver}
-use Rattle.aadl_chains.proofs.EnteringConnections.{entered, inner_of}
+use Rattle.aadl_chains.specs.proof.TracedChains.{IsGiver}
+use Rattle.aadl_chains.proofs.FirstIncomingConnections.{entered, inner_of}
 use Rattle.aadl_chains.proofs.LinksByWalks.{tap_from, tap_met}
-use Rattle.aadl_chains.proofs.Routes.{no_tap, no_tap_over}
+use Rattle.aadl_chains.proofs.TracedChains.{no_tap, no_tap_over}
 use Rattle.aadl_instance.specs.declared.chain.Chain.{Chain}
 use Rattle.aadl_instance.specs.Instances.{chain_in}
 use Rattle.aadl_instance.specs.proof.ChainsSoFar.{AreTapsTo}

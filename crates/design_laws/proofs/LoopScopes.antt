@@ -11,7 +11,7 @@ use Rattle.annex_resolve.specs.declared.scope.Scope.{Scope}
 use Rattle.annex_resolve.specs.declared.scope.DeclaredName.{DeclaredName}
 use Rattle.annex_resolve.specs.declared.scope.Meaning.{Meaning}
 use Rattle.annex_resolve.specs.declared.scope.Meaning.TheVariants.{InPort, OutPort, Variable, LoopVariable}
-use Rattle.annex_resolve.specs.Scopes.{with_loop}
+use Rattle.annex_resolve.specs.NamesAndFindings.{with_loop}
 use Rattle.design_laws.specs.proof.FittingAnnexNames.{FitsMeaning, FitsScope}
 
 one_found : {A : Type 0} (b : Bool) (y e : A) → cond b (Some y) None ≡ Some e → y ≡ e

@@ -5,9 +5,9 @@ use Rattle.aadl_tree.specs.Expressions as e
 use Rattle.aadl_tree.specs.Actions as a
 use Rattle.aadl_tree.specs.Annexes as x
 use Rattle.aadl_tree.specs.Declarations.{Implementation, PackageTree}
-use Rattle.aadl_names.specs.declared.role.Role.{Role}
-use Rattle.aadl_names.specs.declared.role.Usage.{Usage}
-use Rattle.aadl_names.specs.declared.role.Usage.TheVariants.{Set, Send}
+use Rattle.aadl_names.specs.declared.name_roles.Role.{Role}
+use Rattle.aadl_names.specs.declared.name_roles.Usage.{Usage}
+use Rattle.aadl_names.specs.declared.name_roles.Usage.TheVariants.{Set, Send}
 use Rattle.aadl_names.specs.AnnexNames as u
 use Rattle.aadl_names.specs.BehaviourAnnexes.{states_of}
 use Rattle.aadl_names.specs.PackageFaults as p

@@ -12,8 +12,8 @@ use Rattle.aadl_tree.specs.Declarations.{Implementation, Declaration, type, impl
 use Rattle.aadl_names.specs.declared.fault.PackageFault.{PackageFault}
 use Rattle.aadl_names.specs.declared.fault.PackageFault.TheVariants.{NoRoot, Recursive, DeadEnd, TwoSources, TooMany}
 use Rattle.aadl_names.specs.declared.fault.PackageFault.TheVariants.{Memory}
-use Rattle.aadl_names.specs.declared.property_holder.PropertyHolder.{PropertyHolder}
-use Rattle.aadl_names.specs.declared.property_holder.PropertyHolder.TheVariants as holders
+use Rattle.aadl_names.specs.declared.recognised_properties.PropertyHolder.{PropertyHolder}
+use Rattle.aadl_names.specs.declared.recognised_properties.PropertyHolder.TheVariants as holders
 use Rattle.aadl_names.specs.declared.port_place.PortPlace.{PortPlace}
 use Rattle.aadl_names.specs.BehaviourAnnexes.{behaviours, variables_in}
 use Rattle.aadl_names.specs.RecognisedProperties.{listed, association_at, counts, misshapen, shape_fault, property_entries}

@@ -6,11 +6,11 @@ use Rattle.std.proofs.lemmas.Bool.{false≢true, leb-true, le-leb, cases_lt, and
 use Rattle.pals_base.specs.declared.behaviour.Kind.{Kind}
 use Rattle.pals_base.specs.declared.behaviour.Kind.TheVariants.{Integer, Boolean}
 use Rattle.pals_base.specs.declared.behaviour.BehaviourParts.{BehaviourParts}
-use Rattle.pals_base.specs.declared.kinds.Kinds.{Kinds}
+use Rattle.pals_base.specs.declared.expression_kinds.Kinds.{Kinds}
 use Rattle.pals_base.specs.declared.limits.TheConstants.{TURNS, NESTED_TURNS}
 use Rattle.pals_base.specs.PlainTrees as plain
-use Rattle.pals_base.specs.Kinds.{allows, kinds_of, suits_variable, suits_port, is_short, is_sound, are_sound}
-use Rattle.pals_base.specs.Kinds.{branches_are_sound}
+use Rattle.pals_base.specs.TypingRules.{allows, kinds_of, suits_variable, suits_port, is_short, is_sound, are_sound}
+use Rattle.pals_base.specs.TypingRules.{branches_are_sound}
 use Rattle.aadl_tree.specs.Expressions.{Expression}
 use Rattle.aadl_tree.specs.ExpressionOffsets.{expression_at}
 use Rattle.aadl_tree.specs.Actions.{Action, assign, send, choose, loop, Actions, actions, Mores, no_mores, more, Elsifs}
@@ -20,8 +20,8 @@ use Rattle.annex_resolve.specs.declared.scope.DeclaredName.{DeclaredName}
 use Rattle.annex_resolve.specs.declared.scope.Meaning.{Meaning}
 use Rattle.annex_resolve.specs.declared.scope.Meaning.TheVariants.{InPort, OutPort, Variable, LoopVariable}
 use Rattle.annex_resolve.specs.declared.violation.TheConstants.{BAD_TYPE, LOOP_TOO_LONG}
-use Rattle.annex_resolve.specs.Scopes.{found_if, entry_named, kind_of, sets, sends, may_set, may_send, given, given_to}
-use Rattle.annex_resolve.specs.Scopes.{with_loop}
+use Rattle.annex_resolve.specs.NamesAndFindings.{found_if, entry_named, kind_of, sets, sends, may_set, may_send, given, given_to}
+use Rattle.annex_resolve.specs.NamesAndFindings.{with_loop}
 use Rattle.annex_resolve.specs.ExpressionTypes.{fits, misfit, same_kind, whole_types, expression_kind, expression_types}
 use Rattle.annex_resolve.specs.ExpressionTypes.{kind_named}
 use Rattle.annex_resolve.specs.ResolvedTrees.{expression_of, action_of, actions_of, mores_of, elsifs_of, otherwise_of}

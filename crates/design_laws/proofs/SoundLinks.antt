@@ -21,13 +21,13 @@ use Rattle.aadl_instance.specs.FlattenedDesign.{Parts, IsFlat}
 use Rattle.aadl_chains.specs.Links as walks
 use Rattle.aadl_instance.specs.Instances.{node_at, port_number, port_name, end_in, chain_at}
 use Rattle.annex_resolve.specs.ExpressionTypes.{kind_in}
-use Rattle.model_violations.specs.Carriers.{adaptor_text}
+use Rattle.model_violations.specs.ConnectionsAndCarriers.{adaptor_text}
 use Rattle.model_violations.specs.ChainFindings.{timing_findings, adaptor_findings, on_carrier, link_findings, feed_findings}
 use Rattle.model_violations.specs.ChainEnds.{end_name, end_kind, end_rate}
-use Rattle.component_checks.specs.Rates.{adaptor_named, kind_suits}
+use Rattle.component_checks.specs.RateFindings.{adaptor_named, kind_suits}
 use Rattle.design_laws.specs.proof.PackageNames.{HasWords}
 use Rattle.design_laws.proofs.PartitionedPairs.{all_at}
-use Rattle.design_laws.proofs.ThreadNames.{IsPort}
+use Rattle.design_laws.proofs.ThreadMemberNames.{IsPort}
 use Rattle.design_laws.proofs.SoundThreadBehaviour.{port_words}
 use Rattle.model_violations.specs.UsedDeclarations.{IsUse}
 use Rattle.model_violations.specs.Violations.{shown_by, used_findings, rates_of}

@@ -19,9 +19,9 @@ use Rattle.aadl_tree.specs.declared.declarations.Category.{Category}
 use Rattle.aadl_tree.specs.Values.{Association}
 use Rattle.aadl_tree.specs.Declarations.{Subcomponent, Declaration, type, TypeDeclaration, Implementation}
 use Rattle.aadl_tree.specs.Declarations.{implementation, PackageTree}
-use Rattle.aadl_names.specs.declared.property_holder.PropertyName.{PropertyName}
-use Rattle.aadl_names.specs.declared.property_holder.PropertyName.TheVariants.{Period, Skew, Execution, Network}
-use Rattle.aadl_names.specs.declared.property_holder.PropertyHolder.TheVariants as holders
+use Rattle.aadl_names.specs.declared.recognised_properties.PropertyName.{PropertyName}
+use Rattle.aadl_names.specs.declared.recognised_properties.PropertyName.TheVariants.{Period, Skew, Execution, Network}
+use Rattle.aadl_names.specs.declared.recognised_properties.PropertyHolder.TheVariants as holders
 use Rattle.aadl_names.specs.FirstFaults.{wrong_if}
 use Rattle.aadl_names.specs.BehaviourAnnexes.{behaviours}
 use Rattle.aadl_names.specs.RecognisedProperties.{recognised, list_faults}
@@ -35,11 +35,11 @@ use Rattle.aadl_uses.specs.Uses.{sub_at, below, standing}
 use Rattle.aadl_uses.specs.declared.thread_locations.SubAt.{SubAt}
 use Rattle.aadl_uses.specs.ThreadLocations.{sub_in, subs_along, thread_at}
 use Rattle.aadl_instance.specs.FlattenedDesign.{Parts, IsFlat}
-use Rattle.annex_resolve.specs.Scopes.{found_if}
+use Rattle.annex_resolve.specs.NamesAndFindings.{found_if}
 use Rattle.design_laws.proofs.EmptyFindingLists.{is_right, not_wrong}
-use Rattle.component_checks.specs.DesignNumbers.{within_hour, range_within, not_zero, in_order, gamma_by}
-use Rattle.component_checks.specs.DesignNumbers as numbers
-use Rattle.component_checks.specs.Rates.{bound_findings, period_findings}
+use Rattle.component_checks.specs.BoundsAndRates.{within_hour, range_within, not_zero, in_order, gamma_by}
+use Rattle.component_checks.specs.BoundsAndRates as numbers
+use Rattle.component_checks.specs.RateFindings.{bound_findings, period_findings}
 use Rattle.design_laws.proofs.BoundsAndRates.{gamma_counts, IsRateOf, rate_counts, leaves_time, least_is_some}
 use Rattle.design_laws.proofs.BoundsAndRates.{rate_from}
 use Rattle.annex_resolve.specs.declared.violation.TheConstants.{NO_PERIOD, NOT_PERIODIC, GAMMA_MISSING, GAMMA_ORDER}
@@ -53,7 +53,7 @@ use Rattle.component_checks.specs.Roots.{at_root, root_skew, root_range, root_ga
 use Rattle.component_checks.specs.Roots.{missing_findings, is_zero, is_reversed, place_of, zero_skew, reversed_range}
 use Rattle.component_checks.specs.Roots.{order_findings, root_findings}
 use Rattle.model_violations.specs.IgnoredProperties.{is_number, is_root_type}
-use Rattle.model_violations.specs.Carriers.{carries}
+use Rattle.model_violations.specs.ConnectionsAndCarriers.{carries}
 use Rattle.model_violations.specs.ConnectionFindings.{connections_findings}
 use Rattle.model_violations.specs.UsedDeclarations.{IsUse}
 use Rattle.model_violations.specs.DeclarationFindings.{sub_findings}

@@ -11,10 +11,10 @@ use Rattle.list_lemmas.proofs.ListOperations.{append_is_nil_left}
 use Rattle.pals_base.specs.declared.limits.TheConstants.{HOUR}
 use Rattle.aadl_tree.specs.declared.declarations.Category.{Category}
 use Rattle.aadl_tree.specs.Values.{Association, Associations}
-use Rattle.aadl_names.specs.declared.property_holder.PropertyName.{PropertyName}
-use Rattle.aadl_names.specs.declared.property_holder.PropertyName.TheVariants.{Period, Dispatch, Skew, Execution, Network}
-use Rattle.aadl_names.specs.declared.property_holder.PropertyHolder.{PropertyHolder}
-use Rattle.aadl_names.specs.declared.property_holder.PropertyHolder.TheVariants as holders
+use Rattle.aadl_names.specs.declared.recognised_properties.PropertyName.{PropertyName}
+use Rattle.aadl_names.specs.declared.recognised_properties.PropertyName.TheVariants.{Period, Dispatch, Skew, Execution, Network}
+use Rattle.aadl_names.specs.declared.recognised_properties.PropertyHolder.{PropertyHolder}
+use Rattle.aadl_names.specs.declared.recognised_properties.PropertyHolder.TheVariants as holders
 use Rattle.aadl_names.specs.FirstFaults.{wrong_if}
 use Rattle.aadl_names.specs.RecognisedProperties.{association_at, association_value, listed, counts, is_named, association_named}
 use Rattle.aadl_names.specs.RecognisedProperties.{name_of, recognised, time_of, range_of, has_shape, misshapen, shape_fault}
@@ -22,7 +22,7 @@ use Rattle.aadl_names.specs.RecognisedProperties.{property_entries, list_faults}
 use Rattle.aadl_names.specs.ReferenceResolution.{is_thread}
 use Rattle.aadl_names.specs.DuplicateNames.{twice}
 use Rattle.design_laws.proofs.EmptyFindingLists.{not_wrong}
-use Rattle.component_checks.specs.DesignNumbers.{within_hour, range_within}
+use Rattle.component_checks.specs.BoundsAndRates.{within_hour, range_within}
 use Rattle.annex_resolve.specs.declared.violation.TheConstants.{NUMBER_TOO_BIG}
 use Rattle.component_checks.specs.PropertyLookup.{first_in}
 use Rattle.component_checks.specs.Times.{time_at, range_at, is_above, has_above, is_too_big, shown, big_as}

@@ -10,7 +10,7 @@ use Rattle.std.proofs.lemmas.Option.{slice_get-map}
 use Rattle.list_lemmas.proofs.ElementPositions.{slice_get-some}
 use Rattle.pals_base.specs.declared.behaviour.BehaviourParts.{BehaviourParts}
 use Rattle.pals_base.specs.PlainTrees as plain
-use Rattle.pals_base.specs.Kinds.{are_sound}
+use Rattle.pals_base.specs.TypingRules.{are_sound}
 use Rattle.pals_base.specs.SingleStep.{completes, is_complete, is_dispatch, leaving}
 use Rattle.pals_base.specs.BehaviourRules.{has_condition, is_edge, dispatch_count, is_always, ends_unguarded, has_ways}
 use Rattle.pals_base.specs.BehaviourRules.{IsAcyclic}
@@ -23,12 +23,12 @@ use Rattle.annex_resolve.specs.declared.states.StateAt.{StateAt}
 use Rattle.annex_resolve.specs.declared.departures.Departure.{Departure}
 use Rattle.annex_resolve.specs.declared.departures.GuardKind.{GuardKind}
 use Rattle.annex_resolve.specs.declared.violation.TheConstants.{DISPATCH_COUNT, NO_OTHERWISE, CYCLE_WITHOUT_COMPLETE}
-use Rattle.annex_resolve.specs.Scopes.{found_if}
+use Rattle.annex_resolve.specs.NamesAndFindings.{found_if}
 use Rattle.annex_resolve.specs.CycleRules.{is_on_cycle}
-use Rattle.annex_resolve.specs.Behaviours.{declared, state_number, trigger_of, effect_of, edge_of, guard_types}
-use Rattle.annex_resolve.specs.Behaviours.{effect_findings, transition_findings, breaks_dispatch, way_of, leg_of}
-use Rattle.annex_resolve.specs.Behaviours.{ways_from, is_otherwise, is_guarded, is_open, lacks_otherwise, state_rules}
-use Rattle.annex_resolve.specs.Behaviours.{cycles_of}
+use Rattle.annex_resolve.specs.BehavioursAndFindings.{declared, state_number, trigger_of, effect_of, edge_of, guard_types}
+use Rattle.annex_resolve.specs.BehavioursAndFindings.{effect_findings, transition_findings, breaks_dispatch, way_of, leg_of}
+use Rattle.annex_resolve.specs.BehavioursAndFindings.{ways_from, is_otherwise, is_guarded, is_open, lacks_otherwise, state_rules}
+use Rattle.annex_resolve.specs.BehavioursAndFindings.{cycles_of}
 use Rattle.annex_resolve.proofs.TableCells.{mapped_at}
 use Rattle.annex_resolve.proofs.StateReachability.{way_reaches}
 use Rattle.design_laws.specs.proof.FittingAnnexNames.{FitsScope, is_declared}

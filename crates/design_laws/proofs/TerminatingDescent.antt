@@ -16,12 +16,12 @@ use Rattle.aadl_uses.specs.proof.DeclarationWires.{connection_into}
 use Rattle.aadl_uses.specs.proof.ContainmentOrders.{IsOrder}
 use Rattle.aadl_chains.specs.proof.PortsJoinedInside.{is_thread_at, is_in_at}
 use Rattle.aadl_chains.specs.Chains.{Port, Place, Leads, IsStart}
-use Rattle.aadl_chains.specs.proof.DeclaredConnections.{AreDeclared}
+use Rattle.aadl_chains.specs.proof.DeclaredEnds.{AreDeclared}
 use Rattle.aadl_chains.specs.proof.Walks.{OneEach}
-use Rattle.aadl_chains.specs.proof.Routes.{IsGiver}
-use Rattle.aadl_chains.proofs.EnteringConnections.{inner_of}
+use Rattle.aadl_chains.specs.proof.TracedChains.{IsGiver}
+use Rattle.aadl_chains.proofs.FirstIncomingConnections.{inner_of}
 use Rattle.aadl_chains.proofs.OutermostFirstWalks.{rank, rank_falls}
-use Rattle.aadl_chains.proofs.Routes.{Descending, descend_first, descend_more, descend_thread, descend_none}
+use Rattle.aadl_chains.proofs.TracedChains.{Descending, descend_first, descend_more, descend_thread, descend_none}
 
 -- no chain leads to a port
 abbrev pub NoneLeads : PackageTree ℕ → ℕ → Port → Type 0

@@ -7,10 +7,10 @@ use Rattle.std.proofs.lemmas.Option.{slice_get_within, slice_get_past}
 use Rattle.pals_base.specs.declared.behaviour.Kind.{Kind}
 use Rattle.pals_base.specs.declared.behaviour.Kind.TheVariants.{Integer, Boolean}
 use Rattle.pals_base.specs.declared.behaviour.BehaviourParts.{BehaviourParts}
-use Rattle.pals_base.specs.declared.kinds.Kinds.{Kinds}
+use Rattle.pals_base.specs.declared.expression_kinds.Kinds.{Kinds}
 use Rattle.pals_base.specs.PlainTrees as plain
-use Rattle.pals_base.specs.Kinds.{only, allows, port_kinds, declared_or, kinds_of, kinds_along, joined, numbers_at}
-use Rattle.pals_base.specs.Kinds.{truths_at}
+use Rattle.pals_base.specs.TypingRules.{only, allows, port_kinds, declared_or, kinds_of, kinds_along, joined, numbers_at}
+use Rattle.pals_base.specs.TypingRules.{truths_at}
 use Rattle.aadl_tree.specs.declared.expressions.Sign.{Sign}
 use Rattle.aadl_tree.specs.declared.expressions.Sign.TheVariants as signs
 use Rattle.aadl_tree.specs.declared.expressions.LogicOperator.{LogicOperator}
@@ -28,7 +28,7 @@ use Rattle.annex_resolve.specs.declared.scope.DeclaredName.{DeclaredName}
 use Rattle.annex_resolve.specs.declared.scope.Meaning.{Meaning}
 use Rattle.annex_resolve.specs.declared.scope.Meaning.TheVariants.{InPort, OutPort, Variable, LoopVariable}
 use Rattle.annex_resolve.specs.declared.violation.TheConstants.{BAD_TYPE}
-use Rattle.annex_resolve.specs.Scopes.{entry_named, read_of, value_of, freshness_of, or_zero}
+use Rattle.annex_resolve.specs.NamesAndFindings.{entry_named, read_of, value_of, freshness_of, or_zero}
 use Rattle.annex_resolve.specs.ExpressionTypes.{fits, misfit, is_equality, read_kind, primary_kind, factor_kind}
 use Rattle.annex_resolve.specs.ExpressionTypes.{term_kind, total_kind, relation_kind, expression_kind, primary_types}
 use Rattle.annex_resolve.specs.ExpressionTypes.{factor_types, term_types, factors_types, sum_types, terms_types}

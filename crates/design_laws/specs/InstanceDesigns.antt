@@ -14,10 +14,10 @@ use Rattle.aadl_uses.specs.declared.thread_locations.ThreadAt.{ThreadAt}
 use Rattle.aadl_instance.specs.declared.chain.Chain.{Chain}
 use Rattle.aadl_instance.specs.declared.chain.ChainEnd.{ChainEnd}
 use Rattle.aadl_instance.specs.declared.chain.ChainEnd.TheVariants.{Thread, Root}
-use Rattle.component_checks.specs.Rates.{adaptor_named}
+use Rattle.component_checks.specs.RateFindings.{adaptor_named}
 use Rattle.component_checks.specs.Threads.{root_period, thread_rate}
 use Rattle.component_checks.specs.Roots.{root_gamma}
-use Rattle.model_violations.specs.Carriers.{connection_of, adaptor_text}
+use Rattle.model_violations.specs.ConnectionsAndCarriers.{connection_of, adaptor_text}
 use Rattle.model_violations.specs.ChainEnds.{component_of}
 use Rattle.model_violations.specs.ThreadBehaviours.{behaviour_in}
 use Rattle.model_violations.specs.IgnoredProperties.{ignored_names}

@@ -2,9 +2,9 @@
 ghost use Rattle.std.specs.Prelude.{◌≡◌, ℕ, []};
 ghost use Rattle.pals_base.specs.BehaviourRules.{IsBehaviour};
 ghost use Rattle.aadl_tree.specs.Annexes.{AnnexTree};
-ghost use Rattle.annex_resolve.specs.declared.declared_values.DeclaredValues.{DeclaredValues};
+ghost use Rattle.annex_resolve.specs.declared.ports_and_variables.DeclaredValues.{DeclaredValues};
 ghost use Rattle.annex_resolve.specs.declared.scope.Scope.{Scope};
-ghost use Rattle.annex_resolve.specs.Behaviours.{annex_findings, behaviour_of};
+ghost use Rattle.annex_resolve.specs.BehavioursAndFindings.{annex_findings, behaviour_of};
 ghost use Rattle.design_laws.specs.proof.FittingAnnexNames.{IsReady};
 
 /// Where the names of an annex are in order and nothing is found in it, its parts are those of a

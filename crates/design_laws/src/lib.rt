@@ -12,5 +12,5 @@ pub mod existence;
 pub mod first_faults;
 pub mod names;
 pub mod packages;
-pub mod rates;
+pub mod rates_and_bounds;
 pub mod instances;

@@ -15,7 +15,7 @@ use Rattle.pals_base.specs.declared.values.Adaptor.{Adaptor}
 use Rattle.pals_base.specs.declared.values.Adaptor.TheVariants.{Repeat, First, Last, At, Latest, Max, Min, Average}
 use Rattle.pals_base.specs.Adaptors.{adapt, groups, joined, spread, placed}
 use Rattle.pals_base.specs.AllowedAdaptors.{is_allowed, divides_or_divided}
-use Rattle.input_adaptors.specs.proof.SourceGroups.{group_at}
+use Rattle.input_adaptors.specs.proof.GroupsAndExtremes.{group_at}
 
 -- ---- which side of the table
 pub adapt-faster : (a : Adaptor) (p q : ℕ) (tuple : List PortValue) → p < q

@@ -9,7 +9,7 @@ use Rattle.pals_base.specs.declared.values.PortValue.{PortValue}
 use Rattle.pals_base.specs.declared.values.PortValue.TheVariants.{Absent, Present}
 use Rattle.pals_base.specs.declared.values.Adaptor.TheVariants.{Min, Max}
 use Rattle.pals_base.specs.Adaptors.{present, joined, of_present, least_of, greatest_of}
-use Rattle.input_adaptors.specs.proof.SourceGroups.{IsLeast, IsGreatest}
+use Rattle.input_adaptors.specs.proof.GroupsAndExtremes.{IsLeast, IsGreatest}
 
 -- ---- a number is among the present ones exactly where a port has it
 

@@ -1,9 +1,9 @@
 pub mod Extremes
-pub mod Groups
+pub mod JoinedGroups
 pub mod Means
 pub mod PresentNumbers
 pub mod Quotient
 pub mod AdaptedTuples
-pub mod SilenceAndLatest
-pub mod NumberSources
+pub mod SilentGroups
+pub mod NumbersFromSource
 pub mod SpreadValues

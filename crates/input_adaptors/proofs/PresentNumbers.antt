@@ -13,7 +13,7 @@ use mir.Val.{SFits}
 use Rattle.pals_base.specs.declared.values.PortValue.{PortValue}
 use Rattle.pals_base.specs.declared.values.PortValue.TheVariants.{Absent, Present}
 use Rattle.pals_base.specs.Adaptors.{present, of_present, latest_of, greatest_of, least_of, average_of}
-use Rattle.input_adaptors.specs.proof.OptionalNumbers.{number_of, port_of, mean_of}
+use Rattle.input_adaptors.specs.proof.PortsAsNumbers.{number_of, port_of, mean_of}
 
 -- ---- as a chain of iterators gives them
 pub filter_map-number_of : (ports : List PortValue) → filter_map number_of ports ≡ present ports

@@ -7,8 +7,8 @@ ghost use Rattle.pals_base.specs.declared.values.Adaptor.{Adaptor};
 ghost use Rattle.pals_base.specs.declared.values.Adaptor.TheVariants.{Latest, Max, Min, Average};
 ghost use Rattle.pals_base.specs.Adaptors.{adapt, groups, joined};
 ghost use Rattle.pals_base.specs.AllowedAdaptors.{is_allowed, divides_or_divided};
-ghost use Rattle.input_adaptors.specs.proof.SourceGroups.{group_at, TakesPlace, MakesNumber, IsAboveSome};
-ghost use Rattle.input_adaptors.specs.proof.SourceGroups.{IsBelowSome, IsLeast, IsGreatest, IsLatest};
+ghost use Rattle.input_adaptors.specs.proof.GroupsAndExtremes.{group_at, TakesPlace, MakesNumber, IsAboveSome};
+ghost use Rattle.input_adaptors.specs.proof.GroupsAndExtremes.{IsBelowSome, IsLeast, IsGreatest, IsLatest};
 
 /// Between two rates, one of which divides the other, and where it is allowed, an adaptor takes a
 /// whole tuple of the source to a whole tuple of the target.

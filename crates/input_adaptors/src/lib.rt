@@ -2,10 +2,10 @@
 //! rate. What each adaptor means is `pals_base`'s `adapt`; the laws that it keeps are in `laws`.
 #![tactic(auto)]
 
-mod faster;
+mod to_higher_rate;
 mod group;
 pub mod laws;
-mod slower;
+mod to_lower_rate;
 
 ghost use Rattle.std.specs.Prelude.{◌≡◌, ◌/◌, ◌<◌, IfOk, slice_index_or};
 ghost use Rattle.pals_base.specs.declared.values.PortValue.TheVariants.{Absent};
@@ -31,8 +31,8 @@ pub fn adapt(
     let places = tuple.as_slice();
     match adaptor {
         None => Tuple::from_slice(alloc, places),
-        Some(adaptor) if p < q => faster::spread_all(alloc, adaptor, ratio(q, p), places),
-        Some(adaptor) => slower::join_all(alloc, adaptor, q, ratio(p, q), places),
+        Some(adaptor) if p < q => to_higher_rate::spread_all(alloc, adaptor, ratio(q, p), places),
+        Some(adaptor) => to_lower_rate::join_all(alloc, adaptor, q, ratio(p, q), places),
     }
 }
 
@@ -50,8 +50,8 @@ pub fn adapted_place(
 {
     match adaptor {
         None => place(tuple, step),
-        Some(adaptor) if p < q => faster::spread_place(adaptor, ratio(q, p), tuple, step),
-        Some(adaptor) => slower::joined_place(adaptor, ratio(p, q), tuple, step),
+        Some(adaptor) if p < q => to_higher_rate::spread_place(adaptor, ratio(q, p), tuple, step),
+        Some(adaptor) => to_lower_rate::joined_place(adaptor, ratio(p, q), tuple, step),
     }
 }
 

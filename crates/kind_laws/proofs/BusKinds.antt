@@ -31,7 +31,7 @@ use Rattle.bus_machine.specs.NodeEvents.{slot_at}
 use Rattle.bus_machine.specs.MissedStarts.{rounds_sent_on}
 use Rattle.bus_machine.specs.Agreement.{IsAtRest, IsUnderWay, PhaseAgrees, SlotAgrees, IsCopy, Agrees}
 use Rattle.kind_laws.specs.proof.BusKinds.{BusesFit}
-use Rattle.kind_laws.proofs.Lists.{upwards_all}
+use Rattle.kind_laws.proofs.ElementsByIndex.{upwards_all}
 use Rattle.kind_laws.proofs.InPortKinds.{MessagesFit, vectors_fit}
 
 -- what waits on a link before a round: nothing, or the message of the round before

@@ -21,14 +21,14 @@ use Rattle.pals_model.specs.ComponentInputs.{from_link, source_of, sources_of, r
 use Rattle.pals_model.specs.PortKinds.{kind_of, in_kind, root_kind}
 use Rattle.pals_model.specs.DesignRules.{IsDesign, IsLink, IsFeed}
 use Rattle.pals_model.specs.proof.FittingValues.{PortFits, TupleFits, PortsFit, link_kind, EnvFits}
-use Rattle.pals_model.proofs.FirstElements.{found_at, at_element}
+use Rattle.pals_model.proofs.FirstMatches.{found_at, at_element}
 use Rattle.pals_model.proofs.RootInputLaws.{feed_has_root, feeds_have_root_kind}
 use Rattle.pals_model.proofs.AllElements.{index_fits}
 use Rattle.pals_model.proofs.KindsOfAdaptors.{absent_fits, adapt_fits}
 use Rattle.pals_model.proofs.KindsOfRounds.{place_of_column}
 use Rattle.plant_fuse.proofs.FunctionTables.{map_map}
 use Rattle.triple_vote.proofs.TabulatedLists.{table-at}
-use Rattle.kind_laws.proofs.Lists.{upwards_all}
+use Rattle.kind_laws.proofs.ElementsByIndex.{upwards_all}
 
 abbrev pub MessagesFit : DesignParts → List (List PortValue) → Type 0
 MessagesFit design messages =

@@ -1,4 +1,4 @@
-mod Lists
+mod ElementsByIndex
 mod InPortKinds
 mod OutPortKinds
 pub mod VotedKinds

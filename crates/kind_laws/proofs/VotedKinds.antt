@@ -31,7 +31,7 @@ use Rattle.pals_model.proofs.ShapeLaws.{is_behaviour, steps_keep_shape}
 use Rattle.pals_model.proofs.AllElements.{index_fits, find_fits}
 use Rattle.pals_model.proofs.KindsOfSteps.{frames_fit, initial_fits}
 use Rattle.pals_model.proofs.KindsOfAdaptors.{absent_fits}
-use Rattle.pals_runs.specs.declared.analysis_inputs.VoteFault.{VoteFault}
+use Rattle.pals_runs.specs.declared.vote_faults_and_pairs.VoteFault.{VoteFault}
 use Rattle.triple_vote.specs.Votes.{same_port, vote, votes}
 use Rattle.triple_vote.specs.Replicas.{is_replicated, copies_of, receivers_in, Voted, frame_at, heard_by, first_frame}
 use Rattle.triple_vote.specs.Replicas.{first_tuple, vopening, steps_in, replica_steps, tuple_at, is_fault, fault_or}
@@ -39,7 +39,7 @@ use Rattle.triple_vote.specs.Replicas.{own_message, sent_to, vote_of, receives_o
 use Rattle.triple_vote.proofs.TabulatedLists.{length-upwards, table-at, found}
 use Rattle.triple_vote.proofs.ReplicaRounds.{has_first, has_three}
 use Rattle.kind_laws.specs.proof.VotedKinds.{FaultFits, FaultsFit, VotesFit, ShownFit}
-use Rattle.kind_laws.proofs.Lists.{upwards_all, either_fits}
+use Rattle.kind_laws.proofs.ElementsByIndex.{upwards_all, either_fits}
 use Rattle.kind_laws.proofs.InPortKinds.{MessagesFit, vectors_fit}
 use Rattle.kind_laws.proofs.OutPortKinds.{tuple_fits, cut_fits}
 

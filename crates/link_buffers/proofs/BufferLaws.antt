@@ -13,7 +13,7 @@ use Rattle.std.proofs.lemmas.Option.{slice_get_within, get_or_from_slice_get, sa
 use Rattle.link_buffers.specs.declared.due_queue.DueEntry.{DueEntry}
 use Rattle.link_buffers.specs.proof.Flights.{IsFirst, least}
 use Rattle.link_buffers.specs.proof.Queues.{comes_before, is_entry, with_entry, without_entry}
-use Rattle.link_buffers.proofs.FirstItems.{without_any}
+use Rattle.link_buffers.proofs.FirstPassingItem.{without_any}
 use Rattle.link_buffers.proofs.DueOrder.{entry_is_itself, entry_from_test}
 
 -- ---- the first that passes

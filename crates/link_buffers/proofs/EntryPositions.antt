@@ -9,7 +9,7 @@ use Rattle.std.proofs.lemmas.Option.{slice_get-get_or, slice_get_within, get_or_
 use Rattle.link_buffers.specs.declared.due_queue.DueEntry.{DueEntry}
 use Rattle.link_buffers.specs.proof.Queues.{comes_before, is_entry, is_due_at, IsRising, with_entry, without_entry}
 use Rattle.link_buffers.specs.proof.Queues.{queue_of}
-use Rattle.link_buffers.proofs.FirstItems.{without_at, without_any}
+use Rattle.link_buffers.proofs.FirstPassingItem.{without_at, without_any}
 use Rattle.link_buffers.proofs.PartitionedLists.{filter_front, filter_rest, all_pairs_insert}
 use Rattle.link_buffers.proofs.DueOrder.{not_before_itself, rises_on, before_on, due_rises, before_is_not_after}
 use Rattle.link_buffers.proofs.DueOrder.{before_is_other, entry_is_itself, entry_from_test, same_from_neither}

@@ -1,7 +1,7 @@
-pub mod FirstItems
+pub mod FirstPassingItem
 pub mod MovedItems
 pub mod PartitionPoints
-pub mod Rings
+pub mod RingCopies
 pub mod PartitionedLists
 pub mod DueOrder
 pub mod EntryPositions

@@ -2,4 +2,4 @@
 pub mod Flights
 pub mod Halving
 pub mod Queues
-pub mod Rings
+pub mod RingCopies

@@ -5,7 +5,7 @@ ghost use Rattle.pals_model.specs.Flights.{oldest, without_oldest};
 ghost use Rattle.link_buffers.specs.proof.Flights.{flight_of, due_rounds, least};
 
 use crate::ring_middle::{standing_at, take_at};
-use crate::ring::{Ring, RingEntry, least_due, place_of_oldest, top_with};
+use crate::ring_entries::{Ring, RingEntry, least_due, place_of_oldest, top_with};
 use pals_base::{Nanos, NoMemory, Tuple};
 use pals_model::FlightCopy;
 use std::alloc::Global;
@@ -21,7 +21,7 @@ pub struct Flight {
 impl Model for Flight {
     ghost use Rattle.std.specs.Prelude.{◌-◌, ◌≤◌, length};
     ghost use Rattle.link_buffers.specs.proof.Flights.{FlightState};
-    ghost use Rattle.link_buffers.specs.proof.Rings.{copies_of, AreTopped};
+    ghost use Rattle.link_buffers.specs.proof.RingCopies.{copies_of, AreTopped};
 
     ghost Value = { FlightState };
 

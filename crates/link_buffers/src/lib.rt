@@ -7,7 +7,7 @@ mod halving;
 pub mod laws;
 mod ring_middle;
 pub mod due_queue;
-mod ring;
+mod ring_entries;
 pub mod slot;
 
 pub use flight::Flight;

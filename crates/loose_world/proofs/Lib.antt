@@ -1,9 +1,9 @@
 pub mod LinksFromNodes
-pub mod RowPrefixes
-pub mod EventSequences
+pub mod RowLoops
+pub mod EventsAndLines
 pub mod LooseRuns
 pub mod UndergoneEvents
-pub mod StepCounts
+pub mod StepAndSendCounts
 pub mod SentLines
 pub mod RoundCounts
 pub mod FinishedRows

@@ -8,7 +8,7 @@ use Rattle.pals_runs.specs.declared.events.Event.{Event}
 use Rattle.pals_bus.specs.BusValues.{BusValue, Happens}
 use Rattle.pals_bus.specs.LooseEvents.{GoesOn, HappensLoose}
 use Rattle.loose_world.specs.LooseRuns.{AllHappen, IsCutShort, told_by}
-use Rattle.loose_world.proofs.EventSequences.{turns_next, told_more}
+use Rattle.loose_world.proofs.EventsAndLines.{turns_next, told_more}
 
 -- ---- the first events of a list
 pub record AreDone (s : BusValue) (events : List Event) (first : ℕ) (t : BusValue) (old new : List ℕ) : Type 0 where

@@ -13,7 +13,7 @@ use Rattle.pals_model.specs.declared.design.Component.{Component}
 use Rattle.pals_model.specs.declared.design.DesignParts.{DesignParts}
 use Rattle.pals_model.specs.ComponentInputs.{rate_of, rate_in}
 use Rattle.pals_model.specs.DesignRules.{IsComponent}
-use Rattle.pals_model.proofs.FirstElements.{at_element}
+use Rattle.pals_model.proofs.FirstMatches.{at_element}
 use Rattle.pals_runs.specs.declared.journal.Phase.{Phase}
 use Rattle.pals_runs.specs.declared.journal.Phase.TheVariants.{Waiting, Running, Between, Holding, Done}
 use Rattle.pals_runs.specs.declared.events.Event.{Event}
@@ -33,7 +33,7 @@ use Rattle.loose_world.specs.LooseRuns.{InTurn}
 use Rattle.loose_world.specs.proof.UndergoneEvents.{Undergoes, IsLeftBy, IsReplayed}
 use Rattle.loose_world.specs.proof.EventSenders.{with_sender, senders}
 use Rattle.loose_world.proofs.SentLines.{and_sender}
-use Rattle.loose_world.proofs.StepCounts.{step_counts}
+use Rattle.loose_world.proofs.StepAndSendCounts.{step_counts}
 use Rattle.loose_world.proofs.UndergoneEvents.{stays_replayed, opens_replayed, events_replay}
 
 -- ---- one event

@@ -28,7 +28,7 @@ use Rattle.bus_machine.specs.Machine.{Send, IsStep, flight_after_send, after_sen
 use Rattle.bus_machine.specs.Agreement.{IsCopy, Agrees}
 use Rattle.bus_machine.specs.proof.MachineLaws.{IsRunOf}
 use Rattle.bus_machine.specs.WorldTexts.{sender, sends_of, sent_line, sent_lines}
-use Rattle.bus_machine.proofs.ReplayAgreement.{step_keeps_agreement}
+use Rattle.bus_machine.proofs.RunAgreement.{step_keeps_agreement}
 use Rattle.bus_machine.proofs.ListsAndFlights.{numbered_at, oldest_is_one}
 use Rattle.bus_machine.proofs.NodeAgreement.{MaySend}
 use Rattle.bus_machine.proofs.AgreementChanges.{node_set}
@@ -41,7 +41,7 @@ use Rattle.loose_world.specs.proof.UndergoneEvents.{Undergoes, IsLeftBy, IsRepla
 use Rattle.loose_world.specs.proof.EventSenders.{senders, HasSent}
 use Rattle.loose_world.proofs.RoundCounts.{sent_more, nothing_sent, rounds_are_sent}
 use Rattle.loose_world.proofs.SentLines.{round_lines, event_lines, and_sender, one_event}
-use Rattle.loose_world.proofs.StepCounts.{sender_before, sender_is_there}
+use Rattle.loose_world.proofs.StepAndSendCounts.{sender_before, sender_is_there}
 use Rattle.loose_world.proofs.UndergoneEvents.{makes_send, stays_replayed, opens_replayed, events_replay}
 
 -- ---- the links from a node

@@ -11,13 +11,13 @@ use Rattle.bus_machine.specs.States.{Run}
 use Rattle.bus_machine.specs.Machine.{BusEvent, Start, Step, Finish, Send, Arrive, Drop, Repeat, IsStep}
 use Rattle.bus_machine.specs.proof.MachineLaws.{IsRunOf}
 use Rattle.bus_machine.specs.Replay.{Replays, opens, goes_on, entries}
-use Rattle.bus_machine.proofs.ReplayAgreement.{opening_agrees, step_keeps_agreement}
+use Rattle.bus_machine.proofs.RunAgreement.{opening_agrees, step_keeps_agreement}
 use Rattle.pals_bus.specs.BusValues.{BusValue, Happens}
 use Rattle.pals_bus.specs.proof.NodeAndCodeValues.{opening_bus}
 use Rattle.pals_bus.specs.LooseEvents.{loose_event, HappensLoose, GoesOn}
 use Rattle.loose_world.specs.LooseRuns.{InTurn, AllHappen}
 use Rattle.loose_world.specs.proof.UndergoneEvents.{event_of, Makes, Undergoes, IsLeftBy, IsReplayed}
-use Rattle.loose_world.proofs.EventSequences.{turns_weaker}
+use Rattle.loose_world.proofs.EventsAndLines.{turns_weaker}
 
 -- ---- events of loose worlds
 loose_is : (e : Event) (what : BusEvent) → loose_event e ≡ Some what → event_of what ≡ e

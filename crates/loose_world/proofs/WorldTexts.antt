@@ -14,7 +14,7 @@ use Rattle.loose_world.specs.proof.FinishedRows.{finished_lines, common_lines}
 use Rattle.loose_world.specs.declared.loose_run.LooseEnd.TheVariants as end
 use Rattle.loose_world.specs.LooseRuns.{Tells}
 use Rattle.loose_world.specs.proof.UndergoneEvents.{IsLeftBy, IsReplayed}
-use Rattle.loose_world.proofs.EventSequences.{text_more}
+use Rattle.loose_world.proofs.EventsAndLines.{text_more}
 use Rattle.loose_world.proofs.UndergoneEvents.{left_by_loose}
 use Rattle.loose_world.proofs.JournalReplays.{journal_replays}
 use Rattle.loose_world.proofs.FinishedRows.{finished_rows, common_rows}

@@ -1,3 +1,3 @@
 pub mod ListsOfOptions
-pub mod ThreadLimits
-pub mod KeptBehaviours
+pub mod ThreadSizeLimits
+pub mod CachedBehaviours

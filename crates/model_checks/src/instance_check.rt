@@ -1,7 +1,7 @@
 //! From an instance to its design.
 ghost use Rattle.std.specs.Prelude.{◌≡◌, [], IfOk, IfErr};
 ghost use Rattle.aadl_tree.specs.proof.PackageViews.{placed};
-ghost use Rattle.model_violations.specs.proof.Violations.{shown};
+ghost use Rattle.model_violations.specs.proof.UnsortedFindings.{shown};
 ghost use Rattle.model_violations.specs.Violations.{AreViolations};
 ghost use Rattle.design_laws.specs.InstanceDesigns.{IsDesignOf};
 ghost use Rattle.model_checks.specs.proof.RefusedInstances.{IsRefused};

@@ -1,10 +1,10 @@
 //! The design of an instance.
 ghost use Rattle.std.specs.Prelude.{◌≡◌, IfOk, OnOk, All, MatchOption, map};
 ghost use Rattle.aadl_tree.specs.proof.PackageViews.{placed};
-ghost use Rattle.model_violations.specs.proof.Violations.{shown};
+ghost use Rattle.model_violations.specs.proof.UnsortedFindings.{shown};
 ghost use Rattle.design_laws.specs.InstanceDesigns as spec;
-ghost use Rattle.model_checks.specs.proof.KeptBehaviours.{AreKept};
-ghost use Rattle.model_checks.specs.proof.ThreadLimits.{IsWithinLimits};
+ghost use Rattle.model_checks.specs.proof.CachedBehaviours.{AreKept};
+ghost use Rattle.model_checks.specs.proof.ThreadSizeLimits.{IsWithinLimits};
 ghost use Rattle.model_checks.specs.proof.RefusedInstances.{HasNoDesign};
 
 use crate::resolved_behaviours::behaviour;

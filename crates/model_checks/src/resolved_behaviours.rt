@@ -8,8 +8,8 @@ ghost use Rattle.aadl_tree.specs.proof.PackageViews.{placed};
 ghost use Rattle.aadl_names.specs.ReferenceResolution.{implementation_at};
 ghost use Rattle.model_violations.specs.ThreadBehaviours.{IsSmall};
 ghost use Rattle.design_laws.specs.InstanceDesigns.{HasRules, thread_behaviour};
-ghost use Rattle.model_checks.specs.proof.ThreadLimits.{IsWithinLimits};
-ghost use Rattle.model_checks.specs.proof.KeptBehaviours.{behaviour_at, AreKept};
+ghost use Rattle.model_checks.specs.proof.ThreadSizeLimits.{IsWithinLimits};
+ghost use Rattle.model_checks.specs.proof.CachedBehaviours.{behaviour_at, AreKept};
 
 use aadl_instance::ThreadAt;
 use aadl_uses::Uses;

@@ -5,7 +5,7 @@ use Rattle.aadl_tree.specs.Declarations.{PackageTree}
 use Rattle.annex_resolve.specs.declared.violation.Violation.{Violation}
 use Rattle.component_checks.specs.Roots.{root_findings}
 use Rattle.component_checks.specs.Threads.{greatest_rate, thread_findings}
-use Rattle.model_violations.specs.Carriers.{carries}
+use Rattle.model_violations.specs.ConnectionsAndCarriers.{carries}
 use Rattle.model_violations.specs.UsedDeclarations.{has, type_used}
 use Rattle.model_violations.specs.DeclarationFindings.{declarations_findings}
 use Rattle.model_violations.specs.Violations.{Shown, rates_of, carriers_of, chain_findings, used_findings, findings}

@@ -5,7 +5,7 @@ use Rattle.std.proofs.lemmas.List.Folds.{list_any-append}
 use Rattle.std.proofs.Math.Bool.{or_assoc, or-false}
 use Rattle.annex_resolve.proofs.MappedLists.{map_next}
 use Rattle.aadl_instance.specs.declared.chain.Chain.{Chain}
-use Rattle.model_violations.specs.Carriers.{carries}
+use Rattle.model_violations.specs.ConnectionsAndCarriers.{carries}
 use Rattle.model_violations.specs.Violations.{place_of}
 
 pub carries-append : (a b : List (ℕ × ℕ)) (n i : ℕ) → carries (a ++ b) n i ≡ (carries a n i || carries b n i)

@@ -8,7 +8,7 @@ use Rattle.std.proofs.lemmas.Option.{slice_get-map}
 use Rattle.pals_base.specs.declared.limits.TheConstants.{RATE}
 use Rattle.aadl_tree.specs.Declarations.{PackageTree}
 use Rattle.aadl_uses.specs.declared.thread_locations.ThreadAt.{ThreadAt}
-use Rattle.component_checks.specs.DesignNumbers.{divides, is_rate, rate_of}
+use Rattle.component_checks.specs.BoundsAndRates.{divides, is_rate, rate_of}
 use Rattle.component_checks.specs.Threads.{thread_rate, greater_rate, greatest_rate, root_period, own_period}
 
 passed_by : (b : Bool) (n k : ℕ) → cond b (Some n) None ≡ Some k → (b ≡ true) × (n ≡ k)

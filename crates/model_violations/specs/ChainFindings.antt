@@ -7,11 +7,11 @@ use Rattle.aadl_tree.specs.Declarations.{Connection, PackageTree}
 use Rattle.aadl_uses.specs.declared.thread_locations.ThreadAt.{ThreadAt}
 use Rattle.aadl_instance.specs.declared.chain.Chain.{Chain}
 use Rattle.annex_resolve.specs.declared.violation.Violation.{Violation}
-use Rattle.annex_resolve.specs.Scopes.{found_if}
+use Rattle.annex_resolve.specs.NamesAndFindings.{found_if}
 use Rattle.annex_resolve.specs.declared.violation.TheConstants.{NOT_DELAYED, STRAY_ADAPTOR}
-use Rattle.component_checks.specs.Rates.{adaptor_named, pair_findings}
+use Rattle.component_checks.specs.RateFindings.{adaptor_named, pair_findings}
 use Rattle.model_violations.specs.ChainEnds.{end_name, end_kind, end_rate}
-use Rattle.model_violations.specs.Carriers.{connection_of, is_delayed, adaptor_text}
+use Rattle.model_violations.specs.ConnectionsAndCarriers.{connection_of, is_delayed, adaptor_text}
 
 -- on the rates at both ends; without one of them nothing is found
 abbrev pub rated : ℕ → List ℕ → Option (Option Adaptor) → Option Kind → Option ℕ → Option ℕ → List Violation

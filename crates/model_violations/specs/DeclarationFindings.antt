@@ -9,7 +9,7 @@ use Rattle.component_checks.specs.Times.{list_big}
 use Rattle.component_checks.specs.Types.{port_findings}
 use Rattle.model_violations.specs.ConnectionFindings.{connections_findings}
 use Rattle.model_violations.specs.IgnoredProperties.{is_root_type}
-use Rattle.aadl_names.specs.declared.property_holder.PropertyHolder.TheVariants as holders
+use Rattle.aadl_names.specs.declared.recognised_properties.PropertyHolder.TheVariants as holders
 use Rattle.model_violations.specs.ThreadBehaviours as threads
 
 -- ---- a type: its ports, and times above an hour

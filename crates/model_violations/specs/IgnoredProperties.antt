@@ -8,11 +8,11 @@ use Rattle.aadl_tree.specs.Values.{Association, Associations}
 use Rattle.aadl_tree.specs.Annexes.{VariableDeclaration, Annex}
 use Rattle.aadl_tree.specs.Declarations.{Feature, Subcomponent, Connection, TypeDeclaration, Implementation}
 use Rattle.aadl_tree.specs.Declarations.{Declaration, type, implementation, PackageTree}
-use Rattle.aadl_names.specs.declared.property_holder.PropertyHolder.{PropertyHolder}
+use Rattle.aadl_names.specs.declared.recognised_properties.PropertyHolder.{PropertyHolder}
 use Rattle.aadl_names.specs.BehaviourAnnexes.{variables_in}
 use Rattle.aadl_names.specs.RecognisedProperties.{listed, counts, is_named, name_of, recognised, association_name}
 use Rattle.aadl_names.specs.ReferenceResolution.{implementation_at, type_number}
-use Rattle.aadl_names.specs.declared.property_holder.PropertyHolder.TheVariants as holders
+use Rattle.aadl_names.specs.declared.recognised_properties.PropertyHolder.TheVariants as holders
 
 -- it applies elsewhere, or is not recognised at such a place
 abbrev pub is_ignored : PropertyHolder → Association ℕ → Bool

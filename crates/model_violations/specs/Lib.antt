@@ -5,7 +5,7 @@ pub mod UsedDeclarations
 pub mod DeclarationFindings
 pub mod Violations
 pub mod ChainEnds
-pub mod Carriers
+pub mod ConnectionsAndCarriers
 pub mod ChainFindings
 pub mod ConnectionFindings
 pub mod proof

@@ -13,11 +13,11 @@ use Rattle.aadl_lex.specs.Rules.{decimal, most}
 use Rattle.aadl_tree.specs.Names.{Identifier, identifiers, listed_in}
 use Rattle.aadl_tree.specs.Declarations.{Feature, Implementation, PackageTree}
 use Rattle.aadl_tree.specs.Annexes.{VariableDeclaration, AnnexTree}
-use Rattle.aadl_names.specs.declared.property_holder.PropertyName.TheVariants.{Initial}
+use Rattle.aadl_names.specs.declared.recognised_properties.PropertyName.TheVariants.{Initial}
 use Rattle.aadl_names.specs.RecognisedProperties.{association_named, association_value, name_of, only_text}
 use Rattle.aadl_names.specs.ReferenceResolution.{ports_of}
 use Rattle.component_checks.specs.Types.{is_in}
-use Rattle.annex_resolve.specs.declared.declared_values.DeclaredValues.{DeclaredValues}
+use Rattle.annex_resolve.specs.declared.ports_and_variables.DeclaredValues.{DeclaredValues}
 use Rattle.annex_resolve.specs.declared.scope.Scope.{Scope}
 use Rattle.annex_resolve.specs.declared.scope.DeclaredName.{DeclaredName}
 use Rattle.annex_resolve.specs.declared.scope.Meaning.TheVariants.{InPort, OutPort, Variable as VariableNumber}

@@ -4,7 +4,7 @@ ghost use Rattle.aadl_tree.specs.proof.PlaceMaps.{kept_place};
 ghost use Rattle.aadl_tree.specs.proof.PackageViews.{placed};
 ghost use Rattle.aadl_tree.specs.proof.DeclarationViews.{connection_view};
 ghost use Rattle.component_checks.specs.proof.ChainProperties.{carried_by};
-ghost use Rattle.model_violations.specs.Carriers as spec;
+ghost use Rattle.model_violations.specs.ConnectionsAndCarriers as spec;
 
 use aadl_instance::ConnAt;
 use aadl_names::declarations_by_number::implementation_at;
@@ -63,7 +63,7 @@ impl Model for Carriers {
 
 impl Carriers {
     ghost use Rattle.std.specs.Prelude.{◌≡◌, ◌&&◌, ◌||◌, ℕ, nat_eq, [], OnOk};
-    ghost use Rattle.model_violations.specs.Carriers.{carries};
+    ghost use Rattle.model_violations.specs.ConnectionsAndCarriers.{carries};
 
     /// An empty set. It takes no memory.
     pub fn new(alloc: Global) -> Carriers

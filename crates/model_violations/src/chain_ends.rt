@@ -16,7 +16,7 @@ use pals_base::{Kind, NoMemory, NodeNo, Text, TryClone};
 use std::alloc::Global;
 
 /// The number of the implementation of a thread.
-#[tactic(auto, using(crate::proofs::ConnectionEnds::target_below))]
+#[tactic(auto, using(crate::proofs::ConnectionEndTypes::target_below))]
 pub fn component_number(uses: &Uses<'_>, thread: &ThreadAt) -> Option<usize>
     ensures { option_and_then (implementation_at (placed uses.now.names.tree.now)) result ≡ spec.component_of (placed uses.now.names.tree.now) thread.now }
 {

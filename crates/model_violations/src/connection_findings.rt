@@ -10,7 +10,7 @@ ghost use Rattle.aadl_tree.specs.proof.DeclarationViews.{connection_view, implem
 ghost use Rattle.aadl_names.specs.ReferenceResolution.{features_of, implementation_at, type_numbered};
 ghost use Rattle.aadl_uses.specs.Wiring.{wire_of};
 ghost use Rattle.component_checks.specs.proof.ChainProperties.{carried_by};
-ghost use Rattle.model_violations.specs.Carriers.{carries};
+ghost use Rattle.model_violations.specs.ConnectionsAndCarriers.{carries};
 ghost use Rattle.model_violations.specs.ConnectionFindings as spec;
 ghost use Rattle.model_violations.specs.proof.NumberedConnections.{IsConnection};
 

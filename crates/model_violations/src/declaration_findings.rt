@@ -8,7 +8,7 @@ ghost use Rattle.aadl_tree.specs.proof.DeclarationViews.{type_view};
 ghost use Rattle.aadl_names.specs.ReferenceResolution.{implementation_at, is_thread};
 ghost use Rattle.model_violations.specs.ThreadBehaviours.{IsSmall};
 ghost use Rattle.model_violations.specs.IgnoredProperties.{is_root_type};
-ghost use Rattle.model_violations.specs.Carriers.{carries};
+ghost use Rattle.model_violations.specs.ConnectionsAndCarriers.{carries};
 ghost use Rattle.model_violations.specs.UsedDeclarations.{has};
 ghost use Rattle.model_violations.specs.DeclarationFindings as spec;
 

@@ -5,7 +5,7 @@ ghost use Rattle.aadl_tree.specs.proof.PackageViews.{placed};
 ghost use Rattle.model_violations.specs.IgnoredProperties as spec;
 
 use crate::ignored_in_declaration::add_declaration;
-use crate::spellings::first_spellings;
+use crate::distinct_spellings::first_spellings;
 use aadl_tree::PackageTree;
 use aadl_uses::Uses;
 use pals_base::{Items, NoMemory, Text};

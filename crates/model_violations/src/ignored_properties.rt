@@ -12,7 +12,7 @@ ghost use Rattle.model_violations.specs.IgnoredProperties as spec;
 
 use aadl_names::PropertyHolder;
 use aadl_names::name_comparison::is_spelled;
-use aadl_names::spelling::spelled_name;
+use aadl_names::name_texts::spelled_name;
 use aadl_tree::{Annex, AnnexContent, Association, Name, VariableDeclaration};
 use pals_base::{Items, NoMemory, Text};
 use std::alloc::Global;

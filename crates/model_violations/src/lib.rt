@@ -10,15 +10,15 @@ pub mod declared_ports;
 pub mod ignored_in_package;
 pub mod ignored_in_declaration;
 pub mod ignored_properties;
-pub mod instance_findings;
+pub mod all_violations;
 pub mod sorted_findings;
 pub mod chain_ends;
-pub mod spellings;
+pub mod distinct_spellings;
 pub mod thread_behaviour;
 pub mod used_declarations;
 pub mod behaviour_setting;
 pub mod variables;
 
 pub use ignored_in_package::ignored_names;
-pub use instance_findings::violations;
+pub use all_violations::violations;
 pub use thread_behaviour::resolve_implementation;

@@ -16,10 +16,10 @@ ghost use Rattle.name_faults.specs.proof.NumberedImplementations.{StandsAt};
 
 use crate::behaviours::{TypedImplementation, check_behaviours};
 use crate::implementations::check_outside_behaviours;
-use crate::types::check_type;
+use crate::types_and_annexes::check_type;
 use crate::{AllPortNames, names_at};
 use aadl_names::Finder;
-use aadl_names::spelling::spelled_name;
+use aadl_names::name_texts::spelled_name;
 use aadl_tree::{Declaration, Implementation, PackageTree};
 use aadl_uses::{Uses, Wires};
 use std::alloc::AllocError;

@@ -3,7 +3,7 @@
 #![tactic(auto)]
 
 mod behaviours;
-pub mod categories;
+pub mod thread_category;
 mod subcomponents;
 mod connections;
 mod declarations;
@@ -21,7 +21,7 @@ pub mod behaviour_scope;
 pub mod shapes;
 pub mod duplicates_by_space;
 pub mod transitions;
-mod types;
+mod types_and_annexes;
 pub mod actions_and_expressions;
 
 pub use package::first_name_fault;

@@ -9,7 +9,7 @@ use Rattle.std.proofs.lemmas.Option.{same_Some, none-some}
 use Rattle.pals_base.specs.declared.limits.TheConstants.{READING}
 use Rattle.pals_base.specs.declared.values.NodeNo.{NodeNo}
 use Rattle.pals_base.specs.ClockPicks.{reached}
-use Rattle.pals_clock.specs.Clock.{ClockState, standing_at}
+use Rattle.pals_clock.specs.ClockStates.{ClockState, standing_at}
 use Rattle.pals_clock.specs.declared.clock.Clocks.{Clocks}
 use Rattle.pals_clock.specs.declared.clock.Clocks.TheVariants.{Meet, Lists}
 use Rattle.pals_clock.proofs.ReachedReadings.{reached_none}

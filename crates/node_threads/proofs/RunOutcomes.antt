@@ -1,7 +1,7 @@
 -- For `driven` and `run_threads`: what comes out of a run of a design, and that it opens anew as fresh.
 use Rattle.std.proofs.Common.{◌≡◌, Bool, true, false, List, map, Some, refl, sym, ap, ◌∙◌, subst}
 use Rattle.std.specs.Prelude.{Result, Ok, Err, IfOk}
-use Rattle.pals_clock.specs.Clock.{ClockState}
+use Rattle.pals_clock.specs.ClockStates.{ClockState}
 use Rattle.pals_clock.specs.declared.clock.Clocks.{Clocks}
 use Rattle.pals_clock.specs.declared.clock.Clocks.TheVariants.{Meet, Lists}
 use Rattle.bus_machine.specs.proof.MachineLaws.{IsRunOf}

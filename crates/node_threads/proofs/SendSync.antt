@@ -11,7 +11,7 @@ use Rattle.step_code.proofs.code.Code.TheSendSync.{the_send as code_send, the_sy
 use Rattle.link_buffers.proofs.slot.Slot.TheSendSync.{the_send as slot_send}
 use Rattle.link_buffers.proofs.flight.Flight.TheSendSync.{the_send as flight_send}
 use Rattle.link_buffers.proofs.due_queue.DueQueue.TheSendSync.{the_send as queue_send}
-use Rattle.pals_bus.proofs.outgoing.Outgoing.TheSendSync.{the_send as outgoing_send}
+use Rattle.pals_bus.proofs.outgoing_links.Outgoing.TheSendSync.{the_send as outgoing_send}
 use Rattle.pals_bus.proofs.target_list.TargetList.TheSendSync.{the_send as targets_send}
 use Rattle.step_vm.proofs.room.Room.TheSendSync.{the_send as room_send}
 use Rattle.pals_clock.proofs.clock.ListClock.TheSendSync.{the_send as clock_send}
@@ -45,7 +45,7 @@ use Rattle.pals_model.specs.contracts.design.DesignParts.{the_field as design_pa
 use Rattle.pals_model.specs.contracts.design.Design.{the_field as design}
 use Rattle.bus_machine.specs.contracts.plan.Plan.{the_field as plan}
 use Rattle.pals_node.specs.contracts.plan.NodePlan.{the_field as node_plan}
-use Rattle.pals_node.specs.contracts.fields.NodeFields.{the_field as node_fields, the_type as node_fields_type}
+use Rattle.pals_node.specs.contracts.node_fields.NodeFields.{the_field as node_fields, the_type as node_fields_type}
 use Rattle.pals_node.specs.contracts.node.Node.{the_field as node}
 use Rattle.pals_bus.specs.contracts.node_list.NodeList.{the_field as node_list}
 use Rattle.pals_bus.specs.contracts.node_list.NodeList.TheInside.{the_type as node_list_inside}

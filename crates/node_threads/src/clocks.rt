@@ -1,7 +1,7 @@
 //! The clocks of a run's nodes: what they show, and lists of which nothing is picked.
 ghost use Rattle.std.specs.Prelude.{◌≡◌, List, map, All, IsTrue, IfOk, OnErr, true};
 ghost use Rattle.std.specs.List.Sorted.{IsNonDecreasing};
-ghost use Rattle.pals_clock.specs.Clock.{ClockState, unpicked};
+ghost use Rattle.pals_clock.specs.ClockStates.{ClockState, unpicked};
 ghost use Rattle.pals_clock.specs.declared.clock.Clocks.TheVariants.{Lists};
 ghost use Rattle.node_threads.specs.proof.SharedCourses.{Stays, IsOpen, IsNext, IsReady, Looks, EndsAt, fresh_of};
 

@@ -1,18 +1,18 @@
 //! The nodes of a bus in threads: each goes by its clock, under one lock, and its jobs run outside it.
 #![tactic(auto)]
 
-mod sleeper;
+mod sleeping_thread;
 mod wake_signals;
 mod clocks;
 mod course;
-mod remaining_nodes;
+mod drive_remaining;
 mod node_end;
-mod gates;
+mod job_observers;
 mod host;
 mod locked;
 mod opening_course;
 mod sleepers;
-mod thread_starters;
+mod thread_admission;
 mod threads;
 mod under_lock;
 mod awaited_sources;
@@ -20,7 +20,7 @@ mod wake_list;
 mod workers;
 
 pub use node_end::NodeEnd;
-pub use gates::{Gate, NoGate};
+pub use job_observers::{Gate, NoGate};
 pub use host::Host;
-pub use thread_starters::{FakeStarter, Starter, ThreadStarter};
+pub use thread_admission::{FakeStarter, Starter, ThreadStarter};
 pub use threads::{RunEnd, run_threads};

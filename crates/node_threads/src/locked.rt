@@ -5,7 +5,7 @@ ghost use Rattle.run_laws.specs.Runs.{IsLeast};
 ghost use Rattle.node_threads.specs.proof.SharedCourses.{Stays, IsOpen, IsDone};
 ghost use Rattle.node_threads.specs.proof.Sleepers.{seat_at, Waits};
 
-use crate::sleeper::Sleeper;
+use crate::sleeping_thread::Sleeper;
 use crate::course::SharedRun;
 use crate::sleepers::Sleepers;
 use crate::under_lock::NextMove;

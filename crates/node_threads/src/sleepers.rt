@@ -2,11 +2,11 @@
 ghost use Rattle.std.specs.Prelude.{◌≡◌, ◌<◌, ◌≤◌, ℕ, length, replicate, IsTrue, IfOk, IfSome, Some, true, false};
 ghost use Rattle.run_laws.specs.Runs.{IsLeast};
 ghost use Rattle.node_threads.specs.proof.SharedCourses.{IsOpen, IsDone};
-ghost use Rattle.node_threads.specs.declared.sleeper.Sleeper.{Sleeper};
+ghost use Rattle.node_threads.specs.declared.sleeping_thread.Sleeper.{Sleeper};
 ghost use Rattle.node_threads.specs.proof.Sleepers.{no_wakes, is_to_ring, without_bell, free_seat, seat_at, with_seat};
 ghost use Rattle.node_threads.specs.proof.Sleepers.{IsAbove, IsHourOver, Waits, Rouses};
 
-use crate::sleeper::Sleeper;
+use crate::sleeping_thread::Sleeper;
 use crate::course::SharedRun;
 use crate::wake_list::WakeList;
 use pals_base::limits::READING;

@@ -6,14 +6,14 @@ ghost use Rattle.node_threads.specs.proof.NodeEnds.{IsOutcome};
 
 use crate::wake_signals::WakeSignals;
 use crate::course::SharedRun;
-use crate::remaining_nodes::drive_with_spare;
+use crate::drive_remaining::drive_with_spare;
 use crate::node_end::NodeEnd;
-use crate::gates::Gate;
+use crate::job_observers::Gate;
 use crate::host::Host;
 use crate::locked::Locked;
 use crate::opening_course::open_with_spare;
 use crate::sleepers::Sleepers;
-use crate::thread_starters::Starter;
+use crate::thread_admission::Starter;
 use crate::workers::work_all;
 use pals_base::{Items, NoMemory};
 use pals_bus::Bus;

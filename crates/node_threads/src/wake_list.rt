@@ -1,9 +1,9 @@
 //! Which threads are to be woken.
 ghost use Rattle.std.specs.Prelude.{◌≡◌, IfSome, Some, false, true, slice_index_or};
-ghost use Rattle.node_threads.specs.declared.sleeper.Sleeper.{Sleeper};
+ghost use Rattle.node_threads.specs.declared.sleeping_thread.Sleeper.{Sleeper};
 ghost use Rattle.node_threads.specs.proof.Sleepers.{no_wakes, with_rung, is_to_ring, without_bell};
 
-use crate::sleeper::Sleeper;
+use crate::sleeping_thread::Sleeper;
 use pals_base::limits::COMPONENTS;
 
 /// The nodes whose threads are to be woken, and whether the calling thread is. They are noted under the

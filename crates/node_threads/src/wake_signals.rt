@@ -2,7 +2,7 @@
 //! and who is woken is seen by other threads alone, so no clause speaks of it.
 ghost use Rattle.std.specs.Prelude.{◌≡◌, IfOk, vec_len};
 
-use crate::sleeper::Sleeper;
+use crate::sleeping_thread::Sleeper;
 use crate::locked::Locked;
 use pals_base::{NoMemory, NodeNo};
 use std::alloc::Global;

@@ -23,7 +23,7 @@ use Rattle.pals_base.specs.Actions.{acts}
 use Rattle.pals_base.specs.SingleStep.{Fired, HasShape, holding, is_present, silence, completes, may_begin, is_complete}
 use Rattle.pals_base.specs.SingleStep.{leaving, is_dispatch, opens, first_open, along, settled, dispatched, reaction}
 use Rattle.pals_base.specs.SingleStep.{outcome, unless_halted, fire, initial}
-use Rattle.pals_base.specs.Kinds.{are_sound}
+use Rattle.pals_base.specs.TypingRules.{are_sound}
 use Rattle.pals_base.specs.BehaviourRules.{has_condition, is_edge, dispatch_count, is_always, ends_unguarded, has_ways, IsWay}
 use Rattle.pals_base.specs.BehaviourRules.{IsBehaviour}
 use Rattle.pals_base.specs.proof.SettledStates.{settles}

@@ -5,7 +5,7 @@ pub mod Expressions
 pub mod Actions
 pub mod SingleStep
 pub mod StepSequences
-pub mod Kinds
+pub mod TypingRules
 pub mod BehaviourRules
 pub mod Adaptors
 pub mod AllowedAdaptors

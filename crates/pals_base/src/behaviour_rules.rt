@@ -12,7 +12,7 @@ mod states;
 
 use crate::behaviour::{Behaviour, BehaviourParts, Guard, Transition};
 use crate::items::Items;
-use crate::kinds::Kinds;
+use crate::expression_kinds::Kinds;
 use crate::names::{add_names, are_distinct, are_words};
 use crate::text::Text;
 use crate::values::NoMemory;

@@ -19,7 +19,7 @@ use Rattle.pals_bus.specs.BusValues.{BusValue, Happens}
 use Rattle.pals_bus.specs.proof.BusInvariant.{Keeps, owed, run_of, state_of, value_of}
 use Rattle.pals_bus.specs.proof.DueQueues.{is_copy_of}
 use Rattle.pals_bus.specs.proof.DueMessages.{TakesDue, takes_next, AreLeft}
-use Rattle.pals_bus.proofs.EqualDueReadings.{SameDue, same_dues}
+use Rattle.pals_bus.proofs.CopiesDueTogether.{SameDue, same_dues}
 use Rattle.pals_bus.proofs.DueEntries.{if_some, copy_there, link_there}
 use Rattle.pals_bus.proofs.DueArrivals.{first_flies, first_in_flight, is_next, left_after}
 

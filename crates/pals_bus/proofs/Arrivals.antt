@@ -34,7 +34,7 @@ use Rattle.pals_bus.proofs.QueueChanges.{queues-set}
 use Rattle.pals_bus.proofs.EventInvariants.{node_happens}
 use Rattle.pals_bus.proofs.NodeEvents.{unsent_before}
 use Rattle.pals_bus.proofs.TakenMessages.{Takes, same_count, some_in_flight, copies_left, target_within}
-use Rattle.pals_bus.proofs.BusViews.{agrees}
+use Rattle.pals_bus.proofs.InvariantConsequences.{agrees}
 
 -- ---- the slot
 wide_slots : (o : Option Component) (port n : ℕ) → ((c : Component) → o ≡ Some c → n ≡ length c.behaviour.ins)

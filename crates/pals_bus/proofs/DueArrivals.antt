@@ -21,8 +21,8 @@ use Rattle.bus_machine.specs.Machine.{Arrive}
 use Rattle.pals_bus.specs.BusValues.{BusValue, Happens}
 use Rattle.pals_bus.specs.proof.DueQueues.{comes_first, is_copy_of}
 use Rattle.pals_bus.specs.proof.DueMessages.{IsDueTo, IsNextDue, TakesDue, takes_none, takes_next, AreLeft, flying}
-use Rattle.pals_bus.proofs.QueueMessages.{contains_counted, copy_counts, counts, counts_elsewhere, count_oldest}
-use Rattle.pals_bus.proofs.EqualDueReadings.{SameDue, due_of}
+use Rattle.pals_bus.proofs.QueueFlightAgreement.{contains_counted, copy_counts, counts, counts_elsewhere, count_oldest}
+use Rattle.pals_bus.proofs.CopiesDueTogether.{SameDue, due_of}
 use Rattle.pals_bus.proofs.TakenMessages.{oldest_round}
 use Rattle.pals_bus.proofs.DueEntries.{if_some, copy_there, copy_parts, flies, due_of_entry, IsEntryOf, entry_of_due}
 use Rattle.pals_bus.proofs.DueEntries.{not_first}

@@ -28,7 +28,7 @@ use Rattle.pals_bus.specs.proof.DueQueues.{AreDueEntries, comes_first, is_copy_o
 use Rattle.pals_bus.specs.proof.DueMessages.{IsDueTo, HasDue, AreLeft, flying}
 use Rattle.pals_bus.proofs.FlightRooms.{flight_is}
 use Rattle.pals_bus.proofs.QueueChanges.{one_or_none}
-use Rattle.pals_bus.proofs.QueueMessages.{count_none}
+use Rattle.pals_bus.proofs.QueueFlightAgreement.{count_none}
 
 -- what stands in the place of an entry that is not there
 abbrev pub no_entry : DueEntry

@@ -15,7 +15,7 @@ use Rattle.bus_machine.specs.States.{no_link}
 use Rattle.pals_node.specs.proof.NodeValues.{NodeValue}
 use Rattle.pals_bus.specs.proof.Placeholders.{no_node_value, no_flight, no_queue}
 use Rattle.pals_bus.specs.proof.DueQueues.{AreQueues, AreQueuesAmid, is_awaited, is_between, is_copy_of, with_due}
-use Rattle.pals_bus.proofs.QueueMessages.{copy_added, count_none}
+use Rattle.pals_bus.proofs.QueueFlightAgreement.{copy_added, count_none}
 
 -- ---- one message
 pub with_due_spare : (queue : QueueState) (due : Option ℕ) (link : LinkNo) (round : ℕ)

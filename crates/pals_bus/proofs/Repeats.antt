@@ -27,7 +27,7 @@ use Rattle.pals_bus.specs.proof.DueQueues.{AreQueues, is_awaited, with_due}
 use Rattle.pals_bus.specs.proof.Placeholders.{no_flight, no_queue}
 use Rattle.pals_bus.proofs.FlightRooms.{copies-set, flight_is, flight_here}
 use Rattle.pals_bus.proofs.QueueChanges.{IsFewInto, count-less, few_into}
-use Rattle.pals_bus.proofs.QueueMessages.{copy_added}
+use Rattle.pals_bus.proofs.QueueFlightAgreement.{copy_added}
 use Rattle.pals_bus.proofs.QueueSends.{with_due_spare}
 use Rattle.pals_bus.proofs.EventInvariants.{flights_happen}
 use Rattle.pals_bus.proofs.NodeEvents.{longer}

@@ -30,7 +30,7 @@ use Rattle.pals_bus.specs.proof.DueQueues.{AreQueues, without_due}
 use Rattle.pals_bus.specs.proof.Placeholders.{no_flight, no_queue}
 use Rattle.pals_bus.proofs.FlightRooms.{copies-set, flight_is, rooms_kept}
 use Rattle.pals_bus.proofs.QueueChanges.{queue_more}
-use Rattle.pals_bus.proofs.QueueMessages.{copy_taken}
+use Rattle.pals_bus.proofs.QueueFlightAgreement.{copy_taken}
 use Rattle.pals_bus.proofs.EventInvariants.{flights_happen, keeps_room}
 use Rattle.pals_bus.proofs.NodeEvents.{longer}
 

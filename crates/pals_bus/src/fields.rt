@@ -12,7 +12,7 @@ ghost use Rattle.pals_bus.specs.proof.RoundMessages.{HasRoomFor};
 
 use crate::flights::{reserve_links, reserve_queues};
 use crate::node_list::NodeList;
-use crate::outgoing::Outgoing;
+use crate::outgoing_links::Outgoing;
 use link_buffers::{DueQueue, Flight};
 use pals_base::limits::PORTS;
 use pals_base::{Items, LinkNo, NoMemory, NodeNo, PortValue};

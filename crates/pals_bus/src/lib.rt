@@ -3,7 +3,7 @@
 //! call, so the journal replays to the bus, and the bus agrees with the composition.
 #![tactic(auto)]
 
-mod answers;
+mod meet_and_loose_fault;
 mod arrival;
 mod bus;
 mod due_messages;
@@ -16,18 +16,18 @@ mod meeting;
 mod node_list;
 mod events_of_nodes;
 mod opening;
-mod outgoing;
+mod outgoing_links;
 mod bus_error;
-mod run;
+mod run_parameters;
 mod missed_starts;
 mod target_list;
 
-pub use answers::{LooseFault, Meet};
+pub use meet_and_loose_fault::{LooseFault, Meet};
 pub use bus::Bus;
 pub use fields::BusFields;
 pub use loose::apply_loose;
 pub use node_list::NodeList;
-pub use outgoing::Outgoing;
+pub use outgoing_links::Outgoing;
 pub use bus_error::{
     BusError, BusFinishEnd, BusSendEnd, BusStartEnd, BusStepEnd, DueEnd, LinkEnd, MessageError,
 };

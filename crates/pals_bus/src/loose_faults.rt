@@ -2,7 +2,7 @@
 ghost use Rattle.std.specs.Prelude.{◌≡◌};
 ghost use Rattle.pals_bus.specs.proof.LooseFaults.{start_fault, step_fault, finish_fault, send_fault, link_fault};
 
-use crate::answers::LooseFault;
+use crate::meet_and_loose_fault::LooseFault;
 use crate::bus_error::{
     BusError, BusFinishEnd, BusSendEnd, BusStartEnd, BusStepEnd, LinkEnd, MessageError,
 };

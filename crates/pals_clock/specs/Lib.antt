@@ -1,1 +1,1 @@
-pub mod Clock
+pub mod ClockStates

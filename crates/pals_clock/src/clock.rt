@@ -4,7 +4,7 @@ ghost use Rattle.std.specs.Prelude.{MatchOption, slice_get, slice_index};
 ghost use Rattle.std.specs.List.Sorted.{IsNonDecreasing};
 ghost use Rattle.pals_base.specs.ClockPicks.{reached};
 ghost use Rattle.pals_base.specs.declared.limits.TheConstants.{READING};
-ghost use Rattle.pals_clock.specs.Clock.{AreReadings, unpicked, standing_at};
+ghost use Rattle.pals_clock.specs.ClockStates.{AreReadings, unpicked, standing_at};
 
 use pals_base::{Items, Nanos, NoMemory};
 use std::alloc::Global;
@@ -33,7 +33,7 @@ pub struct ListClock {
 impl Model for ListClock {
     ghost use Rattle.std.specs.Prelude.{◌≤◌, length, drop};
     ghost use Rattle.std.specs.List.Sorted.{IsNonDecreasing};
-    ghost use Rattle.pals_clock.specs.Clock.{AreReadings, ClockState};
+    ghost use Rattle.pals_clock.specs.ClockStates.{AreReadings, ClockState};
 
     ghost Value = { ClockState };
 

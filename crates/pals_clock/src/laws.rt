@@ -2,7 +2,7 @@
 ghost use Rattle.std.specs.Prelude.{◌≡◌, ◌<◌, ◌≤◌, ℕ, List, [], ◌∷◌, ◌++◌, length, All, filter, nat_le, slice_get};
 ghost use Rattle.std.specs.List.Sorted.{IsNonDecreasing};
 ghost use Rattle.pals_base.specs.ClockPicks.{picks, reached};
-ghost use Rattle.pals_clock.specs.Clock.{left_after};
+ghost use Rattle.pals_clock.specs.ClockStates.{left_after};
 
 /// A clock that answers gives the first of the picks, and what it then has left gives the others.
 /// One that ends has no pick, for that target or any later one, and it ends for every greater target

@@ -5,7 +5,7 @@ use Rattle.pals_model.specs.declared.design.DesignParts.{DesignParts}
 use Rattle.pals_model.specs.RoundTexts.{line_end}
 use Rattle.step_code.specs.declared.instr.CodeParts.{CodeParts}
 use Rattle.step_compiler.specs.LaidOutCode.{AreLaidOut}
-use Rattle.design_codes.specs.Behaviours.{behaviours}
+use Rattle.design_codes.specs.DesignBehaviours.{behaviours}
 use Rattle.design_codes.specs.OverlongCodes.{AreShort, IsFirstTooLong}
 use Rattle.bundle_designs.specs.declared.refusal.Refusal.{Refusal}
 use Rattle.bundle_designs.specs.declared.refusal.Refusal.TheVariants.{Text, Design, Memory}
@@ -17,7 +17,7 @@ use Rattle.code_listing.specs.NumberRanges.{AllFit}
 use Rattle.pals_code.specs.declared.answer.Answer.{Answer}
 use Rattle.pals_code.specs.declared.status.TheConstants.{DONE, CODE_TOO_LONG}
 use Rattle.pals_code.specs.BundleAnswers.{code_fault_line, IsRefused, IsListingAnswer}
-use Rattle.pals_code.specs.proof.AnswerStatuses.{status_of, text_of, Says, SaysWhy}
+use Rattle.pals_code.specs.proof.StatusAndText.{status_of, text_of, Says, SaysWhy}
 
 pub refused : (root bundle : List ℕ) (refusal : Refusal) (a : Answer) → IsRefusal root bundle refusal
     → SaysWhy refusal a

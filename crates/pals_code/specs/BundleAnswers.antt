@@ -6,7 +6,7 @@ use Rattle.pals_model.specs.RoundTexts.{line_end}
 use Rattle.pals_runs.specs.JournalLines.{node_word, spaced}
 use Rattle.step_code.specs.declared.instr.CodeParts.{CodeParts}
 use Rattle.step_compiler.specs.LaidOutCode.{AreLaidOut}
-use Rattle.design_codes.specs.Behaviours.{behaviours}
+use Rattle.design_codes.specs.DesignBehaviours.{behaviours}
 use Rattle.design_codes.specs.OverlongCodes.{AreShort, IsFirstTooLong}
 use Rattle.bundle_designs.specs.RefusedTexts.{IsTextRefused}
 use Rattle.bundle_designs.specs.BundleMeanings.{IsAccepted, IsPackageRefused}

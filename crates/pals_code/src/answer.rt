@@ -1,7 +1,7 @@
 //! Answers: what is written, and with which status.
 ghost use Rattle.std.specs.Prelude.{◌≡◌, IfOk, OnErr};
 ghost use Rattle.bundle_designs.specs.declared.refusal.Refusal.{Refusal};
-ghost use Rattle.pals_code.specs.proof.AnswerStatuses.{status_of, text_of, SaysWhy};
+ghost use Rattle.pals_code.specs.proof.StatusAndText.{status_of, text_of, SaysWhy};
 
 use crate::status::{
     CODE_TOO_LONG, DESIGN_REFUSED, DONE, READ_FAULT, TEXT_REFUSED, TOO_LONG, USAGE,

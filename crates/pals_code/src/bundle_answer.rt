@@ -6,7 +6,7 @@ ghost use Rattle.code_listing.specs.Listings.{listing};
 ghost use Rattle.code_listing.specs.NumberRanges.{AllFit};
 ghost use Rattle.pals_code.specs.declared.status.TheConstants.{CODE_TOO_LONG, DONE};
 ghost use Rattle.pals_code.specs.BundleAnswers.{code_fault_line, IsListingAnswer};
-ghost use Rattle.pals_code.specs.proof.AnswerStatuses.{status_of, text_of, Says};
+ghost use Rattle.pals_code.specs.proof.StatusAndText.{status_of, text_of, Says};
 
 use crate::answer::Answer;
 use bundle_designs::accept;

@@ -1,5 +1,5 @@
 //! The law of the listings that the program writes. The function does nothing: its contract is the law.
-ghost use Rattle.pals_code.specs.proof.EqualListings.{OneListingOneDesign};
+ghost use Rattle.pals_code.specs.proof.ListingInjectivity.{OneListingOneDesign};
 
 use code_listing::laws::listings_tell;
 use design_laws::packages::designs_of_texts_keep_their_rules;

@@ -2,7 +2,7 @@
 ghost use Rattle.std.specs.Prelude.{◌≡◌, ◌≢◌, ℕ, List, IfOk, OnErr, IsSome, option_copied};
 ghost use Rattle.pals_io.specs.SourcesAndSinks.{GivesWithin, after_taking, TakesPart};
 ghost use Rattle.pals_code.specs.Answers.{root_of, is_plain, reading, IsAnswer, IsSourceAnswer};
-ghost use Rattle.pals_code.specs.proof.AnswerStatuses.{status_of, text_of};
+ghost use Rattle.pals_code.specs.proof.StatusAndText.{status_of, text_of};
 
 use crate::answer::Answer;
 use crate::bundle_answer::answer_bundle;

@@ -13,11 +13,11 @@ use Rattle.pals_base.specs.declared.values.PortValue.TheVariants.{Absent, Presen
 use Rattle.pals_base.specs.declared.behaviour.PortDecl.{PortDecl}
 use Rattle.pals_base.specs.declared.behaviour.VarDecl.{VarDecl}
 use Rattle.pals_base.specs.declared.behaviour.BehaviourParts.{BehaviourParts}
-use Rattle.pals_base.specs.declared.kinds.Kinds.{Kinds}
+use Rattle.pals_base.specs.declared.expression_kinds.Kinds.{Kinds}
 use Rattle.pals_base.specs.Actions.{Effect, act, acts, act_first, for_each, numbers, with_vars, without_loop}
 use Rattle.pals_base.specs.Expressions.{is_true, eval}
-use Rattle.pals_base.specs.Kinds.{suits_variable, suits_port, kinds_of, turns, is_short, is_sound, are_sound}
-use Rattle.pals_base.specs.Kinds.{branches_are_sound}
+use Rattle.pals_base.specs.TypingRules.{suits_variable, suits_port, kinds_of, turns, is_short, is_sound, are_sound}
+use Rattle.pals_base.specs.TypingRules.{branches_are_sound}
 use Rattle.pals_base.specs.PlainTrees.{Action, Assign, Emit, If, For, Actions, Nothing, Do, Branches, NoBranch, Where}
 use Rattle.pals_model.specs.proof.FittingValues.{Fits, PortFits, VarsFit, HeldFit, PortsFit}
 use Rattle.pals_model.proofs.AllElements.{set_keeps, then_ok, on_ok, if_ok}

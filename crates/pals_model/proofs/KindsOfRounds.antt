@@ -32,7 +32,7 @@ use Rattle.pals_model.proofs.CompositionLaws.{state_begins, state_goes_on, messa
 use Rattle.pals_model.proofs.CompositionLaws.{links_begin_absent}
 use Rattle.pals_model.proofs.RootInputLaws.{feed_has_root, feeds_have_root_kind}
 use Rattle.pals_model.proofs.ShapeLaws.{state_has_shape, is_behaviour, component_at}
-use Rattle.pals_model.proofs.FirstElements.{found_at, at_element}
+use Rattle.pals_model.proofs.FirstMatches.{found_at, at_element}
 use Rattle.pals_model.specs.proof.FittingValues.{PortFits, TupleFits, PortsFit, FrameFits, link_kind, EnvFits}
 use Rattle.pals_model.specs.proof.CompositionLaws.Kinds.{StatesFit, MessagesFit, PartFits, PartsFit}
 use Rattle.pals_model.proofs.AllElements.{index_fits, map_all, every}

@@ -4,7 +4,7 @@ use Rattle.std.proofs.Common.{if◌then◌else◌, List, [], ◌∷◌, length, 
 use Rattle.std.proofs.Common.{refl, sym, subst, arith}
 use Rattle.std.specs.Prelude.{Result, Ok, Err, IfOk, slice_index_or}
 use Rattle.std.proofs.lemmas.List.Elements.{All-head, All-tail, All-filter, All-nil, All-cons}
-use Rattle.pals_model.proofs.FirstElements.{at_element}
+use Rattle.pals_model.proofs.FirstMatches.{at_element}
 use Rattle.pals_base.specs.declared.values.Trap.{Trap}
 use Rattle.pals_base.specs.declared.values.Frame.{Frame}
 use Rattle.pals_base.specs.declared.values.PortValue.{PortValue}
@@ -18,7 +18,7 @@ use Rattle.pals_base.specs.Expressions.{on_value}
 use Rattle.pals_base.specs.SingleStep.{Fired, HasShape, held_of, holding, is_present, silence, is_complete, leaving}
 use Rattle.pals_base.specs.SingleStep.{is_dispatch, opens, first_open, along, settled, dispatched, reaction, outcome}
 use Rattle.pals_base.specs.SingleStep.{unless_halted, fire, initial}
-use Rattle.pals_base.specs.Kinds.{literal_kinds, are_sound}
+use Rattle.pals_base.specs.TypingRules.{literal_kinds, are_sound}
 use Rattle.pals_base.specs.BehaviourRules.{has_first, has_condition, is_edge, IsBehaviour}
 use Rattle.pals_base.specs.StepSequences.{frame_after, outputs}
 use Rattle.pals_base.specs.PlainTrees.{Edge}

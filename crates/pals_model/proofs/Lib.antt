@@ -3,12 +3,12 @@ pub mod CounterRounds
 pub mod SourceTables
 pub mod RootInputNames
 pub mod RootInputValues
-pub mod FirstElements
+pub mod FirstMatches
 pub mod SourceLaws
 pub mod ShapeLaws
 pub mod WordBytes
 pub mod NameLaws
-pub mod LinkNumbers
+pub mod FilteredLinks
 pub mod OverwrittenTuples
 pub mod RootInputLaws
 pub mod StepLaws

@@ -37,7 +37,7 @@ use Rattle.pals_model.specs.RoundTexts.{tap_lines, composed_lines, report_lines,
 use Rattle.pals_model.specs.DesignRules.{IsDesign, IsComponent, IsTap}
 use Rattle.pals_model.specs.proof.CompositionLaws.Lines.{IsLine, RowHasLines, ReportHasLines, TextSplits, RowSplits}
 use Rattle.pals_model.specs.proof.CompositionLaws.Lines.{ReportSplits}
-use Rattle.pals_model.proofs.FirstElements.{at_element}
+use Rattle.pals_model.proofs.FirstMatches.{at_element}
 use Rattle.pals_model.proofs.WordBytes.{all_pass, word_without, path_without}
 
 -- ---- pieces of lines

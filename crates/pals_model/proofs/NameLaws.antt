@@ -20,7 +20,7 @@ use Rattle.pals_model.specs.PortKinds.{ins_in}
 use Rattle.pals_model.specs.DesignRules.{IsDesign, IsTarget, IsLink, LinkPrecedes, port_place}
 use Rattle.pals_model.specs.proof.CompositionLaws.Names.{NodeIsFound, FoundNodeHasPath, TargetNamesDiffer, LinkIsFound}
 use Rattle.pals_model.specs.proof.CompositionLaws.Names.{FoundLinkHasName}
-use Rattle.pals_model.proofs.FirstElements.{at_element, first_at, found_at}
+use Rattle.pals_model.proofs.FirstMatches.{at_element, first_at, found_at}
 use Rattle.pals_model.proofs.ShapeLaws.{component_at, is_behaviour}
 use Rattle.pals_model.proofs.WordBytes.{IsWithout, all_pass, word_without, same_bytes, other_bytes, splits_at_last}
 

@@ -31,7 +31,7 @@ use Rattle.pals_model.specs.proof.CompositionLaws.Shapes.{AreVectors, AreTuples,
 use Rattle.pals_model.specs.proof.CompositionLaws.Shapes.{StepsGiveTuples, MessageHasRate, WaitingMessageHasRate}
 use Rattle.pals_model.specs.proof.CompositionLaws.Shapes.{PartHasShape}
 use Rattle.pals_model.proofs.CompositionLaws.{state_begins, state_goes_on, message_from_source, part_from_steps}
-use Rattle.pals_model.proofs.FirstElements.{at_element}
+use Rattle.pals_model.proofs.FirstMatches.{at_element}
 
 -- ---- columns
 length-upwards : (n : ℕ) → length (upwards 0 n) ≡ n

@@ -7,7 +7,7 @@ use Rattle.list_lemmas.proofs.ElementPairs.{AllPairs-slice_get}
 use Rattle.pals_model.specs.ComponentInputs.{link_goes_to, feed_goes_to, from_link, from_feed}
 use Rattle.pals_model.specs.DesignRules.{port_place, LinkPrecedes, FeedPrecedes, IsApart}
 use Rattle.pals_model.specs.proof.CompositionLaws.Sources.{LinkIsSource, FeedIsSource, NothingIsSource}
-use Rattle.pals_model.proofs.FirstElements.{at_element, first_at, none_passes}
+use Rattle.pals_model.proofs.FirstMatches.{at_element, first_at, none_passes}
 
 -- two in ports of other places are not the same
 goes_elsewhere : (node port n p : ℕ) → port_place n p ≢ port_place node port → (nat_eq n node && nat_eq p port) ≡ false

@@ -7,7 +7,7 @@ pub mod design;
 pub mod flight_copy;
 pub mod laws;
 pub mod outgoing_links;
-pub mod design_parts;
+pub mod rates_and_kinds;
 pub mod inputs_and_parts;
 mod same;
 pub mod sources;

@@ -5,7 +5,7 @@ use Rattle.pals_base.specs.declared.values.Frame.{Frame}
 use Rattle.pals_base.specs.SingleStep.{HasShape}
 use Rattle.pals_runs.specs.declared.journal.Phase.TheVariants.{Running}
 use Rattle.step_vm.specs.proof.RoomCapacity.{IsRoomOf}
-use Rattle.pals_node.specs.declared.fields.NodeFields.{NodeFields}
+use Rattle.pals_node.specs.declared.node_fields.NodeFields.{NodeFields}
 use Rattle.pals_node.specs.declared.job_memory.Memory.{Memory}
 use Rattle.pals_node.specs.proof.NodeValues.{Program, JobValue, job_at}
 use Rattle.pals_node.specs.proof.JobMemories.{HasSizes, IsMemoryFor, IsLeft}

@@ -1,4 +1,4 @@
-pub mod TuplePlaces
+pub mod TupleWrites
 pub mod ProgramResults
 pub mod StepEnds
 pub mod Plans

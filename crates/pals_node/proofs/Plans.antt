@@ -16,9 +16,9 @@ use Rattle.pals_model.specs.ComponentInputs.{sources_of}
 use Rattle.pals_model.specs.PortKinds.{outs_in}
 use Rattle.pals_model.specs.Composition.{taps_of}
 use Rattle.pals_model.specs.DesignRules.{IsDesign, IsComponent, IsLink, IsTap, greatest_rate}
-use Rattle.pals_model.proofs.FirstElements.{at_element}
+use Rattle.pals_model.proofs.FirstMatches.{at_element}
 use Rattle.bus_machine.specs.Plans.{component_at, no_component, plan_of, input_of, out_links_of}
-use Rattle.bus_machine.proofs.InputVectors.{length_sources}
+use Rattle.bus_machine.proofs.InputAgreement.{length_sources}
 use Rattle.pals_node.specs.proof.NodeInvariants.{IsPlan}
 
 -- ---- times

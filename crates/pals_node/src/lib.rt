@@ -5,7 +5,7 @@
 
 mod answers;
 mod written_tuples;
-mod fields;
+mod node_fields;
 mod inputs;
 mod job;
 mod instruction_key;

@@ -6,7 +6,7 @@ ghost use Rattle.pals_report.specs.CheckReports.{rate_of, time_line, shortest_wo
 
 use itoa::Buffer;
 use pals_base::{Nanos, NoMemory};
-use pals_model::design_parts::greatest_rate;
+use pals_model::rates_and_kinds::greatest_rate;
 use pals_model::{Component, DesignParts};
 use std::alloc::Global;
 

@@ -4,7 +4,7 @@ use Rattle.step_code.specs.declared.instr.CodeParts.{CodeParts}
 use Rattle.step_compiler.specs.LaidOutCode.{AreLaidOut}
 use Rattle.pals_model.specs.declared.design.DesignParts.{DesignParts}
 use Rattle.scenario_json.specs.declared.scenario.Scenario.{Scenario}
-use Rattle.design_codes.specs.Behaviours.{behaviours}
+use Rattle.design_codes.specs.DesignBehaviours.{behaviours}
 use Rattle.round_budget.specs.BudgetText.{Processor, fits_on, some_is_over, budget_text}
 use Rattle.round_budget.specs.Responses.{RespondInTime}
 use Rattle.analysis_texts.specs.BudgetedProcessors.{processor_of}

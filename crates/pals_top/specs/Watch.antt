@@ -4,7 +4,7 @@ use Rattle.pals_model.specs.declared.design.DesignParts.{DesignParts}
 use Rattle.scenario_json.specs.declared.scenario.Scenario.{Scenario}
 use Rattle.run_monitor.specs.FalseProperties.{is_violated}
 use Rattle.run_monitor.specs.WatchText.{watch_text}
-use Rattle.analysis_texts.specs.WatchedProperties.{named, formulas}
+use Rattle.analysis_texts.specs.MonitoredFormulas.{named, formulas}
 use Rattle.pals_top.specs.declared.status.TheConstants.{DONE, NOT_SO}
 
 -- what each property says in each round, over the states of the composition; not so where one is false at some round

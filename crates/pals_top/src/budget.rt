@@ -3,7 +3,7 @@ ghost use Rattle.std.specs.Prelude.{IfOk};
 ghost use Rattle.pals_bus.specs.proof.NodeAndCodeValues.{AreCodes};
 ghost use Rattle.step_compiler.specs.LaidOutCode.{AreLaidOut};
 ghost use Rattle.scenario_json.specs.proof.ScenarioFacts.{IsScenarioOf};
-ghost use Rattle.design_codes.specs.Behaviours.{behaviours};
+ghost use Rattle.design_codes.specs.DesignBehaviours.{behaviours};
 ghost use Rattle.pals_top.specs.ExecutionCommands.{Budget};
 ghost use Rattle.pals_top.specs.Budget.{IsBudgeted};
 ghost use Rattle.pals_top.specs.proof.StatusAndText.{status_of, text_of};

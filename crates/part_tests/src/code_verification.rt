@@ -1,5 +1,5 @@
 //! Which instructions are code, and what code weighs.
-use crate::codes::code;
+use crate::code_fixtures::code;
 use crate::step_outcomes::COUNTER;
 use pals_base::NoMemory;
 use std::alloc::Global;

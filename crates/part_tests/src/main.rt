@@ -9,7 +9,7 @@ mod parsed_behaviours;
 mod bounds;
 mod buffers;
 mod clocks;
-mod codes;
+mod code_fixtures;
 mod compiled_behaviours;
 mod step_outcomes;
 mod step_comparison;
@@ -22,7 +22,7 @@ use std::io;
 
 fn main(rt: HostRuntime) -> io::Result<()> {
     check(&rt, &compiled_behaviours::Behaviours, &["sizes", "steps"])?;
-    check(&rt, &codes::Codes, &["codes"])?;
+    check(&rt, &code_fixtures::Codes, &["codes"])?;
     tell_streams(&rt)?;
     tell_numbers(&rt)?;
     tell_lists(&rt)

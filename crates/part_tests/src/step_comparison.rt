@@ -1,5 +1,5 @@
 //! The steps of code beside those of the behaviour.
-use crate::codes::{frame, step};
+use crate::code_fixtures::{frame, step};
 use behaviour_sem::fire;
 use pals_base::{Behaviour, Frame, NoMemory, PortValue};
 use std::alloc::Global;

@@ -1,5 +1,5 @@
 //! What the steps of code leave.
-use crate::codes::{code, frame, step};
+use crate::code_fixtures::{code, frame, step};
 use pals_base::{Frame, NoMemory, PortValue, Trap};
 use std::alloc::Global;
 use step_code::{CodeFault, Instr};

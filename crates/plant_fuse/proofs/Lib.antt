@@ -11,13 +11,13 @@ pub mod NextRoundSolutions
 pub mod RoundUniqueness
 pub mod IteratedRounds
 pub mod FusiblePairs
-pub mod PairSteps
+pub mod NextPairSteps
 pub mod PartnerListLength
 pub mod TakenElements
 pub mod PairRoom
 pub mod PairWork
 pub mod ComponentPairs
-pub mod RoundReads
+pub mod SolvingReads
 pub mod ProductAdvance
 pub mod SolutionParts
 pub mod StateSolutions

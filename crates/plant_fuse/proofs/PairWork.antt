@@ -12,18 +12,18 @@ use Rattle.pals_model.specs.declared.design.DesignParts.{DesignParts}
 use Rattle.pals_model.specs.declared.inputs_and_parts.Part.{Part}
 use Rattle.pals_model.specs.declared.sources.PortSource.{PortSource}
 use Rattle.pals_model.specs.Composition.{no_frame}
-use Rattle.pals_runs.specs.declared.analysis_inputs.Pair.{Pair}
+use Rattle.pals_runs.specs.declared.vote_faults_and_pairs.Pair.{Pair}
 use Rattle.sync_product.specs.declared.round_inputs.RoundInputs.{RoundInputs}
 use Rattle.sync_product.specs.declared.stage.Stage.{Stage}
 use Rattle.sync_product.specs.declared.wiring.WiredComponent.{WiredComponent}
 use Rattle.sync_product.specs.proof.ComponentWiring.{IsWired}
 use Rattle.sync_product.specs.proof.Rounds.{IsStepped, vectors, own_rows, frames_of}
 use Rattle.sync_product.proofs.ComponentLists.{slice_get-set_same, entry_at}
-use Rattle.plant_fuse.specs.declared.sides.PairedComponent.{PairedComponent}
+use Rattle.plant_fuse.specs.declared.pair_steps.PairedComponent.{PairedComponent}
 use Rattle.plant_fuse.specs.declared.tables.Tables.{Tables}
 use Rattle.plant_fuse.specs.proof.Partners.{partner_of, all_partners}
 use Rattle.plant_fuse.specs.proof.DesignTables.{AreTables}
-use Rattle.plant_fuse.specs.proof.PairSides.{Seat, Work, seat_of, side_work, AreMade, AreSidesRun}
+use Rattle.plant_fuse.specs.proof.PairSteps.{Seat, Work, seat_of, side_work, AreMade, AreSidesRun}
 use Rattle.plant_fuse.specs.proof.RoundWork.{seat, IsPaired, HasWork, IsRun, StayBeside, IsRunAlone}
 use Rattle.plant_fuse.proofs.FunctionTables.{counted_at}
 use Rattle.plant_fuse.proofs.TakenElements.{get_set_other}

@@ -25,7 +25,7 @@ use Rattle.pals_model.specs.DesignRules.{IsDesign, IsLink}
 use Rattle.pals_model.specs.PortKinds.{outs_in}
 use Rattle.pals_model.proofs.CompositionLaws.{one_frame_each, state_begins, state_goes_on, steps_of_round-at}
 use Rattle.pals_model.proofs.ShapeLaws.{component_at, length-outputs}
-use Rattle.pals_model.proofs.FirstElements.{at_element}
+use Rattle.pals_model.proofs.FirstMatches.{at_element}
 use Rattle.plant_fuse.specs.FusedComposition.{IsPair, ArePairs, Inputs, inputs_to, outputs_in, left_by, round_tuple}
 use Rattle.plant_fuse.specs.FusedComposition.{message_on, messages_before, from_round, value_on, value_read, vector_of}
 use Rattle.plant_fuse.specs.FusedComposition.{IsFused}

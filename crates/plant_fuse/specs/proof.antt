@@ -6,7 +6,7 @@ pub mod RoundEquations
 pub mod Fusibility
 pub mod Partners
 pub mod DesignTables
-pub mod PairSides
+pub mod PairSteps
 pub mod RoundWork
 pub mod TakenElements
 pub mod Messages

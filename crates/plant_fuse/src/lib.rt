@@ -5,11 +5,11 @@
 mod fuse_end;
 pub mod laws;
 mod messages;
-mod pairs;
+mod fusibility;
 mod product;
 mod taken_stages;
 mod round;
-mod sides;
+mod pair_steps;
 mod tables;
 
 pub use fuse_end::FuseEnd;

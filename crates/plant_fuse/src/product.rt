@@ -8,7 +8,7 @@ ghost use Rattle.plant_fuse.specs.proof.FuseState.{begun, IsAdvanced};
 
 use crate::fuse_end::FuseEnd;
 use crate::messages::send_all;
-use crate::pairs::first_bad;
+use crate::fusibility::first_bad;
 use crate::round::run_all;
 use crate::tables::Tables;
 use pals_base::{Items, LinkNo, NoMemory, NodeNo, PortValue, Tuple};

@@ -2,14 +2,14 @@
 #![tactic(auto)]
 
 mod program_answer;
-mod rings;
+mod ring_check;
 mod answer_groups;
 mod case_series;
 mod audited_runs;
 
 use case_files::{asked, check_answer, text_of, word};
 use program_answer::{Transfer, ask};
-use rings::check_ring;
+use ring_check::check_ring;
 use case_series::answer_series;
 use std::sync::Wait;
 use std::thread::Threads;

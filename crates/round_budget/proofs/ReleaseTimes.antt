@@ -13,7 +13,7 @@ use Rattle.pals_model.specs.declared.design.Component.{Component}
 use Rattle.pals_model.specs.declared.design.DesignParts.{DesignParts}
 use Rattle.pals_model.specs.ComponentInputs.{rate_of, rate_in}
 use Rattle.pals_model.specs.DesignRules.{IsDesign, IsComponent, greatest_rate}
-use Rattle.pals_model.proofs.FirstElements.{at_element}
+use Rattle.pals_model.proofs.FirstMatches.{at_element}
 use Rattle.pals_model.proofs.ShapeLaws.{component_at}
 use Rattle.round_budget.specs.Budgets.{Release, release_of, releases_of, releases_in, releases}
 use Rattle.round_budget.specs.proof.BudgetLaws.{AreMembers}

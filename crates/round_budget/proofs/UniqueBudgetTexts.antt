@@ -2,7 +2,7 @@
 -- TextIsOne and VerdictIsOne.
 use Rattle.std.proofs.Common.{ap, List}
 use Rattle.step_code.specs.declared.instr.CodeParts.{CodeParts}
-use Rattle.step_compiler.proofs.LayoutUniqueness.{laid_out_codes_are_one}
+use Rattle.step_compiler.proofs.LayoutLaws.{laid_out_codes_are_one}
 use Rattle.round_budget.specs.BudgetText.{some_is_over, budget_text}
 use Rattle.round_budget.specs.proof.BudgetLaws.{TextIsOne, VerdictIsOne}
 

@@ -28,14 +28,14 @@ use Rattle.bus_machine.specs.Machine.{Arrive, arrival, early_stop, after}
 use Rattle.bus_machine.specs.Agreement.{Agrees}
 use Rattle.bus_machine.specs.proof.MachineLaws.{IsRunOf}
 use Rattle.run_laws.specs.Worlds.{World, reading_at, since_at, ready_at, sendings, world_after}
-use Rattle.bus_machine.proofs.ReplayAgreement.{step_keeps_agreement}
+use Rattle.bus_machine.proofs.RunAgreement.{step_keeps_agreement}
 use Rattle.bus_machine.proofs.AgreementChanges.{node_set, node_stays}
 use Rattle.run_laws.specs.proof.WorldInvariant.{IsOnce, copies, waits, taken, one_if, KeepsLink, KeepsTime}
 use Rattle.run_laws.proofs.Lists.{count_without}
 use Rattle.run_laws.proofs.WorldNodes.{Stands, stands_at, component_is}
 use Rattle.run_laws.proofs.WorldLinks.{comes_in_time, ComesInTime, is_kept, link_is, rule_of, one_of_true, one_of_false}
 use Rattle.run_laws.proofs.WorldLinks.{in_flight_counts, counts_in_flight}
-use Rattle.run_laws.proofs.WorldChanges.{same_at, changed, stands_put, keeps_again}
+use Rattle.run_laws.proofs.LocalWorldChanges.{same_at, changed, stands_put, keeps_again}
 use Rattle.run_laws.proofs.FaultlessEvents.{ArrivesInTime}
 
 -- ---- a round of the link

@@ -24,7 +24,7 @@ use Rattle.bus_machine.specs.MissedStarts.{sent_rounds}
 use Rattle.bus_machine.specs.Machine.{BusEvent, Arrive}
 use Rattle.bus_machine.specs.Targets.{next_in, target}
 use Rattle.bus_machine.specs.proof.MachineLaws.{IsRunOf}
-use Rattle.pals_clock.specs.Clock.{ClockState}
+use Rattle.pals_clock.specs.ClockStates.{ClockState}
 use Rattle.pals_clock.specs.declared.clock.Clocks.{Clocks}
 use Rattle.pals_clock.specs.declared.clock.Clocks.TheVariants.{Meet, Lists}
 use Rattle.run_laws.specs.Runs.{Shows, Does, Takes, IsAwaited, HasEnded, target_of, Runs}

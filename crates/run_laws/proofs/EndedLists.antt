@@ -3,7 +3,7 @@ use Rattle.std.proofs.Common.{◌≡◌, ◌≢◌, ℕ, List, [], slice_get, Op
 use Rattle.std.proofs.lemmas.Option.{same_Some}
 use Rattle.pals_base.specs.declared.values.NodeNo.{NodeNo}
 use Rattle.pals_base.specs.ClockPicks.{reached}
-use Rattle.pals_clock.specs.Clock.{ClockState}
+use Rattle.pals_clock.specs.ClockStates.{ClockState}
 use Rattle.pals_model.specs.ComponentInputs.{values_at}
 use Rattle.pals_runs.specs.declared.journal.Phase.{Phase}
 use Rattle.pals_runs.specs.declared.journal.Phase.TheVariants.{Waiting, Running, Between, Holding, Done}

@@ -11,7 +11,7 @@ use Rattle.pals_runs.specs.declared.journal.Stop.TheVariants as stop
 use Rattle.pals_runs.specs.declared.journal.JournalEntry.{JournalEntry}
 use Rattle.pals_runs.specs.declared.journal.JournalEntry.TheVariants as entry
 use Rattle.pals_runs.specs.JournalLines.{node_word, link_word}
-use Rattle.run_laws.specs.TraceLines.{of_node, of_link, entry_of, told}
+use Rattle.run_laws.specs.EntriesInLines.{of_node, of_link, entry_of, told}
 use Rattle.run_laws.specs.proof.EntryLines.{stop_form, entry_form, LinesTellEntries, LinesDiffer}
 use Rattle.run_laws.specs.Entries.{IsOfNode, IsOfLink, IsStopIn, IsEntryIn}
 use Rattle.run_laws.proofs.PlainNames.{node_found, link_found}

@@ -14,9 +14,9 @@ use Rattle.std.proofs.lemmas.Option.{get_or_from_slice_get}
 use Rattle.pals_base.specs.declared.values.NodeNo.{NodeNo}
 use Rattle.pals_base.specs.declared.values.LinkNo.{LinkNo}
 use Rattle.pals_base.specs.ClockPicks.{reached}
-use Rattle.pals_clock.specs.Clock.{ClockState, standing_at}
+use Rattle.pals_clock.specs.ClockStates.{ClockState, standing_at}
 use Rattle.pals_model.specs.declared.design.DesignParts.{DesignParts}
-use Rattle.pals_model.proofs.FirstElements.{at_element}
+use Rattle.pals_model.proofs.FirstMatches.{at_element}
 use Rattle.pals_runs.specs.declared.journal.Arrived.{Arrived}
 use Rattle.pals_runs.specs.declared.journal.Arrived.TheVariants.{Kept, Ignored, Early}
 use Rattle.pals_runs.specs.declared.journal.JournalEntry.{JournalEntry}
@@ -28,8 +28,8 @@ use Rattle.bus_machine.specs.Machine.{BusEvent, Start, Step, Finish, Send, Arriv
 use Rattle.bus_machine.specs.Replay.{entries, start_entry, stop_entry}
 use Rattle.bus_machine.specs.declared.node_action.NodeAction.{NodeAction}
 use Rattle.bus_machine.specs.Targets.{target}
-use Rattle.run_laws.specs.TraceLines.{timed}
-use Rattle.run_laws.specs.ShownReadings.{last_of, latest}
+use Rattle.run_laws.specs.EntriesInLines.{timed}
+use Rattle.run_laws.specs.JournalReadings.{last_of, latest}
 use Rattle.run_laws.specs.NodeActions.{upcoming}
 use Rattle.pals_clock.specs.declared.clock.Clocks.{Clocks}
 use Rattle.pals_clock.specs.declared.clock.Clocks.TheVariants.{Meet, Lists}

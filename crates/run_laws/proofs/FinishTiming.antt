@@ -31,8 +31,8 @@ use Rattle.run_laws.specs.proof.WorldInvariant.{IsInTime, IsReadySince, KeepsTim
 use Rattle.run_laws.proofs.TimeArithmetic.{finish_between, late_running}
 use Rattle.run_laws.proofs.WorldNodes.{fits_at, may_be, may_is, Stands, stands_at, left_in_time, both_in_time}
 use Rattle.run_laws.proofs.WorldNodes.{send_in_time, sends_in_time, phase_last, send_last, phase_agrees, next_alarm}
-use Rattle.run_laws.proofs.WorldChanges.{changed, same_links, stands_put, keeps_again, moved_here, moved_length}
-use Rattle.run_laws.proofs.WorldChanges.{moved_other}
+use Rattle.run_laws.proofs.LocalWorldChanges.{changed, same_links, stands_put, keeps_again, moved_here, moved_length}
+use Rattle.run_laws.proofs.LocalWorldChanges.{moved_other}
 use Rattle.run_laws.proofs.FaultlessEvents.{FinishesInTime}
 
 -- ---- what a node is after a step

@@ -37,7 +37,7 @@ use Rattle.pals_model.specs.RoundTexts.{value_text, state_name, state_text, vari
 use Rattle.pals_model.specs.RoundTexts.{tuple_text, taps_before, tap_line, round_line, part_lines, tap_lines}
 use Rattle.pals_model.specs.RoundTexts.{composed_lines}
 use Rattle.pals_model.specs.DesignRules.{IsDesign, IsComponent}
-use Rattle.pals_model.proofs.FirstElements.{at_element}
+use Rattle.pals_model.proofs.FirstMatches.{at_element}
 use Rattle.pals_model.proofs.WordBytes.{IsWithout, all_pass, word_without, path_without, other_bytes}
 use Rattle.run_laws.specs.LineForms.{Form, is, is_there, spelled, round_in, words_of, with_step, arrive_line}
 use Rattle.run_laws.specs.LineForms.{start_line, step_line, finish_line, send_line, drop_line, repeat_line, early_line}

@@ -24,8 +24,8 @@ use Rattle.bus_machine.specs.MissedStarts.{missing_link}
 use Rattle.bus_machine.specs.Machine.{BusEvent, Start, Step, Finish, Send, Arrive, Drop, Repeat, arrival, early_stop}
 use Rattle.bus_machine.specs.Replay.{Replays, entries, start_entry, stop_entry, opens as replay_opens}
 use Rattle.bus_machine.specs.Replay.{goes_on as replay_goes_on}
-use Rattle.run_laws.specs.ShownReadings.{last_of, latest}
-use Rattle.run_laws.specs.TraceLines.{Timed, timed}
+use Rattle.run_laws.specs.JournalReadings.{last_of, latest}
+use Rattle.run_laws.specs.EntriesInLines.{Timed, timed}
 use Rattle.run_laws.specs.proof.RisingReadings.{LinesRise}
 use Rattle.run_laws.proofs.MissedLinks.{missed_link}
 use Rattle.run_laws.specs.Histories.{IsRead, IsInTime, History, opens, goes_on}

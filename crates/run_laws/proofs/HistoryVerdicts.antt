@@ -37,9 +37,9 @@ use Rattle.bus_machine.specs.MissedStarts.{missing_link}
 use Rattle.bus_machine.specs.Machine.{BusEvent, Start, Step, Finish, Send, Arrive, Drop, Repeat, is_allowed, after}
 use Rattle.bus_machine.specs.Machine.{arrival, early_stop}
 use Rattle.bus_machine.specs.Replay.{entries, start_entry, stop_entry}
-use Rattle.bus_machine.proofs.ReplayAgreement.{replay_agrees}
-use Rattle.run_laws.specs.ShownReadings.{latest}
-use Rattle.run_laws.specs.TraceLines.{timed, has_reading, event_of}
+use Rattle.bus_machine.proofs.RunAgreement.{replay_agrees}
+use Rattle.run_laws.specs.JournalReadings.{latest}
+use Rattle.run_laws.specs.EntriesInLines.{timed, has_reading, event_of}
 use Rattle.run_laws.specs.TraceRules.{same_result, is_in_order, falls, is_before, too_early, is_due, waits, is_line_of}
 use Rattle.run_laws.specs.TraceRules.{first_entry, tells_stop, broken}
 use Rattle.run_laws.specs.TraceVerdicts.{Audit, opening_audit, noted, second_entry, audit_event, audit_after}

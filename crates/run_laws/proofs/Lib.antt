@@ -12,7 +12,7 @@ pub mod ActionsInOrder
 pub mod RisingTargets
 pub mod MeetingReadings
 pub mod ActionReadings
-pub mod MeetingSources
+pub mod MeetingSends
 pub mod StopCauses
 pub mod MeetingStops
 pub mod ActionIndices
@@ -28,9 +28,9 @@ pub mod RisingReadings
 pub mod DueArrivals
 pub mod RuleKeepingLines
 pub mod EntryRanges
-pub mod EntrySpelling
+pub mod UniqueEntrySpelling
 pub mod SoundRows
-pub mod UnbrokenRules
+pub mod PassedRuleTests
 pub mod SoundEntries
 pub mod SoundTraces
 pub mod HistoryReplay
@@ -50,7 +50,7 @@ pub mod DecimalNumbers
 pub mod PlainNames
 pub mod EntryForms
 pub mod EntryLines
-pub mod ToldEntries
+pub mod ParsedEntryRanges
 pub mod TextLines
 pub mod ReportRows
 pub mod FormlessReports
@@ -60,7 +60,7 @@ pub mod TimeArithmetic
 pub mod Lists
 pub mod WorldNodes
 pub mod WorldLinks
-pub mod WorldChanges
+pub mod LocalWorldChanges
 pub mod FaultlessEvents
 pub mod StartTiming
 pub mod StepTiming

@@ -7,7 +7,7 @@ use Rattle.std.proofs.lemmas.Option.{same_Some}
 use Rattle.pals_base.specs.declared.values.NodeNo.{NodeNo}
 use Rattle.pals_base.specs.declared.values.LinkNo.{LinkNo}
 use Rattle.pals_base.specs.ClockPicks.{picks}
-use Rattle.pals_clock.specs.Clock.{ClockState}
+use Rattle.pals_clock.specs.ClockStates.{ClockState}
 use Rattle.pals_model.specs.declared.design.Link.{Link}
 use Rattle.pals_runs.specs.declared.journal.Arrived.{Arrived}
 use Rattle.pals_runs.specs.declared.journal.Arrived.TheVariants.{Kept, Ignored, Early}
@@ -25,9 +25,9 @@ use Rattle.bus_machine.specs.Replay.{entries, start_entry, stop_entry}
 use Rattle.bus_machine.specs.declared.node_action.NodeAction.{NodeAction}
 use Rattle.bus_machine.specs.declared.node_action.NodeAction.TheVariants as action
 use Rattle.bus_machine.specs.Targets.{actions, target, targets}
-use Rattle.run_laws.specs.TraceLines.{Timed, timed}
+use Rattle.run_laws.specs.EntriesInLines.{Timed, timed}
 use Rattle.bus_machine.specs.proof.MachineLaws.{IsRunOf}
-use Rattle.run_laws.specs.ShownReadings.{start_in, starts, act_in, acts}
+use Rattle.run_laws.specs.JournalReadings.{start_in, starts, act_in, acts}
 use Rattle.pals_clock.specs.declared.clock.Clocks.{Clocks}
 use Rattle.pals_clock.specs.declared.clock.Clocks.TheVariants.{Meet, Lists}
 use Rattle.run_laws.specs.Runs.{clock_at, Does, KeepsTo, Runs, opens, picks_for, goes_on}

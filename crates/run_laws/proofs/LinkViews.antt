@@ -14,7 +14,7 @@ use Rattle.bus_machine.specs.States.{Run, BusState, node_at, no_node, flight_at,
 use Rattle.bus_machine.specs.Machine.{BusEvent}
 use Rattle.bus_machine.specs.Replay.{entries}
 use Rattle.bus_machine.proofs.AgreementChanges.{node_stays}
-use Rattle.run_laws.specs.ShownReadings.{listed, if_at, start_in, send_in, starts, sends, latest}
+use Rattle.run_laws.specs.JournalReadings.{listed, if_at, start_in, send_in, starts, sends, latest}
 use Rattle.pals_clock.specs.declared.clock.Clocks.{Clocks}
 use Rattle.run_laws.specs.proof.LinkTiming.{LinkView, early_on, view, IsTimed}
 use Rattle.run_laws.proofs.LinkEventEffects.{goes_later}

@@ -4,7 +4,7 @@ use Rattle.std.proofs.Common.{Option, Some, None, refl, sym, ap, ◌∙◌, subs
 use Rattle.std.specs.Prelude.{◌≢◌, IfSome}
 use Rattle.std.proofs.lemmas.Option.{same_Some, slice_get_within, slice_get-get_or}
 use Rattle.pals_base.specs.ClockPicks.{reached, picked, picks}
-use Rattle.pals_clock.specs.Clock.{ClockState}
+use Rattle.pals_clock.specs.ClockStates.{ClockState}
 use Rattle.pals_model.specs.declared.design.Link.{Link}
 use Rattle.pals_model.specs.Delays.{delay_of}
 use Rattle.pals_runs.specs.declared.journal.Phase.TheVariants.{Waiting, Done}
@@ -22,7 +22,7 @@ use Rattle.bus_machine.specs.proof.MachineLaws.{IsRunOf}
 use Rattle.bus_machine.specs.declared.node_action.NodeAction.{NodeAction}
 use Rattle.bus_machine.specs.declared.node_action.NodeAction.TheVariants as action
 use Rattle.bus_machine.specs.Targets.{targets, target}
-use Rattle.run_laws.specs.ShownReadings.{sends, acts}
+use Rattle.run_laws.specs.JournalReadings.{sends, acts}
 use Rattle.run_laws.specs.NodeActions.{turn, progress_in, Follows}
 use Rattle.pals_clock.specs.declared.clock.Clocks.TheVariants.{Lists}
 use Rattle.run_laws.specs.Runs.{clock_at, HasEnded, Runs}

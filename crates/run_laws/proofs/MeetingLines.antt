@@ -27,7 +27,7 @@ use Rattle.bus_machine.specs.declared.node_action.NodeAction.{NodeAction}
 use Rattle.bus_machine.specs.declared.node_action.NodeAction.TheVariants as action
 use Rattle.bus_machine.specs.Targets.{Progress, target, send_is_next, next_in}
 use Rattle.bus_machine.specs.proof.MachineLaws.{IsRunOf}
-use Rattle.run_laws.specs.ShownReadings.{start_in, starts}
+use Rattle.run_laws.specs.JournalReadings.{start_in, starts}
 use Rattle.pals_clock.specs.declared.clock.Clocks.{Clocks}
 use Rattle.pals_clock.specs.declared.clock.Clocks.TheVariants.{Meet, Lists}
 use Rattle.run_laws.specs.Runs.{Does, KeepsTo, Runs, opens, picks_for, goes_on}

@@ -30,7 +30,7 @@ use Rattle.bus_machine.specs.declared.node_action.NodeAction.{NodeAction}
 use Rattle.bus_machine.specs.declared.node_action.NodeAction.TheVariants as action
 use Rattle.bus_machine.specs.Targets.{target, action_in, next_in}
 use Rattle.bus_machine.proofs.AgreementChanges.{node_stays}
-use Rattle.run_laws.specs.ShownReadings.{latest}
+use Rattle.run_laws.specs.JournalReadings.{latest}
 use Rattle.pals_clock.specs.declared.clock.Clocks.{Clocks}
 use Rattle.pals_clock.specs.declared.clock.Clocks.TheVariants.{Meet, Lists}
 use Rattle.run_laws.specs.Runs.{target_of, Does, KeepsTo, Runs, opens, picks_for, goes_on}

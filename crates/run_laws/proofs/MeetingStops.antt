@@ -10,7 +10,7 @@ use Rattle.pals_base.specs.PeriodBound.{alarm, backoff, step_period, sent_steps}
 use Rattle.pals_model.specs.declared.design.Link.{Link}
 use Rattle.pals_model.specs.Delays.{delay_of}
 use Rattle.pals_model.specs.DesignRules.{IsLink}
-use Rattle.pals_model.proofs.FirstElements.{at_element}
+use Rattle.pals_model.proofs.FirstMatches.{at_element}
 use Rattle.pals_runs.specs.declared.journal.Cause.{Cause}
 use Rattle.pals_runs.specs.declared.journal.Cause.TheVariants.{NotSent, InTransit, Lost}
 use Rattle.pals_runs.specs.declared.journal.Stop.{Stop}
@@ -20,7 +20,7 @@ use Rattle.bus_machine.specs.Plans.{plan_of, component_at}
 use Rattle.bus_machine.specs.States.{Run, BusState, node_at, link_at, no_link}
 use Rattle.bus_machine.specs.Agreement.{PhaseAgrees}
 use Rattle.bus_machine.specs.proof.MachineLaws.{IsRunOf}
-use Rattle.run_laws.specs.ShownReadings.{sends}
+use Rattle.run_laws.specs.JournalReadings.{sends}
 use Rattle.pals_clock.specs.declared.clock.Clocks.{Clocks}
 use Rattle.pals_clock.specs.declared.clock.Clocks.TheVariants.{Meet, Lists}
 use Rattle.run_laws.specs.Runs.{Runs}
@@ -34,7 +34,7 @@ use Rattle.run_laws.proofs.NodePicks.{runs_agree, node_agrees}
 use Rattle.run_laws.proofs.LinkTiming.{links_timed}
 use Rattle.run_laws.proofs.RisingTargets.{next_alarm}
 use Rattle.run_laws.proofs.ActionReadings.{all_times_fit}
-use Rattle.run_laws.proofs.MeetingSources.{alarm_le}
+use Rattle.run_laws.proofs.MeetingSends.{alarm_le}
 use Rattle.run_laws.proofs.StopCauses.{stops_fit}
 
 -- ---- the reading of a due reading's send

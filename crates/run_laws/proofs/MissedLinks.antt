@@ -18,7 +18,7 @@ use Rattle.pals_model.specs.declared.sources.PortSource.TheVariants as source
 use Rattle.pals_model.specs.ComponentInputs.{source_of, sources_of, from_feed, from_link, link_goes_to, feed_goes_to}
 use Rattle.pals_model.specs.PortKinds.{ins_in}
 use Rattle.pals_model.specs.DesignRules.{IsLink}
-use Rattle.pals_model.proofs.FirstElements.{found_at, at_element}
+use Rattle.pals_model.proofs.FirstMatches.{found_at, at_element}
 use Rattle.pals_model.proofs.SourceLaws.{link_is_source}
 use Rattle.bus_machine.specs.declared.plan.Input.{Input}
 use Rattle.bus_machine.specs.Plans.{plan_of, component_at, no_component, input_of, input_from_feed, input_from_link}

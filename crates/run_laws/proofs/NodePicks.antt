@@ -13,11 +13,11 @@ use Rattle.pals_base.specs.declared.values.LinkNo.{LinkNo}
 use Rattle.pals_base.specs.ClockPicks.{reached}
 use Rattle.pals_base.specs.StepSequences.{upwards}
 use Rattle.pals_base.specs.PeriodBound.{sent_steps}
-use Rattle.pals_clock.specs.Clock.{ClockState, standing_at}
+use Rattle.pals_clock.specs.ClockStates.{ClockState, standing_at}
 use Rattle.pals_model.specs.declared.design.Component.{Component}
 use Rattle.pals_model.specs.ComponentInputs.{values_at}
 use Rattle.pals_model.specs.DesignRules.{IsComponent}
-use Rattle.pals_model.proofs.FirstElements.{at_element}
+use Rattle.pals_model.proofs.FirstMatches.{at_element}
 use Rattle.pals_runs.specs.declared.journal.Phase.{Phase}
 use Rattle.pals_runs.specs.declared.journal.Phase.TheVariants.{Waiting, Running, Between, Holding, Done}
 use Rattle.pals_runs.specs.declared.journal.Arrived.{Arrived}
@@ -41,8 +41,8 @@ use Rattle.bus_machine.specs.declared.node_action.NodeAction.{NodeAction}
 use Rattle.bus_machine.specs.declared.node_action.NodeAction.TheVariants as action
 use Rattle.bus_machine.specs.Targets.{target, targets, next_in}
 use Rattle.bus_machine.proofs.AgreementChanges.{node_stays}
-use Rattle.bus_machine.proofs.ReplayAgreement.{replay_agrees}
-use Rattle.run_laws.specs.ShownReadings.{listed, if_at, act_in, acts}
+use Rattle.bus_machine.proofs.RunAgreement.{replay_agrees}
+use Rattle.run_laws.specs.JournalReadings.{listed, if_at, act_in, acts}
 use Rattle.run_laws.specs.NodeActions.{upcoming, Follows}
 use Rattle.pals_clock.specs.declared.clock.Clocks.{Clocks}
 use Rattle.pals_clock.specs.declared.clock.Clocks.TheVariants.{Meet, Lists}

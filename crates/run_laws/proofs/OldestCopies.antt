@@ -5,7 +5,7 @@ use Rattle.std.proofs.lemmas.Grind.{common_steps}
 use Rattle.pals_base.specs.declared.values.PortValue.{PortValue}
 use Rattle.pals_model.specs.declared.flight_copy.FlightCopy.{FlightCopy}
 use Rattle.pals_model.specs.Flights.{is_of, oldest}
-use Rattle.pals_model.proofs.FirstElements.{at_element}
+use Rattle.pals_model.proofs.FirstMatches.{at_element}
 use Rattle.run_laws.specs.proof.LinkTiming.{LinkView, one_if, copies, Whereabouts, in_flight, in_slot, was_taken}
 use Rattle.run_laws.specs.proof.LinkTiming.{came_early, IsDueCopy, IsTimed}
 

@@ -21,7 +21,7 @@ use Rattle.bus_machine.specs.MissedStarts.{rounds_sent_on, sent_rounds}
 use Rattle.bus_machine.specs.proof.MachineLaws.{IsRunOf}
 use Rattle.run_laws.specs.Deadlines.{last_before}
 use Rattle.run_laws.specs.Worlds.{opening_world, reading_at, since_at, ready_at}
-use Rattle.bus_machine.proofs.ReplayAgreement.{opening_agrees}
+use Rattle.bus_machine.proofs.RunAgreement.{opening_agrees}
 use Rattle.run_laws.specs.proof.WorldInvariant.{IsInTime, IsOnce, copies, waits, taken, one_if, KeepsLink}
 use Rattle.run_laws.specs.proof.WorldLaws.{OpeningKeepsTime}
 use Rattle.run_laws.proofs.Lists.{upwards_at}

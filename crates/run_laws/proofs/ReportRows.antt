@@ -17,7 +17,7 @@ use Rattle.pals_model.specs.declared.design.DesignParts.{DesignParts}
 use Rattle.pals_model.specs.declared.inputs_and_parts.Env.{Env}
 use Rattle.pals_model.specs.Composition.{part}
 use Rattle.pals_model.specs.RoundTexts.{component_line, part_lines, tap_lines, composed_lines, report_lines}
-use Rattle.pals_model.proofs.FirstElements.{none_passes}
+use Rattle.pals_model.proofs.FirstMatches.{none_passes}
 use Rattle.pals_model.proofs.WordBytes.{same_bytes}
 use Rattle.run_laws.specs.TraceVerdicts.{row_size, line_at}
 use Rattle.run_laws.specs.proof.ReportLines.{ReportsHaveRows}

@@ -15,7 +15,7 @@ use Rattle.pals_runs.specs.JournalLines.{entry_line}
 use Rattle.bus_machine.specs.States.{Run, BusState, flight_at}
 use Rattle.run_laws.specs.TraceVerdicts.{Audit, audit_after, line_broken, end_broken, wrong_or, entry_or}
 use Rattle.run_laws.specs.TraceVerdicts.{journal_verdict}
-use Rattle.run_laws.specs.TraceLines.{told}
+use Rattle.run_laws.specs.EntriesInLines.{told}
 use Rattle.run_laws.specs.TraceRules.{is_due, has_due, is_before}
 
 -- ---- lines that break none

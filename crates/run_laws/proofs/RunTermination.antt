@@ -8,9 +8,9 @@ use Rattle.std.proofs.lemmas.Bool.{ltb-false}
 use Rattle.std.proofs.lemmas.Grind.{get_or-set_at}
 use Rattle.std.proofs.lemmas.List.{append-nil}
 use Rattle.pals_base.specs.ClockPicks.{reached}
-use Rattle.pals_clock.specs.Clock.{ClockState, standing_at}
+use Rattle.pals_clock.specs.ClockStates.{ClockState, standing_at}
 use Rattle.pals_model.specs.DesignRules.{IsLink}
-use Rattle.pals_model.proofs.FirstElements.{at_element}
+use Rattle.pals_model.proofs.FirstMatches.{at_element}
 use Rattle.pals_runs.specs.declared.journal.Phase.{Phase}
 use Rattle.pals_runs.specs.declared.journal.Phase.TheVariants.{Waiting, Running, Between, Holding, Done}
 use Rattle.pals_runs.specs.declared.journal.Stop.{Stop}
@@ -35,7 +35,7 @@ use Rattle.run_laws.specs.Meetings.{AllDone}
 use Rattle.run_laws.specs.TimelyRounds.{IsOver, AllOver, AllAtEnd}
 use Rattle.run_laws.specs.proof.RunTermination.{HasCome, IsEnding, EachRunEnds, EachGoesOn, JournalsEnd, EndsAreNamed}
 use Rattle.run_laws.proofs.NodePicks.{runs_agree, node_agrees, many_clocks}
-use Rattle.run_laws.proofs.MeetingSources.{sent_true}
+use Rattle.run_laws.proofs.MeetingSends.{sent_true}
 use Rattle.run_laws.proofs.StopCauses.{ended_still}
 use Rattle.run_laws.proofs.BoundedSearch.{first_or_none, least_or_none}
 use Rattle.run_laws.proofs.RemainingWork.{work_left, event_lessens, stop_lines, some_lines, most_left}

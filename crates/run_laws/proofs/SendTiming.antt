@@ -44,8 +44,8 @@ use Rattle.run_laws.proofs.WorldNodes.{fits_at, component_is, MayBe, may_is, Sta
 use Rattle.run_laws.proofs.WorldNodes.{both_in_time, send_in_time, phase_last, send_last, late}
 use Rattle.run_laws.proofs.WorldLinks.{link_is, one_of_true, one_of_false, in_flight_counts, counts_in_flight}
 use Rattle.run_laws.proofs.WorldLinks.{under_way}
-use Rattle.run_laws.proofs.WorldChanges.{same_at, changed, stands_put, keeps_again, moved_here, moved_length}
-use Rattle.run_laws.proofs.WorldChanges.{moved_other}
+use Rattle.run_laws.proofs.LocalWorldChanges.{same_at, changed, stands_put, keeps_again, moved_here, moved_length}
+use Rattle.run_laws.proofs.LocalWorldChanges.{moved_other}
 use Rattle.run_laws.proofs.FaultlessEvents.{SendsInTime}
 
 -- ---- a round of a link from the node

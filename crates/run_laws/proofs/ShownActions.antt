@@ -33,7 +33,7 @@ use Rattle.bus_machine.specs.Agreement.{PhaseAgrees, Agrees}
 use Rattle.bus_machine.specs.proof.MachineLaws.{IsRunOf}
 use Rattle.bus_machine.proofs.NodeAgreement.{finish_keeps, MaySend, may_send_of}
 use Rattle.bus_machine.proofs.AgreementChanges.{is_component}
-use Rattle.run_laws.specs.ShownReadings.{listed, start_in, send_in, starts, sends}
+use Rattle.run_laws.specs.JournalReadings.{listed, start_in, send_in, starts, sends}
 use Rattle.pals_clock.specs.declared.clock.Clocks.{Clocks}
 use Rattle.pals_clock.specs.declared.clock.Clocks.TheVariants.{Lists}
 use Rattle.run_laws.specs.Runs.{Runs, KeepsTo, opens, picks_for, goes_on}

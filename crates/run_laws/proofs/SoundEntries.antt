@@ -15,7 +15,7 @@ use Rattle.pals_model.specs.declared.design.DesignParts.{DesignParts}
 use Rattle.pals_model.specs.declared.flight_copy.FlightCopy.{FlightCopy}
 use Rattle.pals_model.specs.Flights.{oldest}
 use Rattle.pals_model.specs.DesignRules.{IsDesign, IsLink}
-use Rattle.pals_model.proofs.FirstElements.{at_element}
+use Rattle.pals_model.proofs.FirstMatches.{at_element}
 use Rattle.pals_runs.specs.declared.journal.Arrived.{Arrived}
 use Rattle.pals_runs.specs.declared.journal.Arrived.TheVariants.{Kept, Ignored, Early}
 use Rattle.pals_runs.specs.declared.journal.Cause.{Cause}
@@ -34,15 +34,15 @@ use Rattle.bus_machine.specs.MissedStarts.{missing_link, cause_of}
 use Rattle.bus_machine.specs.Machine.{BusEvent, Start, Step, Finish, Send, Arrive, IsStep, is_allowed, after, arrival}
 use Rattle.bus_machine.specs.Machine.{missed_stop, early_stop}
 use Rattle.bus_machine.specs.Replay.{entries, start_entry, stop_entry}
-use Rattle.run_laws.specs.ShownReadings.{latest}
-use Rattle.run_laws.specs.TraceLines.{timed, has_reading, event_of}
+use Rattle.run_laws.specs.JournalReadings.{latest}
+use Rattle.run_laws.specs.EntriesInLines.{timed, has_reading, event_of}
 use Rattle.run_laws.specs.TraceRules.{same_result, fits, is_in_order, falls, is_before, too_early, is_due, waits}
 use Rattle.run_laws.specs.TraceRules.{is_line_of, first_entry, tells_stop, broken}
 use Rattle.run_laws.specs.Entries.{IsEntryIn}
 use Rattle.run_laws.proofs.EntryLines.{lines_differ}
 use Rattle.run_laws.proofs.MissedLinks.{missed_link}
 use Rattle.run_laws.specs.Histories.{IsRead, IsInTime}
-use Rattle.run_laws.proofs.UnbrokenRules.{none_broken, if_none, none_is_due}
+use Rattle.run_laws.proofs.PassedRuleTests.{none_broken, if_none, none_is_due}
 
 -- ---- what comes next
 abbrev pub listed : Option JournalEntry → List JournalEntry

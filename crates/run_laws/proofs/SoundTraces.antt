@@ -31,8 +31,8 @@ use Rattle.bus_machine.specs.States.{Run, BusState, opening, finished_by_all, no
 use Rattle.bus_machine.specs.Machine.{after}
 use Rattle.bus_machine.specs.Replay.{entries}
 use Rattle.run_laws.specs.LineForms.{form_of}
-use Rattle.run_laws.specs.ShownReadings.{last_of, latest}
-use Rattle.run_laws.specs.TraceLines.{Timed, told, timed, has_reading}
+use Rattle.run_laws.specs.JournalReadings.{last_of, latest}
+use Rattle.run_laws.specs.EntriesInLines.{Timed, told, timed, has_reading}
 use Rattle.run_laws.specs.TraceRules.{is_line_of, reading_of, broken}
 use Rattle.run_laws.specs.TraceVerdicts.{report_size, row_size, wrong_row, Audit, opening_audit, noted, second_entry}
 use Rattle.run_laws.specs.TraceVerdicts.{audit_event, audit_after, line_broken, is_done, end_broken, wrong_or, entry_or}
@@ -40,9 +40,9 @@ use Rattle.run_laws.specs.TraceVerdicts.{journal_verdict, trace_verdict}
 use Rattle.run_laws.specs.Entries.{IsEntryIn}
 use Rattle.run_laws.specs.Histories.{IsStoppedOrDone, History, opens, goes_on, IsTraceOf}
 use Rattle.run_laws.proofs.EntryLines.{lines_differ}
-use Rattle.run_laws.proofs.ToldEntries.{told_are_in}
+use Rattle.run_laws.proofs.ParsedEntryRanges.{told_are_in}
 use Rattle.run_laws.specs.proof.SoundTraces.{SoundAreTraces}
-use Rattle.run_laws.proofs.EntrySpelling.{told_is_line}
+use Rattle.run_laws.proofs.UniqueEntrySpelling.{told_is_line}
 use Rattle.run_laws.proofs.SoundRows.{report_is}
 use Rattle.run_laws.proofs.SoundEntries.{listed, AreLast, target_within, entry_next}
 

@@ -22,7 +22,7 @@ use Rattle.pals_model.specs.declared.flight_copy.FlightCopy.{FlightCopy}
 use Rattle.pals_model.specs.declared.sources.PortSource.{PortSource}
 use Rattle.pals_model.specs.declared.sources.PortSource.TheVariants as source
 use Rattle.pals_model.specs.ComponentInputs.{source_of, sources_of, values_at}
-use Rattle.pals_model.proofs.FirstElements.{none_passes}
+use Rattle.pals_model.proofs.FirstMatches.{none_passes}
 use Rattle.pals_runs.specs.declared.events.Event.TheVariants as event
 use Rattle.pals_runs.specs.declared.journal.Phase.{Phase}
 use Rattle.pals_runs.specs.declared.journal.Phase.TheVariants.{Waiting, Running, Between, Holding, Done}
@@ -38,7 +38,7 @@ use Rattle.bus_machine.specs.Machine.{after_start}
 use Rattle.bus_machine.specs.proof.MachineLaws.{IsRunOf}
 use Rattle.run_laws.specs.Worlds.{World, reading_at, ready_at, sendings, moved, world_after}
 use Rattle.bus_machine.specs.Agreement.{PhaseAgrees, SlotAgrees}
-use Rattle.bus_machine.proofs.InputVectors.{reads_link, length_sources}
+use Rattle.bus_machine.proofs.InputAgreement.{reads_link, length_sources}
 use Rattle.bus_machine.proofs.AgreementChanges.{node_set, node_stays}
 use Rattle.bus_machine.proofs.NodeEventAgreement.{start_keeps}
 use Rattle.run_laws.specs.proof.WorldInvariant.{IsOnce, copies, waits, taken, one_if, RunsSince, KeepsLink, KeepsTime}
@@ -46,7 +46,7 @@ use Rattle.run_laws.proofs.Lists.{upwards_at, zipped_at}
 use Rattle.run_laws.proofs.WorldNodes.{FitsAt, fits_at, may_is, Stands, stands_at, both_in_time, sends_in_time, late}
 use Rattle.run_laws.proofs.WorldNodes.{phase_agrees}
 use Rattle.run_laws.proofs.WorldLinks.{has_come, link_is, one_of_true, one_of_false}
-use Rattle.run_laws.proofs.WorldChanges.{same_at, changed, stands_put, keeps_again}
+use Rattle.run_laws.proofs.LocalWorldChanges.{same_at, changed, stands_put, keeps_again}
 use Rattle.run_laws.proofs.FaultlessEvents.{StartsInTime}
 
 -- ---- no in port lacks its message

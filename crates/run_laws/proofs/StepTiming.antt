@@ -24,7 +24,7 @@ use Rattle.bus_machine.proofs.NodeEventAgreement.{step_keeps}
 use Rattle.run_laws.specs.proof.WorldInvariant.{IsInTime, RunsSince, KeepsTime}
 use Rattle.run_laws.proofs.WorldNodes.{fits_at, may_be, may_is, Stands, stands_at, left_in_time, both_in_time}
 use Rattle.run_laws.proofs.WorldNodes.{send_in_time, sends_in_time, phase_last, send_last}
-use Rattle.run_laws.proofs.WorldChanges.{changed, same_links, stands_put, keeps_again}
+use Rattle.run_laws.proofs.LocalWorldChanges.{changed, same_links, stands_put, keeps_again}
 use Rattle.run_laws.proofs.FaultlessEvents.{StepsInTime}
 
 module _ (run : Run) (w : World) (rules : IsRunOf run) (keeps : KeepsTime run w) (node : NodeNo)

@@ -16,13 +16,13 @@ use Rattle.pals_base.specs.declared.values.LinkNo.{LinkNo}
 use Rattle.pals_base.specs.declared.values.PortValue.{PortValue}
 use Rattle.pals_base.specs.PeriodBound.{alarm}
 use Rattle.pals_base.specs.ClockPicks.{reached}
-use Rattle.pals_clock.specs.Clock.{ClockState, standing_at}
+use Rattle.pals_clock.specs.ClockStates.{ClockState, standing_at}
 use Rattle.pals_model.specs.declared.design.Link.{Link}
 use Rattle.pals_model.specs.declared.flight_copy.FlightCopy.{FlightCopy}
 use Rattle.pals_model.specs.Delays.{delay_of}
 use Rattle.pals_model.specs.Flights.{is_of, oldest}
 use Rattle.pals_model.specs.DesignRules.{IsLink}
-use Rattle.pals_model.proofs.FirstElements.{at_element}
+use Rattle.pals_model.proofs.FirstMatches.{at_element}
 use Rattle.pals_runs.specs.declared.journal.Arrived.{Arrived}
 use Rattle.pals_runs.specs.declared.journal.Arrived.TheVariants.{Kept, Ignored, Early}
 use Rattle.pals_runs.specs.declared.journal.Cause.{Cause}
@@ -47,7 +47,7 @@ use Rattle.bus_machine.specs.declared.node_action.NodeAction.TheVariants as acti
 use Rattle.bus_machine.specs.Targets.{target}
 use Rattle.run_laws.specs.TraceRules.{is_due}
 use Rattle.bus_machine.proofs.ListsAndFlights.{oldest_is_one}
-use Rattle.run_laws.specs.ShownReadings.{send_in, sends}
+use Rattle.run_laws.specs.JournalReadings.{send_in, sends}
 use Rattle.run_laws.specs.NodeActions.{upcoming}
 use Rattle.pals_clock.specs.declared.clock.Clocks.{Clocks}
 use Rattle.pals_clock.specs.declared.clock.Clocks.TheVariants.{Meet, Lists}
@@ -64,7 +64,7 @@ use Rattle.run_laws.proofs.LinkViews.{TimedIn, keeps_at}
 use Rattle.run_laws.proofs.LinkTiming.{links_timed, with_message_count}
 use Rattle.run_laws.proofs.TargetPicks.{reached_again}
 use Rattle.run_laws.proofs.ActionReadings.{shown_for}
-use Rattle.run_laws.proofs.MeetingSources.{meeting_sent}
+use Rattle.run_laws.proofs.MeetingSends.{meeting_sent}
 
 -- ---- the cause of a missed start
 none_flying_by : (round : ℕ) (c : FlightCopy) (cs : List FlightCopy) (b : Bool) → is_of round c ≡ b

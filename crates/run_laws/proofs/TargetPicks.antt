@@ -6,7 +6,7 @@ use Rattle.std.proofs.lemmas.List.{take_more, length-take-le, take-append-drop, 
 use Rattle.std.proofs.lemmas.List.Sums.{fold-append}
 use Rattle.std.proofs.lemmas.Option.{slice_get_within, get_or_from_slice_get}
 use Rattle.pals_base.specs.ClockPicks.{reached, picked, picks}
-use Rattle.pals_clock.specs.Clock.{ClockState, standing_at, left_after}
+use Rattle.pals_clock.specs.ClockStates.{ClockState, standing_at, left_after}
 use Rattle.pals_clock.proofs.ReachedReadings.{picks_append}
 use Rattle.bus_machine.specs.declared.plan.Plan.{Plan}
 use Rattle.bus_machine.specs.Nodes.{NodeState}

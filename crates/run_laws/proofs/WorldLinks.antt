@@ -12,7 +12,7 @@ use Rattle.pals_base.specs.PeriodBound.{alarm}
 use Rattle.pals_model.specs.declared.flight_copy.FlightCopy.{FlightCopy}
 use Rattle.pals_model.specs.Flights.{is_of, oldest}
 use Rattle.pals_model.specs.DesignRules.{IsLink}
-use Rattle.pals_model.proofs.FirstElements.{at_element}
+use Rattle.pals_model.proofs.FirstMatches.{at_element}
 use Rattle.pals_runs.specs.declared.journal.Arrived.TheVariants.{Kept, Ignored, Early}
 use Rattle.bus_machine.specs.NodeEvents.{slot_at, arrived}
 use Rattle.bus_machine.specs.LinkEvents.{is_in_flight}

@@ -12,7 +12,7 @@ use Rattle.bus_machine.specs.EarliestReadings.{start_alarm, step_alarm, release_
 use Rattle.bus_machine.specs.States.{Run, BusState, opening, node_at, flight_at, link_at, finished_by_all}
 use Rattle.bus_machine.specs.Machine.{BusEvent, Start, Step, Finish, Send, Arrive, Drop, Repeat, IsStep}
 use Rattle.bus_machine.specs.Replay.{entries}
-use Rattle.run_laws.specs.ShownReadings.{latest}
+use Rattle.run_laws.specs.JournalReadings.{latest}
 use Rattle.run_laws.specs.TraceRules.{is_due}
 use Rattle.run_laws.specs.Runs.{NoneDue}
 use Rattle.run_laws.specs.Entries.{IsEntryIn}

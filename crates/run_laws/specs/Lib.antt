@@ -1,4 +1,4 @@
-pub mod ShownReadings
+pub mod JournalReadings
 pub mod NodeActions
 pub mod Runs
 pub mod NodeLinkQuantifiers
@@ -9,7 +9,7 @@ pub mod StopBounds
 pub mod RunGuarantees
 pub mod proof
 pub mod LineForms
-pub mod TraceLines
+pub mod EntriesInLines
 pub mod TraceRules
 pub mod TraceVerdicts
 pub mod Entries

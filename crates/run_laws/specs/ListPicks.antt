@@ -1,7 +1,7 @@
 -- With list clocks: the picks of a node's list, and what a journal shows of them.
 use Rattle.std.specs.Prelude.{◌≡◌, ℕ, ◌≤◌, List, [], ◌∷◌, ◌++◌, length, Option, Some, None, slice_get}
 use Rattle.pals_base.specs.ClockPicks.{picks}
-use Rattle.pals_clock.specs.Clock.{ClockState}
+use Rattle.pals_clock.specs.ClockStates.{ClockState}
 use Rattle.pals_model.specs.declared.design.DesignParts.{DesignParts}
 use Rattle.pals_base.specs.declared.values.LinkNo.{LinkNo}
 use Rattle.pals_runs.specs.declared.journal.Stop.{Stop}
@@ -10,8 +10,8 @@ use Rattle.bus_machine.specs.declared.node_action.NodeAction.{NodeAction}
 use Rattle.bus_machine.specs.Plans.{plan_of}
 use Rattle.bus_machine.specs.States.{Run, link_at}
 use Rattle.bus_machine.specs.Targets.{actions, targets, target}
-use Rattle.run_laws.specs.TraceLines.{Timed, timed}
-use Rattle.run_laws.specs.ShownReadings.{starts, acts}
+use Rattle.run_laws.specs.EntriesInLines.{Timed, timed}
+use Rattle.run_laws.specs.JournalReadings.{starts, acts}
 use Rattle.run_laws.specs.Runs.{clock_at}
 use Rattle.pals_runs.specs.declared.journal.Stop.TheVariants as stop
 use Rattle.pals_runs.specs.declared.journal.JournalEntry.TheVariants as entry

@@ -9,7 +9,7 @@ use Rattle.pals_runs.specs.declared.journal.Stop.{Stop}
 use Rattle.pals_runs.specs.declared.journal.JournalEntry.{JournalEntry}
 use Rattle.bus_machine.specs.Plans.{plan_of}
 use Rattle.bus_machine.specs.States.{Run, BusState, node_at, link_at}
-use Rattle.run_laws.specs.ShownReadings.{starts}
+use Rattle.run_laws.specs.JournalReadings.{starts}
 use Rattle.run_laws.specs.NodeLinkQuantifiers.{EachNode}
 use Rattle.pals_runs.specs.declared.journal.Stop.TheVariants as stop
 use Rattle.pals_runs.specs.declared.journal.JournalEntry.TheVariants as entry

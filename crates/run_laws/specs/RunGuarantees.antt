@@ -1,6 +1,6 @@
 -- What each run keeps, clause by clause.
 use Rattle.std.specs.Prelude.{◌≡◌, ◌↔◌, ℕ, List, [], None, IfSome}
-use Rattle.pals_clock.specs.Clock.{ClockState}
+use Rattle.pals_clock.specs.ClockStates.{ClockState}
 use Rattle.pals_clock.specs.declared.clock.Clocks.{Clocks}
 use Rattle.pals_clock.specs.declared.clock.Clocks.TheVariants.{Meet, Lists}
 use Rattle.pals_runs.specs.declared.journal.JournalEntry.{JournalEntry}
@@ -11,7 +11,7 @@ use Rattle.bus_machine.specs.Replay.{Replays}
 use Rattle.bus_machine.specs.States.{Run, BusState, node_at}
 use Rattle.bus_machine.specs.Targets.{target}
 use Rattle.run_laws.specs.Runs.{HasEnded}
-use Rattle.run_laws.specs.ShownReadings.{acts}
+use Rattle.run_laws.specs.JournalReadings.{acts}
 use Rattle.run_laws.specs.NodeLinkQuantifiers.{EachNode, EachLink}
 use Rattle.run_laws.specs.ListPicks.{picks_of, IsPrefix, LinesAre}
 use Rattle.run_laws.specs.TimelyRounds.{IsTimely, IsOver, AllOver, PicksAll, PicksEndAt, ListStop}

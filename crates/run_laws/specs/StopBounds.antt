@@ -8,7 +8,7 @@ use Rattle.pals_runs.specs.declared.journal.Stop.{Stop}
 use Rattle.pals_runs.specs.declared.journal.JournalEntry.{JournalEntry}
 use Rattle.bus_machine.specs.Plans.{plan_of}
 use Rattle.bus_machine.specs.States.{Run, link_at}
-use Rattle.run_laws.specs.ShownReadings.{sends}
+use Rattle.run_laws.specs.JournalReadings.{sends}
 use Rattle.pals_runs.specs.declared.journal.Stop.TheVariants as stop
 
 -- the reading of the source's send of a round

@@ -1,6 +1,6 @@
 -- With list clocks: which rounds of links are in time, and what the end of a run tells of them.
 use Rattle.std.specs.Prelude.{◌≡◌, ◌≢◌, ◌⊎◌, ℕ, ◌+◌, ◌<◌, ◌≤◌, List, length, Option, Some, slice_get}
-use Rattle.pals_clock.specs.Clock.{ClockState}
+use Rattle.pals_clock.specs.ClockStates.{ClockState}
 use Rattle.pals_model.specs.Delays.{delay_of}
 use Rattle.pals_runs.specs.declared.journal.Phase.TheVariants.{Done}
 use Rattle.pals_runs.specs.declared.journal.Cause.{Cause}

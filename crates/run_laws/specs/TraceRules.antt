@@ -20,7 +20,7 @@ use Rattle.bus_machine.specs.EarliestReadings.{start_alarm, step_alarm, release_
 use Rattle.bus_machine.specs.States.{Run, BusState, node_at, flight_at, link_at}
 use Rattle.bus_machine.specs.Machine.{BusEvent, is_allowed, arrival}
 use Rattle.bus_machine.specs.Replay.{entries}
-use Rattle.run_laws.specs.TraceLines.{Timed, timed, event_of}
+use Rattle.run_laws.specs.EntriesInLines.{Timed, timed, event_of}
 use Rattle.pals_runs.specs.declared.journal.Stop.TheVariants as stop
 use Rattle.pals_runs.specs.declared.journal.JournalEntry.TheVariants as entry
 use Rattle.pals_runs.specs.declared.verdicts.TraceRule.TheVariants as rule

@@ -15,7 +15,7 @@ use Rattle.run_monitor.specs.declared.false_property.FalseProperty.{FalsePropert
 use Rattle.run_monitor.specs.FormulaSemantics.{holds}
 use Rattle.run_monitor.specs.FalseProperties.{history, verdicts, violation_at, violation_in, violation}
 use Rattle.run_monitor.specs.proof.FirstFalseProperty.{ViolatedIsFirst, OthersHold}
-use Rattle.run_monitor.proofs.FormulaHistories.{past_stays}
+use Rattle.run_monitor.proofs.FormulaLaws.{past_stays}
 
 -- ---- the place of the first that is false
 -- none is, or one at this place, with all before it true

@@ -7,7 +7,7 @@ use Rattle.pals_model.specs.Composition.{comp}
 use Rattle.run_monitor.specs.FormulaSemantics.{holds}
 use Rattle.run_monitor.specs.FalseProperties.{history}
 use Rattle.run_monitor.specs.proof.FormulaLaws.{HistoryHasRounds, HistoryGoesOn, SaidAtOnce}
-use Rattle.run_monitor.proofs.FormulaHistories.{past_stays}
+use Rattle.run_monitor.proofs.FormulaLaws.{past_stays}
 
 pub history_goes_on : HistoryGoesOn
 history_goes_on design env rounds =

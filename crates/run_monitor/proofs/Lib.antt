@@ -1,8 +1,8 @@
 pub mod TemporalOperators
-pub mod FormulaHistories
+pub mod FormulaLaws
 pub mod HistoryGrowth
 pub mod FirstFalseProperty
-pub mod PropertyRows
+pub mod WatchTextGrowth
 pub mod CounterProperties
 pub mod FlatForms
 pub mod BitWrites

@@ -8,8 +8,8 @@ use Rattle.std.proofs.lemmas.Option.{slice_get_within, slice_get-get_or, get_or_
 use Rattle.pals_base.specs.declared.values.Frame.{Frame}
 use Rattle.pals_runs.specs.Formula.{Formula, Var, Halted}
 use Rattle.run_monitor.specs.FormulaSemantics.{frame_in, variable_in, compares, holds}
-use Rattle.run_monitor.specs.proof.OneBitMonitors.{bit_of, further, bits_after}
-use Rattle.run_monitor.proofs.FormulaHistories.{one_bit_each}
+use Rattle.run_monitor.specs.proof.BitPerFormula.{bit_of, further, bits_after}
+use Rattle.run_monitor.proofs.FormulaLaws.{one_bit_each}
 use Rattle.run_monitor.specs.declared.flat_form.FlatForm.{FlatForm}
 use Rattle.run_monitor.specs.declared.flat_form.FlatForm.TheVariants as flat
 use Rattle.pals_runs.specs.proof.FormulaComponents.{reads, names}

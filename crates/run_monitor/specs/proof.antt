@@ -1,5 +1,5 @@
 -- What the theorem of the program does not rest on: definitions of contracts below it, of laws, and of proofs.
-pub mod OneBitMonitors
+pub mod BitPerFormula
 pub mod FormulaLaws
 pub mod FirstFalseProperty
 pub mod CounterProperties

@@ -2,7 +2,7 @@
 //! for each form in it. What formulas mean, and the text of watched properties, stand in `specs/`.
 #![tactic(auto)]
 
-mod bits;
+mod form_bits;
 mod flat_form;
 pub mod laws;
 mod monitor;

@@ -3,7 +3,7 @@ use Rattle.std.proofs.Common.{◌≡◌, ◌≢◌, ◌∙◌, inl, inr, ℕ, �
 use Rattle.std.proofs.Common.{slice_get, refl, sym, ap, subst, arith, if◌then◌else◌}
 use Rattle.std.specs.Prelude.{Result, Ok, Err, IfOk}
 use Rattle.pals_base.specs.declared.limits.TheConstants.{COMPONENTS, ROUNDS}
-use Rattle.pals_clock.specs.Clock.{ClockState}
+use Rattle.pals_clock.specs.ClockStates.{ClockState}
 use Rattle.pals_clock.specs.declared.clock.Clocks.{Clocks}
 use Rattle.pals_clock.specs.declared.clock.Clocks.TheVariants.{Meet, Lists}
 use Rattle.pals_model.specs.RoundTexts.{text_of, report}
@@ -21,8 +21,8 @@ use Rattle.node_threads.specs.proof.NodeEnds.{EndFits, EndsFit, IsOutcome}
 use Rattle.run_laws.specs.TimelyRounds.{IsOver, AllAtEnd}
 use Rattle.run_laws.specs.proof.RunTraces.{AreReadings}
 use Rattle.run_laws.proofs.NodePicks.{runs_agree}
-use Rattle.run_texts.specs.declared.told.RunReport.{RunReport}
-use Rattle.run_texts.specs.declared.told.RunReport.TheVariants as told
+use Rattle.run_texts.specs.declared.run_report.RunReport.{RunReport}
+use Rattle.run_texts.specs.declared.run_report.RunReport.TheVariants as told
 use Rattle.run_texts.specs.RunTexts.{EndsAt, TellsRun}
 use Rattle.run_texts.specs.proof.NodeEnds.{IsComeEnd, journal_lines, TellsEnd}
 use Rattle.run_texts.proofs.RunTexts.{outcome, completed, stopped}

@@ -3,7 +3,7 @@ use Rattle.std.specs.Prelude.{◌≡◌, ℕ, ◌<◌, Bool, true, if◌then◌e
 use Rattle.pals_clock.specs.declared.clock.Clocks.{Clocks}
 use Rattle.pals_clock.specs.declared.clock.Clocks.TheVariants.{Meet, Lists}
 use Rattle.pals_model.specs.RoundTexts.{line_end, text_of, report}
-use Rattle.pals_report.specs.VerdictLines.{clock_end_line}
+use Rattle.pals_report.specs.ClocksAndVerdicts.{clock_end_line}
 use Rattle.pals_runs.specs.declared.journal.JournalEntry.{JournalEntry}
 use Rattle.pals_runs.specs.declared.journal.Phase.TheVariants.{Done}
 use Rattle.pals_runs.specs.declared.journal.Stop.{Stop}
@@ -18,8 +18,8 @@ use Rattle.run_laws.specs.RunGuarantees.{KeepsClauses}
 use Rattle.run_laws.specs.TimelyRounds.{AllAtEnd}
 use Rattle.run_laws.specs.Meetings.{AllDone}
 use Rattle.run_laws.specs.Runs.{Runs, HasEnded, lists_in}
-use Rattle.run_texts.specs.declared.told.RunReport.{RunReport}
-use Rattle.run_texts.specs.declared.told.RunReport.TheVariants.{Completed, Stopped, ClockEnded}
+use Rattle.run_texts.specs.declared.run_report.RunReport.{RunReport}
+use Rattle.run_texts.specs.declared.run_report.RunReport.TheVariants.{Completed, Stopped, ClockEnded}
 
 -- the nodes have kept to clocks with these lists from the opening of a run on, in some order, and this is what they
 -- have left

@@ -2,7 +2,7 @@
 //! rounds and the journal of one that stopped; or the line of the first node whose clock ended.
 #![tactic(auto)]
 
-mod ends;
-mod told;
+mod first_ended;
+mod run_report;
 
-pub use told::{RunReport, tell_run};
+pub use run_report::{RunReport, tell_run};

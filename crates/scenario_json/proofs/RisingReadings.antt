@@ -5,7 +5,7 @@ use Rattle.std.proofs.lemmas.Grind.{common_steps, get_or_default_zero}
 use Rattle.std.proofs.lemmas.List.Elements.{All-append, All-nil, All-cons}
 use Rattle.std.proofs.lemmas.List.Sorted.{IsNonDecreasingBy-push}
 use Rattle.pals_base.specs.declared.limits.TheConstants.{READING}
-use Rattle.pals_clock.specs.Clock.{AreReadings}
+use Rattle.pals_clock.specs.ClockStates.{AreReadings}
 use Rattle.scenario_json.specs.Clocks.{last_of}
 
 pub last_push : (xs : List ℕ) (y : ℕ) → last_of (xs ++ y ∷ []) ≡ y

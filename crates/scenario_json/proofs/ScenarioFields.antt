@@ -16,13 +16,13 @@ use Rattle.pals_model.specs.ComponentInputs.{root_inputs}
 use Rattle.pals_model.specs.DesignRules.{IsDesign}
 use Rattle.pals_runs.specs.declared.commands.Command.{Command}
 use Rattle.pals_runs.specs.declared.events.Event.{Event}
-use Rattle.pals_runs.specs.declared.analysis_inputs.Pair.{Pair}
+use Rattle.pals_runs.specs.declared.vote_faults_and_pairs.Pair.{Pair}
 use Rattle.scenario_values.specs.declared.fault.ScenarioFault.{ScenarioFault}
 use Rattle.scenario_values.specs.declared.fault.ScenarioFault.TheVariants.{TooBig}
 use Rattle.scenario_values.specs.ResultCombinators.{◌>>=◌, Answers}
 use Rattle.scenario_values.specs.FieldValues.{whole}
 use Rattle.scenario_values.proofs.SuccessfulResults.{read_as, ok_same, ok_bind, ok_only_if, whole_within}
-use Rattle.scenario_json.specs.RunSizes.{cells_of}
+use Rattle.scenario_json.specs.RunCells.{cells_of}
 use Rattle.scenario_json.specs.InputsAndDelays.{inputs_in, delays_in}
 use Rattle.scenario_json.specs.Clocks.{clocks_in}
 use Rattle.scenario_json.specs.proof.RunFields.{AreInputsOf, AreDelaysOf, AreClocksFor}
@@ -30,8 +30,8 @@ use Rattle.scenario_json.proofs.RunFields.{no_inputs_keep, inputs_keep, least_de
 use Rattle.analysis_fields.specs.proof.AnalysisFacts.{IsFaultOf, IsProcessorOf}
 use Rattle.analysis_fields.specs.declared.replica_faults.RoundFault.{RoundFault}
 use Rattle.analysis_fields.specs.declared.processors.Processor.{Processor}
-use Rattle.analysis_fields.specs.PropertyValues.{PropertyValue}
-use Rattle.analysis_fields.specs.Replicas.{faults_in}
+use Rattle.analysis_fields.specs.NamedFormulas.{PropertyValue}
+use Rattle.analysis_fields.specs.ReplicasAndFaults.{faults_in}
 use Rattle.analysis_fields.specs.Processors.{processors_in}
 use Rattle.analysis_fields.proofs.ReplicaFaultFacts.{faults_keep}
 use Rattle.analysis_fields.proofs.ProcessorFacts.{processors_keep}

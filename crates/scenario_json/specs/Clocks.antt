@@ -4,7 +4,7 @@ use Rattle.std.specs.Prelude.{slice_index, Bool, ◌-◌, option_map, unwrap_or,
 use Rattle.serde_json.specs.Data.{Data}
 use Rattle.serde_json.specs.Find.{as_str}
 use Rattle.pals_base.specs.declared.limits.TheConstants.{READING, LIST_ITEMS}
-use Rattle.pals_clock.specs.Clock.{ClockState, unpicked}
+use Rattle.pals_clock.specs.ClockStates.{ClockState, unpicked}
 use Rattle.pals_clock.specs.declared.clock.Clocks.{Clocks}
 use Rattle.pals_clock.specs.declared.clock.Clocks.TheVariants.{Meet, Lists}
 use Rattle.pals_model.specs.declared.design.DesignParts.{DesignParts}

@@ -16,22 +16,22 @@ use Rattle.pals_model.specs.ComponentInputs.{root_inputs}
 use Rattle.pals_runs.specs.declared.commands.Command.{Command}
 use Rattle.pals_runs.specs.declared.commands.Command.TheVariants.{World, Audit, Watch, Budget}
 use Rattle.pals_runs.specs.declared.events.Event.{Event}
-use Rattle.pals_runs.specs.declared.analysis_inputs.Pair.{Pair}
+use Rattle.pals_runs.specs.declared.vote_faults_and_pairs.Pair.{Pair}
 use Rattle.scenario_values.specs.declared.fault.ScenarioFault.{ScenarioFault}
 use Rattle.scenario_values.specs.declared.fault.ScenarioFault.TheVariants.{NotJson, Field, Unknown, TooBig, Memory}
 use Rattle.scenario_json.specs.declared.scenario.Scenario.{Scenario}
 use Rattle.scenario_values.specs.ResultCombinators.{◌>>=◌, only_if}
 use Rattle.scenario_values.specs.FieldValues.{entries, whole}
-use Rattle.scenario_json.specs.RunSizes.{cells_of}
+use Rattle.scenario_json.specs.RunCells.{cells_of}
 use Rattle.scenario_json.specs.InputsAndDelays.{inputs_in, delays_in}
 use Rattle.scenario_json.specs.Traces.{trace_in}
 use Rattle.scenario_json.specs.Clocks.{clocks_in}
 use Rattle.scenario_json.specs.Events.{events_in}
 use Rattle.analysis_fields.specs.declared.replica_faults.RoundFault.{RoundFault}
 use Rattle.analysis_fields.specs.declared.processors.Processor.{Processor}
-use Rattle.analysis_fields.specs.PropertyValues.{PropertyValue}
+use Rattle.analysis_fields.specs.NamedFormulas.{PropertyValue}
 use Rattle.analysis_fields.specs.Properties.{properties_in}
-use Rattle.analysis_fields.specs.Replicas.{replicas_in, faults_in}
+use Rattle.analysis_fields.specs.ReplicasAndFaults.{replicas_in, faults_in}
 use Rattle.analysis_fields.specs.Plants.{plants_in}
 use Rattle.analysis_fields.specs.Processors.{processors_in}
 

@@ -2,7 +2,7 @@
 ghost use Rattle.std.specs.Prelude.{◌≡◌, [], IfOk, codes, length, replicate};
 ghost use Rattle.std.specs.List.Sorted.{IsNonDecreasing};
 ghost use Rattle.serde_json.specs.View.{view};
-ghost use Rattle.pals_clock.specs.Clock.{AreReadings, unpicked};
+ghost use Rattle.pals_clock.specs.ClockStates.{AreReadings, unpicked};
 ghost use Rattle.scenario_values.specs.ResultCombinators.{Answers, Makes};
 ghost use Rattle.scenario_values.specs.FaultPlaces.{inside};
 ghost use Rattle.scenario_json.specs.Clocks.{reading_list, with_clock, clock_lists, is_meet, clocks_in};

@@ -3,7 +3,7 @@
 //! scenario means, or what its first fault is, is `scen` of `specs/Scenarios.antt`.
 #![tactic(auto)]
 
-mod run_sizes;
+mod run_cells;
 mod clocks;
 mod events;
 mod inputs_and_delays;
@@ -12,7 +12,7 @@ mod scenario;
 mod traces;
 
 pub use analysis_fields::{Processor, Property, RoundFault};
-pub use run_sizes::cells_of;
+pub use run_cells::cells_of;
 pub use clocks::read_clocks;
 pub use events::read_events;
 pub use inputs_and_delays::{least_delays, no_inputs, read_delays, read_inputs};

@@ -10,7 +10,7 @@ use Rattle.pals_base.specs.declared.limits.TheConstants.{HOUR, ROUNDS}
 use Rattle.pals_base.specs.declared.values.NodeNo.{NodeNo}
 use Rattle.pals_base.specs.declared.values.PortValue.{PortValue}
 use Rattle.pals_model.specs.declared.design.DesignParts.{DesignParts}
-use Rattle.pals_runs.specs.declared.analysis_inputs.Pair.{Pair}
+use Rattle.pals_runs.specs.declared.vote_faults_and_pairs.Pair.{Pair}
 use Rattle.pals_runs.specs.Formula.{Formula}
 use Rattle.scenario_values.specs.declared.fault.ScenarioFault.{ScenarioFault}
 use Rattle.scenario_values.specs.FaultPlaces.{inside}
@@ -21,16 +21,16 @@ use Rattle.analysis_fields.specs.declared.formulas.FormulaWord.TheVariants as ro
 use Rattle.analysis_fields.specs.declared.limits.TheConstants.{LEVELS, REPLICAS}
 use Rattle.analysis_fields.specs.declared.plants.NamedPair.{NamedPair}
 use Rattle.analysis_fields.specs.declared.processors.Processor.{Processor}
-use Rattle.analysis_fields.specs.PropertyValues.{PropertyValue}
+use Rattle.analysis_fields.specs.NamedFormulas.{PropertyValue}
 use Rattle.analysis_fields.specs.Plants.{named_in, pair_in, with_pair, plants_in}
 use Rattle.analysis_fields.specs.Processors.{with_member, processor_parts, processor_in, with_processor, all_placed}
 use Rattle.analysis_fields.specs.Processors.{nowhere, processors_in}
 use Rattle.analysis_fields.specs.Properties.{compare_of, variable_at, var_form, halted_form, one_part, two_parts}
 use Rattle.analysis_fields.specs.Properties.{form_of, role_in, rest_of, formula_in, property_in, with_property}
 use Rattle.analysis_fields.specs.Properties.{properties_in}
-use Rattle.analysis_fields.specs.Replicas.{with_replica, replicas_in, copies_at, kind_at, with_fault_value, replica_at}
-use Rattle.analysis_fields.specs.Replicas.{link_from, ends_of, fault_behind, fault_of, fault_from, fault_in, with_fault}
-use Rattle.analysis_fields.specs.Replicas.{faults_in}
+use Rattle.analysis_fields.specs.ReplicasAndFaults.{with_replica, replicas_in, copies_at, kind_at, with_fault_value, replica_at}
+use Rattle.analysis_fields.specs.ReplicasAndFaults.{link_from, ends_of, fault_behind, fault_of, fault_from, fault_in, with_fault}
+use Rattle.analysis_fields.specs.ReplicasAndFaults.{faults_in}
 use Rattle.scenario_laws.proofs.FaultsBesidesMemory.{IsNamed, ok, wrong, out, strange, lacking, bind, given_named, only}
 use Rattle.scenario_laws.proofs.FaultsBesidesMemory.{through_named}
 use Rattle.scenario_laws.proofs.ValueFaults.{elements_named, entries_named, whole_named, number_named, text_named}

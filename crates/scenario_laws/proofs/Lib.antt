@@ -1,9 +1,9 @@
-mod FieldOutcomes
+mod SuccessfulFields
 mod NamesInDesign
 mod ScenarioEvents
-mod TraceLengths
+mod TraceLineLimit
 mod FusiblePairs
-mod FieldLaws
+mod SuitableScenarios
 mod FaultsBesidesMemory
 mod ValueFaults
 mod RunFieldFaults

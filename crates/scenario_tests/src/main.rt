@@ -5,7 +5,7 @@
 mod commands;
 mod designs;
 mod scenario_predicates;
-mod lines;
+mod journal_and_fault_lines;
 mod scenarios;
 
 use case_files::check;
@@ -25,5 +25,5 @@ const TABLES: [&str; 9] = [
 
 fn main(rt: HostRuntime) -> io::Result<()> {
     check(&rt, &scenarios::Scenarios, &TABLES)?;
-    check(&rt, &lines::Lines, &["lines"])
+    check(&rt, &journal_and_fault_lines::Lines, &["lines"])
 }

@@ -15,7 +15,7 @@ use Rattle.std.proofs.lemmas.Map.Text.{btree_map_updates_text}
 use Rattle.std.proofs.lemmas.Option.{slice_get_within}
 use Rattle.std.proofs.lemmas.Slice.Eq.{bytes_eq-Decides}
 use Rattle.std.specs.Cmp.{both_ways}
-use Rattle.pals_model.proofs.FirstElements.{found_at}
+use Rattle.pals_model.proofs.FirstMatches.{found_at}
 use Rattle.scenario_values.specs.proof.NameTables.{Numbers}
 
 -- what is found stands in the list

@@ -8,7 +8,7 @@ pub mod StuckFreedom
 pub mod FuelMonotonicity
 pub mod LoopCrossings
 pub mod FaultlessInstructions
-pub mod PassedHeights
+pub mod HeightPropagation
 pub mod EntryHeights
 pub mod ReachedHeights
 pub mod LeastBadEntry

@@ -20,7 +20,7 @@ use Rattle.step_code.specs.proof.VerifierRules.{IsFirst, IsFaultOf}
 use Rattle.step_code.specs.proof.VerifierAnswers.{Holds, Clashes, AreThere, AreHeights, PassesOn, Disagrees, Passed}
 use Rattle.step_code.proofs.FaultlessInstructions.{IsSound, goes_well}
 use Rattle.step_code.proofs.LoopCrossings.{not_le}
-use Rattle.step_code.proofs.PassedHeights.{member_right, member_either, member_or_not}
+use Rattle.step_code.proofs.HeightPropagation.{member_right, member_either, member_or_not}
 
 -- ---- the stack is no higher than the place
 after_little : (h : ℕ) (i : Instr) → after h i ≤ h + 1

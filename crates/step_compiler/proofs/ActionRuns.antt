@@ -19,13 +19,13 @@ use Rattle.step_code.specs.declared.instr.Instr.TheVariants as code
 use Rattle.step_code.specs.InstructionEffects.{Goes, Senses, on_found, step}
 use Rattle.step_code.specs.CodeLengths.{length_of, length_act, length_acts, length_branches}
 use Rattle.step_compiler.specs.TreeInstructions.{code_of, code_act, code_acts, code_branches}
-use Rattle.step_compiler.proofs.PlacedCode.{HasAt, has_front, has_back, code-length, act-length, acts-length}
-use Rattle.step_compiler.proofs.PlacedCode.{branches-length}
+use Rattle.step_compiler.proofs.PlacedCodeLengths.{HasAt, has_front, has_back, code-length, act-length, acts-length}
+use Rattle.step_compiler.proofs.PlacedCodeLengths.{branches-length}
 use Rattle.step_compiler.proofs.AccessBounds.{Sees, Sizes, SeesAct, SeesActs, SeesBranches}
 use Rattle.step_code.proofs.WeightBounds.{get_set_other, get_set_same, spans}
 use Rattle.step_compiler.proofs.ExpressionRuns.{At, at, Gives, stays, leads_on, goes, jumps, passes, expr_runs}
-use Rattle.step_compiler.proofs.LoopTurns.{Fits, Arrives, Comes, come_after, comes_at, then_comes, with_value}
-use Rattle.step_compiler.proofs.LoopTurns.{next_fits, assigned, sent, loop_fits, turn, Bodies, turns_run}
+use Rattle.step_compiler.proofs.LoopEffects.{Fits, Arrives, Comes, come_after, comes_at, then_comes, with_value}
+use Rattle.step_compiler.proofs.LoopEffects.{next_fits, assigned, sent, loop_fits, turn, Bodies, turns_run}
 
 module _ (whole : List Instr) (s : Senses) (z : Sizes) where
   loop_runs : (body : Actions) (b : Bool) (n p : ℕ) (low high : ℤ) (stack slots : List ℤ) (outs : List Value)

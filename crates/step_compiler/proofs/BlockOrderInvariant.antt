@@ -16,7 +16,7 @@ use Rattle.step_compiler.specs.proof.BlockOrder.{is_placed}
 use Rattle.step_compiler.specs.LaidOutCode.{complete_states}
 use Rattle.step_compiler.specs.proof.BlockLengths.{leaving_among, order_length}
 use Rattle.step_compiler.specs.BlockLayout.{block_length, start_of}
-use Rattle.step_compiler.proofs.UpwardNumbers.{filter_more}
+use Rattle.step_compiler.proofs.NumbersFromZero.{filter_more}
 
 -- ---- one more block
 

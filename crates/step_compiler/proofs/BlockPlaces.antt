@@ -14,8 +14,8 @@ use Rattle.step_compiler.specs.proof.BlockOrder.{is_placed, block_order}
 use Rattle.step_compiler.specs.BlockLayout.{trigger_code, last_instr, past, edge_code, block_code, block_length}
 use Rattle.step_compiler.specs.BlockLayout.{start_of, blocks_code, dispatch_offset}
 use Rattle.step_compiler.specs.proof.BlockLengths.{in_list, block_starts}
-use Rattle.step_compiler.proofs.UpwardNumbers.{listed}
-use Rattle.step_compiler.proofs.PlacedCode.{HasAt, has_front, has_back, edge-length, block-length}
+use Rattle.step_compiler.proofs.NumbersFromZero.{listed}
+use Rattle.step_compiler.proofs.PlacedCodeLengths.{HasAt, has_front, has_back, edge-length, block-length}
 use Rattle.step_compiler.proofs.BlockOrderCompleteness.{order_full}
 
 -- ---- a list stands at its own beginning

@@ -19,13 +19,13 @@ use Rattle.step_code.specs.InstructionEffects.{Senses, step}
 use Rattle.step_code.specs.proof.CodeRuns.{Ended, then_run, run}
 use Rattle.step_code.specs.CodeLengths.{length_of, length_acts, length_trigger, length_edge}
 use Rattle.step_compiler.specs.TreeInstructions.{code_of, code_acts}
-use Rattle.step_compiler.proofs.PlacedCode.{HasAt, has_front, has_back, code-length, acts-length, trigger-length}
-use Rattle.step_compiler.proofs.PlacedCode.{edge-length}
+use Rattle.step_compiler.proofs.PlacedCodeLengths.{HasAt, has_front, has_back, code-length, acts-length, trigger-length}
+use Rattle.step_compiler.proofs.PlacedCodeLengths.{edge-length}
 use Rattle.step_compiler.proofs.AccessBounds.{Sizes, SeesTrigger, IsGood, AreGood}
 use Rattle.step_compiler.specs.BlockLayout.{trigger_code, last_instr, edge_code, block_code}
 use Rattle.step_compiler.proofs.ExpressionRuns.{At, at, runs, Leads, Traps', Gives, leads_on, leads_trap, goes, jumps}
 use Rattle.step_compiler.proofs.ExpressionRuns.{passes}
-use Rattle.step_compiler.proofs.LoopTurns.{Fits, Comes}
+use Rattle.step_compiler.proofs.LoopEffects.{Fits, Comes}
 use Rattle.step_compiler.proofs.ActionRuns.{value_runs, acts_run}
 
 -- the variables, out of the slots

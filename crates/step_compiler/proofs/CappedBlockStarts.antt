@@ -8,7 +8,7 @@ use Rattle.step_code.specs.CappedWeights.{capped}
 use Rattle.step_compiler.specs.LaidOutCode.{states_of}
 use Rattle.step_compiler.specs.BlockLayout.{block_length, start_of}
 use Rattle.step_compiler.specs.proof.BlockLengths.{capped_length, start_in}
-use Rattle.step_compiler.proofs.UpwardNumbers.{listed}
+use Rattle.step_compiler.proofs.NumbersFromZero.{listed}
 
 capped_sum : (a b x y : ℕ) → a ≡ capped b → capped x ≡ capped y → capped (a + x) ≡ capped (b + y)
 capped_sum a b x y first rest = omega (arith, first, rest)

@@ -17,7 +17,7 @@ use Rattle.step_code.specs.InstructionEffects.{Goes, Traps, Senses, on_found, on
 use Rattle.step_code.specs.proof.CodeRuns.{Outcome, Trapped, then_run, run}
 use Rattle.step_code.specs.CodeLengths.{operand_length, length_of, length_rest}
 use Rattle.step_compiler.specs.TreeInstructions.{operator, operand_code, code_of, code_rest}
-use Rattle.step_compiler.proofs.PlacedCode.{HasAt, has_front, has_back, code-length, operand-length}
+use Rattle.step_compiler.proofs.PlacedCodeLengths.{HasAt, has_front, has_back, code-length, operand-length}
 use Rattle.step_compiler.proofs.AccessBounds.{Sees, SeesAll}
 
 -- ---- runs

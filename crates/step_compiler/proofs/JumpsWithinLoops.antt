@@ -18,8 +18,8 @@ use Rattle.step_code.specs.Loops.{loop_from, loop_at, with_loop, loops_below}
 use Rattle.step_code.specs.proof.VerifierRules.{inside, agrees, stays}
 use Rattle.step_code.specs.CodeLengths.{operand_length, length_of, length_act, length_acts, length_branches}
 use Rattle.step_compiler.specs.TreeInstructions.{operand_code, code_of, code_rest, code_act, code_acts, code_branches}
-use Rattle.step_compiler.proofs.PlacedCode.{HasAt, has_front, has_back, code-length, act-length, acts-length}
-use Rattle.step_compiler.proofs.PlacedCode.{branches-length}
+use Rattle.step_compiler.proofs.PlacedCodeLengths.{HasAt, has_front, has_back, code-length, act-length, acts-length}
+use Rattle.step_compiler.proofs.PlacedCodeLengths.{branches-length}
 use Rattle.step_code.proofs.CleanNesting.{loop_is}
 
 -- the loops that start before a stretch end before it, or have all of it in their bodies

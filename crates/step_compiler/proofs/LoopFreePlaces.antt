@@ -18,8 +18,8 @@ use Rattle.step_compiler.specs.proof.BlockOrder.{is_placed}
 use Rattle.step_compiler.specs.BlockLayout.{trigger_code, last_instr, past, edge_code, block_code, block_length}
 use Rattle.step_compiler.specs.BlockLayout.{start_of, blocks_code}
 use Rattle.step_compiler.specs.proof.BlockLengths.{order_length}
-use Rattle.step_compiler.proofs.PlacedCode.{HasAt, has_front, has_back, code-length, acts-length, trigger-length}
-use Rattle.step_compiler.proofs.PlacedCode.{edge-length, block-length}
+use Rattle.step_compiler.proofs.PlacedCodeLengths.{HasAt, has_front, has_back, code-length, acts-length, trigger-length}
+use Rattle.step_compiler.proofs.PlacedCodeLengths.{edge-length, block-length}
 use Rattle.step_compiler.proofs.BlockOrderInvariant.{AreOnce}
 use Rattle.step_compiler.proofs.JumpsWithinLoops.{Outer, Closed, closed_both, one_closed, none_closed, starts_none}
 use Rattle.step_compiler.proofs.JumpsWithinLoops.{expr_closed, acts_closed}

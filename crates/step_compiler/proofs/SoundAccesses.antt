@@ -11,12 +11,12 @@ use Rattle.pals_base.specs.declared.behaviour.VarDecl.{VarDecl}
 use Rattle.pals_base.specs.declared.behaviour.BehaviourParts.{BehaviourParts}
 use Rattle.pals_base.specs.declared.behaviour.Kind.{Kind}
 use Rattle.pals_base.specs.declared.behaviour.Kind.TheVariants.{Integer, Boolean}
-use Rattle.pals_base.specs.declared.kinds.Kinds.{Kinds}
+use Rattle.pals_base.specs.declared.expression_kinds.Kinds.{Kinds}
 use Rattle.pals_base.specs.PlainTrees.{Expression, Literal, Variable, PortRead, Fresh, Neg, Abs, Not, Chain, Operands}
 use Rattle.pals_base.specs.PlainTrees.{NoMore, Then, Action, Assign, Emit, If, For, Actions, Nothing, Do, Branches}
 use Rattle.pals_base.specs.PlainTrees.{NoBranch, Where, Trigger, Dispatch, Always, When}
-use Rattle.pals_base.specs.Kinds.{allows, port_kinds, declared_or, joined, kinds_of, kinds_along, suits_variable}
-use Rattle.pals_base.specs.Kinds.{suits_port, turns, is_short, is_sound, are_sound, branches_are_sound}
+use Rattle.pals_base.specs.TypingRules.{allows, port_kinds, declared_or, joined, kinds_of, kinds_along, suits_variable}
+use Rattle.pals_base.specs.TypingRules.{suits_port, turns, is_short, is_sound, are_sound, branches_are_sound}
 use Rattle.pals_base.specs.BehaviourRules.{has_condition}
 use Rattle.step_compiler.specs.LoopDepths.{depth_act, depth_acts, depth_branches}
 use Rattle.step_compiler.proofs.AccessBounds.{Sees, SeesAll, Sizes, SeesAct, SeesActs, SeesBranches, SeesTrigger}

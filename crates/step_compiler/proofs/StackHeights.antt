@@ -17,8 +17,8 @@ use Rattle.step_code.specs.CodeLengths.{length_branches, length_trigger, length_
 use Rattle.step_compiler.specs.TreeInstructions.{operator, operand_code, code_of, code_rest, code_act, code_acts}
 use Rattle.step_compiler.specs.TreeInstructions.{code_branches}
 use Rattle.step_compiler.specs.BlockLayout.{trigger_code, last_instr, past, edge_code, block_code}
-use Rattle.step_compiler.proofs.PlacedCode.{HasAt, has_front, has_back, code-length, operand-length, act-length}
-use Rattle.step_compiler.proofs.PlacedCode.{acts-length, branches-length, trigger-length, edge-length}
+use Rattle.step_compiler.proofs.PlacedCodeLengths.{HasAt, has_front, has_back, code-length, operand-length, act-length}
+use Rattle.step_compiler.proofs.PlacedCodeLengths.{acts-length, branches-length, trigger-length, edge-length}
 
 -- behind a jump stands code for one number fewer, or for none
 abbrev pub next_height : ℕ → Option Instr → ℕ

@@ -14,11 +14,11 @@ use Rattle.pals_base.specs.PlainTrees.{Edge}
 use Rattle.step_compiler.specs.proof.BlockOrder.{is_placed, is_awaited, leads_from_outside, may_follow, next_state}
 use Rattle.step_compiler.specs.proof.BlockOrder.{with_next, ordered, block_order}
 use Rattle.step_compiler.specs.LaidOutCode.{complete_states, MayFollow, IsNext, IsBlockOrder}
-use Rattle.step_compiler.proofs.UpwardNumbers.{found_is}
+use Rattle.step_compiler.proofs.NumbersFromZero.{found_is}
 use Rattle.step_compiler.proofs.BlockOrderCompleteness.{order_full}
 use Rattle.step_compiler.specs.proof.LayoutLaws.{OrderIsOne}
-use Rattle.step_compiler.proofs.PlacedStates.{placed_contains, contains_placed, find_least, get_take, take_next}
-use Rattle.step_compiler.proofs.PlacedStates.{get_front}
+use Rattle.step_compiler.proofs.BlockOrderMembers.{placed_contains, contains_placed, find_least, get_take, take_next}
+use Rattle.step_compiler.proofs.BlockOrderMembers.{get_front}
 
 -- ---- what may follow
 

@@ -19,8 +19,8 @@ use Rattle.step_code.specs.proof.VerifierRules.{on_some, stays, ends_loop}
 use Rattle.step_code.specs.CodeLengths.{length_of, length_act, length_acts, length_branches}
 use Rattle.step_compiler.specs.TreeInstructions.{code_of, code_act, code_acts, code_branches}
 use Rattle.step_compiler.proofs.AccessBounds.{Sees, Sizes, SeesAct, SeesActs, SeesBranches}
-use Rattle.step_compiler.proofs.PlacedCode.{HasAt, has_front, has_back, code-length, act-length, acts-length}
-use Rattle.step_compiler.proofs.PlacedCode.{branches-length}
+use Rattle.step_compiler.proofs.PlacedCodeLengths.{HasAt, has_front, has_back, code-length, act-length, acts-length}
+use Rattle.step_compiler.proofs.PlacedCodeLengths.{branches-length}
 use Rattle.step_compiler.proofs.JumpsWithinLoops.{Outer, Closed, jump_stays, closed_both, one_closed, none_closed}
 use Rattle.step_compiler.proofs.JumpsWithinLoops.{loopless, starts_none, not_loop, expr-loopless, expr_closed, act_closed}
 use Rattle.step_compiler.proofs.JumpsWithinLoops.{acts_closed, branches_closed}

@@ -35,12 +35,12 @@ use Rattle.step_compiler.specs.BlockLayout.{start_of, blocks_code, dispatch_offs
 use Rattle.step_compiler.specs.proof.BlockLengths.{order_length, in_list, block_starts, compiled}
 use Rattle.step_compiler.proofs.AccessBounds.{SeesTrigger}
 use Rattle.step_compiler.proofs.SoundAccesses.{acts_seen, trigger_seen}
-use Rattle.step_compiler.proofs.PlacedCode.{HasAt, has_front, has_back, code-length, acts-length, trigger-length}
-use Rattle.step_compiler.proofs.PlacedCode.{edge-length, blocks-length}
-use Rattle.step_compiler.proofs.AwaitedStates.{edge_has}
+use Rattle.step_compiler.proofs.PlacedCodeLengths.{HasAt, has_front, has_back, code-length, acts-length, trigger-length}
+use Rattle.step_compiler.proofs.PlacedCodeLengths.{edge-length, blocks-length}
+use Rattle.step_compiler.proofs.BlockOrderMarks.{edge_has}
 use Rattle.step_compiler.proofs.BlockOrderInvariant.{start_below}
 use Rattle.step_compiler.proofs.BlockOrderCompleteness.{all_member, some_member, order_full}
-use Rattle.step_compiler.proofs.UpwardNumbers.{got}
+use Rattle.step_compiler.proofs.NumbersFromZero.{got}
 use Rattle.step_compiler.proofs.BlockPlaces.{whole_at, start_is, whole_block}
 use Rattle.step_compiler.proofs.CompilerCorrectness.{sizes, fitting, onward_of, dispatch_of, compiled_length}
 use Rattle.step_compiler.proofs.JumpsWithinLoops.{Closed, jump_stays, closed_both, none_closed, expr_closed, acts_closed}

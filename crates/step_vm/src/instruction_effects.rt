@@ -3,7 +3,7 @@ ghost use Rattle.std.specs.Prelude.{◌≡◌, ◌≤◌, ◌<◌, ◌+◌, leng
 ghost use Rattle.pals_base.specs.SingleStep.{is_present};
 ghost use Rattle.pals_base.specs.declared.limits.TheConstants.{INSTRUCTIONS};
 ghost use Rattle.step_code.specs.proof.StackHeights.{takes, Fed};
-ghost use Rattle.step_vm.specs.proof.StepOutcomes.{Met, GivesResult, GivesBoth, done_by};
+ghost use Rattle.step_vm.specs.proof.MachineAnswers.{Met, GivesResult, GivesBoth, done_by};
 
 use crate::operators::{apply, holds, number_of};
 use crate::stack::Stack;

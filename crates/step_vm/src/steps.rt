@@ -6,7 +6,7 @@ ghost use Rattle.step_code.specs.InstructionsPerStep.{silent};
 ghost use Rattle.step_code.specs.proof.StackHeights.{Member};
 ghost use Rattle.step_code.specs.proof.VerifierRules.{IsVerified};
 ghost use Rattle.step_vm.specs.proof.OperandStacks.{stack_of};
-ghost use Rattle.step_vm.specs.proof.StepOutcomes.{HasEnded, LeavesBehind, ran};
+ghost use Rattle.step_vm.specs.proof.MachineAnswers.{HasEnded, LeavesBehind, ran};
 ghost use Rattle.step_vm.specs.proof.RoomCapacity.{IsRoomOf};
 
 use crate::instruction_effects::{CodeInputs, Continuation, advance};

@@ -4,7 +4,7 @@ use Rattle.std.proofs.Common.{subst}
 use Rattle.std.proofs.lemmas.Option.{slice_get-get_or}
 use Rattle.list_lemmas.proofs.ElementPositions.{Contains-from_slice_get, slice_get-from_Contains, slice_get-map_some}
 use Rattle.list_lemmas.proofs.ElementPositions.{slice_get-map_parts}
-use Rattle.pals_model.proofs.FirstElements.{at_element}
+use Rattle.pals_model.proofs.FirstMatches.{at_element}
 
 module _ {X : Type 0} (f : X → X) (xs ys : List X) (same : (y : X) → Contains ys y ↔ Contains (map f xs) y) where
   pub there : (k : ℕ) (x : X) → slice_get xs k ≡ Some x → (m : ℕ) × (slice_get ys m ≡ Some (f x))

@@ -15,7 +15,7 @@ use Rattle.pals_model.specs.declared.inputs_and_parts.Env.{Env}
 use Rattle.pals_model.specs.ComponentInputs.{feed_names, root_inputs, root_of, place_of, values_at, link_goes_to}
 use Rattle.pals_model.specs.ComponentInputs.{feed_goes_to, source_of, read_link, read_feed, reading}
 use Rattle.pals_model.specs.DesignRules.{IsDesign, IsLink, IsFeed}
-use Rattle.pals_model.proofs.FirstElements.{at_element}
+use Rattle.pals_model.proofs.FirstMatches.{at_element}
 use Rattle.pals_model.proofs.SourceLaws.{link_is_source, feed_is_source, nothing_is_source}
 use Rattle.pals_model.proofs.RootInputLaws.{root_inputs_are_feeds}
 use Rattle.sync_product.specs.proof.RenumberedDesigns.{renumbered_link, renumbered_feed, IsRenumbered, values_of}

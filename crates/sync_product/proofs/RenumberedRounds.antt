@@ -20,7 +20,7 @@ use Rattle.pals_model.specs.ComponentInputs.{rate_of, values_at, source_of, read
 use Rattle.pals_model.specs.Composition.{comp, state, msg, part, taps_of}
 use Rattle.pals_model.specs.DesignRules.{IsDesign, IsLink, IsTap}
 use Rattle.pals_model.specs.proof.CompositionLaws.{own_steps}
-use Rattle.pals_model.proofs.FirstElements.{at_element}
+use Rattle.pals_model.proofs.FirstMatches.{at_element}
 use Rattle.pals_model.proofs.ShapeLaws.{component_at}
 use Rattle.pals_model.proofs.CompositionLaws.{state_begins, state_goes_on, message_from_source, part_from_steps}
 use Rattle.sync_product.specs.proof.RenumberedDesigns.{renumbered_link, renumbered_tap, IsRenumbered, AreSameInputs}

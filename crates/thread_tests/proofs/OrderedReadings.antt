@@ -3,7 +3,7 @@ use Rattle.std.proofs.Common.{ℕ, ◌+◌, ◌*◌, ◌-◌, ◌≤◌, List, [
 use Rattle.std.specs.List.Sorted.{IsNonDecreasing}
 use Rattle.std.proofs.lemmas.List.Elements.{All-push}
 use Rattle.std.proofs.lemmas.List.Sorted.{IsNonDecreasingBy-push}
-use Rattle.pals_clock.specs.Clock.{AreReadings}
+use Rattle.pals_clock.specs.ClockStates.{AreReadings}
 
 pub in_order : (readings : List ℕ) (number : ℕ) → IsNonDecreasing readings → All (λ r. r ≤ number * 30) readings
     → IsNonDecreasing (readings ++ number * 30 ∷ [])

@@ -1,10 +1,10 @@
 //! Nodes whose clocks are lists, some of which are no good.
 ghost use Rattle.std.specs.Prelude.{IfOk};
 ghost use Rattle.std.specs.List.Sorted.{IsNonDecreasing};
-ghost use Rattle.pals_clock.specs.Clock.{AreReadings};
+ghost use Rattle.pals_clock.specs.ClockStates.{AreReadings};
 
 use crate::buses::{bus_of, tells};
-use case_files::designs::TWO_COUNTERS;
+use case_files::example_designs::TWO_COUNTERS;
 use node_threads::{Host, NoGate, ThreadStarter};
 use pals_base::{Items, Nanos, NoMemory};
 use pals_clock::{Clocks, ListClock};

@@ -1,7 +1,7 @@
 //! Nodes that meet.
 use crate::buses::{bus_of, tells};
 use crate::gates::{Meets, Yields};
-use case_files::designs::TURN;
+use case_files::example_designs::TURN;
 use node_threads::{FakeStarter, Host, NoGate, ThreadStarter};
 use pals_base::{Items, NodeNo};
 use pals_clock::Clocks;

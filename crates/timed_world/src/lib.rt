@@ -4,9 +4,9 @@
 
 mod event_list;
 mod events;
-mod faults;
+mod event_faults;
 mod opening;
-mod pass_faults;
+mod time_passing_faults;
 mod standing;
 mod world;
 

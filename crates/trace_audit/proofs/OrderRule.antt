@@ -20,7 +20,7 @@ use Rattle.bus_machine.specs.NodeEvents.{is_waiting, next_step, running_step}
 use Rattle.bus_machine.specs.States.{Run, BusState, node_at}
 use Rattle.bus_machine.specs.Machine.{BusEvent, Step, arrival, early_stop}
 use Rattle.bus_machine.specs.Replay.{entries, stop_entry}
-use Rattle.run_laws.specs.TraceLines.{event_of, timed}
+use Rattle.run_laws.specs.EntriesInLines.{event_of, timed}
 use Rattle.run_laws.specs.TraceRules.{broken, falls, first_entry, fits, is_in_order, same_result, tells_stop, too_early}
 use Rattle.run_laws.specs.TraceRules.{waits}
 use Rattle.run_laws.specs.TraceVerdicts.{second_entry}

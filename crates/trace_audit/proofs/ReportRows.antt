@@ -13,7 +13,7 @@ use Rattle.pals_model.specs.ComponentInputs.{values_at}
 use Rattle.pals_report.specs.proof.RowLines.{ArePartsOf}
 use Rattle.sync_product.specs.proof.ProductStates.{ProductState, advanced, state_after}
 use Rattle.sync_product.proofs.ProductLaws.{design_stays, has_parts_of_round}
-use Rattle.trace_audit.specs.declared.rows.AuditedRows.{AuditedRows}
+use Rattle.trace_audit.specs.declared.audited_rows.AuditedRows.{AuditedRows}
 use Rattle.trace_audit.specs.proof.ReportRows.{AreRows}
 
 at_place : {A : Type 0} (f : ℕ → A) (from n k : ℕ) → k < n → slice_get (map f (upwards from n)) k ≡ Some (f (from + k))

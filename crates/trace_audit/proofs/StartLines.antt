@@ -11,7 +11,7 @@ use Rattle.pals_model.specs.declared.design.DesignParts.{DesignParts}
 use Rattle.pals_model.specs.declared.design.Link.{Link}
 use Rattle.pals_model.specs.ComponentInputs.{link_goes_to}
 use Rattle.pals_model.specs.DesignRules.{IsDesign}
-use Rattle.pals_model.proofs.FirstElements.{found_at}
+use Rattle.pals_model.proofs.FirstMatches.{found_at}
 use Rattle.pals_model.proofs.WordBytes.{same_bytes, other_bytes}
 use Rattle.pals_runs.specs.declared.journal.Stop.{Stop}
 use Rattle.pals_runs.specs.declared.journal.Stop.TheVariants as stop
@@ -25,7 +25,7 @@ use Rattle.bus_machine.specs.MissedStarts.{link_into, missing_link}
 use Rattle.bus_machine.specs.Machine.{Start, missed_stop}
 use Rattle.bus_machine.specs.Replay.{start_entry}
 use Rattle.run_laws.specs.Entries.{IsEntryIn, IsReading}
-use Rattle.run_laws.specs.TraceLines.{event_of}
+use Rattle.run_laws.specs.EntriesInLines.{event_of}
 use Rattle.run_laws.specs.TraceRules.{is_line_of}
 use Rattle.run_laws.proofs.EntryLines.{lines_differ}
 

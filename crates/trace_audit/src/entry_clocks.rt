@@ -1,6 +1,6 @@
 //! The clock that an entry reads.
 ghost use Rattle.std.specs.Prelude.{◌≡◌, ◌<◌, length, option_map, IfSome};
-ghost use Rattle.run_laws.specs.TraceLines.{timed, has_reading};
+ghost use Rattle.run_laws.specs.EntriesInLines.{timed, has_reading};
 ghost use Rattle.run_laws.specs.TraceRules.{falls};
 ghost use Rattle.run_laws.specs.TraceVerdicts.{noted};
 ghost use Rattle.bus_machine.specs.States.{link_at};

@@ -13,7 +13,7 @@ ghost use Rattle.run_laws.specs.TraceRules.{broken};
 ghost use Rattle.trace_audit.specs.proof.ToldEvents.{IsReady, SaysStart, IsRedone};
 
 use crate::entry_clocks::{falls, target};
-use crate::rules::{early_rule, is_due, is_last, late_rule};
+use crate::first_broken_rule::{early_rule, is_due, is_last, late_rule};
 use pals_base::{LinkNo, Nanos, NoMemory, NodeNo};
 use pals_bus::{Bus, BusError, MessageError};
 use pals_node::{SendEnd, StartEnd, StepEnd};

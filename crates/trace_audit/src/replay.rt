@@ -2,14 +2,14 @@
 ghost use Rattle.std.specs.Prelude.{◌≡◌, ◌<◌, Option, Some, None, Ok, false, IfOk, IfSome};
 ghost use Rattle.bus_machine.specs.States.{opening};
 ghost use Rattle.run_laws.specs.Entries.{IsEntryIn};
-ghost use Rattle.run_laws.specs.TraceLines.{has_reading};
+ghost use Rattle.run_laws.specs.EntriesInLines.{has_reading};
 ghost use Rattle.run_laws.specs.TraceVerdicts.{opening_audit, line_broken};
 ghost use Rattle.trace_audit.specs.proof.OwedStops.{owed_by};
 ghost use Rattle.trace_audit.specs.proof.AuditReplays.{IsReplay, Follows, IsClockOf, audit_in};
 
 use crate::entry_clocks::{ClockReading, clock_of, has_reading, note};
 use crate::redone_entries::redo;
-use crate::rules::is_line_of;
+use crate::first_broken_rule::is_line_of;
 use pals_base::{Nanos, NoMemory};
 use pals_bus::Bus;
 use pals_runs::{Arrived, JournalEntry, Stop, TraceRule};

@@ -6,7 +6,7 @@ ghost use Rattle.trace_audit.specs.proof.ReportRows.{IsAtLine};
 
 use crate::has_form;
 use crate::row_text::row_size;
-use crate::rows::AuditedRows;
+use crate::audited_rows::AuditedRows;
 use pals_base::{NoMemory, Text};
 use pals_model::{Design, Env};
 use std::alloc::Global;

@@ -3,7 +3,7 @@ ghost use Rattle.std.specs.Prelude.{◌≡◌, ℕ, List, Some, IfSome};
 ghost use Rattle.pals_model.specs.declared.design.DesignParts.{DesignParts};
 ghost use Rattle.pals_model.specs.NamesInTexts.{node_named, link_named};
 ghost use Rattle.run_laws.specs.Entries.{IsEntryIn};
-ghost use Rattle.run_laws.specs.TraceLines.{entry_of, told};
+ghost use Rattle.run_laws.specs.EntriesInLines.{entry_of, told};
 ghost use Rattle.trace_audit.specs.proof.LineForms.{node_form, link_form, shown};
 
 use crate::journal_lines::{JournalLine, LinkLine, NodeLine, form_of};

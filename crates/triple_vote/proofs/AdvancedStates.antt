@@ -18,7 +18,7 @@ use Rattle.pals_model.specs.ComponentInputs.{rate_of}
 use Rattle.pals_model.specs.Composition.{no_frame, opening}
 use Rattle.pals_model.specs.DesignRules.{IsDesign}
 use Rattle.pals_model.proofs.ShapeLaws.{component_at}
-use Rattle.pals_runs.specs.declared.analysis_inputs.VoteFault.{VoteFault}
+use Rattle.pals_runs.specs.declared.vote_faults_and_pairs.VoteFault.{VoteFault}
 use Rattle.sync_product.specs.declared.stage.Stage.{Stage}
 use Rattle.sync_product.specs.proof.ProductSizes.{part_size, part_size_of, stage_size}
 use Rattle.sync_product.specs.proof.Rounds.{frames_of}
@@ -28,9 +28,9 @@ use Rattle.triple_vote.specs.Replicas.{copies_of, Voted, frame_at, received_at, 
 use Rattle.triple_vote.specs.Replicas.{vshown_by}
 use Rattle.triple_vote.specs.proof.VotedStates.{VotedState, vbegun, vadvanced}
 use Rattle.triple_vote.specs.proof.ReplicaLayers.{lengths, frame_sizes, tap_sizes}
-use Rattle.triple_vote.specs.proof.ReplicaTriples.{there_in, parts_in, frame_of, tuple_of, voted_of, AreThree}
-use Rattle.triple_vote.specs.proof.ReplicaTriples.{HaveReplicas, AreOpened, StayPut, AreMade, AllReceived, AreShown}
-use Rattle.triple_vote.specs.proof.ReplicaTriples.{AreTurned, AreHeard, HasTables, HasReplicas}
+use Rattle.triple_vote.specs.proof.ThreeLayers.{there_in, parts_in, frame_of, tuple_of, voted_of, AreThree}
+use Rattle.triple_vote.specs.proof.ThreeLayers.{HaveReplicas, AreOpened, StayPut, AreMade, AllReceived, AreShown}
+use Rattle.triple_vote.specs.proof.ThreeLayers.{AreTurned, AreHeard, HasTables, HasReplicas}
 use Rattle.triple_vote.proofs.ReplicaRounds.{replica_at, receiver_at}
 use Rattle.triple_vote.proofs.LayerUpdates.{room_at}
 use Rattle.triple_vote.proofs.VotedRounds.{replicas-same, receivers-same, within_three, voted_is, shown_is}

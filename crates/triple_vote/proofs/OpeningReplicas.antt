@@ -19,7 +19,7 @@ use Rattle.sync_product.proofs.OpeningProducts.{opening_messages_fit}
 use Rattle.triple_vote.specs.declared.layer.Layer.{Layer}
 use Rattle.triple_vote.specs.Replicas.{is_replicated}
 use Rattle.triple_vote.specs.proof.ReplicaLayers.{lengths, opening_part, HasRoom, is_there, IsOpened}
-use Rattle.triple_vote.specs.proof.ReplicaTriples.{there_in, parts_in, AreThree, HaveReplicas, AreOpened, AreHeard}
+use Rattle.triple_vote.specs.proof.ThreeLayers.{there_in, parts_in, AreThree, HaveReplicas, AreOpened, AreHeard}
 
 -- ---- one layer
 size_of_opening : (c : Component) → part_size (opening_part c) ≡ part_size_of c []

@@ -11,7 +11,7 @@ use Rattle.pals_model.specs.declared.design.Link.{Link}
 use Rattle.pals_model.specs.declared.design.DesignParts.{DesignParts}
 use Rattle.pals_model.specs.ComponentInputs.{inputs_of, source_of, from_link, from_feed, link_goes_to, feed_goes_to}
 use Rattle.pals_model.specs.ComponentInputs.{reading, read_link}
-use Rattle.pals_model.proofs.FirstElements.{found_at}
+use Rattle.pals_model.proofs.FirstMatches.{found_at}
 use Rattle.triple_vote.specs.Replicas.{Voted, received_at, heard_by}
 
 module _ (design : DesignParts) (values : List PortValue) (v : Voted) (messages : List (List PortValue))

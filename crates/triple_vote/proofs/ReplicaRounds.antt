@@ -18,9 +18,9 @@ use Rattle.pals_model.specs.Composition.{no_frame, comp, state, msg, steps_of_ro
 use Rattle.pals_model.specs.DesignRules.{IsDesign, IsLink, IsTap}
 use Rattle.pals_model.specs.proof.CompositionLaws.{own_steps}
 use Rattle.pals_model.proofs.CompositionLaws.{state_begins, state_goes_on, message_from_source, steps_of_round-at}
-use Rattle.pals_model.proofs.FirstElements.{at_element}
+use Rattle.pals_model.proofs.FirstMatches.{at_element}
 use Rattle.pals_model.proofs.ShapeLaws.{component_at, message_has_rate}
-use Rattle.pals_runs.specs.declared.analysis_inputs.VoteFault.{VoteFault}
+use Rattle.pals_runs.specs.declared.vote_faults_and_pairs.VoteFault.{VoteFault}
 use Rattle.triple_vote.specs.Votes.{votes}
 use Rattle.triple_vote.specs.Replicas.{is_replicated, copies_of, receivers_in, Voted, frame_at, received_at}
 use Rattle.triple_vote.specs.Replicas.{for_replicas, for_receivers, first_frame, first_tuple, vopening, steps_in}

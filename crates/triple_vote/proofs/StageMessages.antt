@@ -10,7 +10,7 @@ use Rattle.pals_model.specs.declared.design.Tap.{Tap}
 use Rattle.pals_model.specs.declared.design.DesignParts.{DesignParts}
 use Rattle.pals_model.specs.ComponentInputs.{rate_of}
 use Rattle.pals_model.specs.DesignRules.{IsDesign, IsLink, IsTap}
-use Rattle.pals_model.proofs.FirstElements.{at_element}
+use Rattle.pals_model.proofs.FirstMatches.{at_element}
 use Rattle.sync_product.specs.declared.stage.Stage.{Stage}
 use Rattle.sync_product.specs.proof.ProductSizes.{stage_size, stage_sizes, message_sizes}
 use Rattle.sync_product.specs.proof.Rounds.{sent_by, sent_from}

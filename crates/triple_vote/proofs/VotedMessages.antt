@@ -12,8 +12,8 @@ use Rattle.pals_model.specs.declared.design.Link.{Link}
 use Rattle.pals_model.specs.declared.design.Tap.{Tap}
 use Rattle.pals_model.specs.declared.design.DesignParts.{DesignParts}
 use Rattle.pals_model.specs.ComponentInputs.{rate_of}
-use Rattle.pals_model.proofs.FirstElements.{at_element}
-use Rattle.pals_runs.specs.declared.analysis_inputs.VoteFault.{VoteFault}
+use Rattle.pals_model.proofs.FirstMatches.{at_element}
+use Rattle.pals_runs.specs.declared.vote_faults_and_pairs.VoteFault.{VoteFault}
 use Rattle.sync_product.specs.proof.ProductSizes.{message_sizes}
 use Rattle.sync_product.proofs.ComponentLists.{item_at}
 use Rattle.triple_vote.specs.declared.layer.Layer.{Layer}
@@ -21,8 +21,8 @@ use Rattle.triple_vote.specs.Votes.{votes}
 use Rattle.triple_vote.specs.Replicas.{source_in, is_replicated, is_fault, fault_or, vote_of}
 use Rattle.triple_vote.specs.proof.VoteLaws.{IsFault}
 use Rattle.triple_vote.specs.proof.ReplicaLayers.{lengths, tap_sizes, HasRoom, is_there}
-use Rattle.triple_vote.specs.proof.ReplicaTriples.{there_in, sent_in, shown_in, tuple_of, received_of, shown_of}
-use Rattle.triple_vote.specs.proof.ReplicaTriples.{AreOfSize, FaultsFit, AreThree}
+use Rattle.triple_vote.specs.proof.ThreeLayers.{there_in, sent_in, shown_in, tuple_of, received_of, shown_of}
+use Rattle.triple_vote.specs.proof.ThreeLayers.{AreOfSize, FaultsFit, AreThree}
 use Rattle.triple_vote.proofs.TabulatedLists.{found}
 use Rattle.triple_vote.proofs.TupleVotes.{length-votes}
 use Rattle.triple_vote.proofs.TupleWrites.{Filled, filled_put}

@@ -18,9 +18,9 @@ use Rattle.pals_model.specs.ComponentInputs.{rate_in, inputs_of}
 use Rattle.pals_model.specs.Composition.{no_frame}
 use Rattle.pals_model.specs.PortKinds.{outs_in}
 use Rattle.pals_model.specs.DesignRules.{IsDesign, IsLink, IsTap, IsSource}
-use Rattle.pals_model.proofs.FirstElements.{at_element}
+use Rattle.pals_model.proofs.FirstMatches.{at_element}
 use Rattle.pals_model.proofs.ShapeLaws.{component_at}
-use Rattle.pals_runs.specs.declared.analysis_inputs.VoteFault.{VoteFault}
+use Rattle.pals_runs.specs.declared.vote_faults_and_pairs.VoteFault.{VoteFault}
 use Rattle.sync_product.specs.proof.Rounds.{frames_of}
 use Rattle.triple_vote.specs.declared.layer.Layer.{Layer}
 use Rattle.triple_vote.specs.Votes.{votes}
@@ -28,9 +28,9 @@ use Rattle.triple_vote.specs.Replicas.{is_replicated, copies_of, receivers_in, V
 use Rattle.triple_vote.specs.Replicas.{steps_in, replica_steps, tuple_at, is_fault, fault_or, own_message, sent_to}
 use Rattle.triple_vote.specs.Replicas.{vote_of, receives_on, vnext, vshown_by}
 use Rattle.triple_vote.specs.proof.ReplicaLayers.{is_there, frame_made, rows_made}
-use Rattle.triple_vote.specs.proof.ReplicaTriples.{there_in, parts_in, next_in, sent_in, shown_in, frame_of, tuple_of}
-use Rattle.triple_vote.specs.proof.ReplicaTriples.{voted_of, received_of, AllReceived, shown_of, AreShown, AreMade}
-use Rattle.triple_vote.specs.proof.ReplicaTriples.{HaveReplicas}
+use Rattle.triple_vote.specs.proof.ThreeLayers.{there_in, parts_in, next_in, sent_in, shown_in, frame_of, tuple_of}
+use Rattle.triple_vote.specs.proof.ThreeLayers.{voted_of, received_of, AllReceived, shown_of, AreShown, AreMade}
+use Rattle.triple_vote.specs.proof.ThreeLayers.{HaveReplicas}
 use Rattle.triple_vote.proofs.ReplicaInputs.{same_inputs}
 use Rattle.triple_vote.proofs.ReplicaRounds.{replica_at, receiver_at, has_first, has_three}
 

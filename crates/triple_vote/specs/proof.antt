@@ -3,5 +3,5 @@ pub mod VotedStates
 pub mod VoteLaws
 pub mod CounterVotes
 pub mod ReplicaLayers
-pub mod ReplicaTriples
+pub mod ThreeLayers
 pub mod FaultTables

@@ -5,8 +5,8 @@ ghost use Rattle.pals_model.specs.Composition.{opening};
 ghost use Rattle.sync_product.specs.proof.ProductSizes.{stage_size, stage_sizes};
 ghost use Rattle.triple_vote.specs.proof.FaultTables.{AreFirst};
 ghost use Rattle.triple_vote.specs.proof.VoteLaws.{IsFault};
-ghost use Rattle.triple_vote.specs.proof.ReplicaTriples.{AreThree, AreOpened, AreMade, StayPut, AreHeard, AllReceived};
-ghost use Rattle.triple_vote.specs.proof.ReplicaTriples.{AreTurned};
+ghost use Rattle.triple_vote.specs.proof.ThreeLayers.{AreThree, AreOpened, AreMade, StayPut, AreHeard, AllReceived};
+ghost use Rattle.triple_vote.specs.proof.ThreeLayers.{AreTurned};
 
 use crate::first_faults::FaultTable;
 use crate::layer::Layer;

@@ -10,7 +10,7 @@ mod opening;
 mod product;
 mod receiving;
 mod layer_rounds;
-mod shown_tuples;
+mod tap_tuples;
 pub mod votes;
 
 pub use product::VoteProduct;

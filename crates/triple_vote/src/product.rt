@@ -11,7 +11,7 @@ use crate::first_faults::{FaultTable, first_faults};
 use crate::layer::Layer;
 use crate::layers::{opening_heard, opening_layers, receive_each, run_each, turn_each};
 use crate::opening::opening_shown;
-use crate::shown_tuples::show_each;
+use crate::tap_tuples::show_each;
 use pals_base::{Frame, Items, LinkNo, NoMemory, NodeNo, PortValue, Tuple};
 use pals_model::sources::all_sources;
 use pals_model::{Design, PortSource};
@@ -60,7 +60,7 @@ impl Model for VoteProduct {
     ghost coded = { voted_code };
 
     ghost use Rattle.std.specs.Arc.{arc_value};
-    ghost use Rattle.triple_vote.specs.proof.ReplicaTriples.{parts_in, voted_of, HasTables, HasReplicas};
+    ghost use Rattle.triple_vote.specs.proof.ThreeLayers.{parts_in, voted_of, HasTables, HasReplicas};
 
     ghost view = { λ p. record {
       design = arc_value p.design;

@@ -23,7 +23,7 @@ use Rattle.bus_machine.proofs.AgreementChanges.{node_set, node_stays}
 use Rattle.world_gen.specs.proof.Schedules.{step_time, finish_time, send_time, which, step_count}
 use Rattle.run_laws.proofs.FaultlessEvents.{FinishesInTime, finishes_in_time}
 use Rattle.world_gen.proofs.FaultlessEvents.{finish_is_fine}
-use Rattle.run_laws.proofs.WorldChanges.{moved_here, moved_other}
+use Rattle.run_laws.proofs.LocalWorldChanges.{moved_here, moved_other}
 use Rattle.run_laws.proofs.FinishTiming.{Ends, goes_on, holds, waits_next, is_done, not_running}
 use Rattle.run_laws.proofs.FinishTiming as finish
 use Rattle.world_gen.proofs.ScheduleTimes.{Made, which_is, which_next, made_next, step_is, finishes_rise}

@@ -31,7 +31,7 @@ use Rattle.run_laws.proofs.WorldNodes.{fits_at, may_be, phase_agrees, rounds_at_
 use Rattle.run_laws.proofs.WorldLinks.{one_of_true}
 use Rattle.run_laws.proofs.FaultlessEvents.{SendsInTime, sends_in_time}
 use Rattle.world_gen.proofs.FaultlessEvents.{send_is_fine}
-use Rattle.run_laws.proofs.WorldChanges.{moved_here, moved_other}
+use Rattle.run_laws.proofs.LocalWorldChanges.{moved_here, moved_other}
 use Rattle.run_laws.proofs.SendTiming.{runs_before, one_is}
 use Rattle.run_laws.proofs.SendTiming as send
 use Rattle.world_gen.proofs.ScheduleTimes.{Made, which_is, which_next, made_next, step_is, sends_rise, send_after}

@@ -6,7 +6,7 @@ use Rattle.std.proofs.lemmas.Nat.{mul-le, div-mul-add, mod-mul-add, div-add-mod'
 use Rattle.pals_base.specs.PeriodBound.{alarm}
 use Rattle.pals_base.specs.StepSequences.{upwards}
 use Rattle.pals_model.specs.DesignRules.{IsComponent}
-use Rattle.pals_model.proofs.FirstElements.{at_element, found_at}
+use Rattle.pals_model.proofs.FirstMatches.{at_element, found_at}
 use Rattle.bus_machine.specs.Plans.{plan_of, component_at}
 use Rattle.bus_machine.specs.States.{Run}
 use Rattle.bus_machine.specs.proof.MachineLaws.{IsRunOf}

@@ -8,7 +8,7 @@ use Rattle.std.proofs.lemmas.Grind.{div_ceil_times}
 use Rattle.std.proofs.lemmas.List.Quantifiers.{position-Some}
 use Rattle.std.proofs.lemmas.Option.{get_or_from_slice_get}
 use Rattle.pals_base.specs.StepSequences.{upwards}
-use Rattle.pals_model.proofs.FirstElements.{first_at, found_at}
+use Rattle.pals_model.proofs.FirstMatches.{first_at, found_at}
 use Rattle.bus_machine.proofs.ListsAndFlights.{none_found}
 use Rattle.run_laws.proofs.Lists.{upwards_at}
 use Rattle.world_gen.specs.declared.event_series.EventSeries.{EventSeries}

@@ -28,11 +28,11 @@ use Rattle.world_gen.proofs.ScheduleTimes.{Made, which_none, some_rate, some_ste
 use Rattle.world_gen.proofs.WorldsOnSchedule.{begun_by, ended_by, NodeFollows, Follows, Runs, runs_none, runs_on}
 use Rattle.world_gen.proofs.WorldsOnSchedule.{runs_all, runs_event, bump, bump_done, bump_left, bump_other}
 use Rattle.world_gen.proofs.QuietTimes.{is_quiet, follows_same, none_starts, none_ends, none_sends, none_arrives}
-use Rattle.world_gen.proofs.ScheduleStarts.{start_comes}
+use Rattle.world_gen.proofs.StartsAndSteps.{start_comes}
 use Rattle.world_gen.proofs.ScheduleFinishes.{finish_comes}
 use Rattle.world_gen.proofs.ScheduleSends.{send_comes}
 use Rattle.world_gen.proofs.ScheduleArrivals.{arrival_comes}
-use Rattle.world_gen.proofs.SchedulePasses.{all_at, waits_on, pass_fine, pass_follows}
+use Rattle.world_gen.proofs.ScheduleDeadlines.{all_at, waits_on, pass_fine, pass_follows}
 
 runs_as : (run : Run) (w : World) (events : List Event) (P Q : World → Type 0) → Runs run w events P
     → ((v : World) → P v → Q v) → Runs run w events Q

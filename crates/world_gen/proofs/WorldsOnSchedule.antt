@@ -21,7 +21,7 @@ use Rattle.run_laws.specs.proof.WorldInvariant.{copies, KeepsTime}
 use Rattle.run_laws.specs.EventLists.{world_left}
 use Rattle.world_gen.specs.proof.Schedules.{step_time, finish_time, send_time, arrive_time, step_count, event_of}
 use Rattle.world_gen.specs.proof.Schedules.{all_of}
-use Rattle.run_laws.proofs.WorldChanges.{same_at, changed, ChangesAt}
+use Rattle.run_laws.proofs.LocalWorldChanges.{same_at, changed, ChangesAt}
 use Rattle.world_gen.proofs.ScheduleTimes.{Made}
 
 -- ---- how many steps a node has begun, and how many it has finished, through all rounds

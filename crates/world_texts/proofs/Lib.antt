@@ -1,3 +1,3 @@
-pub mod EventsWithinBounds
+pub mod OnlyMemoryFaults
 pub mod WorldTexts
 pub mod RingSums

@@ -6,7 +6,7 @@ use Rattle.aadl_names.specs.declared.fault.PackageFault.TheVariants.{DeadEnd, Tw
 use Rattle.aadl_names.specs.proof.FirstFaultSoFar.{found}
 use Rattle.aadl_names.specs.ReferenceResolution.{implementation_at, connections_of}
 use Rattle.aadl_uses.specs.declared.connections.Wire.{Wire}
-use Rattle.aadl_uses.specs.FirstConnections.{IsSecond}
+use Rattle.aadl_uses.specs.SecondConnections.{IsSecond}
 use Rattle.aadl_uses.specs.Wiring.{wires_at}
 use Rattle.aadl_chains.specs.proof.ConnectionsOnChains.{IsOnWay}
 

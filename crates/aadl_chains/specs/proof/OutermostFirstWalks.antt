@@ -6,15 +6,15 @@ use Rattle.aadl_names.specs.declared.port_place.PortPlace.TheVariants.{Own, Inne
 use Rattle.aadl_uses.specs.Uses.{below}
 use Rattle.aadl_uses.specs.proof.DeclarationWires.{connection_into}
 use Rattle.aadl_chains.specs.proof.PortsJoinedInside.{is_in_at}
-use Rattle.aadl_chains.specs.declared.walks.ChainStart.{ChainStart}
-use Rattle.aadl_chains.specs.declared.walks.ChainRoute.{ChainRoute}
-use Rattle.aadl_chains.specs.declared.walks.ConnectionInto.{ConnectionInto}
-use Rattle.aadl_chains.specs.declared.walks.CrossConnection.{CrossConnection}
-use Rattle.aadl_chains.specs.declared.walks.ClimbResult.{ClimbResult}
-use Rattle.aadl_chains.specs.declared.walks.PortBelow.{PortBelow}
+use Rattle.aadl_chains.specs.declared.chain_tracing.ChainStart.{ChainStart}
+use Rattle.aadl_chains.specs.declared.chain_tracing.ChainRoute.{ChainRoute}
+use Rattle.aadl_chains.specs.declared.chain_tracing.ConnectionInto.{ConnectionInto}
+use Rattle.aadl_chains.specs.declared.chain_tracing.CrossConnection.{CrossConnection}
+use Rattle.aadl_chains.specs.declared.chain_tracing.ClimbResult.{ClimbResult}
+use Rattle.aadl_chains.specs.declared.chain_tracing.PortBelow.{PortBelow}
 use Rattle.aadl_chains.specs.proof.Walks.{Crossing, Climb, nowhere, at_root, crosses}
-use Rattle.aadl_chains.specs.declared.walks.ChainStart.TheVariants as begins
-use Rattle.aadl_chains.specs.declared.walks.ClimbResult.TheVariants as ends
+use Rattle.aadl_chains.specs.declared.chain_tracing.ChainStart.TheVariants as begins
+use Rattle.aadl_chains.specs.declared.chain_tracing.ClimbResult.TheVariants as ends
 
 -- the first connection into a port of a subcomponent
 abbrev pub entry : PackageTree ℕ → Option ℕ → ℕ → ℕ → Option ConnectionInto

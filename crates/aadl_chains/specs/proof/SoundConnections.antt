@@ -6,7 +6,7 @@ use Rattle.aadl_names.specs.declared.port_place.PortPlace.{PortPlace}
 use Rattle.aadl_names.specs.ReferenceResolution.{implementation_at, is_thread, site}
 use Rattle.aadl_uses.specs.Uses.{IsInUse}
 use Rattle.aadl_chains.specs.Chains.{Port, Place, Leads, IsStart}
-use Rattle.aadl_chains.specs.proof.DeclaredConnections.{MayEnter}
+use Rattle.aadl_chains.specs.proof.DeclaredEnds.{MayEnter}
 
 pub record IsSound (tree : PackageTree ℕ) (root : ℕ) : Type 0 where
   pub one_source : (n i j : ℕ) (component : Implementation ℕ) (x y : Connection ℕ) (target : PortPlace)

@@ -12,7 +12,7 @@ use Rattle.aadl_grammar.proofs.DerivationTrees.ForbiddenFollowers.{distinct_firs
 use Rattle.aadl_grammar.proofs.DerivationTrees.FollowerMembership.{among_left, among_right, Clear, firsts_in_tail, clear_behind}
 use Rattle.std.specs.Cmp.{first_so, second_so}
 use Rattle.std.proofs.lemmas.Option.{same_Some}
-use Rattle.aadl_grammar.proofs.ListHeads.{not_both}
+use Rattle.aadl_grammar.proofs.HeadsAndTails.{not_both}
 
 -- the row is one of these
 abbrev pub Member : Row → List Row → Type 0

@@ -13,7 +13,7 @@ use Rattle.aadl_grammar.proofs.ProductionTrees.All.{builders, Empty, empty}
 use Rattle.aadl_grammar.proofs.DerivationTrees.TerminalContents.{said, fits_with}
 use Rattle.aadl_grammar.proofs.ProductionCompleteness.All.{Omitted, Opened, opens, all_give, Nothing}
 use Rattle.aadl_grammar.proofs.ProductionCompleteness.All as o
-use Rattle.aadl_grammar.proofs.ListHeads.{tails}
+use Rattle.aadl_grammar.proofs.HeadsAndTails.{tails}
 
 abbrev Spelled : (wanted : Stack) → Trees wanted → List Kind → Type 0
 Spelled wanted ts ks = Spells (parts_all wanted ts) ks []

@@ -18,7 +18,7 @@ use Rattle.aadl_grammar.proofs.ProductionCompleteness.All.{Omitted, Opened, open
 use Rattle.aadl_grammar.proofs.DerivationTrees.DerivedTrees.{never_nil, derives}
 use Rattle.std.proofs.lemmas.Bool.{or_left, or_right}
 use Rattle.std.specs.Cmp.{first_so, second_so}
-use Rattle.aadl_grammar.proofs.ListHeads.{not_both, heads, tails}
+use Rattle.aadl_grammar.proofs.HeadsAndTails.{not_both, heads, tails}
 
 abbrev Spelled : (wanted : Stack) → Trees wanted → List Kind → Type 0
 Spelled wanted ts ks = Spells (parts_all wanted ts) ks []

@@ -1,7 +1,7 @@
 -- The two languages of the grammar, packages and bodies of behaviour annexes, each with the stack that the machine
 -- starts from.
 use Rattle.std.proofs.Common.{ℕ, ◌≡◌, ◌∙◌, sym, ap, refl, ◌≤◌, List, [], ◌∷◌, arith}
-use Rattle.aadl_tree.specs.declared.limits.TheConstants.{GREATEST_NESTING}
+use Rattle.aadl_tree.specs.declared.nesting_limit.TheConstants.{GREATEST_NESTING}
 use Rattle.aadl_tree.specs.Terminals.{Kind}
 use Rattle.aadl_tree.specs.SpellingParts.{Spells, kept}
 use Rattle.aadl_tree.specs.Annexes.{AnnexTree, annex_tree_parts}

@@ -3,7 +3,7 @@
 use Rattle.std.proofs.Common.{◌≡◌, ℕ, sym, subst, List, [], ◌∷◌, ◌++◌, refl, inl, inr}
 use Rattle.aadl_tree.specs.Terminals.{Kind, Spot, kinds_of}
 use Rattle.aadl_tree.specs.SpellingParts.{Part, token, may, extra_kinds, Spells, AreAt, HaveKinds, Written}
-use Rattle.aadl_grammar.proofs.ListHeads.{heads, tails}
+use Rattle.aadl_grammar.proofs.HeadsAndTails.{heads, tails}
 use Rattle.aadl_grammar.proofs.PlaceFilling.FilledTrees.{U, AreAsMany, Like}
 
 -- the first terminal is of this kind

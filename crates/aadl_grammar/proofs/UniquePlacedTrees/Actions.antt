@@ -6,7 +6,7 @@ use Rattle.aadl_tree.specs.SpellingParts.{Part, may, last_semicolon, plain}
 use Rattle.aadl_tree.specs.Names as n
 use Rattle.aadl_tree.specs.Expressions as e
 use Rattle.aadl_tree.specs.Actions as a
-use Rattle.aadl_grammar.proofs.ListHeads.{heads, tails}
+use Rattle.aadl_grammar.proofs.HeadsAndTails.{heads, tails}
 use Rattle.aadl_tree.specs.proof.PlaceMaps.{no_place, expression_to, action_to, actions_to, mores_to, elsifs_to}
 use Rattle.aadl_tree.specs.proof.PlaceMaps.{otherwise_to, block_to}
 use Rattle.aadl_grammar.proofs.UniquePlacedTrees.PlaceOrder.{placed, in_turn}

@@ -6,7 +6,7 @@ use Rattle.aadl_tree.specs.Names as n
 use Rattle.aadl_tree.specs.Values as v
 use Rattle.aadl_tree.specs.Actions as a
 use Rattle.aadl_tree.specs.Annexes as x
-use Rattle.aadl_grammar.proofs.ListHeads.{heads, tails}
+use Rattle.aadl_grammar.proofs.HeadsAndTails.{heads, tails}
 use Rattle.aadl_tree.specs.proof.PlaceMaps.{no_place, identifier_to, block_to, variable_to, state_to, guard_to}
 use Rattle.aadl_tree.specs.proof.PlaceMaps.{transition_to, annex_tree_to, content_to, annex_to}
 use Rattle.aadl_grammar.proofs.UniquePlacedTrees.PlaceOrder.{in_turn}

@@ -8,7 +8,7 @@ use Rattle.aadl_tree.specs.Names as n
 use Rattle.aadl_tree.specs.Values as v
 use Rattle.aadl_tree.specs.Annexes as x
 use Rattle.aadl_tree.specs.Declarations as d
-use Rattle.aadl_grammar.proofs.ListHeads.{heads, tails}
+use Rattle.aadl_grammar.proofs.HeadsAndTails.{heads, tails}
 use Rattle.aadl_tree.specs.proof.PlaceMaps.{no_place, associations_to, annex_to, feature_to, subcomponent_to}
 use Rattle.aadl_tree.specs.proof.PlaceMaps.{connection_to, type_to, implementation_to, declaration_to, with_to}
 use Rattle.aadl_tree.specs.proof.PlaceMaps.{package_to}

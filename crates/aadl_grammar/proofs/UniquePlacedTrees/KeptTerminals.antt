@@ -7,7 +7,7 @@ use Rattle.aadl_tree.specs.Terminals.{Kind, Spot, kinds_of}
 use Rattle.aadl_tree.specs.SpellingParts.{Part, token, may, extra_kinds, HaveKinds, Written, Spells, kept}
 use Rattle.aadl_tree.specs.Declarations.{PackageTree, package_parts}
 use Rattle.aadl_tree.proofs.SpellingParts.{written_spells, kept_spells}
-use Rattle.aadl_grammar.proofs.ListHeads.{heads, tails}
+use Rattle.aadl_grammar.proofs.HeadsAndTails.{heads, tails}
 use Rattle.aadl_grammar.proofs.PlaceIndependence.AlikeParts.{alike_spells, alike_kept}
 use Rattle.aadl_tree.specs.proof.PlaceMaps.{package_to, no_place}
 use Rattle.aadl_grammar.proofs.PlaceIndependence.Declarations.{package_alike}

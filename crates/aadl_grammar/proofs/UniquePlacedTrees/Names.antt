@@ -4,7 +4,7 @@ use Rattle.aadl_tree.specs.declared.mark.Mark.{Mark}
 use Rattle.aadl_tree.specs.declared.mark.Mark.TheVariants as k
 use Rattle.aadl_tree.specs.SpellingParts.{Part, behind}
 use Rattle.aadl_tree.specs.Names as n
-use Rattle.aadl_grammar.proofs.ListHeads.{heads, tails}
+use Rattle.aadl_grammar.proofs.HeadsAndTails.{heads, tails}
 use Rattle.aadl_tree.specs.proof.PlaceMaps.{identifier_to, name_to, no_place}
 use Rattle.aadl_grammar.proofs.UniquePlacedTrees.PlaceOrder.{placed, Both, in_turn}
 

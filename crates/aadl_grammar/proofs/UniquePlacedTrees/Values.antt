@@ -8,7 +8,7 @@ use Rattle.aadl_tree.specs.declared.expressions.Sign.{Sign}
 use Rattle.aadl_tree.specs.SpellingParts.{Part, plain, parts_if, behind, marked_if}
 use Rattle.aadl_tree.specs.Names as n
 use Rattle.aadl_tree.specs.Values as v
-use Rattle.aadl_grammar.proofs.ListHeads.{heads, tails}
+use Rattle.aadl_grammar.proofs.HeadsAndTails.{heads, tails}
 use Rattle.aadl_tree.specs.proof.PlaceMaps.{no_place, identifier_to, path_to, identifiers_to, reference_to, quantity_to}
 use Rattle.aadl_tree.specs.proof.PlaceMaps.{value_to, values_to, association_to, associations_to}
 use Rattle.aadl_grammar.proofs.UniquePlacedTrees.PlaceOrder.{placed, in_turn}

@@ -12,17 +12,17 @@ use Rattle.aadl_uses.specs.proof.ContainmentOrders.{IsOrder}
 use Rattle.aadl_uses.specs.ThreadLocations.{ThreadWith}
 use Rattle.aadl_chains.specs.proof.PortsJoinedInside.{is_thread_at}
 use Rattle.aadl_chains.specs.Chains.{Port}
-use Rattle.aadl_chains.specs.proof.DeclaredConnections.{AreDeclared}
+use Rattle.aadl_chains.specs.proof.DeclaredEnds.{AreDeclared}
 use Rattle.aadl_chains.specs.proof.Walks.{OneEach}
 use Rattle.aadl_chains.specs.Links.{Ends, IsLink, IsFeed, IsTap, TargetBefore, PortBefore}
 use Rattle.aadl_instance.specs.declared.chain.Chain.{Chain}
 use Rattle.aadl_instance.specs.declared.chain_search.Incoming.{Incoming}
 use Rattle.aadl_instance.specs.declared.chain.ChainEnd.{ChainEnd}
-use Rattle.aadl_chains.specs.proof.Routes.{begin_port}
-use Rattle.aadl_chains.specs.declared.walks.ChainStart.{ChainStart}
-use Rattle.aadl_chains.specs.declared.walks.ChainRoute.{ChainRoute}
+use Rattle.aadl_chains.specs.proof.TracedChains.{begin_port}
+use Rattle.aadl_chains.specs.declared.chain_tracing.ChainStart.{ChainStart}
+use Rattle.aadl_chains.specs.declared.chain_tracing.ChainRoute.{ChainRoute}
 use Rattle.aadl_instance.specs.Instances.{end_in, chain_in}
-use Rattle.aadl_chains.specs.declared.walks.ChainStart.TheVariants as begins
+use Rattle.aadl_chains.specs.declared.chain_tracing.ChainStart.TheVariants as begins
 
 -- paths, the innermost subcomponent first
 abbrev pub paths_of : List (Vec ℕ Global) → List (List ℕ)

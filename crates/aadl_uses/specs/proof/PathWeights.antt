@@ -3,7 +3,7 @@ use Rattle.std.specs.Prelude.{◌≡◌, ℕ, ◌≤◌, ◌+◌, max, min, Bool
 use Rattle.std.specs.Prelude.{slice_index_or}
 use Rattle.std.specs.Option.{option_map_or}
 use Rattle.aadl_uses.specs.proof.ContainmentGraphs.{Graph, below_in}
-use Rattle.aadl_uses.specs.proof.MarkedCounts.{IsMarkedAt}
+use Rattle.aadl_uses.specs.proof.MarkedPathCounts.{IsMarkedAt}
 
 abbrev pub weight_of : List (List ℕ) → ℕ → ℕ → ℕ
 weight_of weights n s = slice_index_or (slice_index_or weights n []) s 0

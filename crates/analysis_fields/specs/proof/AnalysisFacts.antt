@@ -7,7 +7,7 @@ use Rattle.pals_model.specs.ComponentInputs.{rate_of}
 use Rattle.analysis_fields.specs.declared.replica_faults.RoundFault.{RoundFault}
 use Rattle.analysis_fields.specs.declared.limits.TheConstants.{REPLICAS}
 use Rattle.analysis_fields.specs.declared.processors.Processor.{Processor}
-use Rattle.analysis_fields.specs.Replicas.{source_in, is_among, copies_at}
+use Rattle.analysis_fields.specs.ReplicasAndFaults.{source_in, is_among, copies_at}
 
 -- a replica of a component sends one value for each of its steps, on a link that goes out from it, to a replica of
 -- the target

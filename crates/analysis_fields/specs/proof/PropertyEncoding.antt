@@ -3,7 +3,7 @@ use Rattle.std.specs.Prelude.{ℕ, List, refl}
 use Rattle.std.specs.Coded.{Coded, code_by, coded×, coded_ℕ, coded_list}
 use Rattle.pals_runs.specs.Formula.{Formula}
 use Rattle.pals_runs.specs.proof.FormulaEncoding.{formula_code}
-use Rattle.analysis_fields.specs.PropertyValues.{PropertyValue}
+use Rattle.analysis_fields.specs.NamedFormulas.{PropertyValue}
 
 abbrev pub property_code : Coded PropertyValue
 property_code =

@@ -8,14 +8,14 @@ use Rattle.pals_base.specs.declared.behaviour.VarDecl.{VarDecl}
 use Rattle.pals_base.specs.declared.behaviour.BehaviourParts.{BehaviourParts}
 use Rattle.pals_base.specs.BehaviourRules.{HasNames, has_first}
 use Rattle.aadl_tree.specs.Annexes.{Transition, AnnexTree}
-use Rattle.annex_resolve.specs.declared.declared_values.DeclaredValues.{DeclaredValues}
+use Rattle.annex_resolve.specs.declared.ports_and_variables.DeclaredValues.{DeclaredValues}
 use Rattle.annex_resolve.specs.declared.scope.Scope.{Scope}
 use Rattle.annex_resolve.specs.declared.scope.DeclaredName.{DeclaredName}
 use Rattle.annex_resolve.specs.declared.scope.Meaning.{Meaning}
 use Rattle.annex_resolve.specs.declared.scope.Meaning.TheVariants.{InPort, OutPort, Variable, LoopVariable}
 use Rattle.annex_resolve.specs.declared.states.StateAt.{StateAt}
-use Rattle.annex_resolve.specs.Scopes.{entry_named}
-use Rattle.annex_resolve.specs.Behaviours.{state_number, states_of, transitions_of, behaviour_of}
+use Rattle.annex_resolve.specs.NamesAndFindings.{entry_named}
+use Rattle.annex_resolve.specs.BehavioursAndFindings.{state_number, states_of, transitions_of, behaviour_of}
 
 -- ---- what a name stands for is there, and has the name's type
 abbrev pub FitsPort : Option PortDecl → Option Kind → Type 0

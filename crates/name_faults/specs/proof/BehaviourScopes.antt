@@ -2,8 +2,8 @@
 use Rattle.std.specs.Prelude.{ℕ, Bool, List, Some, None, if◌then◌else◌}
 use Rattle.aadl_tree.specs.Names.{same_name}
 use Rattle.std.specs.List.{list_any}
-use Rattle.aadl_names.specs.declared.role.Role.{Role}
-use Rattle.aadl_names.specs.declared.role.Role.TheVariants.{Turns}
+use Rattle.aadl_names.specs.declared.name_roles.Role.{Role}
+use Rattle.aadl_names.specs.declared.name_roles.Role.TheVariants.{Turns}
 use Rattle.aadl_names.specs.AnnexNames.{Known, either}
 use Rattle.aadl_names.specs.proof.NameTables.{value_of}
 use Rattle.name_faults.specs.proof.OptionalValues.{is_marked}

@@ -1,7 +1,7 @@
 -- What is known of the ports of types.
 use Rattle.std.specs.Prelude.{◌≡◌, ℕ, List, Option, Some, None, slice_index_or}
 use Rattle.aadl_tree.specs.Declarations.{Feature, PackageTree}
-use Rattle.aadl_names.specs.declared.role.Role.{Role}
+use Rattle.aadl_names.specs.declared.name_roles.Role.{Role}
 use Rattle.aadl_names.specs.proof.NameTables.{value_of}
 use Rattle.aadl_names.specs.proof.FirstFaultSoFar.{found}
 use Rattle.aadl_names.specs.DuplicateNames.{twice}

@@ -1,6 +1,6 @@
 use Rattle.std.proofs.Common.{ap, ◌∙◌, sym}
 use Rattle.pals_base.specs.proof.TreeViews.{tree_of, operands_along}
-use Rattle.pals_base.specs.Kinds.{kinds_of, kinds_along}
+use Rattle.pals_base.specs.TypingRules.{kinds_of, kinds_along}
 use Rattle.pals_base.proofs.TreeViews.{tree_of-Chain}
 use Rattle.pals_base.proofs.+kinds_of_expr.Goals as goal
 

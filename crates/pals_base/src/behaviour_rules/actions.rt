@@ -1,11 +1,11 @@
 //! Whether actions are well typed, and their loops short.
 ghost use Rattle.std.specs.Prelude.{◌≡◌, ◌≤◌, ◌+◌, ◌*◌, IfOk, IsTrue, slice_get};
 ghost use Rattle.pals_base.specs.proof.TreeViews.{action_of, actions_along, branches_along};
-ghost use Rattle.pals_base.specs.Kinds.{suits_variable, suits_port, turns, is_short, is_sound, are_sound};
-ghost use Rattle.pals_base.specs.Kinds.{branches_are_sound};
+ghost use Rattle.pals_base.specs.TypingRules.{suits_variable, suits_port, turns, is_short, is_sound, are_sound};
+ghost use Rattle.pals_base.specs.TypingRules.{branches_are_sound};
 
 use crate::behaviour::{Act, BehaviourParts, Branch};
-use crate::kinds::Kinds;
+use crate::expression_kinds::Kinds;
 use crate::limits::{NESTED_TURNS, TURNS};
 use crate::values::NoMemory;
 use std::alloc::AllocError;

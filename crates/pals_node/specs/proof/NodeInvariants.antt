@@ -18,7 +18,7 @@ use Rattle.bus_machine.specs.declared.plan.Plan.{Plan}
 use Rattle.pals_base.specs.StepSequences.{with_places}
 use Rattle.bus_machine.specs.Nodes.{NodeState}
 use Rattle.bus_machine.specs.NodeEvents.{finished, finished_with}
-use Rattle.pals_node.specs.declared.fields.NodeFields.{NodeFields}
+use Rattle.pals_node.specs.declared.node_fields.NodeFields.{NodeFields}
 use Rattle.pals_node.specs.proof.NodeValues.{Program, NodeValue, with_state}
 use Rattle.pals_node.specs.proof.JobMemories.{HasMemory}
 

@@ -4,8 +4,8 @@ use Rattle.pals_base.specs.declared.values.PortValue.{PortValue}
 use Rattle.bus_machine.specs.Nodes.{vectors_of}
 use Rattle.pals_base.specs.declared.values.Frame.{Frame}
 use Rattle.pals_runs.specs.declared.journal.Phase.TheVariants.{Running}
-use Rattle.pals_node.specs.declared.fields.NodeFields.{NodeFields}
-use Rattle.pals_node.specs.declared.fields.RoundRoom.{RoundRoom}
+use Rattle.pals_node.specs.declared.node_fields.NodeFields.{NodeFields}
+use Rattle.pals_node.specs.declared.node_fields.RoundRoom.{RoundRoom}
 use Rattle.pals_node.specs.proof.NodeValues.{Program, JobValue, job_value}
 use Rattle.pals_base.specs.declared.values.PortValue.TheVariants.{Absent}
 use Rattle.pals_base.specs.SingleStep.{initial}

@@ -6,7 +6,7 @@ use Rattle.pals_model.specs.declared.design.DesignParts.{DesignParts}
 use Rattle.pals_bus.specs.proof.NodeAndCodeValues.{AreCodes}
 use Rattle.step_compiler.specs.LaidOutCode.{AreLaidOut}
 use Rattle.design_codes.specs.OverlongCodes.{AreShort}
-use Rattle.design_codes.specs.Behaviours.{behaviours}
+use Rattle.design_codes.specs.DesignBehaviours.{behaviours}
 use Rattle.scenario_json.specs.declared.scenario.Scenario.{Scenario}
 use Rattle.scenario_json.specs.proof.ScenarioFacts.{IsScenarioOf}
 use Rattle.scenario_laws.specs.proof.EventsAndTraces.{AreLooseEvents}

@@ -8,15 +8,15 @@ use Rattle.pals_model.specs.declared.design.DesignParts.{DesignParts}
 use Rattle.pals_model.specs.declared.inputs_and_parts.Part.{Part}
 use Rattle.pals_model.specs.ComponentInputs.{sources_of}
 use Rattle.pals_model.specs.Composition.{no_frame}
-use Rattle.pals_runs.specs.declared.analysis_inputs.Pair.{Pair}
+use Rattle.pals_runs.specs.declared.vote_faults_and_pairs.Pair.{Pair}
 use Rattle.sync_product.specs.declared.round_inputs.RoundInputs.{RoundInputs}
 use Rattle.sync_product.specs.declared.stage.Stage.{Stage}
 use Rattle.sync_product.specs.proof.ProductSizes.{tap_ports}
 use Rattle.sync_product.specs.proof.ComponentWiring.{IsWired}
 use Rattle.sync_product.specs.proof.Rounds.{IsStepped, frames_of}
-use Rattle.plant_fuse.specs.declared.sides.PairedComponent.{PairedComponent}
+use Rattle.plant_fuse.specs.declared.pair_steps.PairedComponent.{PairedComponent}
 use Rattle.plant_fuse.specs.proof.Partners.{partner_of}
-use Rattle.plant_fuse.specs.proof.PairSides.{Seat, Work, AreMade}
+use Rattle.plant_fuse.specs.proof.PairSteps.{Seat, Work, AreMade}
 
 -- ---- a component, and its seat in a pair
 abbrev pub seat : DesignParts → ℕ → ℕ → Component → Seat

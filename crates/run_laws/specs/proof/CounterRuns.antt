@@ -1,6 +1,6 @@
 -- Two runs of the two counters: one with a meeting, which is done, and one with lists, of which the first is too short.
 use Rattle.std.specs.Prelude.{◌≡◌, ℕ, List, [], ◌∷◌, map, Some}
-use Rattle.pals_clock.specs.Clock.{ClockState}
+use Rattle.pals_clock.specs.ClockStates.{ClockState}
 use Rattle.pals_model.specs.declared.design.Link.{Link}
 use Rattle.pals_model.specs.proof.TwoCounters.{two_counters}
 use Rattle.pals_model.specs.ComponentInputs.{no_env}

@@ -9,7 +9,7 @@ use Rattle.pals_runs.specs.JournalLines.{node_word, link_word, entry_line}
 use Rattle.run_laws.specs.Entries.{IsEntryIn}
 use Rattle.run_laws.specs.LineForms.{Form, ArriveLine, StartLine, StepLine, FinishLine, SendLine, DropLine, RepeatLine}
 use Rattle.run_laws.specs.LineForms.{EarlyLine, MissedLine, form_of}
-use Rattle.run_laws.specs.TraceLines.{told}
+use Rattle.run_laws.specs.EntriesInLines.{told}
 use Rattle.pals_runs.specs.declared.journal.Stop.TheVariants as stop
 use Rattle.pals_runs.specs.declared.journal.JournalEntry.TheVariants as entry
 

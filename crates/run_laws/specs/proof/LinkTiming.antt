@@ -12,7 +12,7 @@ use Rattle.pals_runs.specs.declared.journal.JournalEntry.{JournalEntry}
 use Rattle.bus_machine.specs.NodeEvents.{slot_at}
 use Rattle.bus_machine.specs.States.{Run, BusState, node_at, flight_at, link_at}
 use Rattle.bus_machine.specs.MissedStarts.{sent_rounds}
-use Rattle.run_laws.specs.ShownReadings.{starts, sends, latest}
+use Rattle.run_laws.specs.JournalReadings.{starts, sends, latest}
 use Rattle.run_laws.specs.proof.RunQuantifiers.{InRuns}
 use Rattle.run_laws.specs.NodeLinkQuantifiers.{EachLink}
 use Rattle.pals_runs.specs.declared.journal.Stop.TheVariants as stop

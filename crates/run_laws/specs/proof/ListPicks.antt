@@ -1,13 +1,13 @@
 -- Laws of list clocks: readings are picks, and each node picks for what comes next.
 use Rattle.std.specs.Prelude.{◌≡◌, ◌⊎◌, ℕ, ◌+◌, List, [], length, take}
 use Rattle.pals_base.specs.ClockPicks.{picks}
-use Rattle.pals_clock.specs.Clock.{ClockState, left_after}
+use Rattle.pals_clock.specs.ClockStates.{ClockState, left_after}
 use Rattle.bus_machine.specs.declared.plan.Plan.{Plan}
 use Rattle.bus_machine.specs.Plans.{plan_of}
 use Rattle.bus_machine.specs.Nodes.{NodeState}
 use Rattle.bus_machine.specs.States.{node_at}
 use Rattle.bus_machine.specs.Targets.{targets}
-use Rattle.run_laws.specs.ShownReadings.{acts}
+use Rattle.run_laws.specs.JournalReadings.{acts}
 use Rattle.run_laws.specs.NodeActions.{Follows}
 use Rattle.run_laws.specs.Runs.{clock_at}
 use Rattle.run_laws.specs.proof.RunQuantifiers.{InListRuns}

@@ -1,6 +1,6 @@
 -- What it is to hold in each run of a design: with any clocks, with list clocks, and with nodes that meet.
 use Rattle.std.specs.Prelude.{List}
-use Rattle.pals_clock.specs.Clock.{ClockState}
+use Rattle.pals_clock.specs.ClockStates.{ClockState}
 use Rattle.pals_runs.specs.declared.journal.JournalEntry.{JournalEntry}
 use Rattle.bus_machine.specs.States.{Run, BusState}
 use Rattle.bus_machine.specs.proof.MachineLaws.{IsRunOf}

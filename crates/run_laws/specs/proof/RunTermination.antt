@@ -1,7 +1,7 @@
 -- When a run has come to its end, that each run comes to one, and the most lines that its journal has.
 use Rattle.std.specs.Prelude.{◌≡◌, ◌≢◌, ◌⊎◌, ℕ, ◌+◌, ◌*◌, ◌<◌, ◌≤◌, List, [], ◌++◌, length, None}
 use Rattle.std.specs.List.{sum_by}
-use Rattle.pals_clock.specs.Clock.{ClockState}
+use Rattle.pals_clock.specs.ClockStates.{ClockState}
 use Rattle.pals_clock.specs.declared.clock.Clocks.{Clocks}
 use Rattle.pals_model.specs.declared.design.Component.{Component}
 use Rattle.pals_runs.specs.declared.journal.Phase.TheVariants.{Done}

@@ -11,7 +11,7 @@ use Rattle.bus_machine.specs.Plans.{plan_of}
 use Rattle.bus_machine.specs.States.{Run, BusState, finished_by_all}
 use Rattle.bus_machine.specs.Replay.{Replays}
 use Rattle.bus_machine.specs.proof.MachineLaws.{IsRunOf}
-use Rattle.run_laws.specs.TraceLines.{told}
+use Rattle.run_laws.specs.EntriesInLines.{told}
 use Rattle.run_laws.specs.TraceVerdicts.{verdict}
 use Rattle.run_laws.specs.proof.RunQuantifiers.{InRuns}
 use Rattle.run_laws.specs.proof.RisingReadings.{LinesRise}

@@ -7,7 +7,7 @@ use Rattle.pals_model.specs.Composition.{comp}
 use Rattle.pals_model.specs.RoundTexts.{text_of}
 use Rattle.pals_runs.specs.Formula.{Formula, Previous, Once, Historically, Since}
 use Rattle.run_monitor.specs.FormulaSemantics.{holds}
-use Rattle.run_monitor.specs.proof.OneBitMonitors.{further, bits_after}
+use Rattle.run_monitor.specs.proof.BitPerFormula.{further, bits_after}
 use Rattle.run_monitor.specs.FalseProperties.{history}
 use Rattle.run_monitor.specs.WatchText.{watched_lines, watched_rows}
 

@@ -6,7 +6,7 @@ use Rattle.pals_base.specs.declared.values.Frame.{Frame}
 use Rattle.pals_runs.specs.Formula.{Formula}
 use Rattle.pals_runs.specs.proof.FormulaEncoding.{formula_code}
 use Rattle.run_monitor.specs.FormulaSemantics.{frame_in, holds}
-use Rattle.run_monitor.specs.proof.OneBitMonitors.{further}
+use Rattle.run_monitor.specs.proof.BitPerFormula.{further}
 use Rattle.run_monitor.specs.declared.flat_form.FlatForm.{FlatForm}
 use Rattle.pals_runs.specs.proof.FormulaComponents.{reads, names}
 use Rattle.run_monitor.specs.proof.FlatForms.{formula_at, forms_of, IsFlat}

@@ -4,14 +4,14 @@ use Rattle.std.specs.Prelude.{◌≡◌, ◌≢◌, ◌⊎◌, ℕ, ◌<◌, Boo
 use Rattle.std.specs.Prelude.{None, slice_get}
 use Rattle.pals_base.specs.declared.values.NodeNo.{NodeNo}
 use Rattle.pals_model.specs.RoundTexts.{line_end, text_of}
-use Rattle.pals_report.specs.VerdictLines.{clock_end_line}
+use Rattle.pals_report.specs.ClocksAndVerdicts.{clock_end_line}
 use Rattle.pals_runs.specs.JournalLines.{entry_line}
 use Rattle.pals_bus.specs.BusValues.{BusValue}
 use Rattle.loose_world.specs.proof.FinishedRows.{common_lines}
 use Rattle.node_threads.specs.declared.node_end.NodeEnd.{NodeEnd}
 use Rattle.node_threads.specs.declared.node_end.NodeEnd.TheVariants.{Finished, ClockEnded}
-use Rattle.run_texts.specs.declared.told.RunReport.{RunReport}
-use Rattle.run_texts.specs.declared.told.RunReport.TheVariants as told
+use Rattle.run_texts.specs.declared.run_report.RunReport.{RunReport}
+use Rattle.run_texts.specs.declared.run_report.RunReport.TheVariants as told
 
 -- a node is done, or its list has ended
 abbrev pub IsComeEnd : NodeEnd → Type 0

@@ -2,7 +2,7 @@
 use Rattle.std.specs.Prelude.{◌≤◌, All}
 use Rattle.pals_base.specs.declared.limits.TheConstants.{ROUNDS, CELLS}
 use Rattle.pals_model.specs.declared.design.DesignParts.{DesignParts}
-use Rattle.scenario_json.specs.RunSizes.{cells_of}
+use Rattle.scenario_json.specs.RunCells.{cells_of}
 use Rattle.scenario_json.specs.proof.RunFields.{AreInputsOf, AreDelaysOf, AreClocksFor}
 use Rattle.analysis_fields.specs.proof.AnalysisFacts.{IsFaultOf, IsProcessorOf}
 use Rattle.scenario_json.specs.declared.scenario.Scenario.{Scenario}

@@ -6,7 +6,7 @@ use Rattle.pals_model.specs.RoundTexts.{composed_lines}
 use Rattle.pals_report.specs.proof.TapPlaces.{tap_places}
 use Rattle.sync_product.specs.proof.ProductStates.{state_after}
 use Rattle.run_laws.specs.TraceVerdicts.{row_size}
-use Rattle.trace_audit.specs.declared.rows.AuditedRows.{AuditedRows}
+use Rattle.trace_audit.specs.declared.audited_rows.AuditedRows.{AuditedRows}
 use Rattle.trace_audit.specs.proof.RemainingLines.{HasLeft}
 
 -- the composition after this many rounds, and room for a round's values

@@ -4,9 +4,9 @@ use Rattle.aadl_tree.specs.proof.PackageViews.{placed}
 use Rattle.aadl_names.specs.ReferenceResolution.{ports_at}
 use Rattle.aadl_uses.specs.Uses.{component_at}
 use Rattle.aadl_chains.proofs.ConnectionsOnChains.{port, is_in-at}
-use Rattle.aadl_chains.specs.proof.Routes.{Traces}
+use Rattle.aadl_chains.specs.proof.TracedChains.{Traces}
 use Rattle.aadl_instance.specs.proof.ChainsSoFar.{paths_of, chain_by}
-use Rattle.aadl_instance.proofs.DeclaredPorts.{in_within}
+use Rattle.aadl_instance.proofs.DeclaredEndPorts.{in_within}
 use Rattle.aadl_instance.proofs.ChainsSoFar.{thread_listed}
 use Rattle.aadl_instance.proofs.AddedChains.{route_begins, route_added, none_added}
 use Rattle.aadl_instance.proofs.chain_search.add_chain.Goals as goal

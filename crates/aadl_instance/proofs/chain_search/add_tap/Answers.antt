@@ -2,7 +2,7 @@ use Rattle.std.proofs.Common.{◌∙◌, [], ap, refl, subst, sym}
 use Rattle.std.proofs.lemmas.Result.{on_ok_weaker}
 use Rattle.aadl_tree.specs.proof.PackageViews.{placed}
 use Rattle.aadl_chains.proofs.ConnectionsOnChains.{port, is_in-at}
-use Rattle.aadl_chains.specs.proof.Routes.{TracesTap}
+use Rattle.aadl_chains.specs.proof.TracedChains.{TracesTap}
 use Rattle.aadl_instance.specs.proof.ChainsSoFar.{paths_of, chain_by}
 use Rattle.aadl_instance.proofs.AddedChains.{tap_begins, tap_added, no_tap, in_tap}
 use Rattle.aadl_instance.proofs.chain_search.add_tap.Goals as goal

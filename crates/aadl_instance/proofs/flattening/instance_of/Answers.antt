@@ -1,6 +1,6 @@
 use Rattle.std.proofs.Common.{◌∙◌, subst, sym}
 use Rattle.aadl_tree.specs.proof.PackageViews.{placed}
-use Rattle.aadl_uses.specs.declared.wires.Wires.{Wires}
+use Rattle.aadl_uses.specs.declared.package_wires.Wires.{Wires}
 use Rattle.aadl_instance.specs.Instances.{IsInstance}
 use Rattle.aadl_instance.specs.proof.ChainsSoFar.{paths_of}
 use Rattle.aadl_instance.proofs.FaultlessInstances.{all_listed, all_stand, settled, instance_is, threads_same}

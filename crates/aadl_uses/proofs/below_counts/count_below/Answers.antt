@@ -1,5 +1,5 @@
 use Rattle.std.proofs.Common.{◌+◌, ◌∙◌, ap, arith, get_or, length, min, None}
-use Rattle.aadl_uses.proofs.MarkedCounts.{counted_own, counted_more, counted_all, below_is}
+use Rattle.aadl_uses.proofs.MarkedPathCounts.{counted_own, counted_more, counted_all, below_is}
 use Rattle.aadl_uses.proofs.below_counts.count_below.Goals as goal
 
 pub loop-target-init : goal.loop-target-init

@@ -1,4 +1,4 @@
-use Rattle.aadl_uses.proofs.MarkedCounts.{CountedSome}
+use Rattle.aadl_uses.proofs.MarkedPathCounts.{CountedSome}
 use Rattle.aadl_uses.proofs.below_counts.count_below.Given as goal
 
 -- the places that begin with the subcomponents so far

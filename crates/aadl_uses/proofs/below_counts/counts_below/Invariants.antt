@@ -1,4 +1,4 @@
-use Rattle.aadl_uses.specs.proof.MarkedCounts.{Counted}
+use Rattle.aadl_uses.specs.proof.MarkedPathCounts.{Counted}
 use Rattle.aadl_uses.proofs.KnownPrefixes.{FrontOf}
 use Rattle.aadl_uses.proofs.below_counts.counts_below.Given as goal
 

@@ -1,4 +1,4 @@
-use Rattle.aadl_uses.proofs.MarkedCounts.{Begun}
+use Rattle.aadl_uses.proofs.MarkedPathCounts.{Begun}
 use Rattle.aadl_uses.specs.proof.PathWeights.{IsGreatestOf, path_weight}
 use Rattle.aadl_uses.proofs.path_weights.heaviest_of.Given as goal
 

@@ -1,7 +1,7 @@
 use Rattle.std.proofs.Common.{get_or, ℕ}
 use Rattle.std.proofs.lemmas.List.{get_or_default}
 use Rattle.aadl_tree.specs.proof.PackageViews.{placed}
-use Rattle.aadl_uses.proofs.Cycles.{first_more}
+use Rattle.aadl_uses.proofs.FirstRecursion.{first_more}
 use Rattle.aadl_uses.proofs.recursion.first_of.Goals as goal
 
 pub loop-suspect-preserved : goal.loop-suspect-preserved

@@ -1,7 +1,7 @@
 use Rattle.std.proofs.Common.{subst, sym, Contains, List, ℕ}
 use Rattle.aadl_tree.specs.proof.PackageViews.{placed}
 use Rattle.aadl_uses.specs.proof.ContainmentGraphs.{Graph, LeadsBack}
-use Rattle.aadl_uses.proofs.Cycles.{ok_first}
+use Rattle.aadl_uses.proofs.FirstRecursion.{ok_first}
 use Rattle.aadl_uses.proofs.recursion.first_recursive.Goals as goal
 
 pub returns : goal.returns

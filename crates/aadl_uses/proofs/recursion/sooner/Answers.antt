@@ -6,7 +6,7 @@ use Rattle.aadl_names.specs.declared.fault.PackageFault.TheVariants.{Recursive}
 use Rattle.aadl_uses.specs.proof.ContainmentGraphs.{Graph, IsWithin, LeadsBack}
 use Rattle.aadl_uses.specs.proof.FirstRecursion.{IsSooner}
 use Rattle.aadl_uses.proofs.PackageContainment.{within}
-use Rattle.aadl_uses.proofs.Cycles.{sooner_new}
+use Rattle.aadl_uses.proofs.FirstRecursion.{sooner_new}
 use Rattle.aadl_uses.proofs.recursion.sooner.Goals as goal
 
 pub leads_back-requires : goal.leads_back-requires

@@ -3,9 +3,9 @@ use Rattle.std.proofs.Common.{subst}
 use Rattle.std.specs.Prelude.{slice_index_or}
 use Rattle.pals_model.specs.RoundTexts.{line_end}
 use Rattle.pals_runs.specs.JournalLines.{spaced}
-use Rattle.analysis_fields.specs.PropertyValues.{PropertyValue}
+use Rattle.analysis_fields.specs.NamedFormulas.{PropertyValue}
 use Rattle.run_monitor.specs.WatchText.{names_of, violation_text, last_line}
-use Rattle.analysis_texts.specs.WatchedProperties.{named}
+use Rattle.analysis_texts.specs.MonitoredFormulas.{named}
 use Rattle.analysis_texts.proofs.WatchedRounds.{name_at, last_words}
 use Rattle.analysis_texts.proofs.properties.add_end.Goals as goal
 

@@ -1,12 +1,12 @@
 use Rattle.std.proofs.Common.{◌≡◌, ◌++◌, List, map, take}
 use Rattle.pals_base.specs.declared.values.Frame.{Frame}
 use Rattle.pals_model.specs.RoundTexts.{text_of}
-use Rattle.analysis_fields.specs.PropertyValues.{PropertyValue}
+use Rattle.analysis_fields.specs.NamedFormulas.{PropertyValue}
 use Rattle.run_monitor.specs.proof.SeveralMonitors.{said_by}
 use Rattle.run_monitor.specs.FormulaSemantics.{holds}
 use Rattle.run_monitor.specs.WatchText.{verdict_line}
 use Rattle.run_monitor.specs.FalseProperties.{verdicts}
-use Rattle.analysis_texts.specs.WatchedProperties.{formulas}
+use Rattle.analysis_texts.specs.MonitoredFormulas.{formulas}
 use Rattle.analysis_texts.proofs.properties.add_verdicts.Given as goal
 
 -- the lines so far, of any history over which the monitors said this

@@ -1,8 +1,8 @@
 use Rattle.std.proofs.Common.{◌++◌, [], ◌∷◌, take, ap, ◌∙◌, sym, subst, arith}
 use Rattle.std.proofs.lemmas.List.{take_all}
-use Rattle.analysis_fields.specs.PropertyValues.{PropertyValue}
+use Rattle.analysis_fields.specs.NamedFormulas.{PropertyValue}
 use Rattle.run_monitor.specs.proof.SeveralMonitors.{HasWatched}
-use Rattle.analysis_texts.specs.WatchedProperties.{formulas}
+use Rattle.analysis_texts.specs.MonitoredFormulas.{formulas}
 use Rattle.analysis_texts.proofs.WatchedRounds.{formulas-more}
 use Rattle.analysis_texts.proofs.properties.monitors.Goals as goal
 

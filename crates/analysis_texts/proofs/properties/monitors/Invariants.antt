@@ -1,6 +1,6 @@
 use Rattle.std.proofs.Common.{[], take}
 use Rattle.run_monitor.specs.proof.SeveralMonitors.{HasWatched}
-use Rattle.analysis_texts.specs.WatchedProperties.{formulas}
+use Rattle.analysis_texts.specs.MonitoredFormulas.{formulas}
 use Rattle.analysis_texts.proofs.properties.monitors.Given as goal
 
 -- monitors of the properties so far

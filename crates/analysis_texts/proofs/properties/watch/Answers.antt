@@ -3,7 +3,7 @@ use Rattle.pals_model.specs.declared.design.DesignParts.{DesignParts}
 use Rattle.sync_product.specs.proof.ProductStates.{ProductState}
 use Rattle.pals_model.specs.Composition.{comp, opening}
 use Rattle.run_monitor.specs.WatchText.{watch_text}
-use Rattle.analysis_texts.specs.WatchedProperties.{named}
+use Rattle.analysis_texts.specs.MonitoredFormulas.{named}
 use Rattle.analysis_texts.proofs.properties.watch.Goals as goal
 
 pub watch_rounds-requires-clause-opening : goal.watch_rounds-requires-clause-opening

@@ -3,7 +3,7 @@ use Rattle.pals_model.specs.Composition.{comp}
 use Rattle.run_monitor.specs.proof.SeveralMonitors.{HasWatched}
 use Rattle.run_monitor.specs.WatchText.{watched_rows}
 use Rattle.run_monitor.specs.FalseProperties.{history}
-use Rattle.analysis_texts.specs.WatchedProperties.{named, formulas}
+use Rattle.analysis_texts.specs.MonitoredFormulas.{named, formulas}
 use Rattle.analysis_texts.proofs.properties.watch_rounds.Given as goal
 
 -- the product stands at the round, the monitors have watched the rounds before it, the text has their rows, and there

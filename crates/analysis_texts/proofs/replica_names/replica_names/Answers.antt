@@ -2,8 +2,8 @@ use Rattle.std.proofs.Common.{◌≡◌, ◌∙◌, List, length, map, ap, ap₂
 use Rattle.std.proofs.lemmas.Result.{IfOk-weaker}
 use Rattle.pals_base.specs.StepSequences.{upwards}
 use Rattle.pals_model.specs.declared.design.Component.{Component}
-use Rattle.analysis_fields.specs.Replicas.{is_among}
-use Rattle.analysis_texts.specs.VotedReplicas.{replicated_in}
+use Rattle.analysis_fields.specs.ReplicasAndFaults.{is_among}
+use Rattle.analysis_texts.specs.VoteInputs.{replicated_in}
 use Rattle.analysis_texts.specs.proof.ReplicaLines.{all_names}
 use Rattle.analysis_texts.proofs.FilledTables.{length-table}
 use Rattle.analysis_texts.proofs.replica_names.replica_names.Goals as goal

@@ -4,9 +4,9 @@ use Rattle.std.proofs.lemmas.Result.{IfOk-weaker}
 use Rattle.pals_base.specs.StepSequences.{upwards}
 use Rattle.pals_model.specs.declared.design.Component.{Component}
 use Rattle.pals_model.specs.declared.design.DesignParts.{DesignParts}
-use Rattle.analysis_fields.specs.Replicas.{is_among}
+use Rattle.analysis_fields.specs.ReplicasAndFaults.{is_among}
 use Rattle.triple_vote.specs.proof.VotedStates.{VotedState, vbegun}
-use Rattle.analysis_texts.specs.VotedReplicas.{replicated_in}
+use Rattle.analysis_texts.specs.VoteInputs.{replicated_in}
 use Rattle.analysis_texts.proofs.FilledTables.{length-table}
 use Rattle.analysis_texts.proofs.replicas.product_of.Goals as goal
 

@@ -5,14 +5,14 @@ use Rattle.std.proofs.lemmas.List.{length-map}
 use Rattle.list_lemmas.proofs.ListOperations.{take-written_whole}
 use Rattle.pals_model.specs.declared.design.DesignParts.{DesignParts}
 use Rattle.pals_model.specs.ComponentInputs.{values_at}
-use Rattle.pals_runs.specs.declared.analysis_inputs.VoteFault.{VoteFault}
+use Rattle.pals_runs.specs.declared.vote_faults_and_pairs.VoteFault.{VoteFault}
 use Rattle.triple_vote.specs.proof.VoteLaws.{IsFault}
 use Rattle.triple_vote.specs.Replicas.{vcomp, vshown_by}
 use Rattle.triple_vote.specs.proof.VotedStates.{VotedState, vadvanced}
 use Rattle.triple_vote.specs.VotedText.{vreport}
 use Rattle.triple_vote.proofs.TabulatedLists.{table-at}
 use Rattle.analysis_texts.specs.proof.ReplicaLines.{all_names}
-use Rattle.analysis_texts.proofs.RoundRows.{length_values_at}
+use Rattle.analysis_texts.proofs.ProductRounds.{length_values_at}
 use Rattle.analysis_texts.proofs.VotedRows.{MakesRound, voted_more}
 use Rattle.analysis_texts.proofs.replicas.rows.Goals as goal
 

@@ -5,7 +5,7 @@ use Rattle.pals_model.specs.declared.design.DesignParts.{DesignParts}
 use Rattle.triple_vote.specs.Replicas.{vopening}
 use Rattle.triple_vote.specs.proof.VotedStates.{VotedState}
 use Rattle.triple_vote.specs.VotedText.{vreport}
-use Rattle.analysis_texts.specs.VotedReplicas.{replicated_in, faults_of}
+use Rattle.analysis_texts.specs.VoteInputs.{replicated_in, faults_of}
 use Rattle.analysis_texts.specs.proof.ReplicaLines.{all_names}
 use Rattle.analysis_texts.proofs.FilledTables.{length-table}
 use Rattle.analysis_texts.proofs.AllowedVoteFaults.{rounds_keep}

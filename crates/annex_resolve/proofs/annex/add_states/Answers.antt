@@ -1,4 +1,4 @@
-use Rattle.annex_resolve.specs.Behaviours.{state_rules}
+use Rattle.annex_resolve.specs.BehavioursAndFindings.{state_rules}
 use Rattle.annex_resolve.proofs.StateFindings.{one_more_state}
 use Rattle.annex_resolve.proofs.annex.add_states.Goals as goal
 

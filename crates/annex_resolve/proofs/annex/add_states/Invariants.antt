@@ -1,7 +1,7 @@
 use Rattle.std.proofs.Common.{◌≡◌, ◌++◌, take}
 use Rattle.std.specs.Prelude.{flat_map}
 use Rattle.std.specs.List.{enumerate_from}
-use Rattle.annex_resolve.specs.Behaviours.{state_rules}
+use Rattle.annex_resolve.specs.BehavioursAndFindings.{state_rules}
 use Rattle.annex_resolve.proofs.annex.add_states.Given as goal
 
 abbrev pub invariant-loop-number : goal.invariant-loop-number

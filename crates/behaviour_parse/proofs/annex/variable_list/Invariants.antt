@@ -3,7 +3,7 @@ use Rattle.std.specs.Prelude.{flat_map}
 use Rattle.aadl_tree.specs.Annexes.{variable_parts}
 use Rattle.aadl_tree.specs.proof.DeclarationViews.{variable_view}
 use Rattle.aadl_tree.specs.proof.PlaceMaps.{kept_place}
-use Rattle.aadl_tree.specs.declared.limits.TheConstants.{GREATEST_NESTING}
+use Rattle.aadl_tree.specs.declared.nesting_limit.TheConstants.{GREATEST_NESTING}
 use Rattle.aadl_grammar.specs.proof.Symbols as s
 use Rattle.aadl_grammar.specs.proof.StackMachine.{Stack, depth, fate}
 use Rattle.aadl_grammar.specs.proof.ParserAnswers.{here, Reads}

@@ -1,5 +1,5 @@
 use Rattle.std.proofs.Common.{arith}
-use Rattle.bound_checker.proofs.Euclid.{divisor_from_rest, divisor_of_0}
+use Rattle.bound_checker.proofs.CommonDivisors.{divisor_from_rest, divisor_of_0}
 use Rattle.bound_checker.proofs.divisors.gcd.Goals as goal
 
 pub loop-low-preserved : goal.loop-low-preserved

@@ -1,4 +1,4 @@
-use Rattle.bound_checker.proofs.Euclid.{some_divisor, some_multiple, multiple_from_divisor}
+use Rattle.bound_checker.proofs.CommonDivisors.{some_divisor, some_multiple, multiple_from_divisor}
 use Rattle.bound_checker.proofs.divisors.lcm.Goals as goal
 
 pub nonzero_div-result : goal.nonzero_div-result

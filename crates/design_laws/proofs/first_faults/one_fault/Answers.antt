@@ -1,4 +1,4 @@
-use Rattle.design_laws.proofs.FindingsAtOnePlace.{rises}
+use Rattle.design_laws.proofs.FaultsAtOnePlace.{rises}
 use Rattle.design_laws.proofs.UniqueFirstFaults.{one_fault}
 use Rattle.design_laws.proofs.first_faults.one_fault.Goals as goal
 

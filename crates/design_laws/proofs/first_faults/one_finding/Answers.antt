@@ -1,4 +1,4 @@
-use Rattle.design_laws.proofs.FindingsAtOnePlace.{rises, one_finding}
+use Rattle.design_laws.proofs.FaultsAtOnePlace.{rises, one_finding}
 use Rattle.design_laws.proofs.first_faults.one_finding.Goals as goal
 
 pub returns : goal.returns

@@ -2,7 +2,7 @@ use Rattle.std.proofs.Common.{◌∙◌, ◌++◌, ℕ, List, sym, ap, append_as
 use Rattle.pals_model.specs.declared.design.DesignParts.{DesignParts}
 use Rattle.pals_model.specs.RoundTexts.{row_lines, text_of}
 use Rattle.loose_world.specs.proof.FinishedRows.{part_of_round, lines_before}
-use Rattle.loose_world.proofs.RowPrefixes.{rows_more}
+use Rattle.loose_world.proofs.RowLoops.{rows_more}
 use Rattle.loose_world.proofs.row_text.add_each_row.Goals as goal
 
 pub loop-round-preserved : goal.loop-round-preserved

@@ -1,6 +1,6 @@
 use Rattle.std.proofs.Common.{◌∙◌, ◌<◌, ◌≤◌, length, ap, arith}
 use Rattle.pals_model.specs.declared.design.DesignParts.{DesignParts}
-use Rattle.loose_world.proofs.RowPrefixes.{least_more, least_all}
+use Rattle.loose_world.proofs.RowLoops.{least_more, least_all}
 use Rattle.loose_world.proofs.row_text.finished_by_all.Goals as goal
 
 pub loop-node-preserved : goal.loop-node-preserved

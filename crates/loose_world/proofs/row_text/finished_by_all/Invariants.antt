@@ -1,5 +1,5 @@
 use Rattle.std.proofs.Common.{◌≡◌}
-use Rattle.loose_world.proofs.RowPrefixes.{least_first}
+use Rattle.loose_world.proofs.RowLoops.{least_first}
 use Rattle.loose_world.proofs.row_text.finished_by_all.Given as goal
 
 -- the least of the first nodes, and of the run's rounds

@@ -1,7 +1,7 @@
 use Rattle.std.proofs.Common.{◌≡◌, ◌∙◌, ℕ, length, fold, max, ap, arith}
 use Rattle.std.proofs.lemmas.Grind.{common_steps}
 use Rattle.pals_model.specs.declared.design.DesignParts.{DesignParts}
-use Rattle.loose_world.proofs.RowPrefixes.{finished_first, most_more}
+use Rattle.loose_world.proofs.RowLoops.{finished_first, most_more}
 use Rattle.loose_world.proofs.row_text.finished_rounds.Goals as goal
 
 pub loop-node-preserved : goal.loop-node-preserved

@@ -1,5 +1,5 @@
 use Rattle.std.proofs.Common.{◌≡◌, fold, max}
-use Rattle.loose_world.proofs.RowPrefixes.{finished_first}
+use Rattle.loose_world.proofs.RowLoops.{finished_first}
 use Rattle.loose_world.proofs.row_text.finished_rounds.Given as goal
 
 -- the most of the first nodes

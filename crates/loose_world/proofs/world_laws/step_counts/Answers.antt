@@ -1,4 +1,4 @@
-use Rattle.loose_world.proofs.StepCounts.{step_counts}
+use Rattle.loose_world.proofs.StepAndSendCounts.{step_counts}
 use Rattle.loose_world.proofs.world_laws.step_counts.Goals as goal
 
 pub returns : goal.returns

@@ -1,6 +1,6 @@
 use Rattle.std.proofs.lemmas.Option.{MatchOption-at_none, MatchOption-at_some}
 use Rattle.aadl_tree.specs.proof.PackageViews.{placed}
-use Rattle.model_violations.specs.proof.Violations.{shown}
+use Rattle.model_violations.specs.proof.UnsortedFindings.{shown}
 use Rattle.design_laws.specs.proof.AcceptedInstances.{NothingFound}
 use Rattle.design_laws.specs.InstanceDesigns.{IsDesignOf}
 use Rattle.model_checks.specs.proof.RefusedInstances.{HasNoDesign}

@@ -2,7 +2,7 @@ use Rattle.std.proofs.Common.{◌∙◌, subst, sym}
 use Rattle.std.proofs.lemmas.List.Elements.{All-get_or}
 use Rattle.aadl_tree.specs.proof.PackageViews.{placed}
 use Rattle.design_laws.specs.InstanceDesigns.{HasRules, component_in}
-use Rattle.model_checks.specs.proof.ThreadLimits.{IsWithinLimits}
+use Rattle.model_checks.specs.proof.ThreadSizeLimits.{IsWithinLimits}
 use Rattle.model_checks.proofs.ListsOfOptions.{one_more, one_missing}
 use Rattle.model_checks.proofs.instance_design.components.Goals as goal
 

@@ -1,7 +1,7 @@
 use Rattle.std.proofs.Common.{◌≡◌, map, take, Some}
 use Rattle.aadl_tree.specs.proof.PackageViews.{placed}
 use Rattle.design_laws.specs.InstanceDesigns.{all_of, component_in}
-use Rattle.model_checks.specs.proof.KeptBehaviours.{AreKept}
+use Rattle.model_checks.specs.proof.CachedBehaviours.{AreKept}
 use Rattle.model_checks.proofs.instance_design.components.Given as goal
 
 -- the components so far, and the behaviours that are kept

@@ -3,8 +3,8 @@ use Rattle.std.specs.Prelude.{All}
 use Rattle.std.proofs.lemmas.List.Elements.{All-same}
 use Rattle.aadl_tree.specs.proof.PackageViews.{placed}
 use Rattle.design_laws.specs.InstanceDesigns.{HasRules}
-use Rattle.model_checks.specs.proof.ThreadLimits.{IsWithinLimits}
-use Rattle.model_checks.proofs.ThreadLimits.{within_limits}
+use Rattle.model_checks.specs.proof.ThreadSizeLimits.{IsWithinLimits}
+use Rattle.model_checks.proofs.ThreadSizeLimits.{within_limits}
 use Rattle.model_checks.proofs.instance_design.design_parts.Goals as goal
 
 pub components-requires-clause-limits : goal.components-requires-clause-limits

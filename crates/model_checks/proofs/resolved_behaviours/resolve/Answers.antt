@@ -1,6 +1,6 @@
 use Rattle.std.proofs.Common.{◌∙◌, Some, sym, ap}
 use Rattle.aadl_tree.specs.proof.PackageViews.{placed}
-use Rattle.model_checks.proofs.KeptBehaviours.{kept_more}
+use Rattle.model_checks.proofs.CachedBehaviours.{kept_more}
 use Rattle.model_checks.proofs.resolved_behaviours.resolve.Goals as goal
 
 pub resolve_implementation-requires : goal.resolve_implementation-requires

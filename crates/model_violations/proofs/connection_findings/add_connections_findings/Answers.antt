@@ -5,7 +5,7 @@ use Rattle.aadl_tree.specs.proof.DeclarationViews.{connection_view, implementati
 use Rattle.aadl_tree.specs.proof.PlaceMaps.{kept_place}
 use Rattle.aadl_tree.specs.proof.PackageViews.{placed}
 use Rattle.aadl_names.specs.ReferenceResolution.{implementation_in}
-use Rattle.model_violations.specs.Carriers.{carries}
+use Rattle.model_violations.specs.ConnectionsAndCarriers.{carries}
 use Rattle.model_violations.specs.ConnectionFindings.{connection_findings}
 use Rattle.component_checks.proofs.EnumeratedLists.{one_more}
 use Rattle.model_violations.proofs.connection_findings.add_connections_findings.Goals as goal

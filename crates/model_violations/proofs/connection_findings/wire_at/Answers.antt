@@ -2,7 +2,7 @@ use Rattle.std.proofs.Common.{◌∙◌, refl, sym, ap, slice_get}
 use Rattle.std.proofs.lemmas.Option.{none-some, slice_get_read, slice_get_past}
 use Rattle.aadl_tree.specs.proof.PackageViews.{placed}
 use Rattle.aadl_uses.specs.Wiring.{wire_of}
-use Rattle.model_violations.proofs.ConnectionEnds.{wire_is, joined}
+use Rattle.model_violations.proofs.ConnectionEndTypes.{wire_is, joined}
 use Rattle.model_violations.proofs.connection_findings.wire_at.Goals as goal
 
 pub returns-in-Some : goal.returns-in-Some

@@ -4,7 +4,7 @@ use Rattle.std.proofs.lemmas.Option.{slice_get-map, slice_get_read}
 use Rattle.aadl_tree.specs.proof.PlaceMaps.{kept_place}
 use Rattle.aadl_tree.specs.proof.PackageViews.{placed}
 use Rattle.aadl_tree.specs.proof.DeclarationViews.{declaration_view}
-use Rattle.model_violations.specs.Carriers.{carries}
+use Rattle.model_violations.specs.ConnectionsAndCarriers.{carries}
 use Rattle.component_checks.proofs.EnumeratedLists.{one_more}
 use Rattle.model_violations.specs.UsedDeclarations.{has}
 use Rattle.model_violations.specs.DeclarationFindings.{declaration_findings}

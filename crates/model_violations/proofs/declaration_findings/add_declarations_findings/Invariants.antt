@@ -4,7 +4,7 @@ use Rattle.std.specs.List.{enumerate_from}
 use Rattle.aadl_tree.specs.proof.DeclarationViews.{declaration_view}
 use Rattle.aadl_tree.specs.proof.PlaceMaps.{kept_place}
 use Rattle.aadl_tree.specs.proof.PackageViews.{placed}
-use Rattle.model_violations.specs.Carriers.{carries}
+use Rattle.model_violations.specs.ConnectionsAndCarriers.{carries}
 use Rattle.model_violations.specs.UsedDeclarations.{has}
 use Rattle.model_violations.specs.DeclarationFindings.{declaration_findings}
 use Rattle.model_violations.proofs.declaration_findings.add_declarations_findings.Given as goal

@@ -2,7 +2,7 @@ use Rattle.aadl_tree.specs.proof.PlaceMaps.{kept_place}
 use Rattle.aadl_tree.specs.proof.DeclarationViews.{feature_view}
 use Rattle.component_checks.specs.Types.{is_in}
 use Rattle.model_violations.specs.PortsAndVariables.{port_of}
-use Rattle.model_violations.proofs.CollectingLoops.{kept_next}
+use Rattle.model_violations.proofs.FilteringLoops.{kept_next}
 use Rattle.model_violations.proofs.declared_ports.ins_in.Goals as goal
 
 pub loop-port-preserved : goal.loop-port-preserved

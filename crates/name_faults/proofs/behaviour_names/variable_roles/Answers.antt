@@ -6,7 +6,7 @@ use Rattle.std.proofs.lemmas.List.Folds.{list_any-append}
 use Rattle.aadl_tree.specs.declared.annex.VariableDeclaration.{VariableDeclaration}
 use Rattle.aadl_tree.specs.proof.DeclarationViews.{variable_view}
 use Rattle.aadl_tree.specs.proof.PlaceMaps.{kept_place}
-use Rattle.aadl_names.specs.declared.role.Role.TheVariants.{Varies}
+use Rattle.aadl_names.specs.declared.name_roles.Role.TheVariants.{Varies}
 use Rattle.aadl_names.specs.PackageFaults.{is_among}
 use Rattle.name_faults.specs.proof.OptionalValues.{value_if}
 use Rattle.name_faults.proofs.RoleTables.{next_role, last_role, value_or}

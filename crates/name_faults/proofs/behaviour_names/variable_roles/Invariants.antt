@@ -4,7 +4,7 @@ use Rattle.std.specs.List.{flat_map}
 use Rattle.std.specs.Option.{option_or}
 use Rattle.aadl_tree.specs.proof.DeclarationViews.{variable_view}
 use Rattle.aadl_tree.specs.proof.PlaceMaps.{kept_place}
-use Rattle.aadl_names.specs.declared.role.Role.TheVariants.{Varies}
+use Rattle.aadl_names.specs.declared.name_roles.Role.TheVariants.{Varies}
 use Rattle.aadl_names.specs.proof.NameTables.{value_of}
 use Rattle.aadl_names.specs.PackageFaults.{is_among}
 use Rattle.name_faults.specs.proof.OptionalValues.{value_if}

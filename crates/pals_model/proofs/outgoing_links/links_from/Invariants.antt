@@ -1,7 +1,7 @@
 use Rattle.std.proofs.Common.{◌≡◌, ◌++◌, map, drop, nat_eq}
 use Rattle.pals_model.specs.declared.design.Link.{Link}
 use Rattle.pals_base.specs.declared.values.LinkNo.{LinkNo}
-use Rattle.pals_model.proofs.LinkNumbers.{numbers_of}
+use Rattle.pals_model.proofs.FilteredLinks.{numbers_of}
 use Rattle.pals_model.proofs.outgoing_links.links_from.Given as goal
 
 -- the numbers so far, and those among the links that are left

@@ -3,7 +3,7 @@ use Rattle.std.specs.Prelude.{Option, slice_set}
 use Rattle.std.proofs.lemmas.List.{length-map, length-set}
 use Rattle.list_lemmas.proofs.ListOperations.{filled_more, filled_all}
 use Rattle.pals_base.specs.declared.values.PortValue.{PortValue}
-use Rattle.pals_node.proofs.TuplePlaces.{no_message, empty_at}
+use Rattle.pals_node.proofs.TupleWrites.{no_message, empty_at}
 use Rattle.pals_node.proofs.inputs.empty_all.Goals as goal
 
 pub loop-at-preserved : goal.loop-at-preserved

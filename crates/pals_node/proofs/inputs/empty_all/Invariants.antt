@@ -1,7 +1,7 @@
 use Rattle.std.proofs.Common.{◌≡◌, List, length, map, take}
 use Rattle.std.specs.Prelude.{Option}
 use Rattle.pals_base.specs.declared.values.PortValue.{PortValue}
-use Rattle.pals_node.proofs.TuplePlaces.{no_message}
+use Rattle.pals_node.proofs.TupleWrites.{no_message}
 use Rattle.pals_node.proofs.inputs.empty_all.Given as goal
 
 -- the first slots are empty

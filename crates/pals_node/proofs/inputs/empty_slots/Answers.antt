@@ -1,5 +1,5 @@
 use Rattle.std.proofs.Common.{◌∙◌, ◌++◌, ◌∷◌, [], ap₂}
-use Rattle.pals_node.proofs.TuplePlaces.{empty_more}
+use Rattle.pals_node.proofs.TupleWrites.{empty_more}
 use Rattle.pals_node.proofs.inputs.empty_slots.Goals as goal
 
 pub loop-input-preserved : goal.loop-input-preserved

@@ -1,6 +1,6 @@
 use Rattle.std.proofs.Common.{◌≡◌, map, take}
 use Rattle.bus_machine.specs.declared.plan.Input.{Input}
-use Rattle.pals_node.proofs.TuplePlaces.{no_message}
+use Rattle.pals_node.proofs.TupleWrites.{no_message}
 use Rattle.pals_node.proofs.inputs.empty_slots.Given as goal
 
 abbrev pub invariant-loop-input : goal.invariant-loop-input

@@ -4,7 +4,7 @@ use Rattle.pals_base.specs.declared.values.PortValue.{PortValue}
 use Rattle.pals_base.specs.declared.values.PortValue.TheVariants.{Absent}
 use Rattle.bus_machine.specs.declared.plan.Input.{Input}
 use Rattle.bus_machine.specs.Nodes.{brought}
-use Rattle.pals_node.proofs.TuplePlaces.{zips_more, zip_all, column_of}
+use Rattle.pals_node.proofs.TupleWrites.{zips_more, zip_all, column_of}
 use Rattle.pals_node.proofs.inputs.vector_at.Goals as goal
 
 pub loop-at-preserved : goal.loop-at-preserved

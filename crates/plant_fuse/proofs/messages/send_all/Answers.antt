@@ -8,7 +8,7 @@ use Rattle.pals_model.specs.declared.design.DesignParts.{DesignParts}
 use Rattle.pals_model.specs.declared.design.Link.{Link}
 use Rattle.pals_model.specs.ComponentInputs.{rate_of}
 use Rattle.pals_model.specs.DesignRules.{IsLink}
-use Rattle.pals_model.proofs.FirstElements.{at_element}
+use Rattle.pals_model.proofs.FirstMatches.{at_element}
 use Rattle.sync_product.specs.proof.ProductSizes.{message_sizes}
 use Rattle.sync_product.proofs.SizePreservation.{same_sizes}
 use Rattle.sync_product.proofs.ComponentLists.{count_of_sized}

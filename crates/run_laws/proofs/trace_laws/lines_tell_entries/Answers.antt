@@ -1,5 +1,5 @@
 use Rattle.run_laws.proofs.EntryLines.{lines_tell_entries, lines_differ}
-use Rattle.run_laws.proofs.ToldEntries.{told_are_in}
+use Rattle.run_laws.proofs.ParsedEntryRanges.{told_are_in}
 use Rattle.run_laws.proofs.trace_laws.lines_tell_entries.Goals as goal
 
 pub returns : goal.returns

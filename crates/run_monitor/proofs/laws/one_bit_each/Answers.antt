@@ -1,4 +1,4 @@
-use Rattle.run_monitor.proofs.FormulaHistories.{one_bit_each}
+use Rattle.run_monitor.proofs.FormulaLaws.{one_bit_each}
 use Rattle.run_monitor.proofs.laws.one_bit_each.Goals as goal
 
 pub returns : goal.returns

@@ -1,4 +1,4 @@
-use Rattle.run_monitor.proofs.FormulaHistories.{past_stays}
+use Rattle.run_monitor.proofs.FormulaLaws.{past_stays}
 use Rattle.run_monitor.proofs.laws.past_stays.Goals as goal
 
 pub returns : goal.returns

@@ -1,5 +1,5 @@
 use Rattle.std.proofs.Common.{◌≡◌, [], length, map, replicate}
-use Rattle.pals_clock.specs.Clock.{unpicked}
+use Rattle.pals_clock.specs.ClockStates.{unpicked}
 use Rattle.scenario_json.specs.Clocks.{with_clock}
 use Rattle.scenario_values.specs.ResultCombinators.{through}
 use Rattle.scenario_values.specs.FieldValues.{entry_of}

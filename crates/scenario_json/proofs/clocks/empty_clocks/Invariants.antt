@@ -1,5 +1,5 @@
 use Rattle.std.proofs.Common.{◌≡◌, [], replicate}
-use Rattle.pals_clock.specs.Clock.{unpicked}
+use Rattle.pals_clock.specs.ClockStates.{unpicked}
 use Rattle.scenario_json.proofs.clocks.empty_clocks.Given as goal
 
 abbrev pub invariant-loop-done : goal.invariant-loop-done

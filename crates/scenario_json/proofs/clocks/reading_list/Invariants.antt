@@ -1,7 +1,7 @@
 use Rattle.std.proofs.Common.{◌≡◌, [], length, map, drop, codes}
 use Rattle.std.specs.List.Sorted.{IsNonDecreasing}
 use Rattle.serde_json.specs.View.{view}
-use Rattle.pals_clock.specs.Clock.{AreReadings}
+use Rattle.pals_clock.specs.ClockStates.{AreReadings}
 use Rattle.scenario_values.specs.ResultCombinators.{through}
 use Rattle.scenario_values.specs.FaultPlaces.{inside}
 use Rattle.scenario_json.specs.Clocks.{with_reading, last_of}

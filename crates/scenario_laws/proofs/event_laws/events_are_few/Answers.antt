@@ -1,4 +1,4 @@
-use Rattle.scenario_laws.proofs.FieldLaws.{events_are_few}
+use Rattle.scenario_laws.proofs.SuitableScenarios.{events_are_few}
 use Rattle.scenario_laws.proofs.event_laws.events_are_few.Goals as goal
 
 pub returns : goal.returns

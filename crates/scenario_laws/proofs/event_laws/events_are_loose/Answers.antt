@@ -1,4 +1,4 @@
-use Rattle.scenario_laws.proofs.FieldLaws.{events_are_loose}
+use Rattle.scenario_laws.proofs.SuitableScenarios.{events_are_loose}
 use Rattle.scenario_laws.proofs.event_laws.events_are_loose.Goals as goal
 
 pub returns : goal.returns

@@ -1,4 +1,4 @@
-use Rattle.scenario_laws.proofs.FieldLaws.{traces_are_few}
+use Rattle.scenario_laws.proofs.SuitableScenarios.{traces_are_few}
 use Rattle.scenario_laws.proofs.event_laws.traces_are_few.Goals as goal
 
 pub returns : goal.returns

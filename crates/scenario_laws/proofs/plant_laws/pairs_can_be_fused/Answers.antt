@@ -1,4 +1,4 @@
-use Rattle.scenario_laws.proofs.FieldLaws.{pairs_can_be_fused}
+use Rattle.scenario_laws.proofs.SuitableScenarios.{pairs_can_be_fused}
 use Rattle.scenario_laws.proofs.plant_laws.pairs_can_be_fused.Goals as goal
 
 pub returns : goal.returns

@@ -1,6 +1,6 @@
 use Rattle.std.proofs.Common.{length, option_to_list, sym, subst}
 use Rattle.step_code.specs.proof.VerifierAnswers.{AreThere}
-use Rattle.step_code.proofs.PassedHeights.{there_jump, there_next}
+use Rattle.step_code.proofs.HeightPropagation.{there_jump, there_next}
 use Rattle.step_code.proofs.heights.pass_on.Goals as goal
 
 pub set-requires : goal.set-requires

@@ -1,5 +1,5 @@
 use Rattle.std.proofs.Common.{◌<◌, length, rules}
-use Rattle.step_code.proofs.PassedHeights.{place_there, is_set}
+use Rattle.step_code.proofs.HeightPropagation.{place_there, is_set}
 use Rattle.step_code.proofs.heights.set.Goals as goal
 
 pub bounds-heights-place : goal.bounds-heights-place

@@ -1,5 +1,5 @@
 use Rattle.std.proofs.Common.{◌<◌, length, rules}
-use Rattle.step_code.proofs.PassedHeights.{place_there}
+use Rattle.step_code.proofs.HeightPropagation.{place_there}
 use Rattle.step_code.proofs.weights.number_at.Goals as goal
 
 pub bounds-best-place : goal.bounds-best-place

@@ -9,7 +9,7 @@ use Rattle.pals_base.proofs.TreeViews.{action_of-If, action_of-For}
 use Rattle.step_code.specs.declared.instr.Instr.TheVariants as code
 use Rattle.step_code.specs.CodeLengths.{length_of, length_act, length_acts, length_branches}
 use Rattle.step_compiler.specs.TreeInstructions.{code_of, code_act, code_acts, code_branches}
-use Rattle.step_compiler.proofs.PlacedCode.{code-length, act-length, branches-length}
+use Rattle.step_compiler.proofs.PlacedCodeLengths.{code-length, act-length, branches-length}
 use Rattle.step_compiler.proofs.AppendedCode.{both_parts, more_parts, next_act, next_branch, between, between_two}
 use Rattle.step_compiler.proofs.LayoutSplits.{branches_split}
 use Rattle.step_compiler.proofs.actions.+push_act.Goals as goal

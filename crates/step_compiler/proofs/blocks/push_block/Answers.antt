@@ -4,7 +4,7 @@ use Rattle.pals_base.specs.SingleStep.{is_complete}
 use Rattle.step_code.specs.CodeLengths.{length_edges}
 use Rattle.step_compiler.specs.BlockLayout.{block_code}
 use Rattle.step_compiler.specs.proof.BlockLengths.{in_list, leaving_among}
-use Rattle.step_compiler.proofs.PlacedCode.{block-length}
+use Rattle.step_compiler.proofs.PlacedCodeLengths.{block-length}
 use Rattle.step_compiler.proofs.AppendedCode.{more_parts}
 use Rattle.step_compiler.proofs.LayoutSplits.{leaving_split}
 use Rattle.step_compiler.proofs.blocks.push_block.Goals as goal

@@ -2,7 +2,7 @@ use Rattle.std.proofs.Common.{◌∙◌, ◌+◌, ◌∷◌, ◌++◌, length, d
 use Rattle.pals_base.specs.SingleStep.{is_complete, leaving}
 use Rattle.step_compiler.specs.BlockLayout.{block_code, block_length, blocks_code}
 use Rattle.step_compiler.specs.proof.BlockLengths.{in_list}
-use Rattle.step_compiler.proofs.PlacedCode.{block-length}
+use Rattle.step_compiler.proofs.PlacedCodeLengths.{block-length}
 use Rattle.step_compiler.proofs.AppendedCode.{more_parts}
 use Rattle.step_compiler.proofs.blocks.push_blocks.Goals as goal
 

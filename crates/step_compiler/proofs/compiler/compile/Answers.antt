@@ -6,7 +6,7 @@ use Rattle.step_code.specs.proof.VerifierRules.{IsVerified}
 use Rattle.step_code.specs.proof.CodeMeaning.{Means}
 use Rattle.step_code.specs.CodeLengths.{length_edges, code_length}
 use Rattle.step_compiler.specs.LaidOutCode.{IsLaidOut}
-use Rattle.step_compiler.proofs.LayoutUniqueness.{compiled_is_laid_out}
+use Rattle.step_compiler.proofs.LayoutLaws.{compiled_is_laid_out}
 use Rattle.step_compiler.proofs.CompilerCorrectness.{compiled_means, compiled_length}
 use Rattle.step_compiler.proofs.VerifierAcceptance.{compiled_verified, only_memory}
 use Rattle.step_compiler.proofs.compiler.compile.Goals as goal

@@ -6,7 +6,7 @@ use Rattle.pals_base.proofs.TreeViews.{tree_of-Chain}
 use Rattle.step_code.specs.declared.instr.Instr.TheVariants as code
 use Rattle.step_code.specs.CodeLengths.{operand_length, length_of}
 use Rattle.step_compiler.specs.TreeInstructions.{operand_code, code_of, code_rest}
-use Rattle.step_compiler.proofs.PlacedCode.{code-length, operand-length}
+use Rattle.step_compiler.proofs.PlacedCodeLengths.{code-length, operand-length}
 use Rattle.step_compiler.proofs.AppendedCode.{both_parts, more_parts, next_operand, behind_three}
 use Rattle.step_compiler.proofs.expressions.+push_expr.Goals as goal
 

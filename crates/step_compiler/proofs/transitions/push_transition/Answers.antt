@@ -8,7 +8,7 @@ use Rattle.step_code.specs.CodeLengths.{length_trigger}
 use Rattle.step_compiler.specs.TreeInstructions.{code_acts}
 use Rattle.step_compiler.specs.BlockLayout.{trigger_code, last_instr, past}
 use Rattle.step_compiler.specs.proof.BlockLengths.{in_list}
-use Rattle.step_compiler.proofs.PlacedCode.{trigger-length}
+use Rattle.step_compiler.proofs.PlacedCodeLengths.{trigger-length}
 use Rattle.step_compiler.proofs.AppendedCode.{between}
 use Rattle.step_compiler.proofs.transitions.push_transition.Goals as goal
 

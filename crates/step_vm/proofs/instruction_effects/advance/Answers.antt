@@ -13,7 +13,7 @@ use Rattle.step_code.specs.declared.instr.Instr.{Instr}
 use Rattle.step_code.specs.declared.instr.Instr.TheVariants.{Store}
 use Rattle.step_code.specs.InstructionEffects.{Senses, step, on_top, on_found, on_result, Goes}
 use Rattle.pals_base.specs.Arithmetic.{negation_of, magnitude_of}
-use Rattle.step_vm.specs.proof.StepOutcomes.{Met}
+use Rattle.step_vm.specs.proof.MachineAnswers.{Met}
 use Rattle.step_vm.proofs.instruction_effects.advance.Goals as goal
 
 -- a store, at the slot and the stack that are there

@@ -4,7 +4,7 @@ use mir.Syntax.{w64}
 use mir.Val.{SFits}
 use Rattle.pals_base.specs.Expressions.{applied}
 use Rattle.step_code.specs.InstructionEffects.{on_two, on_result, Goes}
-use Rattle.step_vm.specs.proof.StepOutcomes.{Met}
+use Rattle.step_vm.specs.proof.MachineAnswers.{Met}
 use Rattle.step_vm.proofs.instruction_effects.two.Goals as goal
 
 pub returns-clause-met : goal.returns-clause-met

@@ -2,7 +2,7 @@ use Rattle.std.proofs.Common.{Some, length, pos, subst, sym, arith, slice_index_
 use Rattle.step_code.specs.declared.instr.Instr.TheVariants.{Push}
 use Rattle.step_code.specs.InstructionEffects.{step}
 use Rattle.step_code.specs.InstructionsPerStep.{senses}
-use Rattle.step_vm.specs.proof.StepOutcomes.{Met}
+use Rattle.step_vm.specs.proof.MachineAnswers.{Met}
 use Rattle.step_vm.proofs.MachineInvariant.{Task, IsTask, IsUnderWay, begins_at, here_at, ready, goes_on, fewer}
 use Rattle.step_vm.proofs.MachineInvariant.{ends_in, traps_in}
 use Rattle.step_vm.proofs.steps.run_from.Goals as goal

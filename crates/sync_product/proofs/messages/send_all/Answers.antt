@@ -7,7 +7,7 @@ use Rattle.pals_base.specs.PeriodBound.{sent_steps}
 use Rattle.pals_model.specs.declared.design.Component.{Component}
 use Rattle.pals_model.specs.declared.design.Link.{Link}
 use Rattle.pals_model.specs.DesignRules.{IsLink}
-use Rattle.pals_model.proofs.FirstElements.{at_element}
+use Rattle.pals_model.proofs.FirstMatches.{at_element}
 use Rattle.sync_product.specs.proof.ProductSizes.{stage_size, stage_size_of, stage_sizes, message_sizes}
 use Rattle.sync_product.specs.proof.Rounds.{sent_by}
 use Rattle.sync_product.proofs.SizePreservation.{same_sizes}

@@ -1,6 +1,6 @@
 use Rattle.std.proofs.Common.{rules, ◌≡◌}
-use Rattle.run_laws.specs.TraceLines.{told}
-use Rattle.run_laws.proofs.ToldEntries.{if_told}
+use Rattle.run_laws.specs.EntriesInLines.{told}
+use Rattle.run_laws.proofs.ParsedEntryRanges.{if_told}
 use Rattle.trace_audit.proofs.told_entries.told.Goals as goal
 
 pub returns-clause-within : goal.returns-clause-within

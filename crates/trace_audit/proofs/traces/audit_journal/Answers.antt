@@ -1,5 +1,5 @@
 use Rattle.std.proofs.Common.{◌≡◌, ◌≤◌, Ok, length, ap, ◌∙◌, arith}
-use Rattle.run_laws.specs.TraceLines.{told}
+use Rattle.run_laws.specs.EntriesInLines.{told}
 use Rattle.trace_audit.specs.proof.AuditReplays.{audit_in}
 use Rattle.trace_audit.proofs.JournalVerdicts.{judged_end, judged_next, judged_wrong}
 use Rattle.trace_audit.proofs.traces.audit_journal.Goals as goal

@@ -1,7 +1,7 @@
 use Rattle.std.proofs.Common.{rules, ◌≡◌, ◌∙◌, true, Bool, List, length, replicate, ap, sym, subst}
 use Rattle.pals_model.specs.declared.design.Component.{Component}
 use Rattle.triple_vote.specs.proof.ReplicaLayers.{IsOpened}
-use Rattle.triple_vote.specs.proof.ReplicaTriples.{AreOpened}
+use Rattle.triple_vote.specs.proof.ThreeLayers.{AreOpened}
 use Rattle.triple_vote.proofs.OpeningReplicas.{are_opened}
 use Rattle.triple_vote.proofs.layers.opening_layers.Goals as goal
 

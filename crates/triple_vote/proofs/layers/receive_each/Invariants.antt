@@ -1,4 +1,4 @@
-use Rattle.triple_vote.specs.proof.ReplicaTriples.{AreHeard}
+use Rattle.triple_vote.specs.proof.ThreeLayers.{AreHeard}
 use Rattle.triple_vote.proofs.LayerUpdates.{ReceivedTo}
 use Rattle.triple_vote.proofs.layers.receive_each.Given as goal
 

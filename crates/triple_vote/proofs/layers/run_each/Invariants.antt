@@ -1,6 +1,6 @@
 use Rattle.std.proofs.Common.{◌≡◌, map}
 use Rattle.sync_product.specs.proof.ProductSizes.{stage_size}
-use Rattle.triple_vote.specs.proof.ReplicaTriples.{AreThree, StayPut}
+use Rattle.triple_vote.specs.proof.ThreeLayers.{AreThree, StayPut}
 use Rattle.triple_vote.proofs.LayerUpdates.{MadeTo}
 use Rattle.triple_vote.proofs.layers.run_each.Given as goal
 

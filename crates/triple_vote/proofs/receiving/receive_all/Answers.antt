@@ -4,7 +4,7 @@ use Rattle.pals_model.specs.declared.design.Link.{Link}
 use Rattle.triple_vote.specs.declared.layer.Layer.{Layer}
 use Rattle.triple_vote.specs.Replicas.{is_replicated}
 use Rattle.triple_vote.specs.proof.ReplicaLayers.{is_there}
-use Rattle.triple_vote.specs.proof.ReplicaTriples.{there_in, sent_in, received_of}
+use Rattle.triple_vote.specs.proof.ThreeLayers.{there_in, sent_in, received_of}
 use Rattle.triple_vote.proofs.TupleWrites.{filled_skip, filled_all}
 use Rattle.triple_vote.proofs.VotedMessages.{no_link, there_read, sent_fit, faults_are_fit, heard_sizes_stay}
 use Rattle.triple_vote.proofs.VotedMessages.{heard_more}

@@ -3,7 +3,7 @@ use Rattle.pals_model.specs.declared.design.Link.{Link}
 use Rattle.sync_product.specs.proof.ProductSizes.{message_sizes}
 use Rattle.triple_vote.specs.Replicas.{is_replicated}
 use Rattle.triple_vote.specs.proof.ReplicaLayers.{lengths, is_there}
-use Rattle.triple_vote.specs.proof.ReplicaTriples.{there_in, sent_in, received_of}
+use Rattle.triple_vote.specs.proof.ThreeLayers.{there_in, sent_in, received_of}
 use Rattle.triple_vote.proofs.TupleWrites.{Filled}
 use Rattle.triple_vote.proofs.receiving.receive_all.Given as goal
 

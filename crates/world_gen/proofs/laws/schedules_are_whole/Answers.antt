@@ -1,4 +1,4 @@
-use Rattle.world_gen.proofs.UniqueMoments.{moments_exist, moments_are_one}
+use Rattle.world_gen.proofs.ExactlyOneSchedule.{moments_exist, moments_are_one}
 use Rattle.world_gen.proofs.WholeSchedules.{schedules_are_whole}
 use Rattle.world_gen.proofs.laws.schedules_are_whole.Goals as goal
 

@@ -1,5 +1,5 @@
 use Rattle.std.proofs.Common.{ap, sym, ◌∙◌}
-use Rattle.aadl_uses.specs.FirstConnections.{target_in}
+use Rattle.aadl_uses.specs.SecondConnections.{target_in}
 use Rattle.aadl_uses.specs.proof.FirstConnections.{is_before}
 use Rattle.aadl_uses.proofs.FirstConnectionTables.{is_second-tells, no_second}
 use Rattle.aadl_uses.proofs.connections.Connections.is_second.Goals as goal

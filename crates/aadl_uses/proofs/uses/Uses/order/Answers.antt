@@ -2,7 +2,7 @@ use Rattle.std.proofs.Common.{subst, sym}
 use Rattle.aadl_tree.specs.proof.PackageViews.{placed}
 use Rattle.aadl_uses.specs.proof.ContainmentGraphs.{Graph, IsWithin, LeadsBack}
 use Rattle.aadl_uses.proofs.PackageContainment.{within}
-use Rattle.aadl_uses.proofs.Cycles.{no_way_back}
+use Rattle.aadl_uses.proofs.FirstRecursion.{no_way_back}
 use Rattle.aadl_uses.proofs.ThreadCounts.{ok_order}
 use Rattle.aadl_uses.proofs.uses.Uses.order.Goals as goal
 

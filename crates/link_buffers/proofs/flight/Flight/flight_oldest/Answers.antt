@@ -2,9 +2,9 @@ use Rattle.std.proofs.Common.{◌≡◌, ◌<◌, length, Some, None, sym, ◌�
 use Rattle.std.specs.List.{position}
 use Rattle.std.proofs.lemmas.Grind.{common_steps}
 use Rattle.pals_model.specs.Flights.{is_of}
-use Rattle.link_buffers.specs.proof.Rings.{copies_of}
-use Rattle.link_buffers.proofs.FirstItems.{find_some, find_none}
-use Rattle.link_buffers.proofs.Rings.{oldest_within, copy_at}
+use Rattle.link_buffers.specs.proof.RingCopies.{copies_of}
+use Rattle.link_buffers.proofs.FirstPassingItem.{find_some, find_none}
+use Rattle.link_buffers.proofs.RingCopies.{oldest_within, copy_at}
 use Rattle.link_buffers.proofs.flight.Flight.flight_oldest.Goals as goal
 
 pub returns-in_err-place : goal.returns-in_err-place

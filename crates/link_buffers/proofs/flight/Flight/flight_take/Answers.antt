@@ -5,10 +5,10 @@ use Rattle.std.proofs.lemmas.Grind.{common_steps}
 use Rattle.std.proofs.lemmas.List.Edits.{length-remove}
 use Rattle.pals_model.specs.declared.flight_copy.FlightCopy.{FlightCopy}
 use Rattle.pals_model.specs.Flights.{is_of, oldest}
-use Rattle.link_buffers.specs.declared.ring.RingEntry.{RingEntry}
-use Rattle.link_buffers.specs.proof.Rings.{copies_of, AreTopped}
-use Rattle.link_buffers.proofs.FirstItems.{find_some, find_none, without_some}
-use Rattle.link_buffers.proofs.Rings.{oldest_within, standing_there, tuple_at, copies_remove, topped_remove}
+use Rattle.link_buffers.specs.declared.ring_entries.RingEntry.{RingEntry}
+use Rattle.link_buffers.specs.proof.RingCopies.{copies_of, AreTopped}
+use Rattle.link_buffers.proofs.FirstPassingItem.{find_some, find_none, without_some}
+use Rattle.link_buffers.proofs.RingCopies.{oldest_within, standing_there, tuple_at, copies_remove, topped_remove}
 use Rattle.link_buffers.proofs.flight.Flight.flight_take.Goals.{After-map}
 use Rattle.link_buffers.proofs.flight.Flight.flight_take.Goals as goal
 

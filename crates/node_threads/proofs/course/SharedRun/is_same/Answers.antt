@@ -1,5 +1,5 @@
 use Rattle.std.proofs.Common.{map, sym, ap, ◌∙◌}
-use Rattle.pals_clock.specs.Clock.{ClockState}
+use Rattle.pals_clock.specs.ClockStates.{ClockState}
 use Rattle.node_threads.proofs.RunOutcomes.{same_stays}
 use Rattle.node_threads.proofs.course.SharedRun.is_same.Goals as goal
 

@@ -6,7 +6,7 @@ use Rattle.std.specs.Prelude.{IfOk}
 use Rattle.std.proofs.lemmas.Grind.{common_steps}
 use Rattle.pals_base.specs.PlainTrees.{If, For}
 use Rattle.pals_base.specs.proof.TreeViews.{action_of, actions_along, branches_along}
-use Rattle.pals_base.specs.Kinds.{turns, is_short, is_sound, are_sound, branches_are_sound}
+use Rattle.pals_base.specs.TypingRules.{turns, is_short, is_sound, are_sound, branches_are_sound}
 use Rattle.pals_base.proofs.TreeViews.{action_of-If, action_of-For}
 use Rattle.pals_base.proofs.behaviour_rules.actions.+sound_act.Goals as goal
 

@@ -1,6 +1,6 @@
 use Rattle.std.proofs.Common.{◌≡◌, drop}
 use Rattle.pals_base.specs.proof.TreeViews.{actions_along, branches_along}
-use Rattle.pals_base.specs.Kinds.{are_sound, branches_are_sound}
+use Rattle.pals_base.specs.TypingRules.{are_sound, branches_are_sound}
 use Rattle.pals_base.proofs.behaviour_rules.actions.+sound_act.Given as goal
 
 -- all are sound exactly where those that are left are

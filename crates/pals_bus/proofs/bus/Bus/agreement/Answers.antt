@@ -5,7 +5,7 @@ use Rattle.pals_bus.specs.proof.BusInvariant.{value_of}
 use Rattle.pals_bus.specs.proof.NodeAndCodeValues.{AreCodes}
 use Rattle.pals_bus.specs.BusValues.{BusValue}
 use Rattle.pals_bus.proofs.NodeChanges.{codes_mean}
-use Rattle.pals_bus.proofs.BusViews.{agrees}
+use Rattle.pals_bus.proofs.InvariantConsequences.{agrees}
 use Rattle.pals_bus.proofs.bus.Bus.agreement.Goals as goal
 
 pub returns-clause-agrees : goal.returns-clause-agrees

@@ -3,7 +3,7 @@ use Rattle.std.specs.Arc.{arc_value}
 use Rattle.bus_machine.specs.Nodes.{NodeState}
 use Rattle.pals_bus.specs.proof.BusInvariant.{value_of}
 use Rattle.pals_bus.specs.BusValues.{BusValue}
-use Rattle.pals_bus.proofs.BusViews.{parts_few, state_is}
+use Rattle.pals_bus.proofs.InvariantConsequences.{parts_few, state_is}
 use Rattle.pals_bus.proofs.bus.Bus.finished.Goals as goal
 
 pub overflow_cast-result : goal.overflow_cast-result

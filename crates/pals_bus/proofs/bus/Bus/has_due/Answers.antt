@@ -6,7 +6,7 @@ use Rattle.pals_bus.specs.proof.BusInvariant.{value_of}
 use Rattle.pals_bus.specs.BusValues.{BusValue}
 use Rattle.pals_bus.proofs.DueEntries.{due_by_queue}
 use Rattle.pals_bus.proofs.ArrivalLoop.{flights_many}
-use Rattle.pals_bus.proofs.BusViews.{within_nodes}
+use Rattle.pals_bus.proofs.InvariantConsequences.{within_nodes}
 use Rattle.pals_bus.proofs.bus.Bus.has_due.Goals as goal
 
 pub returns : goal.returns

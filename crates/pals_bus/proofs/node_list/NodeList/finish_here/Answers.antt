@@ -1,6 +1,6 @@
 use Rattle.std.proofs.Common.{◌<◌, List, length, sym, subst}
 use Rattle.pals_node.specs.proof.NodeValues.{NodeValue}
-use Rattle.pals_bus.proofs.NodeLists.{targets_kept}
+use Rattle.pals_bus.proofs.TargetUpdates.{targets_kept}
 use Rattle.pals_bus.proofs.node_list.NodeList.finish_here.Goals as goal
 
 pub invariant_of-self : goal.invariant_of-self

@@ -9,7 +9,7 @@ use Rattle.pals_model.specs.Composition.{opening}
 use Rattle.sync_product.specs.proof.ProductSizes.{stage_sizes}
 use Rattle.triple_vote.specs.proof.VotedStates.{vbegun}
 use Rattle.triple_vote.specs.proof.ReplicaLayers.{lengths}
-use Rattle.triple_vote.specs.proof.ReplicaTriples.{AreOpened}
+use Rattle.triple_vote.specs.proof.ThreeLayers.{AreOpened}
 use Rattle.triple_vote.proofs.OpeningReplicas.{shown_fits, are_heard}
 use Rattle.triple_vote.proofs.AdvancedStates.{state_begun}
 use Rattle.triple_vote.proofs.product.VoteProduct.new.Goals as goal

@@ -6,7 +6,7 @@ use Rattle.pals_model.specs.declared.design.Link.{Link}
 use Rattle.pals_model.specs.ComponentInputs.{rate_of}
 use Rattle.triple_vote.specs.Replicas.{copies_of, received_at}
 use Rattle.triple_vote.specs.proof.VotedStates.{VotedState}
-use Rattle.triple_vote.specs.proof.ReplicaTriples.{parts_in}
+use Rattle.triple_vote.specs.proof.ThreeLayers.{parts_in}
 use Rattle.triple_vote.proofs.AdvancedStates.{received_read, before_three}
 use Rattle.triple_vote.proofs.VotedMessages.{no_link}
 use Rattle.triple_vote.proofs.LayerUpdates.{heard_room}

@@ -1,8 +1,0 @@
-use Rattle.std.proofs.Common.{◌≡◌, ◌≤◌, drop, length}
-use Rattle.aadl_uses.specs.ThreadsBelow.{path_before}
-use Rattle.aadl_instance.proofs.chain_map.comes_before.Given as goal
-
--- what is left decides
-abbrev pub invariant-loop-at : goal.invariant-loop-at
-invariant-loop-at l =
-    (path_before (drop l.at l.path) (drop l.at l.other) ≡ path_before l.path l.other) × (l.at ≤ length l.path)

@@ -1,4 +1,0 @@
-use Rattle.aadl_instance.proofs.laws.not_both.Goals as goal
-
-pub returns : goal.returns
-returns c = λ tree name parts fault flat f. flat.sound f.line fault f.here.found

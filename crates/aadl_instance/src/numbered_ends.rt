@@ -1,0 +1,123 @@
+//! Ends of chains, as an instance shows them.
+ghost use Rattle.std.specs.Prelude.{◌≡◌, ◌≤◌, Some, [], length, reverse, slice_get, AllPairs, Contains, IfOk};
+ghost use Rattle.aadl_uses.specs.ThreadsBelow.{path_before, IsThreadAt, PathBefore};
+ghost use Rattle.aadl_chains.specs.proof.TracedChains.{begin_port};
+ghost use Rattle.aadl_instance.specs.Instances.{end_in};
+ghost use Rattle.aadl_instance.specs.proof.ChainMaps.{tree_of, paths_in, IsReady, IsNode};
+ghost use Rattle.aadl_instance.specs.proof.ChainsSoFar.{paths_of, HasPort, IsBegin};
+
+use crate::port_numbers::PortNumbers;
+use crate::chain::ChainEnd;
+use aadl_chains::ChainStart;
+use aadl_uses::{Wires, standing};
+use indexmap::IndexSet;
+use pals_base::{NodeNo, Text};
+use std::alloc::{AllocError, Global};
+
+/// Where the chains of an instance are: the connections of its package, an order of the declarations, the number of
+/// its root, the paths of its threads, in depth-first order of declaration, and the numbers of ports.
+#[derive(Clone, Copy)]
+pub struct ChainMap<'t> {
+    pub wires: &'t Wires<'t>,
+    pub order: &'t IndexSet<usize>,
+    pub root: usize,
+    pub threads: &'t [Vec<usize>],
+    pub numbers: &'t PortNumbers,
+}
+
+/// A thread of a network: its number, its path, and the number of its declaration.
+#[derive(Drop)]
+pub struct ThreadNode<'t> {
+    pub number: NodeNo,
+    pub path: &'t [usize],
+    pub declaration: usize,
+}
+
+/// Where a chain begins.
+pub fn begin_end(
+    alloc: Global,
+    network: &ChainMap<'_>,
+    begin: &ChainStart,
+) -> Result<ChainEnd, AllocError>
+    requires ready { IsReady network.now }
+    requires begins { IsBegin (tree_of network.now) network.now.root begin.now }
+    ensures { IfOk result (λ end. end ≡ end_in (tree_of network.now) network.now.root (paths_in network.now) (begin_port begin.now)) }
+{
+    match begin {
+        ChainStart::Root(port) => root_end(alloc, network, *port),
+        ChainStart::Thread(path, port) => Ok(thread_end(network, path.as_slice(), *port)),
+    }
+}
+
+/// A port of the root, by its number. The root has a port of this number.
+pub fn root_end(alloc: Global, network: &ChainMap<'_>, port: usize) -> Result<ChainEnd, AllocError>
+    requires { HasPort (tree_of network.now) network.now.root (record { path = []; port = port }) }
+    ensures { IfOk result (λ end. end ≡ end_in (tree_of network.now) network.now.root (paths_in network.now)
+        (record { path = []; port = port })) }
+{
+    let feature = &network.wires.uses.ports(network.root)[port];
+    Ok(ChainEnd::Root {
+        name: Text::from_str(alloc, feature.name.spelling.as_str())?,
+    })
+}
+
+// A port of the thread at a path.
+fn thread_end(network: &ChainMap<'_>, path: &[usize], port: usize) -> ChainEnd
+    requires ready { IsReady network.now }
+    requires thread { IsThreadAt (tree_of network.now) network.now.root (reverse path.now) }
+    requires port { HasPort (tree_of network.now) network.now.root (record { path = reverse path.now; port = port }) }
+    ensures { result ≡ end_in (tree_of network.now) network.now.root (paths_in network.now)
+        (record { path = reverse path.now; port = port }) }
+{
+    let Some(declaration) = standing(&network.wires.uses, network.root, path) else {
+        unreachable!();
+    };
+    let node = ThreadNode {
+        number: node_of(network.threads, path),
+        path,
+        declaration,
+    };
+    node_end(network, &node, port)
+}
+
+/// A port of a thread, by its number among those that go as it does.
+pub fn node_end(network: &ChainMap<'_>, node: &ThreadNode<'_>, port: usize) -> ChainEnd
+    requires ready { IsReady network.now }
+    requires node { IsNode network.now node.now }
+    requires port { HasPort (tree_of network.now) network.now.root (record { path = reverse node.now.path.now; port = port }) }
+    ensures { result ≡ end_in (tree_of network.now) network.now.root (paths_in network.now)
+        (record { path = reverse node.now.path.now; port = port }) }
+{
+    let of_type = network.wires.uses.type_number(node.declaration);
+    let among = network.numbers.get(of_type, port);
+    ChainEnd::Thread {
+        node: node.number,
+        port: among as u32,
+    }
+}
+
+// The number of the thread at a path: how many threads come before it.
+fn node_of(threads: &[Vec<usize>], path: &[usize]) -> NodeNo
+    requires in_order { AllPairs PathBefore (paths_of threads.now) }
+    requires among { Contains (paths_of threads.now) (reverse path.now) }
+    requires few { length threads.now ≤ u32.MAX }
+    ensures { slice_get (paths_of threads.now) result.0 ≡ Some (reverse path.now) }
+{
+    let before = threads.partition_point(|thread| comes_before(thread.as_slice(), path));
+    NodeNo(before as u32)
+}
+
+// Whether a path comes before another one.
+fn comes_before(path: &[usize], other: &[usize]) -> bool
+    ensures { result ≡ path_before path.now other.now }
+{
+    for at in 0..other.len() {
+        if at == path.len() {
+            return true;
+        }
+        if path[at] != other[at] {
+            return path[at] < other[at];
+        }
+    }
+    false
+}

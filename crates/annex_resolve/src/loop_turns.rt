@@ -1,0 +1,54 @@
+//! How many turns loops make.
+ghost use Rattle.std.specs.Prelude.{◌≡◌, ◌+◌, ◌^◌, ◌<◌, ◌≤◌, IfOk};
+ghost use Rattle.pals_base.specs.declared.limits.TheConstants.{NESTED_TURNS};
+ghost use Rattle.pals_base.specs.TypingRules as base;
+ghost use Rattle.annex_resolve.specs.ResolvedTrees.{signed};
+ghost use Rattle.annex_resolve.specs.ActionFindings.{together, is_too_long};
+
+use aadl_tree::Bound;
+use pals_base::NoMemory;
+use pals_base::limits::{NESTED_TURNS, TURNS};
+use std::alloc::AllocError;
+
+/// The number of a loop's end. For one that no text spells and that does not fit 64 bits, the error
+/// is that there is not enough memory.
+pub fn signed(bound: Bound) -> Result<i64, NoMemory>
+    ensures { IfOk result (λ number. number ≡ signed bound) }
+{
+    if bound.negative {
+        return bound.value.checked_neg().ok_or(AllocError);
+    }
+    Ok(bound.value)
+}
+
+/// How many turns a loop makes.
+pub fn count_turns(low: i64, high: i64) -> u128
+    ensures value { result ≡ base.turns low high }
+    ensures bound { result < 2 ^ 65 }
+{
+    if high < low {
+        return 0;
+    }
+    (i128::from(high) - i128::from(low) + 1) as u128
+}
+
+/// The turns of a loop with those of the loops round it, counted no further than one past what is
+/// allowed.
+pub fn together(around: u64, turns: u128) -> u64
+    requires around { around ≤ NESTED_TURNS + 1 }
+    requires turns { turns < 2 ^ 65 }
+    ensures value { result ≡ together around turns }
+    ensures most { result ≤ NESTED_TURNS + 1 }
+{
+    let all = u128::from(around) * turns;
+    all.min(u128::from(NESTED_TURNS) + 1) as u64
+}
+
+/// Whether a loop makes more turns than are allowed, alone or with the loops round it.
+pub fn is_too_long(around: u64, turns: u128) -> bool
+    requires around { around ≤ NESTED_TURNS + 1 }
+    requires turns { turns < 2 ^ 65 }
+    ensures { result ≡ is_too_long around turns }
+{
+    turns > u128::from(TURNS) || together(around, turns) > NESTED_TURNS
+}

@@ -1,0 +1,89 @@
+-- What is wrong with periods, rates and adaptors.
+use Rattle.std.specs.Prelude.{ℕ, ◌+◌, ◌*◌, ◌-◌, ◌/◌, drop, Bool, true, false, not, ◌&&◌, nat_eq, nat_le, nat_lt, List}
+use Rattle.std.specs.Prelude.{[], ◌∷◌, ◌++◌, codes, Option, Some, None, if◌then◌else◌}
+use Rattle.std.specs.Option.{is_some}
+use Rattle.std.specs.List.{starts_with}
+use Rattle.std.specs.Str.{bytes_eq}
+use Rattle.std.specs.Fmt.{decimal}
+use Rattle.pals_base.specs.declared.behaviour.Kind.{Kind}
+use Rattle.pals_base.specs.declared.values.Gamma.{Gamma}
+use Rattle.pals_base.specs.declared.values.Adaptor.{Adaptor}
+use Rattle.pals_base.specs.declared.values.Adaptor.TheVariants.{Repeat, First, Last, At, Latest, Max, Min, Average}
+use Rattle.pals_base.specs.declared.limits.TheConstants.{RATE}
+use Rattle.pals_base.specs.PeriodBound.{least_period}
+use Rattle.pals_base.specs.AllowedAdaptors.{divides_or_divided, is_allowed, suits_kind}
+use Rattle.annex_resolve.specs.declared.violation.Violation.{Violation}
+use Rattle.annex_resolve.specs.NamesAndFindings.{finding, found_if}
+use Rattle.annex_resolve.specs.declared.violation.TheConstants.{NOT_DIVISOR, RATE_TOO_HIGH, RATES_DONT_DIVIDE}
+use Rattle.annex_resolve.specs.declared.violation.TheConstants.{NO_ADAPTOR, STRAY_ADAPTOR, ADAPTOR_OUT_OF_RANGE}
+use Rattle.annex_resolve.specs.declared.violation.TheConstants.{PERIOD_TOO_SHORT}
+use Rattle.component_checks.specs.BoundsAndRates.{divides}
+
+abbrev pub name_and_number : List ℕ → ℕ → List ℕ
+name_and_number front n = front ++ codes " " ++ decimal n
+
+-- ---- the period of a component at a path, below a root's
+abbrev pub period_findings : ℕ → List ℕ → Option ℕ → Option ℕ → List Violation
+period_findings at path None p = []
+period_findings at path (Some t) None = []
+period_findings at path (Some t) (Some p) =
+    if divides p t then found_if (nat_lt RATE (t / p)) at RATE_TOO_HIGH (name_and_number path (t / p))
+    else finding at NOT_DIVISOR (name_and_number (name_and_number path p) t) ∷ []
+
+-- ---- adaptors, by their texts
+abbrev pub is_digit : ℕ → Bool
+is_digit c = nat_le 48 c && nat_le c 57
+
+abbrev pub is_first_digit : ℕ → Bool
+is_first_digit c = nat_le 49 c && nat_le c 57
+
+-- a number of one or two digits, the first not 0
+abbrev pub place_number : List ℕ → Option ℕ
+place_number [] = None
+place_number (d ∷ []) = if is_first_digit d then Some (d - 48) else None
+place_number (c ∷ d ∷ []) = if is_first_digit c && is_digit d then Some (10 * (c - 48) + (d - 48)) else None
+place_number (c ∷ d ∷ e ∷ rest) = None
+
+abbrev pub at_place : Option ℕ → Option Adaptor
+at_place None = None
+at_place (Some n) = Some (At n)
+
+abbrev pub adaptor_named : List ℕ → Option Adaptor
+adaptor_named text =
+    if bytes_eq text (codes "repeat") then Some Repeat
+    else if bytes_eq text (codes "first") then Some First
+    else if bytes_eq text (codes "last") then Some Last
+    else if bytes_eq text (codes "latest") then Some Latest
+    else if bytes_eq text (codes "max") then Some Max
+    else if bytes_eq text (codes "min") then Some Min
+    else if bytes_eq text (codes "average") then Some Average
+    else if starts_with nat_eq text (codes "at ") then at_place (place_number (drop 3 text))
+    else None
+
+-- a bad type takes every adaptor
+abbrev pub kind_suits : Option Adaptor → Option Kind → Bool
+kind_suits a None = true
+kind_suits a (Some k) = suits_kind a k
+
+abbrev pub is_right : Option Adaptor → Option Kind → ℕ → ℕ → Bool
+is_right None kind p q = false
+is_right (Some a) kind p q = is_allowed (Some a) p q && kind_suits (Some a) kind
+
+-- ---- the rates at both ends of a link or a feed, its name and its adaptor: none is given, or a text, which may name no adaptor
+abbrev pub adaptor_findings : ℕ → List ℕ → Option (Option Adaptor) → Option Kind → ℕ → ℕ → List Violation
+adaptor_findings at name None kind p q = finding at NO_ADAPTOR name ∷ []
+adaptor_findings at name (Some adaptor) kind p q =
+    found_if (not (is_right adaptor kind p q)) at ADAPTOR_OUT_OF_RANGE name
+
+abbrev pub pair_findings : ℕ → List ℕ → Option (Option Adaptor) → Option Kind → ℕ → ℕ → List Violation
+pair_findings at name given kind p q =
+    if nat_eq p q then found_if (is_some given) at STRAY_ADAPTOR name
+    else if divides_or_divided p q then adaptor_findings at name given kind p q
+    else finding at RATES_DONT_DIVIDE (name_and_number (name_and_number name p) q) ∷ []
+
+-- ---- the root's period against the bound, with the greatest rate
+abbrev pub bound_findings : ℕ → Option ℕ → Option Gamma → ℕ → List Violation
+bound_findings at None g rate = []
+bound_findings at (Some t) None rate = []
+bound_findings at (Some t) (Some g) rate =
+    found_if (nat_lt t (least_period g rate)) at PERIOD_TOO_SHORT (name_and_number (decimal t) (least_period g rate))

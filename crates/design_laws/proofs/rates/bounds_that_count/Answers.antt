@@ -1,5 +1,0 @@
-use Rattle.design_laws.proofs.BoundsAndRates.{gamma_counts}
-use Rattle.design_laws.proofs.rates.bounds_that_count.Goals as goal
-
-pub returns : goal.returns
-returns c = λ skew execution network g is. gamma_counts skew execution network g is

@@ -1,5 +1,0 @@
-use Rattle.design_laws.proofs.BoundsAndRates.{rate_counts}
-use Rattle.design_laws.proofs.rates.rates_that_count.Goals as goal
-
-pub returns : goal.returns
-returns c = λ t p k is. let r = rate_counts t p k is in (r.low, r.high, r.divides)

@@ -1,0 +1,23 @@
+-- What connections say: whether they are delayed, the text of their adaptor, and which of them carry chains.
+use Rattle.std.specs.Prelude.{ℕ, Bool, ◌&&◌, nat_eq, List, codes, Option, slice_get}
+use Rattle.std.specs.List.{list_any}
+use Rattle.std.specs.Option.{option_and_then}
+use Rattle.aadl_tree.specs.Declarations.{Connection, PackageTree}
+use Rattle.aadl_names.specs.declared.recognised_properties.PropertyName.TheVariants.{Timing, Adaptor}
+use Rattle.aadl_names.specs.RecognisedProperties.{association_named, association_value, name_of, text_of}
+use Rattle.aadl_names.specs.ReferenceResolution.{implementation_at, connections_of}
+use Rattle.aadl_instance.specs.declared.chain.ConnAt.{ConnAt}
+use Rattle.component_checks.specs.Threads.{says}
+
+abbrev pub connection_of : PackageTree ℕ → ConnAt → Option (Connection ℕ)
+connection_of tree c = slice_get (connections_of (implementation_at tree c.declaration)) c.connection
+
+abbrev pub is_delayed : Connection ℕ → Bool
+is_delayed c = says (codes "Delayed") (association_named c.properties (name_of Timing))
+
+abbrev pub adaptor_text : Connection ℕ → Option (List ℕ)
+adaptor_text c = option_and_then (λ a. text_of (association_value a)) (association_named c.properties (name_of Adaptor))
+
+-- whether a connection of a declaration is among those of a table, by their numbers
+abbrev pub carries : List (ℕ × ℕ) → ℕ → ℕ → Bool
+carries table n i = list_any (λ k. nat_eq n k.0 && nat_eq i k.1) table

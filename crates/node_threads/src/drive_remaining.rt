@@ -1,0 +1,102 @@
+//! What comes of a run once its threads have ended. The parts of nodes that have not ended, as where a
+//! thread came back without its job, are driven to their ends with no other thread.
+ghost use Rattle.std.specs.Prelude.{IfOk};
+ghost use Rattle.node_threads.specs.proof.SharedCourses.{Stays};
+ghost use Rattle.node_threads.specs.proof.NodeEnds.{EndsFit, IsOutcome};
+
+use crate::course::SharedRun;
+use crate::node_end::NodeEnd;
+use crate::job_observers::{Gate, done_by};
+use crate::threads::RunEnd;
+use crate::under_lock::NextMove;
+use pals_base::{Items, NoMemory, NodeNo};
+use std::alloc::Global;
+use std::mem::swap;
+use std::sync::Wait;
+
+/// What comes of the kept run once all threads have ended, with what came out of the lock.
+pub fn drive_with_spare<R: Wait, G: Gate>(
+    rt: &R,
+    alloc: Global,
+    out: SharedRun,
+    kept: SharedRun,
+    gate: &G,
+) -> Result<RunEnd, NoMemory>
+    ensures { IfOk result (λ end. IsOutcome kept.bus kept.clocks end.bus end.ends) }
+{
+    driven(rt, alloc, held_or_spare(out, kept), gate)
+}
+
+// What came out of the lock where it is of the kept run, and else that run at its opening.
+fn held_or_spare(mut out: SharedRun, mut kept: SharedRun) -> SharedRun
+    ensures { Stays kept result }
+{
+    restore(&mut out, &mut kept);
+    out
+}
+
+// Puts back the kept run where another one came out.
+fn restore(out: &mut SharedRun, kept: &mut SharedRun)
+    ensures { Stays kept.old out.new }
+{
+    if out.is_same(kept) {
+        return;
+    }
+    swap(out, kept);
+}
+
+// What comes of a course once the parts of all its nodes have ended.
+fn driven<R: Wait, G: Gate>(
+    rt: &R,
+    alloc: Global,
+    mut course: SharedRun,
+    gate: &G,
+) -> Result<RunEnd, NoMemory>
+    ensures { IfOk result (λ end. IsOutcome course.bus course.clocks end.bus end.ends) }
+{
+    let ends = drive(rt, alloc, &mut course, gate)?;
+    Ok(RunEnd {
+        bus: course.into_bus(),
+        ends,
+    })
+}
+
+// The parts of all nodes that have not ended, in turns, with no other thread.
+fn drive<R: Wait, G: Gate>(
+    rt: &R,
+    alloc: Global,
+    course: &mut SharedRun,
+    gate: &G,
+) -> Result<Items<NodeEnd>, NoMemory>
+    ensures stays { Stays course.old course.new }
+    ensures ends { IfOk result (EndsFit course.new.bus course.new.clocks) }
+{
+    for _ in rt.forever() {
+        if course.is_over() {
+            return course.ends(alloc);
+        }
+        go_round(course, gate);
+    }
+    unreachable!()
+}
+
+// One turn of each node.
+#[tactic(auto, using(crate::proofs::ChangesUnderLock::stays_on))]
+fn go_round<G: Gate>(course: &mut SharedRun, gate: &G)
+    ensures { Stays course.old course.new }
+{
+    for number in 0..course.count() {
+        go_on(course, gate, NodeNo(number));
+    }
+}
+
+// A node's turn, with the job that it asks for.
+#[tactic(auto, using(crate::proofs::ChangesUnderLock::stays_on))]
+fn go_on<G: Gate>(course: &mut SharedRun, gate: &G, node: NodeNo)
+    ensures { Stays course.old course.new }
+{
+    if let NextMove::Work(job) = course.begin(node) {
+        let done = done_by(gate, node, job);
+        course.hand_in(node, done);
+    }
+}

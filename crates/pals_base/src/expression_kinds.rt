@@ -1,0 +1,126 @@
+//! The types of expressions, and whether actions are well typed.
+ghost use Rattle.std.specs.Prelude.{◌≡◌, option_copied};
+ghost use Rattle.pals_base.specs.proof.TreeViews.{tree_of, operands_along};
+ghost use Rattle.pals_base.specs.TypingRules.{may_be, only, allows, literal_kinds, port_kinds, variable_kinds, joined};
+ghost use Rattle.pals_base.specs.TypingRules.{kinds_of, kinds_along};
+
+use crate::behaviour::{BehaviourParts, Expr, Kind, Op, Operand, PortDecl};
+
+/// The types that a value may have: none where an expression is not well typed, and both for a
+/// number that may stand for a truth value.
+#[derive(Clone, Copy)]
+pub struct Kinds {
+    pub integer: bool,
+    pub boolean: bool,
+}
+
+impl Kinds {
+    fn new(integer: bool, boolean: bool) -> Kinds
+        ensures { result ≡ may_be integer boolean }
+    {
+        Kinds { integer, boolean }
+    }
+
+    // One type alone.
+    fn only(kind: Kind) -> Kinds
+        ensures { result ≡ only kind }
+    {
+        match kind {
+            Kind::Integer => Kinds::new(true, false),
+            Kind::Boolean => Kinds::new(false, true),
+        }
+    }
+
+    // A number is an integer; 0 and 1 may also be false and true.
+    pub(crate) fn of_literal(value: i64) -> Kinds
+        ensures { result ≡ literal_kinds value }
+    {
+        Kinds::new(true, value == 0 || value == 1)
+    }
+
+    // Those of a port, none where there is no such port.
+    fn of_port(port: Option<&PortDecl>) -> Kinds
+        ensures { result ≡ port_kinds (option_copied port.entry) }
+    {
+        match port {
+            None => Kinds::new(false, false),
+            Some(port) => Kinds::only(port.kind),
+        }
+    }
+
+    // Whether a value of these types may stand where one of this type is asked for.
+    pub(crate) fn allows(self, kind: Kind) -> bool
+        ensures { result ≡ allows self kind }
+    {
+        match kind {
+            Kind::Integer => self.integer,
+            Kind::Boolean => self.boolean,
+        }
+    }
+
+    // What an operator gives of both sides.
+    fn joined(self, op: Op, right: Kinds) -> Kinds
+        ensures { result ≡ joined op self right }
+    {
+        let numbers = self.integer && right.integer;
+        let truths = self.boolean && right.boolean;
+        match op {
+            Op::Add | Op::Sub | Op::Mul | Op::Quot | Op::Mod | Op::Rem => {
+                Kinds::new(numbers, false)
+            }
+            Op::Eq | Op::Ne => Kinds::new(false, numbers || truths),
+            Op::Lt | Op::Le | Op::Gt | Op::Ge => Kinds::new(false, numbers),
+            Op::And | Op::Or | Op::Xor | Op::AndThen | Op::OrElse => Kinds::new(false, truths),
+        }
+    }
+}
+
+impl BehaviourParts {
+    // The types of a variable in sight within `loops` loops.
+    fn variable_kinds(&self, loops: usize, variable: u32) -> Kinds
+        ensures { result ≡ variable_kinds self.now loops variable }
+    {
+        match self.vars.get(variable as usize) {
+            Some(declared) => Kinds::only(declared.kind),
+            None => {
+                let past = variable as usize - self.vars.len();
+                Kinds::new(past < loops, false)
+            }
+        }
+    }
+}
+
+impl Expr {
+    /// The types that the expression may have in a behaviour of these parts, within `loops` loops.
+    /// It recurs as deep as the tree is.
+    #[cycle(kinds_of_expr)]
+    pub fn kinds(&self, parts: &BehaviourParts, loops: usize) -> Kinds
+        ensures { result ≡ kinds_of (tree_of self.now) parts.now loops }
+    {
+        match self {
+            Expr::Literal(value) => Kinds::of_literal(*value),
+            Expr::Variable(variable) => parts.variable_kinds(loops, *variable),
+            Expr::Port(port) => Kinds::of_port(parts.ins.get(*port as usize)),
+            Expr::Fresh(port) => Kinds::new(false, (*port as usize) < parts.ins.len()),
+            Expr::Neg(operand) => Kinds::new(operand.kinds(parts, loops).integer, false),
+            Expr::Abs(operand) => Kinds::new(operand.kinds(parts, loops).integer, false),
+            Expr::Not(operand) => Kinds::new(false, operand.kinds(parts, loops).boolean),
+            Expr::Chain { first, rest } => {
+                kinds_along(rest, parts, loops, first.kinds(parts, loops))
+            }
+        }
+    }
+}
+
+// Those of a chain, from the types of its first operand.
+#[cycle(kinds_of_expr)]
+fn kinds_along(rest: &[Operand], parts: &BehaviourParts, loops: usize, first: Kinds) -> Kinds
+    ensures { result ≡ kinds_along (operands_along rest.now) parts.now loops first }
+{
+    let mut left = first;
+    for operand in rest {
+        let right = operand.right.kinds(parts, loops);
+        left = left.joined(operand.op, right);
+    }
+    left
+}

@@ -1,0 +1,50 @@
+-- The rows of watched properties, round by round.
+use Rattle.std.proofs.Common.{◌≡◌, ◌∙◌, ℕ, zero, suc, ◌+◌, ◌<◌, ◌≤◌, List, [], ◌∷◌, ◌++◌, length, map, refl, ap, ap₂}
+use Rattle.std.proofs.Common.{arith, append-nil, zero-add}
+use Rattle.std.specs.Prelude.{flat_map}
+use Rattle.std.proofs.lemmas.Grind.{flat_map-append}
+use Rattle.pals_base.specs.declared.values.Frame.{Frame}
+use Rattle.pals_base.specs.StepSequences.{upwards}
+use Rattle.pals_base.proofs.UpwardNumbers.{upwards-more}
+use Rattle.pals_model.specs.Composition.{comp}
+use Rattle.pals_model.specs.RoundTexts.{line_end, text_of, round_line}
+use Rattle.pals_runs.specs.Formula.{Formula}
+use Rattle.run_monitor.specs.FormulaSemantics.{holds}
+use Rattle.run_monitor.specs.FalseProperties.{history}
+use Rattle.run_monitor.specs.WatchText.{verdict_line, watched_lines}
+use Rattle.run_monitor.specs.proof.FormulaLaws.{RowsGoOn}
+use Rattle.run_monitor.proofs.FormulaLaws.{past_stays}
+use Rattle.run_monitor.proofs.HistoryGrowth.{history_goes_on, history_has_rounds}
+
+lines-stay : (properties : List (List ℕ × Formula)) (h more : List (List Frame)) (round : ℕ) → round < length h
+    → map (λ p. verdict_line p.0 (holds p.1 (h ++ more) round)) properties
+    ≡ map (λ p. verdict_line p.0 (holds p.1 h round)) properties
+lines-stay [] h more round within = refl
+lines-stay (p ∷ properties) h more round within =
+    ap₂ (λ b lines. verdict_line p.0 b ∷ lines) (past_stays p.1 h more round within)
+    (lines-stay properties h more round within)
+
+rows-stay : (properties : List (List ℕ × Formula)) (h more : List (List Frame)) (from count : ℕ)
+    → from + count ≤ length h
+    → flat_map (watched_lines properties (h ++ more)) (upwards from count)
+    ≡ flat_map (watched_lines properties h) (upwards from count)
+rows-stay properties h more from zero within = refl
+rows-stay properties h more from (suc count) within =
+    ap₂ (λ lines rest. (round_line from ∷ lines) ++ rest) (lines-stay properties h more from (omega arith))
+    (rows-stay properties h more (suc from) count (omega arith))
+
+pub rows_go_on : RowsGoOn
+rows_go_on design env rounds properties =
+    let before = history design env rounds in
+    let after = history design env (suc rounds) in
+    let row : List Frame = (comp design env (suc rounds)).frames in
+    let size = history_has_rounds design env rounds in
+    ap (λ ns. text_of (flat_map (watched_lines properties after) ns))
+    (upwards-more 0 rounds ∙ ap (λ n. upwards 0 rounds ++ n ∷ []) (zero-add rounds))
+    ∙ ap text_of (flat_map-append (watched_lines properties after) (upwards 0 rounds) (rounds ∷ []))
+    ∙ flat_map-append (λ line. line ++ line_end) (flat_map (watched_lines properties after) (upwards 0 rounds))
+    (watched_lines properties after rounds ++ [])
+    ∙ ap₂ (λ lines last. text_of lines ++ text_of last)
+    (ap (λ h. flat_map (watched_lines properties h) (upwards 0 rounds)) (history_goes_on design env rounds)
+    ∙ rows-stay properties before (row ∷ []) 0 rounds (omega (arith, size)))
+    (append-nil (watched_lines properties after rounds))
