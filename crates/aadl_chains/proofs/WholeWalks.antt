@@ -16,7 +16,8 @@ use Rattle.aadl_chains.specs.proof.Walks.{Crossing, at_root, crosses, climb, One
 use Rattle.aadl_chains.specs.proof.TracedChains.{Descends, Traces, TracesTap}
 use Rattle.aadl_chains.specs.proof.OutermostFirstWalks.{route_from, route_from_root}
 use Rattle.aadl_chains.proofs.OutermostFirstWalks.{crossing_from}
-use Rattle.aadl_chains.proofs.TracedChains.{traces_itself, traces_root, traces_none_over, traces_over, no_tap_over, tap_over}
+use Rattle.aadl_chains.proofs.TracedChains.{traces_itself, traces_root, traces_none_over, traces_over, no_tap_over}
+use Rattle.aadl_chains.proofs.TracedChains.{tap_over}
 
 same_sub : (s p t q : ℕ) → Inner s p ≡ Inner t q → s ≡ t
 same_sub s p t q e = cc e

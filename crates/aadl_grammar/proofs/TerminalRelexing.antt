@@ -20,7 +20,8 @@ use Rattle.aadl_tree.specs.Terminals.{Kind, word, whole, real, quoted, mark, wor
 use Rattle.aadl_tree.specs.Terminals.{inside_behind}
 use Rattle.aadl_tree.specs.Canon.{kind_text}
 use Rattle.aadl_grammar.proofs.WordAndSymbolLexing.{stops, extends, word_first, symbol_first}
-use Rattle.aadl_grammar.proofs.LiteralLexing.{in_number, number_first, number_some, real_first, string_first, unread_first}
+use Rattle.aadl_grammar.proofs.LiteralLexing.{in_number, number_first, number_some, real_first, string_first}
+use Rattle.aadl_grammar.proofs.LiteralLexing.{unread_first}
 use Rattle.aadl_grammar.proofs.PossibleTerminals.{is_inside, Spoken, a_word, a_number, a_real, a_string, an_annex}
 use Rattle.aadl_grammar.proofs.PossibleTerminals.{a_keyword, a_symbol, opens, closes, behind}
 

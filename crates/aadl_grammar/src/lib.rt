@@ -11,18 +11,18 @@
 #![tactic(auto)]
 
 pub mod canon_laws;
-mod parse_fault;
 pub mod keyword_laws;
 pub mod laws;
-mod single_terminals;
 mod names;
+mod parse_fault;
 mod reader;
+mod single_terminals;
 mod terminal;
 pub mod text_laws;
 mod values;
 
-pub use parse_fault::ParseFault;
 pub use names::{dot_identifier, identifier, identifiers, name, path, reference};
+pub use parse_fault::ParseFault;
 pub use reader::{Parsed, Reader};
 pub use terminal::{Terminal, TerminalKind, narrow, resolve};
 pub use values::{association, associations, properties};

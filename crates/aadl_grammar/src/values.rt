@@ -14,8 +14,8 @@ ghost use Rattle.aadl_grammar.specs.proof.Symbols as s;
 ghost use Rattle.aadl_grammar.specs.proof.ParseTable.{on};
 ghost use Rattle.aadl_grammar.specs.proof.ParserAnswers.{here, MissAll, Parses, AnyRoom, Room};
 
-use crate::parse_fault::ParseFault;
 use crate::names::{name, path, reference};
+use crate::parse_fault::ParseFault;
 use crate::reader::{Parsed, Reader};
 use aadl_tree::{
     Association, AssociationOperator, Identifier, Mark, Number, Path, Quantity, Reference,

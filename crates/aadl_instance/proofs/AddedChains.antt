@@ -11,7 +11,8 @@ use Rattle.aadl_chains.specs.Links.{Ends, IsLink, IsFeed, IsTap}
 use Rattle.aadl_chains.specs.declared.chain_tracing.ChainStart.{ChainStart}
 use Rattle.aadl_chains.specs.declared.chain_tracing.ChainStart.TheVariants as begins
 use Rattle.aadl_chains.specs.declared.chain_tracing.ChainRoute.{ChainRoute}
-use Rattle.aadl_chains.specs.proof.TracedChains.{begin_port, route_ends, IsOfKind, IsRoute, IsTapRoute, Traces, TracesTap}
+use Rattle.aadl_chains.specs.proof.TracedChains.{begin_port, route_ends, IsOfKind, IsRoute, IsTapRoute, Traces}
+use Rattle.aadl_chains.specs.proof.TracedChains.{TracesTap}
 use Rattle.aadl_instance.specs.declared.chain.Chain.{Chain}
 use Rattle.aadl_instance.specs.declared.chain_search.Incoming.{Incoming}
 use Rattle.aadl_instance.specs.Instances.{chain_in}

@@ -8,8 +8,8 @@ ghost use Rattle.aadl_instance.specs.proof.FaultlessPackages.{IsChecked};
 ghost use Rattle.aadl_instance.specs.Instances.{IsInstance};
 
 use crate::chain_search::{incoming_of, taps_of};
-use crate::numbered_ends::ChainMap;
 use crate::instance::Instance;
+use crate::numbered_ends::ChainMap;
 use crate::port_numbers::PortNumbers;
 use crate::{Checked, check_package};
 use aadl_names::PackageFault;

@@ -6,8 +6,8 @@ ghost use Rattle.aadl_instance.specs.Instances.{end_in};
 ghost use Rattle.aadl_instance.specs.proof.ChainMaps.{tree_of, paths_in, IsReady, IsNode};
 ghost use Rattle.aadl_instance.specs.proof.ChainsSoFar.{paths_of, HasPort, IsBegin};
 
-use crate::port_numbers::PortNumbers;
 use crate::chain::ChainEnd;
+use crate::port_numbers::PortNumbers;
 use aadl_chains::ChainStart;
 use aadl_uses::{Wires, standing};
 use indexmap::IndexSet;

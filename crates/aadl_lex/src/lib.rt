@@ -14,8 +14,8 @@ ghost use Rattle.aadl_lex.specs.Tokens.{Adds, Faults, AreTokensOf, AreInOrder, I
 
 mod fault;
 mod rules;
-mod token_lengths;
 mod token;
+mod token_lengths;
 
 pub use fault::LexFault;
 use rules::{First, Reading, front};

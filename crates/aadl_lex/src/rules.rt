@@ -5,8 +5,8 @@ ghost use Rattle.aadl_lex.specs.Rules as spec;
 ghost use Rattle.aadl_lex.specs.Rules.{IsWithin};
 
 use crate::fault::LexFault;
-use crate::token_lengths;
 use crate::token::{NAME_BYTES, TokenKind};
+use crate::token_lengths;
 
 /// How a text is read at a place.
 #[derive(Clone, Copy, PartialEq)]

@@ -13,8 +13,8 @@ use Rattle.aadl_tree.specs.Values.{number, no_values, value, Association, associ
 use Rattle.aadl_tree.specs.Values.{associate}
 use Rattle.aadl_names.specs.declared.fault.PackageFault.{PackageFault}
 use Rattle.aadl_names.specs.declared.recognised_properties.PropertyName.{PropertyName}
-use Rattle.aadl_names.specs.declared.recognised_properties.PropertyName.TheVariants.{Period, Dispatch, Timing, Adaptor, Skew}
-use Rattle.aadl_names.specs.declared.recognised_properties.PropertyName.TheVariants.{Execution, Network, Initial}
+use Rattle.aadl_names.specs.declared.recognised_properties.PropertyName.TheVariants.{Period, Dispatch, Timing, Adaptor}
+use Rattle.aadl_names.specs.declared.recognised_properties.PropertyName.TheVariants.{Skew, Execution, Network, Initial}
 use Rattle.aadl_names.specs.declared.recognised_properties.PropertyHolder.{PropertyHolder}
 use Rattle.aadl_names.specs.declared.spelled_name.SpelledName.{SpelledName}
 use Rattle.aadl_names.specs.FirstFaults.{wrong_if}

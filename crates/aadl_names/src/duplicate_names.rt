@@ -8,10 +8,10 @@ ghost use Rattle.aadl_names.specs.proof.EarliestDeclarations.{again_by};
 ghost use Rattle.aadl_names.specs.DuplicateNames.{twice};
 
 use crate::earliest_places::{earliest_of, is_before};
-use crate::spelled_name::SpelledName;
 use crate::fault_finder::Finder;
-use crate::numbered_place::NumberedPlace;
 use crate::name_table::NameTable;
+use crate::numbered_place::NumberedPlace;
+use crate::spelled_name::SpelledName;
 use std::alloc::AllocError;
 
 /// Finds the declarations that have the name of an earlier one.

@@ -2,31 +2,31 @@
 //! so far. Laws: places rise along a tree, and the first of what is looked at is the first of all that is wrong.
 #![tactic(auto)]
 
-pub mod type_ports;
+pub mod declarations_by_number;
+pub mod duplicate_names;
 pub mod earliest_places;
-pub mod spelled_name;
 pub mod fault;
 pub mod fault_finder;
 pub mod first_fault_laws;
-pub mod recognised_properties;
 pub mod name_comparison;
-pub mod names;
-pub mod declarations_by_number;
-pub mod place_laws;
 pub mod name_roles;
-pub mod port_place;
-pub mod name_texts;
-pub mod numbered_place;
 pub mod name_table;
-pub mod duplicate_names;
+pub mod name_texts;
+pub mod names;
+pub mod numbered_place;
+pub mod place_laws;
+pub mod port_place;
+pub mod recognised_properties;
+pub mod spelled_name;
 pub mod time_units;
+pub mod type_ports;
 
-pub use spelled_name::SpelledName;
 pub use fault::PackageFault;
 pub use fault_finder::Finder;
-pub use recognised_properties::{PropertyHolder, PropertyName};
-pub use names::Names;
 pub use name_roles::{Role, Usage};
-pub use port_place::PortPlace;
-pub use numbered_place::NumberedPlace;
 pub use name_table::NameTable;
+pub use names::Names;
+pub use numbered_place::NumberedPlace;
+pub use port_place::PortPlace;
+pub use recognised_properties::{PropertyHolder, PropertyName};
+pub use spelled_name::SpelledName;

@@ -13,8 +13,8 @@ ghost use Rattle.aadl_names.specs.proof.MemberNumbers.{member_of};
 ghost use Rattle.aadl_names.specs.ReferenceResolution as spec;
 ghost use Rattle.aadl_names.specs.ReferenceResolution.{first_number, is_type, is_implementation, port_named, sub_named};
 
-use crate::name_texts::spelled_implementation;
 use crate::name_table::NameTable;
+use crate::name_texts::spelled_implementation;
 use aadl_tree::{
     Declaration, Feature, Identifier, Implementation, PackageTree, Reference, Subcomponent,
 };

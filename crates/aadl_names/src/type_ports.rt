@@ -1,12 +1,12 @@
-//! The ports that connections join.
+//! The ports of a component type: the number of an implementation's type, of a port by its name, and its direction.
 ghost use Rattle.std.specs.Prelude.{◌≡◌, IfOk};
 ghost use Rattle.aadl_tree.specs.proof.PackageViews.{placed};
 ghost use Rattle.aadl_tree.specs.proof.DeclarationViews.{implementation_view};
 ghost use Rattle.aadl_tree.specs.proof.PlaceMaps.{kept_place};
 ghost use Rattle.aadl_names.specs.ReferenceResolution as spec;
 
-use crate::names::Names;
 use crate::declarations_by_number::type_numbered;
+use crate::names::Names;
 use aadl_tree::{Direction, Implementation};
 use std::alloc::{AllocError, Global};
 

@@ -19,8 +19,8 @@ use aadl_grammar::{Reader, resolve};
 use aadl_lex::{LexFault, lex};
 use aadl_tree::{GREATEST_NESTING, PackageTree};
 use declarations::{PackageParts, package};
-pub use text_fault::TextFault;
 use std::alloc::Global;
+pub use text_fault::TextFault;
 
 /// The tree of the text, or why it has none.
 pub fn parse(alloc: Global, text: &[u8]) -> Result<PackageTree, TextFault>

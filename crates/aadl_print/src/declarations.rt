@@ -4,7 +4,9 @@
 ghost use Rattle.std.specs.Prelude.{◌≡◌};
 ghost use Rattle.aadl_tree.specs.Declarations.{category_mark, direction_mark};
 
-use crate::print_item::{PrintItem, print_all, print_behind, print_chain, print_option, print_section};
+use crate::print_item::{
+    PrintItem, print_all, print_behind, print_chain, print_option, print_section,
+};
 use crate::printer::Printer;
 use crate::values::{print_own_properties, print_properties};
 use aadl_tree::{

@@ -13,11 +13,11 @@ mod actions;
 mod annex;
 mod declarations;
 mod expressions;
-mod spacing;
-mod print_item;
 mod names;
+mod print_item;
 mod printer;
 mod round_trip;
+mod spacing;
 mod values;
 
 use aadl_tree::{Mark, PackageTree};

@@ -4,19 +4,19 @@
 
 mod behaviours;
 mod containment;
-mod text_faults;
 mod first_name_faults;
 mod packages;
 mod text_checks;
+mod text_faults;
 mod thread_limit;
 
 use behaviours::behaviour;
 use case_files::{Answers, asked, check, text_of};
-use text_faults::messages;
 use packages::Packages;
 use std::alloc::{AllocError, Global};
 use std::io;
 use text_checks::{compared, printed, read, tokens};
+use text_faults::messages;
 
 // What an answer tells of a text.
 fn told(alloc: Global, asked: &str, text: &[u8]) -> Result<Vec<u8>, AllocError> {

@@ -10,16 +10,16 @@
 pub mod actions;
 pub mod annex;
 pub mod declarations;
+pub mod expression_offsets;
 pub mod expressions;
 pub mod laws;
-pub mod nesting_limit;
 pub mod mark;
-pub mod same;
-pub mod names;
-pub mod expression_offsets;
-pub mod package;
-mod short_lists;
 mod mark_spelling;
+pub mod names;
+pub mod nesting_limit;
+pub mod package;
+pub mod same;
+mod short_lists;
 pub mod values;
 
 pub use actions::{Action, Actions, Block, Bound, Choice, Elsif, Loop};
@@ -34,10 +34,10 @@ pub use expressions::{
     Expression, Factor, LeadingSign, LogicOperator, MultiplyOperator, Primary, Relation,
     RelationOperator, Sign, Sum, Term,
 };
-pub use nesting_limit::GREATEST_NESTING;
 pub use mark::Mark;
-pub use same::{Same, same};
 pub use names::{Identifier, Identifiers, Name, Path, Reference};
+pub use nesting_limit::GREATEST_NESTING;
 pub use package::PackageTree;
+pub use same::{Same, same};
 pub use short_lists::push_exact;
 pub use values::{Association, AssociationOperator, Number, Quantity, UnsignedNumber, Value};

@@ -5,8 +5,7 @@ use Rattle.std.specs.Option.{option_map_or}
 use Rattle.std.proofs.lemmas.Bool.{cases_order, cases_lt}
 use Rattle.aadl_uses.specs.proof.ContainmentGraphs.{Graph, targets_in, below_in}
 use Rattle.aadl_uses.specs.proof.MarkedPathCounts.{IsMarkedAt}
-use Rattle.aadl_uses.proofs.MarkedPathCounts.{Begun, deeper, shallower, more_begun, fewer_begun, none_begun}
-use Rattle.aadl_uses.proofs.MarkedPathCounts.{all_begun}
+use Rattle.aadl_uses.proofs.MarkedPathCounts.{Begun, deeper, shallower, more_begun, fewer_begun, none_begun, all_begun}
 use Rattle.aadl_uses.specs.proof.PathWeights.{weight_of, path_weight, IsGreatest, IsGreatestOf, IsHeaviest, AreWeighed}
 use Rattle.aadl_uses.specs.proof.PathWeights.{own_weight, found_from, heavier}
 

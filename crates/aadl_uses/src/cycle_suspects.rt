@@ -5,9 +5,9 @@ ghost use Rattle.aadl_uses.specs.proof.ContainmentGraphs.{targets_in, IsWithin, 
 ghost use Rattle.aadl_uses.specs.proof.RecursionSuspects as spec;
 ghost use Rattle.aadl_uses.specs.proof.RecursionSuspects.{AreSuspected};
 
-use crate::reached_declarations::reached;
 use crate::containment::Containment;
 use crate::declaration_levels::levels;
+use crate::reached_declarations::reached;
 use std::alloc::{AllocError, Global};
 
 /// All subcomponents that lead back to where they stand, and perhaps others: each by the number of its

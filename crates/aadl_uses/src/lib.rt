@@ -3,34 +3,34 @@
 //! threads below a root: where each stands, and by which path it is known.
 #![tactic(auto)]
 
-pub mod reached_declarations;
-pub mod connections;
 pub mod below_counts;
-mod ports_of_ends;
+pub mod connections;
 pub mod containment;
-mod path_weights;
-mod declaration_levels;
-mod paths_to_marked;
-pub mod recursion;
 pub mod containment_order;
 pub mod cycle_suspects;
-mod thread_locations;
-mod paths_to_threads;
+mod declaration_levels;
 mod implementation_types;
-pub mod uses;
 pub mod package_wires;
+mod path_weights;
+mod paths_to_marked;
+mod paths_to_threads;
+mod ports_of_ends;
+pub mod reached_declarations;
+pub mod recursion;
 mod resolved_connections;
+mod thread_locations;
+pub mod uses;
 
-pub use reached_declarations::reached;
-pub use connections::{Connections, Wire};
 pub use below_counts::counts_below;
+pub use connections::{Connections, Wire};
 pub use containment::Containment;
-pub use path_weights::{Weights, heaviest_below};
-pub use paths_to_marked::{Paths, paths_below};
-pub use recursion::first_recursive;
 pub use containment_order::order;
 pub use cycle_suspects::{leads_back, suspects};
-pub use thread_locations::{SubAt, ThreadAt, standing, thread_at, threads_at};
-pub use paths_to_threads::thread_paths;
-pub use uses::Uses;
 pub use package_wires::Wires;
+pub use path_weights::{Weights, heaviest_below};
+pub use paths_to_marked::{Paths, paths_below};
+pub use paths_to_threads::thread_paths;
+pub use reached_declarations::reached;
+pub use recursion::first_recursive;
+pub use thread_locations::{SubAt, ThreadAt, standing, thread_at, threads_at};
+pub use uses::Uses;

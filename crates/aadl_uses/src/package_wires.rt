@@ -12,8 +12,8 @@ ghost use Rattle.aadl_uses.specs.Wiring.{wires_at};
 ghost use Rattle.aadl_uses.specs.proof.DeclarationWires as spec;
 
 use crate::connections::{Connections, Wire};
-use crate::uses::Uses;
 use crate::resolved_connections::wiring_of;
+use crate::uses::Uses;
 use aadl_names::PortPlace;
 use aadl_tree::{Connection, Direction};
 use pals_base::Items;

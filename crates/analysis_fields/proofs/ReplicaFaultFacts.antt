@@ -24,9 +24,10 @@ use Rattle.analysis_fields.specs.proof.AnalysisFacts.{IsFaultOf}
 use Rattle.analysis_fields.specs.declared.replica_faults.FaultEnds.{FaultEnds}
 use Rattle.analysis_fields.specs.declared.replica_faults.RoundFault.{RoundFault}
 use Rattle.analysis_fields.specs.declared.limits.TheConstants.{REPLICAS}
-use Rattle.analysis_fields.specs.ReplicasAndFaults.{is_among, source_in, copies_at, kind_at, with_fault_value, fault_values}
-use Rattle.analysis_fields.specs.ReplicasAndFaults.{replica_at, link_from, ends_of, fault_behind, fault_of, fault_from, fault_in}
-use Rattle.analysis_fields.specs.ReplicasAndFaults.{is_same_place, with_fault, faults_in}
+use Rattle.analysis_fields.specs.ReplicasAndFaults.{is_among, source_in, copies_at, kind_at, with_fault_value}
+use Rattle.analysis_fields.specs.ReplicasAndFaults.{fault_values, replica_at, link_from, ends_of, fault_behind}
+use Rattle.analysis_fields.specs.ReplicasAndFaults.{fault_of, fault_from, fault_in, is_same_place, with_fault}
+use Rattle.analysis_fields.specs.ReplicasAndFaults.{faults_in}
 
 -- ---- values: one for each element
 value_more : (kind : Kind) (place : List ℕ) (values : List PortValue) (d : Data) (more : List PortValue)

@@ -3,16 +3,16 @@
 //! its module, in `specs`.
 #![tactic(auto)]
 
-mod replica_faults;
 mod formulas;
 mod limits;
 mod plants;
 mod processors;
 mod properties;
+mod replica_faults;
 mod replicas;
 
-pub use replica_faults::{RoundFault, read_faults};
 pub use plants::read_plants;
 pub use processors::{Processor, read_processors};
 pub use properties::{Property, read_properties};
+pub use replica_faults::{RoundFault, read_faults};
 pub use replicas::read_replicas;

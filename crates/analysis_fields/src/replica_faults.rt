@@ -3,9 +3,10 @@ ghost use Rattle.std.specs.Prelude.{◌≡◌, ◌≤◌, ◌∷◌, ◌++◌, [
 ghost use Rattle.serde_json.specs.View.{view};
 ghost use Rattle.scenario_values.specs.ResultCombinators.{Answers, Shows};
 ghost use Rattle.scenario_values.specs.FaultPlaces.{place_text};
-ghost use Rattle.analysis_fields.specs.ReplicasAndFaults.{source_in, target_in, kind_in, replicas_of, fault_values, replica_at};
-ghost use Rattle.analysis_fields.specs.ReplicasAndFaults.{link_from, ends_of, fault_behind, fault_of, copies_at, kind_at};
-ghost use Rattle.analysis_fields.specs.ReplicasAndFaults.{place_of, fault_in, with_fault, faults_in};
+ghost use Rattle.analysis_fields.specs.ReplicasAndFaults.{source_in, target_in, kind_in, replicas_of, fault_values};
+ghost use Rattle.analysis_fields.specs.ReplicasAndFaults.{replica_at, link_from, ends_of, fault_behind, fault_of};
+ghost use Rattle.analysis_fields.specs.ReplicasAndFaults.{copies_at, kind_at, place_of, fault_in, with_fault};
+ghost use Rattle.analysis_fields.specs.ReplicasAndFaults.{faults_in};
 
 use crate::limits::REPLICAS;
 use crate::replicas::is_among;

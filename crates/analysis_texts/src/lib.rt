@@ -2,10 +2,10 @@
 #![tactic(auto)]
 
 mod faults_by_round;
-mod replica_names;
 mod plants;
 mod processors;
 mod properties;
+mod replica_names;
 mod replicas;
 mod sync;
 

@@ -5,18 +5,18 @@ ghost use Rattle.std.specs.List.{enumerate_from};
 ghost use Rattle.aadl_tree.specs.proof.PlaceMaps.{kept_place};
 ghost use Rattle.aadl_tree.specs.proof.DeclarationViews.{annex_tree_view, transition_view};
 ghost use Rattle.annex_resolve.specs.NamesAndFindings.{found_if};
-ghost use Rattle.annex_resolve.specs.BehavioursAndFindings.{transitions_of, parts_by, state_rules, rule_findings, behaviour_of};
-ghost use Rattle.annex_resolve.specs.BehavioursAndFindings.{annex_findings};
+ghost use Rattle.annex_resolve.specs.BehavioursAndFindings.{transitions_of, parts_by, state_rules, rule_findings};
+ghost use Rattle.annex_resolve.specs.BehavioursAndFindings.{behaviour_of, annex_findings};
 
-use crate::ports_and_variables::DeclaredValues;
 use crate::cycles::cyclic_states;
+use crate::departures::{Departure, breaks_dispatch, lacks_otherwise, legs_of};
+use crate::ports_and_variables::DeclaredValues;
 use crate::scope::Scope;
 use crate::states::{StateAt, declared_states, first_initial, has_initial, states_of};
 use crate::transitions::resolve_transitions;
 use crate::violation::{
     CYCLE_WITHOUT_COMPLETE, DISPATCH_COUNT, NO_INITIAL, NO_OTHERWISE, Violation, add_if,
 };
-use crate::departures::{Departure, breaks_dispatch, lacks_otherwise, legs_of};
 use aadl_tree::{AnnexTree, Transition};
 use pals_base::{BehaviourParts, Items, NoMemory, Transition as Edge, TryClone};
 use std::alloc::Global;

@@ -3,22 +3,22 @@
 #![tactic(auto)]
 
 pub mod actions;
-pub mod ports_and_variables;
+pub mod annex;
 pub mod cycles;
+pub mod departures;
 pub mod expressions;
 pub mod laws;
 pub mod loop_turns;
-pub mod annex;
+pub mod ports_and_variables;
 pub mod scope;
 pub mod states;
 pub mod transitions;
 pub mod type_names;
 pub mod violation;
-pub mod departures;
 
 pub use actions::resolve_block;
-pub use ports_and_variables::DeclaredValues;
-pub use expressions::{Typed, expect, fits, resolve_whole};
 pub use annex::resolve_annex;
+pub use expressions::{Typed, expect, fits, resolve_whole};
+pub use ports_and_variables::DeclaredValues;
 pub use scope::{DeclaredName, Meaning, Scope};
 pub use violation::{Violation, add_if};

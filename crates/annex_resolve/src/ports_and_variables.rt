@@ -1,4 +1,4 @@
-//! The behaviour of an annex.
+//! The ports and variables of a thread that its behaviour can name.
 
 use pals_base::{Items, PortDecl, VarDecl};
 

@@ -21,9 +21,9 @@ use Rattle.scenario_values.specs.FieldValues.{elements, text, whole, is_whole, p
 use Rattle.scenario_values.proofs.SuccessfulResults.{ok_same, ok_bind, ok_only_if, through_keeps}
 use Rattle.analysis_fields.specs.declared.replica_faults.FaultEnds.{FaultEnds}
 use Rattle.analysis_fields.specs.declared.replica_faults.RoundFault.{RoundFault}
-use Rattle.analysis_fields.specs.ReplicasAndFaults.{copies_at, kind_in, kind_at, with_fault_value, fault_values, ends_of}
-use Rattle.analysis_fields.specs.ReplicasAndFaults.{fault_behind, fault_of, fault_from, fault_in, is_same_place, with_fault}
-use Rattle.analysis_fields.specs.ReplicasAndFaults.{faults_in}
+use Rattle.analysis_fields.specs.ReplicasAndFaults.{copies_at, kind_in, kind_at, with_fault_value, fault_values}
+use Rattle.analysis_fields.specs.ReplicasAndFaults.{ends_of, fault_behind, fault_of, fault_from, fault_in}
+use Rattle.analysis_fields.specs.ReplicasAndFaults.{is_same_place, with_fault, faults_in}
 use Rattle.analysis_texts.specs.VoteInputs.{faults_of}
 use Rattle.scenario_json.specs.Scenarios.{field}
 use Rattle.kind_laws.specs.proof.VotedKinds.{FaultFits, FaultsFit}

@@ -11,9 +11,9 @@ use design_laws::packages::designs_of_texts_keep_their_rules;
 use plant_fuse::laws::one_report;
 use run_laws::laws::each_run_ends;
 use scenario_laws::event_laws::{events_are_few, events_are_loose, traces_are_few};
-use scenario_laws::scenario_suitability::scenarios_suit;
-use scenario_laws::scenario_meaning::scenario_or_fault;
 use scenario_laws::plant_laws::pairs_can_be_fused;
+use scenario_laws::scenario_meaning::scenario_or_fault;
+use scenario_laws::scenario_suitability::scenarios_suit;
 use step_compiler::laws::layout_is_one;
 
 /// Each command that has a form has an answer to each bundle, whatever the root: there are a status and

@@ -1,7 +1,8 @@
 //! What values the rounds of a scenario have. Each law is the contract of a function that does nothing.
 ghost use Rattle.answer_laws.specs.proof.BooleansInRuns.{MessagesOfScenariosFit, PartsOfScenariosFit, ScenariosFit};
-ghost use Rattle.answer_laws.specs.proof.BooleansInRuns.{StatesOfScenariosFit, FaultsOfScenariosFit, ShownOfScenariosFit};
-ghost use Rattle.answer_laws.specs.proof.BooleansInRuns.{VotesOfScenariosFit, BusesOfScenariosFit, FusedOfScenariosFit};
+ghost use Rattle.answer_laws.specs.proof.BooleansInRuns.{StatesOfScenariosFit, FaultsOfScenariosFit};
+ghost use Rattle.answer_laws.specs.proof.BooleansInRuns.{ShownOfScenariosFit, VotesOfScenariosFit, BusesOfScenariosFit};
+ghost use Rattle.answer_laws.specs.proof.BooleansInRuns.{FusedOfScenariosFit};
 
 use crate::accepted_designs::accepted_designs_keep_their_rules;
 use scenario_laws::plant_laws::pairs_can_be_fused;

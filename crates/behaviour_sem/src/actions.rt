@@ -5,8 +5,8 @@ ghost use Rattle.pals_base.specs.PlainTrees.{For};
 ghost use Rattle.pals_base.specs.proof.TreeViews.{action_of, actions_along, branches_along};
 ghost use Rattle.behaviour_sem.specs.proof.ActionExecution.{Runs, RunsFirst, turn};
 
-use crate::expressions::{StepInputs, eval, holds};
 use crate::early_end::EarlyEnd;
+use crate::expressions::{StepInputs, eval, holds};
 use pals_base::{Act, Branch, PortValue};
 
 /// Does actions one after the other. A stop leaves the variables and outputs as they then are, and

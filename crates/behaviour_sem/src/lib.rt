@@ -3,9 +3,9 @@
 #![tactic(auto)]
 
 mod actions;
+mod early_end;
 mod expressions;
 mod step;
-mod early_end;
 mod transitions;
 
 pub use step::{fire, fire_into};

@@ -4,8 +4,8 @@ ghost use Rattle.pals_base.specs.SingleStep.{fire, held_of, holding, is_present}
 ghost use Rattle.behaviour_sem.specs.proof.StepOutcomes.{Left};
 ghost use Rattle.behaviour_sem.specs.proof.PartialSteps.{reacted};
 
-use crate::expressions::StepInputs;
 use crate::early_end::EarlyEnd;
+use crate::expressions::StepInputs;
 use crate::transitions::{StepState, react};
 use pals_base::{Behaviour, Frame, Items, NoMemory, PortValue, TryClone};
 use std::alloc::{AllocError, Global};

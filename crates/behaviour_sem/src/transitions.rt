@@ -7,8 +7,8 @@ ghost use Rattle.behaviour_sem.specs.proof.TransitionMoves.{goes, move, dispatch
 ghost use Rattle.behaviour_sem.specs.proof.PartialSteps.{Leads, reacted};
 
 use crate::actions::run_all;
-use crate::expressions::{StepInputs, eval, holds};
 use crate::early_end::EarlyEnd;
+use crate::expressions::{StepInputs, eval, holds};
 use pals_base::{Behaviour, Guard, PortValue, StateDecl, Transition, Trap};
 
 /// Where a step under way stands: the state that it reached, and the variables.

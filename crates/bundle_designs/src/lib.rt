@@ -6,8 +6,8 @@
 
 mod accepted;
 mod bundle;
-mod parsed_bundle;
 mod canonical_text;
+mod parsed_bundle;
 mod refusal;
 mod refused_design;
 mod refused_text;

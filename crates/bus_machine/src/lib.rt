@@ -2,8 +2,8 @@
 //! with the synchronous composition; and how a journal tells it. Definitions and their laws alone.
 #![tactic(auto)]
 
-pub mod node_action;
 pub mod laws;
+pub mod node_action;
 pub mod plan;
 
 pub use node_action::{Next, NodeAction};

@@ -3,12 +3,12 @@
 #![tactic(auto)]
 
 #[cfg(test)]
+mod accepted_design;
+#[cfg(test)]
 mod buses;
 #[cfg(test)]
 mod calls;
 #[cfg(test)]
-mod accepted_design;
+mod late_jobs;
 #[cfg(test)]
 mod nodes;
-#[cfg(test)]
-mod late_jobs;

@@ -20,8 +20,8 @@
 #![tactic(auto)]
 
 mod answer_checks;
-pub mod example_designs;
 mod case_texts;
+pub mod example_designs;
 
 pub use answer_checks::{Answers, asked, check, check_answer, word};
 pub use case_texts::text_of;

@@ -5,8 +5,8 @@ use Rattle.std.specs.Option.{option_and_then}
 use Rattle.pals_base.specs.declared.limits.TheConstants.{HOUR}
 use Rattle.aadl_tree.specs.Values.{Value, Association, Associations}
 use Rattle.aadl_names.specs.declared.recognised_properties.PropertyName.{PropertyName}
-use Rattle.aadl_names.specs.declared.recognised_properties.PropertyName.TheVariants.{Period, Dispatch, Timing, Adaptor, Skew}
-use Rattle.aadl_names.specs.declared.recognised_properties.PropertyName.TheVariants.{Execution, Network, Initial}
+use Rattle.aadl_names.specs.declared.recognised_properties.PropertyName.TheVariants.{Period, Dispatch, Timing, Adaptor}
+use Rattle.aadl_names.specs.declared.recognised_properties.PropertyName.TheVariants.{Skew, Execution, Network, Initial}
 use Rattle.aadl_names.specs.declared.recognised_properties.PropertyHolder.{PropertyHolder}
 use Rattle.aadl_names.specs.RecognisedProperties.{association_at, association_value, listed, counts, is_named, name_of}
 use Rattle.aadl_names.specs.RecognisedProperties.{recognised, time_of, range_of}

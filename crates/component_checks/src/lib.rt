@@ -4,23 +4,23 @@
 #![tactic(auto)]
 
 pub mod adaptors;
+pub mod bounds_and_rates;
 pub mod chain_properties;
 pub mod chain_property_lists;
-pub mod bounds_and_rates;
-pub mod package_properties;
-pub mod property_lookup;
-pub mod quotes;
-pub mod periods;
-pub mod roots;
-pub mod threads;
 pub mod component_properties;
 pub mod component_property_lists;
+pub mod package_properties;
+pub mod periods;
+pub mod property_lookup;
+pub mod quotes;
+pub mod roots;
+pub mod threads;
 pub mod times;
 pub mod types;
 pub mod word_values;
 
 pub use adaptors::{Carrier, adaptor_named};
-pub use chain_properties::ChainProperties;
 pub use bounds_and_rates::{gamma_by, range_of, rate_of, skew_of};
+pub use chain_properties::ChainProperties;
 pub use package_properties::Properties;
 pub use periods::{add_bound_findings, add_period_findings};

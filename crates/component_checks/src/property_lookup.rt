@@ -10,8 +10,8 @@ ghost use Rattle.aadl_uses.specs.proof.ImplementationTypes.{type_number_at};
 ghost use Rattle.component_checks.specs.PropertyLookup as spec;
 
 use aadl_names::PropertyName;
-use aadl_names::name_comparison::is_spelled;
 use aadl_names::declarations_by_number::{subcomponent_at, type_numbered};
+use aadl_names::name_comparison::is_spelled;
 use aadl_tree::{Association, PackageTree, Subcomponent};
 use aadl_uses::{SubAt, Uses};
 

@@ -16,8 +16,8 @@ use Rattle.aadl_names.specs.declared.recognised_properties.PropertyHolder.{Prope
 use Rattle.aadl_names.specs.declared.recognised_properties.PropertyHolder.TheVariants as holders
 use Rattle.aadl_names.specs.declared.port_place.PortPlace.{PortPlace}
 use Rattle.aadl_names.specs.BehaviourAnnexes.{behaviours, variables_in}
-use Rattle.aadl_names.specs.RecognisedProperties.{listed, association_at, counts, misshapen, shape_fault, property_entries}
-use Rattle.aadl_names.specs.RecognisedProperties.{list_faults}
+use Rattle.aadl_names.specs.RecognisedProperties.{listed, association_at, counts, misshapen, shape_fault}
+use Rattle.aadl_names.specs.RecognisedProperties.{property_entries, list_faults}
 use Rattle.aadl_names.specs.ReferenceResolution.{is_thread, target_of, ports_of}
 use Rattle.aadl_names.specs.DuplicatesByNamespace as s
 use Rattle.aadl_names.specs.PackageFaults as p

@@ -12,8 +12,8 @@ use Rattle.aadl_chains.specs.declared.port_set.PortAt.{PortAt}
 use Rattle.aadl_chains.specs.proof.PortSets.{with_port}
 use Rattle.aadl_chains.specs.proof.PortsJoinedInside.{is_thread_at, inner_end, outer_end, port_at, joined_by, AreJoined}
 use Rattle.aadl_chains.specs.proof.PortsJoinedInside.{IsJoined, IsInside}
-use Rattle.aadl_chains.proofs.JoinedInsideByConnection.{one_joined, none_joined, FrontJoined, none_yet, one_more, all_joined}
-use Rattle.aadl_chains.proofs.JoinedInsideByConnection.{thread_joined}
+use Rattle.aadl_chains.proofs.JoinedInsideByConnection.{one_joined, none_joined, FrontJoined, none_yet, one_more}
+use Rattle.aadl_chains.proofs.JoinedInsideByConnection.{all_joined, thread_joined}
 use Rattle.aadl_chains.proofs.JoinedInsideByDeclaration.{FrontInside, no_front, front_more, front_past, front_all}
 
 module _ (tree : PackageTree ℕ) (d : Direction) where

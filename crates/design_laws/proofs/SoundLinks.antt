@@ -22,7 +22,8 @@ use Rattle.aadl_chains.specs.Links as walks
 use Rattle.aadl_instance.specs.Instances.{node_at, port_number, port_name, end_in, chain_at}
 use Rattle.annex_resolve.specs.ExpressionTypes.{kind_in}
 use Rattle.model_violations.specs.ConnectionsAndCarriers.{adaptor_text}
-use Rattle.model_violations.specs.ChainFindings.{timing_findings, adaptor_findings, on_carrier, link_findings, feed_findings}
+use Rattle.model_violations.specs.ChainFindings.{timing_findings, adaptor_findings, on_carrier, link_findings}
+use Rattle.model_violations.specs.ChainFindings.{feed_findings}
 use Rattle.model_violations.specs.ChainEnds.{end_name, end_kind, end_rate}
 use Rattle.component_checks.specs.RateFindings.{adaptor_named, kind_suits}
 use Rattle.design_laws.specs.proof.PackageNames.{HasWords}

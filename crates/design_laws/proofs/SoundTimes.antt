@@ -12,13 +12,14 @@ use Rattle.pals_base.specs.declared.limits.TheConstants.{HOUR}
 use Rattle.aadl_tree.specs.declared.declarations.Category.{Category}
 use Rattle.aadl_tree.specs.Values.{Association, Associations}
 use Rattle.aadl_names.specs.declared.recognised_properties.PropertyName.{PropertyName}
-use Rattle.aadl_names.specs.declared.recognised_properties.PropertyName.TheVariants.{Period, Dispatch, Skew, Execution, Network}
+use Rattle.aadl_names.specs.declared.recognised_properties.PropertyName.TheVariants.{Period, Dispatch, Skew, Execution}
+use Rattle.aadl_names.specs.declared.recognised_properties.PropertyName.TheVariants.{Network}
 use Rattle.aadl_names.specs.declared.recognised_properties.PropertyHolder.{PropertyHolder}
 use Rattle.aadl_names.specs.declared.recognised_properties.PropertyHolder.TheVariants as holders
 use Rattle.aadl_names.specs.FirstFaults.{wrong_if}
-use Rattle.aadl_names.specs.RecognisedProperties.{association_at, association_value, listed, counts, is_named, association_named}
-use Rattle.aadl_names.specs.RecognisedProperties.{name_of, recognised, time_of, range_of, has_shape, misshapen, shape_fault}
-use Rattle.aadl_names.specs.RecognisedProperties.{property_entries, list_faults}
+use Rattle.aadl_names.specs.RecognisedProperties.{association_at, association_value, listed, counts, is_named}
+use Rattle.aadl_names.specs.RecognisedProperties.{association_named, name_of, recognised, time_of, range_of, has_shape}
+use Rattle.aadl_names.specs.RecognisedProperties.{misshapen, shape_fault, property_entries, list_faults}
 use Rattle.aadl_names.specs.ReferenceResolution.{is_thread}
 use Rattle.aadl_names.specs.DuplicateNames.{twice}
 use Rattle.design_laws.proofs.EmptyFindingLists.{not_wrong}

@@ -25,10 +25,10 @@ use Rattle.annex_resolve.specs.declared.departures.GuardKind.{GuardKind}
 use Rattle.annex_resolve.specs.declared.violation.TheConstants.{DISPATCH_COUNT, NO_OTHERWISE, CYCLE_WITHOUT_COMPLETE}
 use Rattle.annex_resolve.specs.NamesAndFindings.{found_if}
 use Rattle.annex_resolve.specs.CycleRules.{is_on_cycle}
-use Rattle.annex_resolve.specs.BehavioursAndFindings.{declared, state_number, trigger_of, effect_of, edge_of, guard_types}
-use Rattle.annex_resolve.specs.BehavioursAndFindings.{effect_findings, transition_findings, breaks_dispatch, way_of, leg_of}
-use Rattle.annex_resolve.specs.BehavioursAndFindings.{ways_from, is_otherwise, is_guarded, is_open, lacks_otherwise, state_rules}
-use Rattle.annex_resolve.specs.BehavioursAndFindings.{cycles_of}
+use Rattle.annex_resolve.specs.BehavioursAndFindings.{declared, state_number, trigger_of, effect_of, edge_of}
+use Rattle.annex_resolve.specs.BehavioursAndFindings.{guard_types, effect_findings, transition_findings}
+use Rattle.annex_resolve.specs.BehavioursAndFindings.{breaks_dispatch, way_of, leg_of, ways_from, is_otherwise}
+use Rattle.annex_resolve.specs.BehavioursAndFindings.{is_guarded, is_open, lacks_otherwise, state_rules, cycles_of}
 use Rattle.annex_resolve.proofs.TableCells.{mapped_at}
 use Rattle.annex_resolve.proofs.StateReachability.{way_reaches}
 use Rattle.design_laws.specs.proof.FittingAnnexNames.{FitsScope, is_declared}

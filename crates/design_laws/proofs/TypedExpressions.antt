@@ -9,8 +9,8 @@ use Rattle.pals_base.specs.declared.behaviour.Kind.TheVariants.{Integer, Boolean
 use Rattle.pals_base.specs.declared.behaviour.BehaviourParts.{BehaviourParts}
 use Rattle.pals_base.specs.declared.expression_kinds.Kinds.{Kinds}
 use Rattle.pals_base.specs.PlainTrees as plain
-use Rattle.pals_base.specs.TypingRules.{only, allows, port_kinds, declared_or, kinds_of, kinds_along, joined, numbers_at}
-use Rattle.pals_base.specs.TypingRules.{truths_at}
+use Rattle.pals_base.specs.TypingRules.{only, allows, port_kinds, declared_or, kinds_of, kinds_along, joined}
+use Rattle.pals_base.specs.TypingRules.{numbers_at, truths_at}
 use Rattle.aadl_tree.specs.declared.expressions.Sign.{Sign}
 use Rattle.aadl_tree.specs.declared.expressions.Sign.TheVariants as signs
 use Rattle.aadl_tree.specs.declared.expressions.LogicOperator.{LogicOperator}

@@ -10,7 +10,7 @@ pub mod chains;
 pub mod designs;
 pub mod existence;
 pub mod first_faults;
+pub mod instances;
 pub mod names;
 pub mod packages;
 pub mod rates_and_bounds;
-pub mod instances;

@@ -2,9 +2,9 @@
 //! rate. What each adaptor means is `pals_base`'s `adapt`; the laws that it keeps are in `laws`.
 #![tactic(auto)]
 
-mod to_higher_rate;
 mod group;
 pub mod laws;
+mod to_higher_rate;
 mod to_lower_rate;
 
 ghost use Rattle.std.specs.Prelude.{◌≡◌, ◌/◌, ◌<◌, IfOk, slice_index_or};

@@ -2,15 +2,15 @@
 //! and a node's queue of the messages that become due.
 #![tactic(auto)]
 
+pub mod due_queue;
 pub mod flight;
 mod halving;
 pub mod laws;
-mod ring_middle;
-pub mod due_queue;
 mod ring_entries;
+mod ring_middle;
 pub mod slot;
 
+pub use due_queue::{DueEntry, DueQueue};
 pub use flight::Flight;
 pub use pals_model::FlightCopy;
-pub use due_queue::{DueEntry, DueQueue};
 pub use slot::Slot;

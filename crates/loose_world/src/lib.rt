@@ -3,13 +3,13 @@
 //! ends in one way; and what events leave on a bus, whatever its clocks read, is the text of their world.
 #![tactic(auto)]
 
-mod loose_run;
 mod journal_text;
+mod loose_run;
 mod message_text;
 mod row_text;
 pub mod world_laws;
 
-pub use loose_run::{LooseEnd, run_loose, tell_messages};
 pub use journal_text::add_journal;
+pub use loose_run::{LooseEnd, run_loose, tell_messages};
 pub use message_text::OutLinks;
 pub use row_text::{add_finished, add_finished_by_all};

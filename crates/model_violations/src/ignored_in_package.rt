@@ -4,8 +4,8 @@ ghost use Rattle.std.specs.List.{enumerate_from};
 ghost use Rattle.aadl_tree.specs.proof.PackageViews.{placed};
 ghost use Rattle.model_violations.specs.IgnoredProperties as spec;
 
-use crate::ignored_in_declaration::add_declaration;
 use crate::distinct_spellings::first_spellings;
+use crate::ignored_in_declaration::add_declaration;
 use aadl_tree::PackageTree;
 use aadl_uses::Uses;
 use pals_base::{Items, NoMemory, Text};

@@ -2,23 +2,23 @@
 //! names of properties that mean nothing where they stand.
 #![tactic(auto)]
 
+pub mod all_violations;
+pub mod behaviour_setting;
 pub mod carriers;
+pub mod chain_ends;
 pub mod chain_findings;
 pub mod connection_findings;
 pub mod declaration_findings;
 pub mod declared_ports;
-pub mod ignored_in_package;
-pub mod ignored_in_declaration;
-pub mod ignored_properties;
-pub mod all_violations;
-pub mod sorted_findings;
-pub mod chain_ends;
 pub mod distinct_spellings;
+pub mod ignored_in_declaration;
+pub mod ignored_in_package;
+pub mod ignored_properties;
+pub mod sorted_findings;
 pub mod thread_behaviour;
 pub mod used_declarations;
-pub mod behaviour_setting;
 pub mod variables;
 
-pub use ignored_in_package::ignored_names;
 pub use all_violations::violations;
+pub use ignored_in_package::ignored_names;
 pub use thread_behaviour::resolve_implementation;

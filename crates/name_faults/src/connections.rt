@@ -12,8 +12,8 @@ ghost use Rattle.aadl_names.specs.PackageFaults as spec;
 ghost use Rattle.name_faults.specs.proof.NumberedImplementations.{StandsAt};
 
 use crate::check_properties;
-use aadl_names::type_ports::port_direction;
 use aadl_names::name_texts::spelled_end;
+use aadl_names::type_ports::port_direction;
 use aadl_names::{Finder, PortPlace, PropertyHolder};
 use aadl_tree::{Connection, ConnectionEnd, Direction, Implementation};
 use aadl_uses::{Uses, Wires};

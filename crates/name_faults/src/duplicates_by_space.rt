@@ -12,12 +12,12 @@ ghost use Rattle.aadl_names.specs.ReferenceResolution.{type_number};
 ghost use Rattle.aadl_names.specs.proof.PortDuplicates as spec;
 ghost use Rattle.name_faults.specs.proof.TypePortNames.{AreAllNamesOf};
 
-use crate::thread_category::is_thread;
 use crate::port_duplicates::check_beside;
+use crate::port_names::AllPortNames;
 use crate::space_entries::{
     implementation_entries, member_entries, state_entries, type_entries, variable_entries,
 };
-use crate::port_names::AllPortNames;
+use crate::thread_category::is_thread;
 use crate::type_ports::{names_at, ports_at};
 use aadl_names::Finder;
 use aadl_names::duplicate_names::check_twice;

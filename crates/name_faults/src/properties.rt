@@ -15,9 +15,9 @@ ghost use Rattle.aadl_names.specs.Spelling as spelling;
 ghost use Rattle.aadl_names.specs.DuplicateNames.{twice};
 
 use crate::shapes::has_shape;
+use aadl_names::duplicate_names::check_twice;
 use aadl_names::name_comparison::is_spelled;
 use aadl_names::name_texts::spelled_name;
-use aadl_names::duplicate_names::check_twice;
 use aadl_names::{Finder, PropertyHolder, SpelledName};
 use aadl_tree::{Association, Name, Value};
 use pals_base::Items;

@@ -10,8 +10,8 @@ ghost use Rattle.aadl_names.specs.proof.FirstFaultSoFar.{found};
 ghost use Rattle.aadl_names.specs.PackageFaults as spec;
 ghost use Rattle.name_faults.specs.proof.BehaviourScopes.{known_by, is_state_by};
 
-use crate::behaviour_scope::BehaviourScope;
 use crate::actions_and_expressions::{check_block, check_expression};
+use crate::behaviour_scope::BehaviourScope;
 use aadl_names::{Finder, NameTable};
 use aadl_tree::{Block, Guard, Identifier, Transition};
 use std::alloc::AllocError;

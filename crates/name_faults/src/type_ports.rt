@@ -13,11 +13,11 @@ ghost use Rattle.aadl_names.specs.ReferenceResolution.{features_of, type_in, typ
 ghost use Rattle.aadl_names.specs.PackageFaults.{role_in, port_roles};
 ghost use Rattle.name_faults.specs.proof.TypePortNames.{AreNamesOf, AreAllNamesOf, HasRolesOf, names_at};
 
-use crate::space_entries::port_entries;
 use crate::port_names::{AllPortNames, PortNames};
-use aadl_names::earliest_places::earliest_of;
+use crate::space_entries::port_entries;
 use aadl_names::declarations_by_number::type_numbered;
 use aadl_names::duplicate_names::check_twice;
+use aadl_names::earliest_places::earliest_of;
 use aadl_names::{Finder, NameTable, PackageFault, Role, SpelledName};
 use aadl_tree::{Declaration, Direction, Feature, PackageTree};
 use pals_base::Items;

@@ -5,8 +5,8 @@ ghost use Rattle.node_threads.specs.proof.SharedCourses.{Stays};
 ghost use Rattle.node_threads.specs.proof.NodeEnds.{EndsFit, IsOutcome};
 
 use crate::course::SharedRun;
-use crate::node_end::NodeEnd;
 use crate::job_observers::{Gate, done_by};
+use crate::node_end::NodeEnd;
 use crate::threads::RunEnd;
 use crate::under_lock::NextMove;
 use pals_base::{Items, NoMemory, NodeNo};

@@ -1,26 +1,26 @@
 //! The nodes of a bus in threads: each goes by its clock, under one lock, and its jobs run outside it.
 #![tactic(auto)]
 
-mod sleeping_thread;
-mod wake_signals;
+mod awaited_sources;
 mod clocks;
 mod course;
 mod drive_remaining;
-mod node_end;
-mod job_observers;
 mod host;
+mod job_observers;
 mod locked;
+mod node_end;
 mod opening_course;
 mod sleepers;
+mod sleeping_thread;
 mod thread_admission;
 mod threads;
 mod under_lock;
-mod awaited_sources;
 mod wake_list;
+mod wake_signals;
 mod workers;
 
-pub use node_end::NodeEnd;
-pub use job_observers::{Gate, NoGate};
 pub use host::Host;
+pub use job_observers::{Gate, NoGate};
+pub use node_end::NodeEnd;
 pub use thread_admission::{FakeStarter, Starter, ThreadStarter};
 pub use threads::{RunEnd, run_threads};

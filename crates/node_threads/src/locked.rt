@@ -5,9 +5,9 @@ ghost use Rattle.run_laws.specs.Runs.{IsLeast};
 ghost use Rattle.node_threads.specs.proof.SharedCourses.{Stays, IsOpen, IsDone};
 ghost use Rattle.node_threads.specs.proof.Sleepers.{seat_at, Waits};
 
-use crate::sleeping_thread::Sleeper;
 use crate::course::SharedRun;
 use crate::sleepers::Sleepers;
+use crate::sleeping_thread::Sleeper;
 use crate::under_lock::NextMove;
 use pals_base::NodeNo;
 use pals_node::Done;

@@ -6,8 +6,8 @@ ghost use Rattle.node_threads.specs.declared.sleeping_thread.Sleeper.{Sleeper};
 ghost use Rattle.node_threads.specs.proof.Sleepers.{no_wakes, is_to_ring, without_bell, free_seat, seat_at, with_seat};
 ghost use Rattle.node_threads.specs.proof.Sleepers.{IsAbove, IsHourOver, Waits, Rouses};
 
-use crate::sleeping_thread::Sleeper;
 use crate::course::SharedRun;
+use crate::sleeping_thread::Sleeper;
 use crate::wake_list::WakeList;
 use pals_base::limits::READING;
 use pals_base::{Items, Nanos, NoMemory, NodeNo};

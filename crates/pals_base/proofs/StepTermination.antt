@@ -24,8 +24,8 @@ use Rattle.pals_base.specs.SingleStep.{Fired, HasShape, holding, is_present, sil
 use Rattle.pals_base.specs.SingleStep.{leaving, is_dispatch, opens, first_open, along, settled, dispatched, reaction}
 use Rattle.pals_base.specs.SingleStep.{outcome, unless_halted, fire, initial}
 use Rattle.pals_base.specs.TypingRules.{are_sound}
-use Rattle.pals_base.specs.BehaviourRules.{has_condition, is_edge, dispatch_count, is_always, ends_unguarded, has_ways, IsWay}
-use Rattle.pals_base.specs.BehaviourRules.{IsBehaviour}
+use Rattle.pals_base.specs.BehaviourRules.{has_condition, is_edge, dispatch_count, is_always, ends_unguarded, has_ways}
+use Rattle.pals_base.specs.BehaviourRules.{IsWay, IsBehaviour}
 use Rattle.pals_base.specs.proof.SettledStates.{settles}
 use Rattle.pals_base.proofs.SettledStates.{rule_at}
 use Rattle.pals_base.proofs.WaysAndCycles.{incomplete_within, settled_unless_cycle, way_is_short}

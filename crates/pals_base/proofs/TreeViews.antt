@@ -17,8 +17,8 @@ use Rattle.pals_base.specs.declared.behaviour.Act.TheBlock.{items_hidden-the_row
 use Rattle.pals_base.specs.declared.behaviour.Act.TheVariants as act
 use Rattle.pals_base.specs.declared.behaviour.Branch.{Branch}
 use Rattle.pals_base.specs.PlainTrees.{Chain, Then, Do, If, For, Where}
-use Rattle.pals_base.specs.proof.TreeViews.{tree_of, operands_of, operands_along, action_of, actions_of}
-use Rattle.pals_base.specs.proof.TreeViews.{actions_along, branches_of, branches_along}
+use Rattle.pals_base.specs.proof.TreeViews.{tree_of, operands_of, operands_along, action_of, actions_of, actions_along}
+use Rattle.pals_base.specs.proof.TreeViews.{branches_of, branches_along}
 
 operands_of-along : {n : _} (row : Row_of-Operand n) → operands_of row ≡ operands_along (items-the_row-Operand n row)
 operands_of-along end_of-Operand = refl

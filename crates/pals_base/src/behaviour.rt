@@ -1,7 +1,7 @@
 //! Behaviours of threads: typed machines whose steps are trees of actions and expressions.
-use crate::try_clone::TryClone;
 use crate::items::Items;
 use crate::text::Text;
+use crate::try_clone::TryClone;
 use crate::values::NoMemory;
 use std::alloc::Global;
 use std::marker::Model;

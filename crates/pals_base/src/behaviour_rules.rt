@@ -4,15 +4,15 @@ ghost use Rattle.std.specs.List.{list_all};
 ghost use Rattle.pals_base.specs.proof.TreeViews.{trigger_of};
 ghost use Rattle.pals_base.specs.StepSequences.{upwards};
 ghost use Rattle.pals_base.specs.SingleStep.{may_begin};
-ghost use Rattle.pals_base.specs.BehaviourRules.{HasNames, value_names, has_first, has_condition, is_edge, has_ways, IsAcyclic};
-ghost use Rattle.pals_base.specs.BehaviourRules.{IsBehaviour};
+ghost use Rattle.pals_base.specs.BehaviourRules.{HasNames, value_names, has_first, has_condition, is_edge, has_ways};
+ghost use Rattle.pals_base.specs.BehaviourRules.{IsAcyclic, IsBehaviour};
 
 mod actions;
 mod states;
 
 use crate::behaviour::{Behaviour, BehaviourParts, Guard, Transition};
-use crate::items::Items;
 use crate::expression_kinds::Kinds;
+use crate::items::Items;
 use crate::names::{add_names, are_distinct, are_words};
 use crate::text::Text;
 use crate::values::NoMemory;

@@ -5,17 +5,17 @@
 pub mod allowed_adaptors;
 pub mod arithmetic;
 pub mod behaviour;
-pub mod period_bound;
-pub mod try_clone;
+pub mod behaviour_rules;
+pub mod expression_kinds;
 pub mod initial_frame;
 pub mod items;
-pub mod expression_kinds;
 pub mod laws;
 pub mod limits;
 pub mod names;
-pub mod behaviour_rules;
+pub mod period_bound;
 pub mod same;
 pub mod text;
+pub mod try_clone;
 pub mod tuples;
 pub mod values;
 
@@ -24,10 +24,10 @@ pub use behaviour::{
     Act, Behaviour, BehaviourParts, Branch, Expr, Guard, Kind, Op, Operand, PortDecl, StateDecl,
     Transition, VarDecl,
 };
-pub use try_clone::TryClone;
-pub use items::Items;
 pub use expression_kinds::Kinds;
+pub use items::Items;
 pub use names::HasName;
 pub use same::Same;
 pub use text::Text;
+pub use try_clone::TryClone;
 pub use values::{Adaptor, Frame, Gamma, LinkNo, Nanos, NoMemory, NodeNo, PortValue, Trap, Tuple};

@@ -6,8 +6,8 @@ ghost use Rattle.pals_bus.specs.proof.BusInvariant.{Keeps, owed, value_of};
 ghost use Rattle.pals_bus.specs.proof.DueQueues.{AreDueEntries};
 
 use crate::bus::Bus;
-use crate::fields::BusFields;
 use crate::bus_error::{BusError, DueEnd};
+use crate::fields::BusFields;
 use link_buffers::{DueEntry, DueQueue};
 use pals_base::{Nanos, NoMemory, NodeNo};
 use pals_runs::Stop;

@@ -3,32 +3,32 @@
 //! call, so the journal replays to the bus, and the bus agrees with the composition.
 #![tactic(auto)]
 
-mod meet_and_loose_fault;
 mod arrival;
 mod bus;
+mod bus_error;
 mod due_messages;
-mod loose_faults;
+mod events_of_messages;
+mod events_of_nodes;
 mod fields;
 mod flights;
-mod events_of_messages;
 mod loose;
+mod loose_faults;
+mod meet_and_loose_fault;
 mod meeting;
+mod missed_starts;
 mod node_list;
-mod events_of_nodes;
 mod opening;
 mod outgoing_links;
-mod bus_error;
 mod run_parameters;
-mod missed_starts;
 mod target_list;
 
-pub use meet_and_loose_fault::{LooseFault, Meet};
 pub use bus::Bus;
-pub use fields::BusFields;
-pub use loose::apply_loose;
-pub use node_list::NodeList;
-pub use outgoing_links::Outgoing;
 pub use bus_error::{
     BusError, BusFinishEnd, BusSendEnd, BusStartEnd, BusStepEnd, DueEnd, LinkEnd, MessageError,
 };
+pub use fields::BusFields;
+pub use loose::apply_loose;
+pub use meet_and_loose_fault::{LooseFault, Meet};
+pub use node_list::NodeList;
+pub use outgoing_links::Outgoing;
 pub use target_list::TargetList;

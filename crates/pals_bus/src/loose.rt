@@ -4,9 +4,9 @@ ghost use Rattle.pals_runs.specs.declared.events.Event.TheVariants as event;
 ghost use Rattle.pals_bus.specs.LooseEvents.{IsNamedIn, GoesOn};
 ghost use Rattle.pals_bus.specs.proof.LooseFaults.{LooseEnds};
 
-use crate::meet_and_loose_fault::LooseFault;
 use crate::bus::Bus;
 use crate::loose_faults::{finish_fault, link_fault, send_fault, start_fault, step_fault};
+use crate::meet_and_loose_fault::LooseFault;
 use pals_base::{LinkNo, NodeNo};
 use pals_runs::Event;
 

@@ -2,10 +2,10 @@
 ghost use Rattle.std.specs.Prelude.{◌≡◌};
 ghost use Rattle.pals_bus.specs.proof.LooseFaults.{start_fault, step_fault, finish_fault, send_fault, link_fault};
 
-use crate::meet_and_loose_fault::LooseFault;
 use crate::bus_error::{
     BusError, BusFinishEnd, BusSendEnd, BusStartEnd, BusStepEnd, LinkEnd, MessageError,
 };
+use crate::meet_and_loose_fault::LooseFault;
 use pals_base::{LinkNo, NodeNo};
 use pals_node::{StartEnd, StepEnd};
 

@@ -5,8 +5,8 @@ ghost use Rattle.bus_machine.specs.States.{node_at};
 ghost use Rattle.bus_machine.specs.Targets.{next_of};
 ghost use Rattle.pals_bus.specs.proof.Meeting.{target_in, HasEnded, Meets};
 
-use crate::meet_and_loose_fault::Meet;
 use crate::bus::Bus;
+use crate::meet_and_loose_fault::Meet;
 use pals_base::{Nanos, NodeNo};
 
 impl Bus {

@@ -6,18 +6,18 @@
 //! [`WriteSink`] stand over std's readers and writers.
 #![tactic(auto)]
 
-mod stream_errors;
 mod memory_sink;
 mod memory_source;
 mod read_source;
+mod stream_errors;
 mod streams;
 mod transfers;
 mod write_sink;
 
-pub use stream_errors::{Failed, ReadEnd, WriteFault};
 pub use memory_sink::MemSink;
 pub use memory_source::MemSource;
 pub use read_source::ReadSource;
+pub use stream_errors::{Failed, ReadEnd, WriteFault};
 pub use streams::{Sink, Source};
 pub use transfers::{read_all, write_all};
 pub use write_sink::WriteSink;

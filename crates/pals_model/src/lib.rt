@@ -2,13 +2,13 @@
 //! synchronous composition that a design means; and the text of its rounds.
 #![tactic(auto)]
 
-mod design_clones;
 pub mod design;
+mod design_clones;
 pub mod flight_copy;
+pub mod inputs_and_parts;
 pub mod laws;
 pub mod outgoing_links;
 pub mod rates_and_kinds;
-pub mod inputs_and_parts;
 mod same;
 pub mod sources;
 

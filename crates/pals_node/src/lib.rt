@@ -4,15 +4,15 @@
 #![tactic(auto)]
 
 mod answers;
-mod written_tuples;
-mod node_fields;
 mod inputs;
-mod job;
 mod instruction_key;
+mod job;
 mod job_memory;
 mod node;
+mod node_fields;
 mod plan;
 mod targets;
+mod written_tuples;
 
 pub use answers::{FinishEnd, Finished, SendEnd, StartEnd, StepEnd};
 pub use job::{Done, Job};

@@ -13,8 +13,8 @@ ghost use Rattle.pals_node.specs.proof.Answers.{is_early, Starts, StartEnds, Ste
 ghost use Rattle.pals_node.specs.proof.Answers.{FinishesHere, NoneRuns, Sends, SendEnds};
 
 use crate::answers::{FinishEnd, Finished, SendEnd, StartEnd, StepEnd};
-use crate::node_fields::NodeFields;
 use crate::job::{Done, Job, StepStart};
+use crate::node_fields::NodeFields;
 use crate::plan::NodePlan;
 use crate::targets::{next_in_round, next_send, next_start};
 use bus_machine::{Input, Next, Plan};

@@ -1,8 +1,8 @@
 //! The lines of a journal.
 ghost use Rattle.std.specs.Prelude.{◌≡◌, [], ◌∷◌, ◌++◌, decimal, OnOk, OnErr};
 ghost use Rattle.pals_model.specs.RoundTexts.{line_end};
-ghost use Rattle.pals_runs.specs.JournalLines.{node_word, link_word, reading_word, arrived_word, cause_word, stop_words};
-ghost use Rattle.pals_runs.specs.JournalLines.{spaced, entry_line};
+ghost use Rattle.pals_runs.specs.JournalLines.{node_word, link_word, reading_word, arrived_word, cause_word};
+ghost use Rattle.pals_runs.specs.JournalLines.{stop_words, spaced, entry_line};
 
 use crate::line_word::{LineWord, add_line, link_word, node_word, reading_word};
 use pals_base::{LinkNo, Nanos, NoMemory, NodeNo};

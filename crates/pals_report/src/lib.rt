@@ -2,20 +2,21 @@
 //! accepted design, what is wrong with a text, and the lines of runs and scenarios.
 #![tactic(auto)]
 
+mod clock_ends_and_verdicts;
 mod code_fault;
 mod component;
 mod cursor;
-mod design_report;
-mod journal_entries;
-mod event_faults;
 mod design_lines;
-mod port_names;
+mod design_report;
+mod event_faults;
+mod journal_entries;
+mod line_word;
 mod package_faults;
-mod round_parts;
 mod periods;
+mod port_names;
 mod round_lines;
+mod round_parts;
 mod row;
-mod clock_ends_and_verdicts;
 mod scenario_faults;
 mod sent_messages;
 mod tap;
@@ -24,18 +25,18 @@ mod text_faults;
 mod value;
 mod violations;
 mod whole_writes;
-mod line_word;
 
+pub use clock_ends_and_verdicts::{add_clock_end, add_verdict};
 pub use code_fault::add_code_fault;
 pub use cursor::Cursor;
-pub use design_report::add_check;
-pub use journal_entries::add_entry;
-pub use event_faults::add_event_fault;
 pub use design_lines::{add_feeds, add_links, add_taps};
+pub use design_report::add_check;
+pub use event_faults::add_event_fault;
+pub use journal_entries::add_entry;
+pub use line_word::{LineWord, add_line, node_word};
 pub use package_faults::add_flat_fault;
-pub use round_parts::RoundParts;
 pub use round_lines::{add_frame, add_part, add_round, add_row, add_shown, add_tap};
-pub use clock_ends_and_verdicts::{add_clock_end, add_verdict};
+pub use round_parts::RoundParts;
 pub use scenario_faults::add_scenario_fault;
 pub use sent_messages::add_sent;
 pub use tap_places::TapPlaces;
@@ -43,4 +44,3 @@ pub use text_faults::{add_no_divider, add_text_fault};
 pub use value::add_tuple;
 pub use violations::add_violations;
 pub use whole_writes::whole_or_none;
-pub use line_word::{LineWord, add_line, node_word};

@@ -7,12 +7,12 @@ mod commands;
 mod events;
 mod forms;
 mod journal;
-mod vote_faults_and_pairs;
 mod verdicts;
+mod vote_faults_and_pairs;
 
 pub use commands::Command;
 pub use events::{Event, EventFault, EventSubject};
 pub use forms::{Compare, Form};
 pub use journal::{Arrived, Cause, JournalEntry, Phase, Stop};
-pub use vote_faults_and_pairs::{Pair, VoteFault};
 pub use verdicts::{TraceRule, Verdict};
+pub use vote_faults_and_pairs::{Pair, VoteFault};

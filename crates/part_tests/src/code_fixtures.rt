@@ -2,8 +2,8 @@
 ghost use Rattle.std.specs.Prelude.{◌≡◌, IsTrue, slice_get};
 ghost use Rattle.step_code.specs.proof.CodeRuns.{FitsCode, has_entry};
 
-use crate::step_outcomes::wrong_steps;
 use crate::code_verification::wrong_codes;
+use crate::step_outcomes::wrong_steps;
 use case_files::{Answers, asked};
 use pals_base::{Frame, Items, NoMemory, PortValue, Trap};
 use std::alloc::Global;

@@ -5,16 +5,16 @@
 
 mod adaptors;
 mod alarms;
-mod parsed_behaviours;
 mod bounds;
 mod buffers;
 mod clocks;
 mod code_fixtures;
-mod compiled_behaviours;
-mod step_outcomes;
-mod step_comparison;
-mod streams;
 mod code_verification;
+mod compiled_behaviours;
+mod parsed_behaviours;
+mod step_comparison;
+mod step_outcomes;
+mod streams;
 
 use case_files::check;
 use std::alloc::AllocError;

@@ -3,14 +3,14 @@
 #![tactic(auto)]
 
 mod fuse_end;
+mod fusibility;
 pub mod laws;
 mod messages;
-mod fusibility;
-mod product;
-mod taken_stages;
-mod round;
 mod pair_steps;
+mod product;
+mod round;
 mod tables;
+mod taken_stages;
 
 pub use fuse_end::FuseEnd;
 pub use product::FuseProduct;

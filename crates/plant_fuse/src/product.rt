@@ -7,8 +7,8 @@ ghost use Rattle.plant_fuse.specs.proof.Fusibility.{IsEnd};
 ghost use Rattle.plant_fuse.specs.proof.FuseState.{begun, IsAdvanced};
 
 use crate::fuse_end::FuseEnd;
-use crate::messages::send_all;
 use crate::fusibility::first_bad;
+use crate::messages::send_all;
 use crate::round::run_all;
 use crate::tables::Tables;
 use pals_base::{Items, LinkNo, NoMemory, NodeNo, PortValue, Tuple};

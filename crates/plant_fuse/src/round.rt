@@ -6,9 +6,9 @@ ghost use Rattle.plant_fuse.specs.FusedComposition.{IsPair, ArePairs};
 ghost use Rattle.plant_fuse.specs.proof.DesignTables.{AreTables};
 ghost use Rattle.plant_fuse.specs.proof.RoundWork.{IsPaired, IsRunAlone, AreAlone, IsRun, AreRun, StayBeside};
 
-use crate::taken_stages::{put_stage, take_part, take_stage};
 use crate::pair_steps::{FusedPair, PairedComponent, run_sides};
 use crate::tables::Tables;
+use crate::taken_stages::{put_stage, take_part, take_stage};
 use pals_base::{Items, NoMemory, NodeNo};
 use pals_model::{Design, Part};
 use pals_runs::Pair;

@@ -1,16 +1,16 @@
 //! What the whole program answers to words and bytes, over sources and sinks in memory that fail where they are told.
 #![tactic(auto)]
 
+mod answer_groups;
+mod audited_runs;
+mod case_series;
 mod program_answer;
 mod ring_check;
-mod answer_groups;
-mod case_series;
-mod audited_runs;
 
 use case_files::{asked, check_answer, text_of, word};
+use case_series::answer_series;
 use program_answer::{Transfer, ask};
 use ring_check::check_ring;
-use case_series::answer_series;
 use std::sync::Wait;
 use std::thread::Threads;
 use std::{fs, io};

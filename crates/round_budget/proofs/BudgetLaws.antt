@@ -23,8 +23,8 @@ use Rattle.round_budget.specs.Responses.{response, AreAtMost, made_in, frame_bef
 use Rattle.round_budget.specs.proof.BudgetLaws.{AreMembers, IsWithinBudget, EachIsServed, ServedOnce, ServedInOrder}
 use Rattle.round_budget.specs.proof.BudgetLaws.{NoneBeginsEarly, OneAtATime, ResponsesFit, MostResponsesFit}
 use Rattle.round_budget.specs.proof.BudgetLaws.{ExecResponsesFit, RoundsAreApart}
-use Rattle.round_budget.proofs.ListQuantifiers.{every_both, Pairs, pairs_weaker, pairs_both, all_pairs_from, Member, member_of}
-use Rattle.round_budget.proofs.ListQuantifiers.{contains_of}
+use Rattle.round_budget.proofs.ListQuantifiers.{every_both, Pairs, pairs_weaker, pairs_both, all_pairs_from, Member}
+use Rattle.round_budget.proofs.ListQuantifiers.{member_of, contains_of}
 use Rattle.round_budget.proofs.ReleaseOrders.{NotAfter, every_in_order, pairs_in_order, sorted_in_order}
 use Rattle.round_budget.proofs.ReleaseOrders.{length_in_order, member_in_order, in_order_member, strict_numbers}
 use Rattle.round_budget.proofs.FilteredSums.{one_le}

@@ -17,8 +17,8 @@ use Rattle.pals_model.proofs.FirstMatches.{at_element}
 use Rattle.pals_model.proofs.ShapeLaws.{component_at}
 use Rattle.round_budget.specs.Budgets.{Release, release_of, releases_of, releases_in, releases}
 use Rattle.round_budget.specs.proof.BudgetLaws.{AreMembers}
-use Rattle.round_budget.proofs.ListQuantifiers.{every_both, every_flat_map, every_upwards, Pairs, pairs_weaker, pairs_map}
-use Rattle.round_budget.proofs.ListQuantifiers.{pairs_flat_map, pairs_upwards, pairs_from, Member, member_of}
+use Rattle.round_budget.proofs.ListQuantifiers.{every_both, every_flat_map, every_upwards, Pairs, pairs_weaker}
+use Rattle.round_budget.proofs.ListQuantifiers.{pairs_map, pairs_flat_map, pairs_upwards, pairs_from, Member, member_of}
 
 -- ---- rates
 first_le : (from : ℕ) (cs : List Component) → from ≤ fold (λ k (c : Component). max k c.rate) from cs

@@ -14,8 +14,8 @@ use Rattle.pals_runs.specs.declared.journal.Stop.{Stop}
 use Rattle.pals_runs.specs.declared.journal.Stop.TheVariants as stop
 use Rattle.pals_runs.specs.declared.journal.JournalEntry.{JournalEntry}
 use Rattle.pals_runs.specs.declared.journal.JournalEntry.TheVariants as entry
-use Rattle.pals_runs.specs.JournalLines.{node_word, link_word, reading_word, arrived_word, cause_word, spaced, stop_words}
-use Rattle.pals_runs.specs.JournalLines.{entry_words}
+use Rattle.pals_runs.specs.JournalLines.{node_word, link_word, reading_word, arrived_word, cause_word, spaced}
+use Rattle.pals_runs.specs.JournalLines.{stop_words, entry_words}
 use Rattle.run_laws.specs.LineForms.{Form, ArriveLine, StartLine, StepLine, FinishLine, SendLine, DropLine, RepeatLine}
 use Rattle.run_laws.specs.LineForms.{EarlyLine, MissedLine, is_there, form_of_words, form_of, named, read, at_end}
 use Rattle.run_laws.specs.LineForms.{with_result, with_cause, with_step}

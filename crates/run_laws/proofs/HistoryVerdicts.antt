@@ -51,7 +51,8 @@ use Rattle.run_laws.specs.Histories.{History, opens, goes_on}
 use Rattle.run_laws.proofs.EntryLines.{lines_tell_entries}
 use Rattle.run_laws.proofs.EntryForms.{lines_have_forms}
 use Rattle.run_laws.proofs.MissedLinks.{missed_link}
-use Rattle.run_laws.proofs.RuleKeepingLines.{BreakNone, audited, break_append, verdict_is, not_before, none_of, none_due}
+use Rattle.run_laws.proofs.RuleKeepingLines.{BreakNone, audited, break_append, verdict_is, not_before, none_of}
+use Rattle.run_laws.proofs.RuleKeepingLines.{none_due}
 use Rattle.run_laws.proofs.JournalVerdicts.{FirstHasForm, behind_report}
 use Rattle.run_laws.specs.proof.SoundTraces.{TracesAreSound}
 use Rattle.run_laws.proofs.SoundEntries.{AreLast, target_within}

@@ -2,13 +2,13 @@
 //! for each form in it. What formulas mean, and the text of watched properties, stand in `specs/`.
 #![tactic(auto)]
 
-mod form_bits;
+mod false_property;
 mod flat_form;
+mod form_bits;
 pub mod laws;
 mod monitor;
 mod monitors;
-mod false_property;
 
+pub use false_property::FalseProperty;
 pub use monitor::Monitor;
 pub use monitors::Monitors;
-pub use false_property::FalseProperty;

@@ -4,8 +4,8 @@ ghost use Rattle.pals_runs.specs.proof.FormulasOfForms.{formula_of};
 ghost use Rattle.run_monitor.specs.proof.FormBits.{row_of};
 ghost use Rattle.run_monitor.specs.proof.MonitorState.{said, IsNew, Sees, SeesAll, Advances};
 
-use crate::form_bits::{advance_all, bit_at, see_frame, see_row};
 use crate::flat_form::{FlatForm, add};
+use crate::form_bits::{advance_all, bit_at, see_frame, see_row};
 use pals_base::{Frame, Items, NoMemory, NodeNo};
 use pals_model::Part;
 use pals_runs::Form;

@@ -12,8 +12,8 @@ ghost use Rattle.run_monitor.specs.FalseProperties.{history};
 ghost use Rattle.run_monitor.specs.proof.MonitorState.{said, GoesOn};
 ghost use Rattle.run_monitor.specs.proof.SeveralMonitors.{said_by, EachGoesOn, HasWatched, WatchesOn, WatchesRound};
 
-use crate::monitor::Monitor;
 use crate::false_property::FalseProperty;
+use crate::monitor::Monitor;
 use pals_base::NoMemory;
 use pals_model::Part;
 use pals_runs::Form;

@@ -22,8 +22,8 @@ use Rattle.scenario_values.specs.FaultPlaces.{inside}
 use Rattle.scenario_values.specs.FieldValues.{elements, entries, short_list, whole}
 use Rattle.scenario_values.proofs.SuccessfulResults.{ok_same, ok_bind, ok_only_if, through_keeps, whole_within}
 use Rattle.scenario_values.specs.NameLookup.{node_at, link_at, root_at}
-use Rattle.scenario_json.specs.InputsAndDelays.{value_list, with_input, inputs_in, with_delay, delay_list, with_link_delays}
-use Rattle.scenario_json.specs.InputsAndDelays.{delays_in}
+use Rattle.scenario_json.specs.InputsAndDelays.{value_list, with_input, inputs_in, with_delay, delay_list}
+use Rattle.scenario_json.specs.InputsAndDelays.{with_link_delays, delays_in}
 use Rattle.scenario_json.specs.Clocks.{last_of, with_reading, reading_list, with_clock, clock_lists, is_meet, clocks_in}
 use Rattle.scenario_json.specs.proof.RunFields.{AreInputsOf, IsDelayList, AreDelaysOf, IsOpening, AreClocksOf}
 use Rattle.scenario_json.specs.proof.RunFields.{AreClocksFor}

@@ -3,20 +3,20 @@
 //! scenario means, or what its first fault is, is `scen` of `specs/Scenarios.antt`.
 #![tactic(auto)]
 
-mod run_cells;
 mod clocks;
 mod events;
 mod inputs_and_delays;
-mod scenario_reader;
+mod run_cells;
 mod scenario;
+mod scenario_reader;
 mod traces;
 
 pub use analysis_fields::{Processor, Property, RoundFault};
-pub use run_cells::cells_of;
 pub use clocks::read_clocks;
 pub use events::read_events;
 pub use inputs_and_delays::{least_delays, no_inputs, read_delays, read_inputs};
-pub use scenario_reader::read_scenario;
+pub use run_cells::cells_of;
 pub use scenario::Scenario;
+pub use scenario_reader::read_scenario;
 pub use scenario_values::ScenarioFault;
 pub use traces::read_trace;

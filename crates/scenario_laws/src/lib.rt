@@ -3,6 +3,6 @@
 #![tactic(auto)]
 
 pub mod event_laws;
-pub mod scenario_suitability;
-pub mod scenario_meaning;
 pub mod plant_laws;
+pub mod scenario_meaning;
+pub mod scenario_suitability;

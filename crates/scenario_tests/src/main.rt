@@ -4,8 +4,8 @@
 
 mod commands;
 mod designs;
-mod scenario_predicates;
 mod journal_and_fault_lines;
+mod scenario_predicates;
 mod scenarios;
 
 use case_files::check;

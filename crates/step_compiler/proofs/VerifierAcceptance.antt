@@ -43,10 +43,11 @@ use Rattle.step_compiler.proofs.BlockOrderCompleteness.{all_member, some_member,
 use Rattle.step_compiler.proofs.NumbersFromZero.{got}
 use Rattle.step_compiler.proofs.BlockPlaces.{whole_at, start_is, whole_block}
 use Rattle.step_compiler.proofs.CompilerCorrectness.{sizes, fitting, onward_of, dispatch_of, compiled_length}
-use Rattle.step_compiler.proofs.JumpsWithinLoops.{Closed, jump_stays, closed_both, none_closed, expr_closed, acts_closed}
+use Rattle.step_compiler.proofs.JumpsWithinLoops.{Closed, jump_stays, closed_both, none_closed, expr_closed}
+use Rattle.step_compiler.proofs.JumpsWithinLoops.{acts_closed}
 use Rattle.step_compiler.proofs.StackHeights.{height, height_at, expr_height, acts_height, trigger_height, edge_height}
-use Rattle.step_compiler.proofs.VerifiedExpressions.{IsFine, AreFine, one_fine, both_fine, none_fine, fine_at, jump_fine}
-use Rattle.step_compiler.proofs.VerifiedExpressions.{zero_fine}
+use Rattle.step_compiler.proofs.VerifiedExpressions.{IsFine, AreFine, one_fine, both_fine, none_fine, fine_at}
+use Rattle.step_compiler.proofs.VerifiedExpressions.{jump_fine, zero_fine}
 use Rattle.step_compiler.proofs.VerifiedActions.{none_round, Matches, value_fine, acts_fine}
 use Rattle.step_compiler.proofs.LoopFreePlaces.{trigger_closed, edge_closed, IsCalm, calm_edge, calm_at, calm_round}
 use Rattle.step_compiler.proofs.LoopFreePlaces.{calm_outer, calm_start, lies_in, member_leaving, edge_depth, some_edges}

@@ -5,9 +5,9 @@ ghost use Rattle.pals_base.specs.PlainTrees.{For};
 ghost use Rattle.step_compiler.specs.TreeInstructions.{code_act, code_acts, code_branches};
 ghost use Rattle.step_compiler.specs.proof.AppendedCode.{Adds};
 
+use crate::checked_numbers::{behind, deeper};
 use crate::expressions::push_expr;
 use crate::lengths::{acts_length, branches_length, expr_length};
-use crate::checked_numbers::{behind, deeper};
 use pals_base::{Act, Branch, Items, NoMemory};
 use step_code::Instr;
 

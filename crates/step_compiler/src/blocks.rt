@@ -8,8 +8,8 @@ ghost use Rattle.step_compiler.specs.BlockLayout.{block_length, start_of, blocks
 ghost use Rattle.step_compiler.specs.proof.BlockLengths.{start_in, in_list, capped_length, leaving_code};
 ghost use Rattle.step_compiler.specs.proof.AppendedCode.{Adds};
 
-use crate::lengths::transition_length;
 use crate::checked_numbers::{behind, item_at};
+use crate::lengths::transition_length;
 use crate::transitions::{is_complete, push_transition};
 use pals_base::{Behaviour, Guard, Items, NoMemory, Transition};
 use std::alloc::Global;

@@ -6,12 +6,12 @@ ghost use Rattle.step_compiler.specs.proof.BlockLengths.{compiled};
 ghost use Rattle.step_compiler.specs.LaidOutCode.{IsLaidOut};
 ghost use Rattle.step_compiler.specs.proof.CompileRefusals.{IsCauseFor};
 
+use crate::block_order::block_order;
 use crate::blocks::{entries, push_blocks, starts};
-use crate::loop_depths::transitions_depth;
+use crate::checked_numbers::count;
 use crate::fault::CompileFault;
 use crate::lengths::transitions_length;
-use crate::checked_numbers::count;
-use crate::block_order::block_order;
+use crate::loop_depths::transitions_depth;
 use pals_base::limits::INSTRUCTIONS;
 use pals_base::{Behaviour, Items, NoMemory};
 use std::alloc::Global;

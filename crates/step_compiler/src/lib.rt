@@ -2,15 +2,15 @@
 #![tactic(auto)]
 
 mod actions;
+mod block_order;
 mod blocks;
+mod checked_numbers;
 mod compiler;
-mod loop_depths;
 mod expressions;
 mod fault;
 pub mod laws;
 mod lengths;
-mod checked_numbers;
-mod block_order;
+mod loop_depths;
 mod transitions;
 
 pub use compiler::compile;

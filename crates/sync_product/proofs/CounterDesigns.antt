@@ -11,8 +11,8 @@ use Rattle.pals_model.specs.declared.design.Feed.{Feed}
 use Rattle.pals_model.specs.declared.design.Tap.{Tap}
 use Rattle.pals_model.specs.declared.design.DesignParts.{DesignParts}
 use Rattle.pals_model.specs.proof.TwoCounters.{two_counters}
-use Rattle.pals_model.specs.DesignRules.{IsComponent, IsLink, IsFeed, IsTap, IsApart, LinkPrecedes, FeedPrecedes, AgreeInKind}
-use Rattle.pals_model.specs.DesignRules.{AreLinks, AreFeeds, IsDesign}
+use Rattle.pals_model.specs.DesignRules.{IsComponent, IsLink, IsFeed, IsTap, IsApart, LinkPrecedes, FeedPrecedes}
+use Rattle.pals_model.specs.DesignRules.{AgreeInKind, AreLinks, AreFeeds, IsDesign}
 use Rattle.sync_product.specs.proof.ExchangedCounters.{exchanged_counters, fed, fed_counters, exchanged_fed_counters}
 use Rattle.sync_product.proofs.CounterBehaviour.{all_of_two, pair_of_two, counter, counter_behaves}
 

@@ -5,8 +5,8 @@ ghost use Rattle.sync_product.specs.proof.ProductStates.{begun, advanced};
 
 use crate::messages::send_all;
 use crate::opening::{opening_messages, opening_parts, stages};
-use crate::round_inputs::RoundInputs;
 use crate::round::run_all;
+use crate::round_inputs::RoundInputs;
 use crate::stage::Stage;
 use crate::wiring::Wiring;
 use pals_base::{Items, LinkNo, NoMemory, NodeNo, PortValue, Tuple};

@@ -5,10 +5,10 @@
 #[cfg(test)]
 mod buses;
 #[cfg(test)]
-mod list_clocks;
-#[cfg(test)]
 mod designs;
 #[cfg(test)]
 mod gates;
+#[cfg(test)]
+mod list_clocks;
 #[cfg(test)]
 mod meetings;

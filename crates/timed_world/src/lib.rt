@@ -2,12 +2,12 @@
 //! that its bounds allow, and says why it refuses another. No stop ever stands on its bus.
 #![tactic(auto)]
 
+mod event_faults;
 mod event_list;
 mod events;
-mod event_faults;
 mod opening;
-mod time_passing_faults;
 mod standing;
+mod time_passing_faults;
 mod world;
 
 pub use event_list::{WorldEnd, run_list};

@@ -2,17 +2,17 @@
 //! they come, and then the lines of its journal are done again on a bus.
 #![tactic(auto)]
 
-mod entry_clocks;
+mod audited_rows;
 mod end_rules;
+mod entry_clocks;
+mod first_broken_rule;
+mod journal_lines;
+mod numerals;
 mod redone_entries;
 mod redone_events;
-mod journal_lines;
-mod row_text;
-mod numerals;
 mod replay;
 mod report;
-mod audited_rows;
-mod first_broken_rule;
+mod row_text;
 mod told_entries;
 mod traces;
 mod words;

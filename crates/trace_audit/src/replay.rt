@@ -8,8 +8,8 @@ ghost use Rattle.trace_audit.specs.proof.OwedStops.{owed_by};
 ghost use Rattle.trace_audit.specs.proof.AuditReplays.{IsReplay, Follows, IsClockOf, audit_in};
 
 use crate::entry_clocks::{ClockReading, clock_of, has_reading, note};
-use crate::redone_entries::redo;
 use crate::first_broken_rule::is_line_of;
+use crate::redone_entries::redo;
 use pals_base::{Nanos, NoMemory};
 use pals_bus::Bus;
 use pals_runs::{Arrived, JournalEntry, Stop, TraceRule};

@@ -4,9 +4,9 @@ ghost use Rattle.std.specs.Arc.{arc_value};
 ghost use Rattle.trace_audit.specs.proof.ReportEnds.{ReportEnds, end_at, index_of};
 ghost use Rattle.trace_audit.specs.proof.ReportRows.{IsAtLine};
 
+use crate::audited_rows::AuditedRows;
 use crate::has_form;
 use crate::row_text::row_size;
-use crate::audited_rows::AuditedRows;
 use pals_base::{NoMemory, Text};
 use pals_model::{Design, Env};
 use std::alloc::Global;

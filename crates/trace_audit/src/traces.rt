@@ -11,9 +11,9 @@ ghost use Rattle.trace_audit.specs.proof.AuditReplays.{IsReplay, audit_in};
 ghost use Rattle.trace_audit.specs.proof.ReportEnds.{ReportEnds};
 
 use crate::end_rules::end_rule;
-use crate::row_text::row_size;
 use crate::replay::Replay;
 use crate::report::{ReportEnd, read_report};
+use crate::row_text::row_size;
 use crate::told;
 use pals_base::{Items, NoMemory, Text};
 use pals_bus::Bus;

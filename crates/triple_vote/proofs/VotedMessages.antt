@@ -21,8 +21,8 @@ use Rattle.triple_vote.specs.Votes.{votes}
 use Rattle.triple_vote.specs.Replicas.{source_in, is_replicated, is_fault, fault_or, vote_of}
 use Rattle.triple_vote.specs.proof.VoteLaws.{IsFault}
 use Rattle.triple_vote.specs.proof.ReplicaLayers.{lengths, tap_sizes, HasRoom, is_there}
-use Rattle.triple_vote.specs.proof.ThreeLayers.{there_in, sent_in, shown_in, tuple_of, received_of, shown_of}
-use Rattle.triple_vote.specs.proof.ThreeLayers.{AreOfSize, FaultsFit, AreThree}
+use Rattle.triple_vote.specs.proof.ThreeLayers.{there_in, sent_in, shown_in, tuple_of, received_of, shown_of, AreOfSize}
+use Rattle.triple_vote.specs.proof.ThreeLayers.{FaultsFit, AreThree}
 use Rattle.triple_vote.proofs.TabulatedLists.{found}
 use Rattle.triple_vote.proofs.TupleVotes.{length-votes}
 use Rattle.triple_vote.proofs.TupleWrites.{Filled, filled_put}

@@ -4,8 +4,8 @@ ghost use Rattle.pals_model.specs.ComponentInputs.{all_sources};
 ghost use Rattle.sync_product.specs.proof.ProductSizes.{stage_size, stage_sizes};
 ghost use Rattle.triple_vote.specs.proof.ReplicaLayers.{HasRoom, IsOpened, StaysPut, IsMade, IsTurned};
 
-use crate::opening::{opening_frames, opening_shown};
 use crate::layer_rounds::{run_all, send_all, show_all};
+use crate::opening::{opening_frames, opening_shown};
 use pals_base::{Items, NoMemory, Tuple};
 use pals_model::{Design, Part, PortSource};
 use std::alloc::Global;

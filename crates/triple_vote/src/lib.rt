@@ -5,11 +5,11 @@
 mod first_faults;
 pub mod laws;
 mod layer;
+mod layer_rounds;
 mod layers;
 mod opening;
 mod product;
 mod receiving;
-mod layer_rounds;
 mod tap_tuples;
 pub mod votes;
 

@@ -5,8 +5,8 @@ ghost use Rattle.triple_vote.specs.Replicas.{fault_or};
 ghost use Rattle.triple_vote.specs.proof.FaultTables.{fault_at, AreFirstOn, AreFirst};
 ghost use Rattle.triple_vote.specs.proof.ReplicaLayers.{lengths};
 ghost use Rattle.triple_vote.specs.proof.VoteLaws.{IsFault};
-ghost use Rattle.triple_vote.specs.proof.ThreeLayers.{AreThree, sent_in, tuple_of, received_of, AreReceived};
-ghost use Rattle.triple_vote.specs.proof.ThreeLayers.{AreOfSize, FaultsFit};
+ghost use Rattle.triple_vote.specs.proof.ThreeLayers.{AreThree, sent_in, tuple_of, received_of, AreReceived, AreOfSize};
+ghost use Rattle.triple_vote.specs.proof.ThreeLayers.{FaultsFit};
 
 use crate::first_faults::{FaultTable, place};
 use crate::layer::Layer;

@@ -7,9 +7,10 @@ use Rattle.aadl_grammar.specs.proof.Symbols.{Class, Symbol, Row}
 use Rattle.aadl_grammar.specs.proof.ParseTable.{rows, can_omit}
 use Rattle.aadl_grammar.specs.proof.StackMachine.{Stack, Move, takes, omitted, refuses, class_number, kind_number, fits}
 use Rattle.aadl_grammar.specs.proof.StackMachine.{move_by, move, chosen, step, ends}
-use Rattle.aadl_grammar.proofs.DerivationTrees.ForbiddenFollowers.{among, firsts, first_of, tail, distinct, rows_settled}
-use Rattle.aadl_grammar.proofs.DerivationTrees.ForbiddenFollowers.{distinct_firsts, settled, settled_rows}
-use Rattle.aadl_grammar.proofs.DerivationTrees.FollowerMembership.{among_left, among_right, Clear, firsts_in_tail, clear_behind}
+use Rattle.aadl_grammar.proofs.DerivationTrees.ForbiddenFollowers.{among, firsts, first_of, tail, distinct}
+use Rattle.aadl_grammar.proofs.DerivationTrees.ForbiddenFollowers.{rows_settled, distinct_firsts, settled, settled_rows}
+use Rattle.aadl_grammar.proofs.DerivationTrees.FollowerMembership.{among_left, among_right, Clear, firsts_in_tail}
+use Rattle.aadl_grammar.proofs.DerivationTrees.FollowerMembership.{clear_behind}
 use Rattle.std.specs.Cmp.{first_so, second_so}
 use Rattle.std.proofs.lemmas.Option.{same_Some}
 use Rattle.aadl_grammar.proofs.HeadsAndTails.{not_both}

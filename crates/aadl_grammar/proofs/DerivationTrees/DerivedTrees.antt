@@ -7,8 +7,8 @@ use Rattle.aadl_grammar.specs.proof.ParseTable.{rows, can_omit}
 use Rattle.aadl_grammar.specs.proof.StackMachine.{Stack}
 use Rattle.aadl_grammar.proofs.DerivationTrees.Derivations.{Member, Derives, nothing, take, omit}
 use Rattle.aadl_grammar.proofs.DerivationTrees.SymbolTrees.{kind_with, TreeOf, parts, Trees, parts_all}
-use Rattle.aadl_grammar.proofs.DerivationTrees.TreeBuilders.{follow_first, split_first, split_all, follow_all, front, back, joined}
-use Rattle.aadl_grammar.proofs.DerivationTrees.TreeBuilders.{Builder, Builders, Gives, AllGive, InRows}
+use Rattle.aadl_grammar.proofs.DerivationTrees.TreeBuilders.{follow_first, split_first, split_all, follow_all, front}
+use Rattle.aadl_grammar.proofs.DerivationTrees.TreeBuilders.{back, joined, Builder, Builders, Gives, AllGive, InRows}
 use Rattle.aadl_grammar.proofs.ProductionTrees.All.{builders, Empty, empty}
 use Rattle.aadl_grammar.proofs.DerivationTrees.TerminalContents.{said, fits_with}
 use Rattle.aadl_grammar.proofs.ProductionCompleteness.All.{Omitted, Opened, opens, all_give, Nothing}

@@ -5,8 +5,8 @@ use Rattle.std.proofs.lemmas.Bool.{eqb-true, or_cases, or_left, or_right}
 use Rattle.aadl_grammar.specs.proof.Symbols.{Class, Symbol}
 use Rattle.aadl_grammar.specs.proof.ParseTable.{rows, can_omit}
 use Rattle.aadl_grammar.specs.proof.StackMachine.{Stack, class_number}
-use Rattle.aadl_grammar.proofs.DerivationTrees.ForbiddenFollowers.{among, firsts, first_of, nullable, tail, apart, covers}
-use Rattle.aadl_grammar.proofs.DerivationTrees.ForbiddenFollowers.{settled, omits_settled, settled_omits}
+use Rattle.aadl_grammar.proofs.DerivationTrees.ForbiddenFollowers.{among, firsts, first_of, nullable, tail, apart}
+use Rattle.aadl_grammar.proofs.DerivationTrees.ForbiddenFollowers.{covers, settled, omits_settled, settled_omits}
 use Rattle.std.specs.Cmp.{first_so, second_so}
 use Rattle.aadl_grammar.proofs.HeadsAndTails.{not_both}
 

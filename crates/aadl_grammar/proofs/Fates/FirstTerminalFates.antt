@@ -9,9 +9,9 @@ use Rattle.aadl_tree.specs.declared.nesting_limit.TheConstants.{GREATEST_NESTING
 use Rattle.aadl_tree.specs.Grammar.{place}
 use Rattle.aadl_grammar.specs.proof.Symbols.{the, Symbol, Row}
 use Rattle.aadl_grammar.specs.proof.ParseTable.{behind, rows, can_omit}
-use Rattle.aadl_grammar.specs.proof.StackMachine.{Stack, Move, takes, omitted, refuses, kind_number, fits, move_by, move}
-use Rattle.aadl_grammar.specs.proof.StackMachine.{chosen, step, ends, depth, Fate, finished, syntax_at, deep_at, fate_after}
-use Rattle.aadl_grammar.specs.proof.StackMachine.{fate}
+use Rattle.aadl_grammar.specs.proof.StackMachine.{Stack, Move, takes, omitted, refuses, kind_number, fits, move_by}
+use Rattle.aadl_grammar.specs.proof.StackMachine.{move, chosen, step, ends, depth, Fate, finished, syntax_at, deep_at}
+use Rattle.aadl_grammar.specs.proof.StackMachine.{fate_after, fate}
 use Rattle.aadl_grammar.proofs.DerivationTrees.ForbiddenFollowers.{among, firsts}
 use Rattle.aadl_grammar.proofs.DerivationTrees.TerminalContents.{Said, said, fits_with}
 use Rattle.std.proofs.lemmas.Bool.{or_parts}

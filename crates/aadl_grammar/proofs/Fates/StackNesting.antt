@@ -13,9 +13,9 @@ use Rattle.aadl_grammar.specs.proof.StackMachine.{move, chosen, step, closes, de
 use Rattle.aadl_grammar.proofs.DerivationTrees.ForbiddenFollowers.{among, firsts}
 use Rattle.aadl_grammar.proofs.DerivationTrees.Derivations.{Member, Goes, goes, member_first}
 use Rattle.aadl_grammar.proofs.DerivationTrees.TerminalContents.{Said, said}
-use Rattle.aadl_grammar.proofs.Fates.ProductionNesting.{openers, closers, shift, shift_is, end_is, opened_same, closing, odd}
-use Rattle.aadl_grammar.proofs.Fates.ProductionNesting.{plain, blunt, closing_first, good, changes, row_shifts, rows_shift}
-use Rattle.aadl_grammar.proofs.Fates.ProductionNesting.{rows_shifted, omits_close_nothing}
+use Rattle.aadl_grammar.proofs.Fates.ProductionNesting.{openers, closers, shift, shift_is, end_is, opened_same, closing}
+use Rattle.aadl_grammar.proofs.Fates.ProductionNesting.{odd, plain, blunt, closing_first, good, changes, row_shifts}
+use Rattle.aadl_grammar.proofs.Fates.ProductionNesting.{rows_shift, rows_shifted, omits_close_nothing}
 use Rattle.std.specs.Cmp.{first_so, second_so}
 use Rattle.std.proofs.lemmas.Option.{same_Some}
 use Rattle.aadl_grammar.proofs.HeadsAndTails.{not_both}

@@ -13,9 +13,9 @@ use Rattle.aadl_grammar.proofs.DerivationTrees.TreeBuilders.{respell, InRows, be
 use Rattle.aadl_grammar.proofs.ProductionTrees.Actions.{test_builders, whole_number_builders, bound_builders}
 use Rattle.aadl_grammar.proofs.ProductionTrees.Actions.{after_target_builders, loop_head_builders, action_builders}
 use Rattle.aadl_grammar.proofs.ProductionTrees.Actions.{actions_builders, actions_joins, mores_builders}
-use Rattle.aadl_grammar.proofs.ProductionTrees.Actions.{after_semicolon_builders, after_semicolon_joins, elsifs_builders}
-use Rattle.aadl_grammar.proofs.ProductionTrees.Actions.{otherwise_builders, end_if_builders, closing_if_builders}
-use Rattle.aadl_grammar.proofs.ProductionTrees.Actions.{block_builders, body_builders, body_joins}
+use Rattle.aadl_grammar.proofs.ProductionTrees.Actions.{after_semicolon_builders, after_semicolon_joins}
+use Rattle.aadl_grammar.proofs.ProductionTrees.Actions.{elsifs_builders, otherwise_builders, end_if_builders}
+use Rattle.aadl_grammar.proofs.ProductionTrees.Actions.{closing_if_builders, block_builders, body_builders, body_joins}
 use Rattle.aadl_grammar.proofs.ProductionSoundness.Actions.{loop_same}
 
 pub test_opens : Opens s.test test_builders

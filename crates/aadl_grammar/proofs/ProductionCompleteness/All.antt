@@ -11,65 +11,72 @@ use Rattle.aadl_grammar.proofs.ProductionTrees.All.{builders, Empty, empty}
 use Rattle.aadl_grammar.proofs.ProductionSoundness.Values.{only_give, identifier_give, name_give, names_give, path_give}
 use Rattle.aadl_grammar.proofs.ProductionSoundness.Values.{paths_give, more_identifiers_give, reference_give}
 use Rattle.aadl_grammar.proofs.ProductionSoundness.Values.{dot_identifier_give, figure_give, unit_give, quantity_give}
-use Rattle.aadl_grammar.proofs.ProductionSoundness.Values.{upper_give, value_give, path_group_give, reference_group_give}
-use Rattle.aadl_grammar.proofs.ProductionSoundness.Values.{values_give, more_values_give, operator_give, constant_give}
-use Rattle.aadl_grammar.proofs.ProductionSoundness.Values.{applies_give, more_paths_give, association_give, associations_give}
-use Rattle.aadl_grammar.proofs.ProductionSoundness.Values.{properties_give}
-use Rattle.aadl_grammar.proofs.ProductionSoundness.Expressions.{primary_give, fresh_give, factor_give, term_give, factors_give}
-use Rattle.aadl_grammar.proofs.ProductionSoundness.Expressions.{sum_give, terms_give, compared_give, relation_give}
-use Rattle.aadl_grammar.proofs.ProductionSoundness.Expressions.{relations_give, after_and_give, after_or_give, expression_give}
+use Rattle.aadl_grammar.proofs.ProductionSoundness.Values.{upper_give, value_give, path_group_give}
+use Rattle.aadl_grammar.proofs.ProductionSoundness.Values.{reference_group_give, values_give, more_values_give}
+use Rattle.aadl_grammar.proofs.ProductionSoundness.Values.{operator_give, constant_give, applies_give, more_paths_give}
+use Rattle.aadl_grammar.proofs.ProductionSoundness.Values.{association_give, associations_give, properties_give}
+use Rattle.aadl_grammar.proofs.ProductionSoundness.Expressions.{primary_give, fresh_give, factor_give, term_give}
+use Rattle.aadl_grammar.proofs.ProductionSoundness.Expressions.{factors_give, sum_give, terms_give, compared_give}
+use Rattle.aadl_grammar.proofs.ProductionSoundness.Expressions.{relation_give, relations_give, after_and_give}
+use Rattle.aadl_grammar.proofs.ProductionSoundness.Expressions.{after_or_give, expression_give}
 use Rattle.aadl_grammar.proofs.ProductionSoundness.Actions.{test_give, whole_number_give, bound_give, after_target_give}
 use Rattle.aadl_grammar.proofs.ProductionSoundness.Actions.{loop_head_give, action_give, actions_give, mores_give}
-use Rattle.aadl_grammar.proofs.ProductionSoundness.Actions.{after_semicolon_give, elsifs_give, otherwise_give, end_if_give}
-use Rattle.aadl_grammar.proofs.ProductionSoundness.Actions.{closing_if_give, block_give, body_give}
-use Rattle.aadl_grammar.proofs.ProductionSoundness.Annexes.{variable_give, variable_list_give, variables_give, initial_give}
-use Rattle.aadl_grammar.proofs.ProductionSoundness.Annexes.{complete_give, state_give, state_list_give, states_give}
-use Rattle.aadl_grammar.proofs.ProductionSoundness.Annexes.{guard_give, guarded_give, after_word_give, effect_give}
-use Rattle.aadl_grammar.proofs.ProductionSoundness.Annexes.{transition_give, transition_list_give, transitions_give}
-use Rattle.aadl_grammar.proofs.ProductionSoundness.Annexes.{content_give, annex_give, annexes_give}
-use Rattle.aadl_grammar.proofs.ProductionSoundness.Declarations.{direction_give, category_give, data_type_give, feature_give}
-use Rattle.aadl_grammar.proofs.ProductionSoundness.Declarations.{subcomponent_give, connection_end_give, connection_give}
-use Rattle.aadl_grammar.proofs.ProductionSoundness.Declarations.{feature_list_give, feature_section_give, features_give}
+use Rattle.aadl_grammar.proofs.ProductionSoundness.Actions.{after_semicolon_give, elsifs_give, otherwise_give}
+use Rattle.aadl_grammar.proofs.ProductionSoundness.Actions.{end_if_give, closing_if_give, block_give, body_give}
+use Rattle.aadl_grammar.proofs.ProductionSoundness.Annexes.{variable_give, variable_list_give, variables_give}
+use Rattle.aadl_grammar.proofs.ProductionSoundness.Annexes.{initial_give, complete_give, state_give, state_list_give}
+use Rattle.aadl_grammar.proofs.ProductionSoundness.Annexes.{states_give, guard_give, guarded_give, after_word_give}
+use Rattle.aadl_grammar.proofs.ProductionSoundness.Annexes.{effect_give, transition_give, transition_list_give}
+use Rattle.aadl_grammar.proofs.ProductionSoundness.Annexes.{transitions_give, content_give, annex_give, annexes_give}
+use Rattle.aadl_grammar.proofs.ProductionSoundness.Declarations.{direction_give, category_give, data_type_give}
+use Rattle.aadl_grammar.proofs.ProductionSoundness.Declarations.{feature_give, subcomponent_give, connection_end_give}
+use Rattle.aadl_grammar.proofs.ProductionSoundness.Declarations.{connection_give, feature_list_give}
+use Rattle.aadl_grammar.proofs.ProductionSoundness.Declarations.{feature_section_give, features_give}
 use Rattle.aadl_grammar.proofs.ProductionSoundness.Declarations.{subcomponent_list_give, subcomponent_section_give}
 use Rattle.aadl_grammar.proofs.ProductionSoundness.Declarations.{subcomponents_give, connection_list_give}
 use Rattle.aadl_grammar.proofs.ProductionSoundness.Declarations.{connection_section_give, connections_give}
 use Rattle.aadl_grammar.proofs.ProductionSoundness.Declarations.{property_section_give, own_properties_give}
 use Rattle.aadl_grammar.proofs.ProductionSoundness.Declarations.{implementation_name_give, type_end_give}
 use Rattle.aadl_grammar.proofs.ProductionSoundness.Declarations.{implementation_end_give, package_end_give}
-use Rattle.aadl_grammar.proofs.ProductionSoundness.Declarations.{after_category_give, declarations_give, more_names_give}
-use Rattle.aadl_grammar.proofs.ProductionSoundness.Declarations.{withs_give, a_package_give}
+use Rattle.aadl_grammar.proofs.ProductionSoundness.Declarations.{after_category_give, declarations_give}
+use Rattle.aadl_grammar.proofs.ProductionSoundness.Declarations.{more_names_give, withs_give, a_package_give}
 use Rattle.aadl_grammar.proofs.ProductionCompleteness.Values.{identifier_opens, name_opens, names_opens, path_opens}
 use Rattle.aadl_grammar.proofs.ProductionCompleteness.Values.{paths_opens, more_identifiers_opens, reference_opens}
-use Rattle.aadl_grammar.proofs.ProductionCompleteness.Values.{dot_identifier_opens, figure_opens, unit_opens, quantity_opens}
-use Rattle.aadl_grammar.proofs.ProductionCompleteness.Values.{upper_opens, value_opens, path_group_opens}
-use Rattle.aadl_grammar.proofs.ProductionCompleteness.Values.{reference_group_opens, values_opens, more_values_opens}
-use Rattle.aadl_grammar.proofs.ProductionCompleteness.Values.{operator_opens, constant_opens, applies_opens, more_paths_opens}
-use Rattle.aadl_grammar.proofs.ProductionCompleteness.Values.{association_opens, associations_opens, properties_opens}
+use Rattle.aadl_grammar.proofs.ProductionCompleteness.Values.{dot_identifier_opens, figure_opens, unit_opens}
+use Rattle.aadl_grammar.proofs.ProductionCompleteness.Values.{quantity_opens, upper_opens, value_opens}
+use Rattle.aadl_grammar.proofs.ProductionCompleteness.Values.{path_group_opens, reference_group_opens, values_opens}
+use Rattle.aadl_grammar.proofs.ProductionCompleteness.Values.{more_values_opens, operator_opens, constant_opens}
+use Rattle.aadl_grammar.proofs.ProductionCompleteness.Values.{applies_opens, more_paths_opens, association_opens}
+use Rattle.aadl_grammar.proofs.ProductionCompleteness.Values.{associations_opens, properties_opens}
 use Rattle.aadl_grammar.proofs.ProductionCompleteness.Expressions.{primary_opens, fresh_opens, factor_opens, term_opens}
-use Rattle.aadl_grammar.proofs.ProductionCompleteness.Expressions.{factors_opens, sum_opens, terms_opens, compared_opens}
-use Rattle.aadl_grammar.proofs.ProductionCompleteness.Expressions.{relation_opens, relations_opens, after_and_opens}
-use Rattle.aadl_grammar.proofs.ProductionCompleteness.Expressions.{after_or_opens, expression_opens}
-use Rattle.aadl_grammar.proofs.ProductionCompleteness.Actions.{test_opens, whole_number_opens, bound_opens, after_target_opens}
-use Rattle.aadl_grammar.proofs.ProductionCompleteness.Actions.{loop_head_opens, action_opens, actions_opens, mores_opens}
-use Rattle.aadl_grammar.proofs.ProductionCompleteness.Actions.{after_semicolon_opens, elsifs_opens, otherwise_opens}
-use Rattle.aadl_grammar.proofs.ProductionCompleteness.Actions.{end_if_opens, closing_if_opens, block_opens, body_opens}
+use Rattle.aadl_grammar.proofs.ProductionCompleteness.Expressions.{factors_opens, sum_opens, terms_opens}
+use Rattle.aadl_grammar.proofs.ProductionCompleteness.Expressions.{compared_opens, relation_opens, relations_opens}
+use Rattle.aadl_grammar.proofs.ProductionCompleteness.Expressions.{after_and_opens, after_or_opens, expression_opens}
+use Rattle.aadl_grammar.proofs.ProductionCompleteness.Actions.{test_opens, whole_number_opens, bound_opens}
+use Rattle.aadl_grammar.proofs.ProductionCompleteness.Actions.{after_target_opens, loop_head_opens, action_opens}
+use Rattle.aadl_grammar.proofs.ProductionCompleteness.Actions.{actions_opens, mores_opens, after_semicolon_opens}
+use Rattle.aadl_grammar.proofs.ProductionCompleteness.Actions.{elsifs_opens, otherwise_opens, end_if_opens}
+use Rattle.aadl_grammar.proofs.ProductionCompleteness.Actions.{closing_if_opens, block_opens, body_opens}
 use Rattle.aadl_grammar.proofs.ProductionCompleteness.Annexes.{variable_opens, variable_list_opens, variables_opens}
-use Rattle.aadl_grammar.proofs.ProductionCompleteness.Annexes.{initial_opens, complete_opens, state_opens, state_list_opens}
-use Rattle.aadl_grammar.proofs.ProductionCompleteness.Annexes.{states_opens, guard_opens, guarded_opens, after_word_opens}
-use Rattle.aadl_grammar.proofs.ProductionCompleteness.Annexes.{effect_opens, transition_opens, transition_list_opens}
-use Rattle.aadl_grammar.proofs.ProductionCompleteness.Annexes.{transitions_opens, content_opens, annex_opens, annexes_opens}
+use Rattle.aadl_grammar.proofs.ProductionCompleteness.Annexes.{initial_opens, complete_opens, state_opens}
+use Rattle.aadl_grammar.proofs.ProductionCompleteness.Annexes.{state_list_opens, states_opens, guard_opens}
+use Rattle.aadl_grammar.proofs.ProductionCompleteness.Annexes.{guarded_opens, after_word_opens, effect_opens}
+use Rattle.aadl_grammar.proofs.ProductionCompleteness.Annexes.{transition_opens, transition_list_opens}
+use Rattle.aadl_grammar.proofs.ProductionCompleteness.Annexes.{transitions_opens, content_opens, annex_opens}
+use Rattle.aadl_grammar.proofs.ProductionCompleteness.Annexes.{annexes_opens}
 use Rattle.aadl_grammar.proofs.ProductionCompleteness.Declarations.{direction_opens, category_opens, data_type_opens}
-use Rattle.aadl_grammar.proofs.ProductionCompleteness.Declarations.{feature_opens, subcomponent_opens, connection_end_opens}
-use Rattle.aadl_grammar.proofs.ProductionCompleteness.Declarations.{connection_opens, feature_list_opens}
-use Rattle.aadl_grammar.proofs.ProductionCompleteness.Declarations.{feature_section_opens, features_opens}
-use Rattle.aadl_grammar.proofs.ProductionCompleteness.Declarations.{subcomponent_list_opens, subcomponent_section_opens}
-use Rattle.aadl_grammar.proofs.ProductionCompleteness.Declarations.{subcomponents_opens, connection_list_opens}
-use Rattle.aadl_grammar.proofs.ProductionCompleteness.Declarations.{connection_section_opens, connections_opens}
-use Rattle.aadl_grammar.proofs.ProductionCompleteness.Declarations.{property_section_opens, own_properties_opens}
-use Rattle.aadl_grammar.proofs.ProductionCompleteness.Declarations.{implementation_name_opens, type_end_opens}
-use Rattle.aadl_grammar.proofs.ProductionCompleteness.Declarations.{implementation_end_opens, package_end_opens}
-use Rattle.aadl_grammar.proofs.ProductionCompleteness.Declarations.{after_category_opens, declarations_opens, more_names_opens}
-use Rattle.aadl_grammar.proofs.ProductionCompleteness.Declarations.{withs_opens, a_package_opens}
+use Rattle.aadl_grammar.proofs.ProductionCompleteness.Declarations.{feature_opens, subcomponent_opens}
+use Rattle.aadl_grammar.proofs.ProductionCompleteness.Declarations.{connection_end_opens, connection_opens}
+use Rattle.aadl_grammar.proofs.ProductionCompleteness.Declarations.{feature_list_opens, feature_section_opens}
+use Rattle.aadl_grammar.proofs.ProductionCompleteness.Declarations.{features_opens, subcomponent_list_opens}
+use Rattle.aadl_grammar.proofs.ProductionCompleteness.Declarations.{subcomponent_section_opens, subcomponents_opens}
+use Rattle.aadl_grammar.proofs.ProductionCompleteness.Declarations.{connection_list_opens, connection_section_opens}
+use Rattle.aadl_grammar.proofs.ProductionCompleteness.Declarations.{connections_opens, property_section_opens}
+use Rattle.aadl_grammar.proofs.ProductionCompleteness.Declarations.{own_properties_opens, implementation_name_opens}
+use Rattle.aadl_grammar.proofs.ProductionCompleteness.Declarations.{type_end_opens, implementation_end_opens}
+use Rattle.aadl_grammar.proofs.ProductionCompleteness.Declarations.{package_end_opens, after_category_opens}
+use Rattle.aadl_grammar.proofs.ProductionCompleteness.Declarations.{declarations_opens, more_names_opens, withs_opens}
+use Rattle.aadl_grammar.proofs.ProductionCompleteness.Declarations.{a_package_opens}
 
 -- the symbol is left out
 abbrev pub Omitted : (b : Bool) (y : Symbol) → Empty b y → TreeOf y → List Kind → List Kind → Type 0

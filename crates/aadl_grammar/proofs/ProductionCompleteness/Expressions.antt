@@ -15,12 +15,12 @@ use Rattle.aadl_grammar.specs.proof.Symbols as s
 use Rattle.aadl_grammar.specs.proof.ParseTable.{rows}
 use Rattle.aadl_grammar.proofs.DerivationTrees.SymbolTrees.{U, parts}
 use Rattle.aadl_grammar.proofs.DerivationTrees.TreeBuilders.{respell, InRows, behind_opens, uses, Opens, OpensOr}
-use Rattle.aadl_grammar.proofs.ProductionTrees.Expressions.{primary_builders, fresh_builders, factor_builders, factor_joins}
-use Rattle.aadl_grammar.proofs.ProductionTrees.Expressions.{term_builders, term_joins, factors_builders, sum_builders}
-use Rattle.aadl_grammar.proofs.ProductionTrees.Expressions.{sum_joins, terms_builders, compared_builders, relation_builders}
-use Rattle.aadl_grammar.proofs.ProductionTrees.Expressions.{relation_joins, relations_builders, after_and_builders}
-use Rattle.aadl_grammar.proofs.ProductionTrees.Expressions.{after_and_joins, after_or_builders, after_or_joins}
-use Rattle.aadl_grammar.proofs.ProductionTrees.Expressions.{expression_builders, expression_joins}
+use Rattle.aadl_grammar.proofs.ProductionTrees.Expressions.{primary_builders, fresh_builders, factor_builders}
+use Rattle.aadl_grammar.proofs.ProductionTrees.Expressions.{factor_joins, term_builders, term_joins, factors_builders}
+use Rattle.aadl_grammar.proofs.ProductionTrees.Expressions.{sum_builders, sum_joins, terms_builders, compared_builders}
+use Rattle.aadl_grammar.proofs.ProductionTrees.Expressions.{relation_builders, relation_joins, relations_builders}
+use Rattle.aadl_grammar.proofs.ProductionTrees.Expressions.{after_and_builders, after_and_joins, after_or_builders}
+use Rattle.aadl_grammar.proofs.ProductionTrees.Expressions.{after_or_joins, expression_builders, expression_joins}
 
 pub primary_opens : Opens s.primary primary_builders
 primary_opens (e.number at x) ks rest (more, e, sp) = inl (uses x tt more e sp)

@@ -14,15 +14,15 @@ use Rattle.aadl_grammar.specs.proof.ParseTable.{rows}
 use Rattle.aadl_grammar.proofs.DerivationTrees.SymbolTrees.{U, parts}
 use Rattle.aadl_grammar.proofs.DerivationTrees.References.{chain_of}
 use Rattle.aadl_grammar.proofs.DerivationTrees.TreeBuilders.{respell, InRows, behind_opens, uses, Opens, OpensOr}
-use Rattle.aadl_grammar.proofs.ProductionTrees.Values.{identifier_builders, name_builders, names_builders, path_builders}
-use Rattle.aadl_grammar.proofs.ProductionTrees.Values.{paths_builders, more_identifiers_builders, reference_builders}
-use Rattle.aadl_grammar.proofs.ProductionTrees.Values.{dot_identifier_builders, figure_builders, unit_builders}
-use Rattle.aadl_grammar.proofs.ProductionTrees.Values.{quantity_builders, upper_builders, value_builders, value_joins}
-use Rattle.aadl_grammar.proofs.ProductionTrees.Values.{path_group_builders, reference_group_builders, values_builders}
-use Rattle.aadl_grammar.proofs.ProductionTrees.Values.{values_joins, more_values_builders, operator_builders}
-use Rattle.aadl_grammar.proofs.ProductionTrees.Values.{constant_builders, applies_builders, more_paths_builders}
-use Rattle.aadl_grammar.proofs.ProductionTrees.Values.{association_builders, associations_builders, associations_joins}
-use Rattle.aadl_grammar.proofs.ProductionTrees.Values.{properties_builders}
+use Rattle.aadl_grammar.proofs.ProductionTrees.Values.{identifier_builders, name_builders, names_builders}
+use Rattle.aadl_grammar.proofs.ProductionTrees.Values.{path_builders, paths_builders, more_identifiers_builders}
+use Rattle.aadl_grammar.proofs.ProductionTrees.Values.{reference_builders, dot_identifier_builders, figure_builders}
+use Rattle.aadl_grammar.proofs.ProductionTrees.Values.{unit_builders, quantity_builders, upper_builders, value_builders}
+use Rattle.aadl_grammar.proofs.ProductionTrees.Values.{value_joins, path_group_builders, reference_group_builders}
+use Rattle.aadl_grammar.proofs.ProductionTrees.Values.{values_builders, values_joins, more_values_builders}
+use Rattle.aadl_grammar.proofs.ProductionTrees.Values.{operator_builders, constant_builders, applies_builders}
+use Rattle.aadl_grammar.proofs.ProductionTrees.Values.{more_paths_builders, association_builders, associations_builders}
+use Rattle.aadl_grammar.proofs.ProductionTrees.Values.{associations_joins, properties_builders}
 
 pub identifier_opens : Opens s.identifier identifier_builders
 identifier_opens t ks rest (more, e, sp) = inl (uses t.spelling tt more e sp)

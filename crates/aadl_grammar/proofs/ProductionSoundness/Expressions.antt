@@ -9,14 +9,15 @@ use Rattle.aadl_tree.specs.SpellingParts.{Spells}
 use Rattle.aadl_tree.specs.Expressions as e
 use Rattle.aadl_grammar.specs.proof.Symbols as s
 use Rattle.aadl_grammar.specs.proof.ParseTable.{rows}
-use Rattle.aadl_grammar.proofs.DerivationTrees.SymbolTrees.{U, compared_parts, relation_of, after_parts, and_join, or_join}
+use Rattle.aadl_grammar.proofs.DerivationTrees.SymbolTrees.{U, compared_parts, relation_of, after_parts, and_join}
+use Rattle.aadl_grammar.proofs.DerivationTrees.SymbolTrees.{or_join}
 use Rattle.aadl_grammar.proofs.DerivationTrees.TreeBuilders.{AllGive, behind_give}
-use Rattle.aadl_grammar.proofs.ProductionTrees.Expressions.{primary_builders, fresh_builders, factor_builders, factor_joins}
-use Rattle.aadl_grammar.proofs.ProductionTrees.Expressions.{term_builders, term_joins, factors_builders, sum_builders}
-use Rattle.aadl_grammar.proofs.ProductionTrees.Expressions.{sum_joins, terms_builders, compared_builders, relation_builders}
-use Rattle.aadl_grammar.proofs.ProductionTrees.Expressions.{relation_joins, relations_builders, after_and_builders}
-use Rattle.aadl_grammar.proofs.ProductionTrees.Expressions.{after_and_joins, after_or_builders, after_or_joins}
-use Rattle.aadl_grammar.proofs.ProductionTrees.Expressions.{expression_builders, expression_joins}
+use Rattle.aadl_grammar.proofs.ProductionTrees.Expressions.{primary_builders, fresh_builders, factor_builders}
+use Rattle.aadl_grammar.proofs.ProductionTrees.Expressions.{factor_joins, term_builders, term_joins, factors_builders}
+use Rattle.aadl_grammar.proofs.ProductionTrees.Expressions.{sum_builders, sum_joins, terms_builders, compared_builders}
+use Rattle.aadl_grammar.proofs.ProductionTrees.Expressions.{relation_builders, relation_joins, relations_builders}
+use Rattle.aadl_grammar.proofs.ProductionTrees.Expressions.{after_and_builders, after_and_joins, after_or_builders}
+use Rattle.aadl_grammar.proofs.ProductionTrees.Expressions.{after_or_joins, expression_builders, expression_joins}
 
 relation_same : (u : e.Sum U) (c : Option (RelationOperator × e.Sum U))
     → e.sum_parts u ++ compared_parts c ≡ e.relation_parts (relation_of u c)

@@ -10,15 +10,16 @@ use Rattle.aadl_grammar.specs.proof.ParseTable.{rows}
 use Rattle.aadl_grammar.proofs.DerivationTrees.SymbolTrees.{U}
 use Rattle.aadl_grammar.proofs.DerivationTrees.References.{reference_spells}
 use Rattle.aadl_grammar.proofs.DerivationTrees.TreeBuilders.{respell, AllGive, behind_give}
-use Rattle.aadl_grammar.proofs.ProductionTrees.Values.{only_builders, identifier_builders, name_builders, names_builders}
-use Rattle.aadl_grammar.proofs.ProductionTrees.Values.{path_builders, paths_builders, more_identifiers_builders}
-use Rattle.aadl_grammar.proofs.ProductionTrees.Values.{reference_builders, dot_identifier_builders, figure_builders}
-use Rattle.aadl_grammar.proofs.ProductionTrees.Values.{unit_builders, quantity_builders, upper_builders, value_builders}
-use Rattle.aadl_grammar.proofs.ProductionTrees.Values.{value_joins, path_group_builders, reference_group_builders}
-use Rattle.aadl_grammar.proofs.ProductionTrees.Values.{values_builders, values_joins, more_values_builders}
-use Rattle.aadl_grammar.proofs.ProductionTrees.Values.{operator_builders, constant_builders, applies_builders}
-use Rattle.aadl_grammar.proofs.ProductionTrees.Values.{more_paths_builders, association_builders, associations_builders}
-use Rattle.aadl_grammar.proofs.ProductionTrees.Values.{associations_joins, properties_builders}
+use Rattle.aadl_grammar.proofs.ProductionTrees.Values.{only_builders, identifier_builders, name_builders}
+use Rattle.aadl_grammar.proofs.ProductionTrees.Values.{names_builders, path_builders, paths_builders}
+use Rattle.aadl_grammar.proofs.ProductionTrees.Values.{more_identifiers_builders, reference_builders}
+use Rattle.aadl_grammar.proofs.ProductionTrees.Values.{dot_identifier_builders, figure_builders, unit_builders}
+use Rattle.aadl_grammar.proofs.ProductionTrees.Values.{quantity_builders, upper_builders, value_builders, value_joins}
+use Rattle.aadl_grammar.proofs.ProductionTrees.Values.{path_group_builders, reference_group_builders, values_builders}
+use Rattle.aadl_grammar.proofs.ProductionTrees.Values.{values_joins, more_values_builders, operator_builders}
+use Rattle.aadl_grammar.proofs.ProductionTrees.Values.{constant_builders, applies_builders, more_paths_builders}
+use Rattle.aadl_grammar.proofs.ProductionTrees.Values.{association_builders, associations_builders, associations_joins}
+use Rattle.aadl_grammar.proofs.ProductionTrees.Values.{properties_builders}
 
 regroup : (ps qs rs : List (Part U)) → ps ++ (qs ++ rs) ≡ (ps ++ qs) ++ rs
 regroup ps qs rs = sym (append_assoc ps qs rs)

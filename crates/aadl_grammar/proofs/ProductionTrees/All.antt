@@ -8,18 +8,20 @@ use Rattle.aadl_grammar.specs.proof.Symbols as s
 use Rattle.aadl_grammar.specs.proof.ParseTable.{rows, can_omit}
 use Rattle.aadl_grammar.proofs.DerivationTrees.SymbolTrees.{U, TreeOf}
 use Rattle.aadl_grammar.proofs.DerivationTrees.TreeBuilders.{Builders}
-use Rattle.aadl_grammar.proofs.ProductionTrees.Values.{only_builders, identifier_builders, name_builders, names_builders}
-use Rattle.aadl_grammar.proofs.ProductionTrees.Values.{path_builders, paths_builders, more_identifiers_builders}
-use Rattle.aadl_grammar.proofs.ProductionTrees.Values.{reference_builders, dot_identifier_builders, figure_builders}
-use Rattle.aadl_grammar.proofs.ProductionTrees.Values.{unit_builders, quantity_builders, upper_builders, value_builders}
+use Rattle.aadl_grammar.proofs.ProductionTrees.Values.{only_builders, identifier_builders, name_builders}
+use Rattle.aadl_grammar.proofs.ProductionTrees.Values.{names_builders, path_builders, paths_builders}
+use Rattle.aadl_grammar.proofs.ProductionTrees.Values.{more_identifiers_builders, reference_builders}
+use Rattle.aadl_grammar.proofs.ProductionTrees.Values.{dot_identifier_builders, figure_builders, unit_builders}
+use Rattle.aadl_grammar.proofs.ProductionTrees.Values.{quantity_builders, upper_builders, value_builders}
 use Rattle.aadl_grammar.proofs.ProductionTrees.Values.{path_group_builders, reference_group_builders, values_builders}
 use Rattle.aadl_grammar.proofs.ProductionTrees.Values.{more_values_builders, operator_builders, constant_builders}
 use Rattle.aadl_grammar.proofs.ProductionTrees.Values.{applies_builders, more_paths_builders, association_builders}
 use Rattle.aadl_grammar.proofs.ProductionTrees.Values.{associations_builders, properties_builders}
 use Rattle.aadl_grammar.proofs.ProductionTrees.Expressions.{primary_builders, fresh_builders, factor_builders}
-use Rattle.aadl_grammar.proofs.ProductionTrees.Expressions.{term_builders, factors_builders, sum_builders, terms_builders}
-use Rattle.aadl_grammar.proofs.ProductionTrees.Expressions.{compared_builders, relation_builders, relations_builders}
-use Rattle.aadl_grammar.proofs.ProductionTrees.Expressions.{after_and_builders, after_or_builders, expression_builders}
+use Rattle.aadl_grammar.proofs.ProductionTrees.Expressions.{term_builders, factors_builders, sum_builders}
+use Rattle.aadl_grammar.proofs.ProductionTrees.Expressions.{terms_builders, compared_builders, relation_builders}
+use Rattle.aadl_grammar.proofs.ProductionTrees.Expressions.{relations_builders, after_and_builders, after_or_builders}
+use Rattle.aadl_grammar.proofs.ProductionTrees.Expressions.{expression_builders}
 use Rattle.aadl_grammar.proofs.ProductionTrees.Actions.{test_builders, whole_number_builders, bound_builders}
 use Rattle.aadl_grammar.proofs.ProductionTrees.Actions.{after_target_builders, loop_head_builders, action_builders}
 use Rattle.aadl_grammar.proofs.ProductionTrees.Actions.{actions_builders, mores_builders, after_semicolon_builders}
@@ -29,8 +31,9 @@ use Rattle.aadl_grammar.proofs.ProductionTrees.Annexes.{variable_builders, varia
 use Rattle.aadl_grammar.proofs.ProductionTrees.Annexes.{initial_builders, complete_builders, state_builders}
 use Rattle.aadl_grammar.proofs.ProductionTrees.Annexes.{state_list_builders, states_builders, guard_builders}
 use Rattle.aadl_grammar.proofs.ProductionTrees.Annexes.{guarded_builders, after_word_builders, effect_builders}
-use Rattle.aadl_grammar.proofs.ProductionTrees.Annexes.{transition_builders, transition_list_builders, transitions_builders}
-use Rattle.aadl_grammar.proofs.ProductionTrees.Annexes.{content_builders, annex_builders, annexes_builders}
+use Rattle.aadl_grammar.proofs.ProductionTrees.Annexes.{transition_builders, transition_list_builders}
+use Rattle.aadl_grammar.proofs.ProductionTrees.Annexes.{transitions_builders, content_builders, annex_builders}
+use Rattle.aadl_grammar.proofs.ProductionTrees.Annexes.{annexes_builders}
 use Rattle.aadl_grammar.proofs.ProductionTrees.Declarations.{direction_builders, category_builders, data_type_builders}
 use Rattle.aadl_grammar.proofs.ProductionTrees.Declarations.{feature_builders, subcomponent_builders}
 use Rattle.aadl_grammar.proofs.ProductionTrees.Declarations.{connection_end_builders, connection_builders}

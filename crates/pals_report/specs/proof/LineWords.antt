@@ -3,7 +3,8 @@ use Rattle.std.specs.Prelude.{ℕ, codes, decimal, List, ◌++◌}
 use Rattle.std.specs.Fmt.{signed_decimal}
 use Rattle.pals_model.specs.RoundTexts.{tuple_text}
 use Rattle.pals_report.specs.declared.line_word.LineWord.{LineWord}
-use Rattle.pals_report.specs.declared.line_word.LineWord.TheVariants.{Bytes, Number, Wide, Signed, LoopSlot, Port, Tuple}
+use Rattle.pals_report.specs.declared.line_word.LineWord.TheVariants.{Bytes, Number, Wide, Signed, LoopSlot, Port}
+use Rattle.pals_report.specs.declared.line_word.LineWord.TheVariants.{Tuple}
 
 abbrev pub word_text : LineWord → List ℕ
 word_text (Bytes bytes) = bytes.now

@@ -13,11 +13,11 @@ use Rattle.aadl_tree.proofs.ExpressionViews.{view-out-expression, view-out-sum, 
 use Rattle.annex_resolve.proofs.StructViews.{view-out-term}
 use Rattle.annex_resolve.proofs.SeveralOperands.{empty_by, some_by, none_by}
 use Rattle.annex_resolve.proofs.ResolvedSums.{term_alone, term_several, sum_alone, sum_several, relation_alone}
-use Rattle.annex_resolve.proofs.ResolvedExpressions.{relation_compared, expression_alone, expression_several, factors_none}
-use Rattle.annex_resolve.proofs.ResolvedExpressions.{factors_next, of_factors, terms_none, terms_next, of_terms}
-use Rattle.annex_resolve.proofs.ResolvedExpressions.{relations_none, relations_next, of_relations, factor_absolute}
-use Rattle.annex_resolve.proofs.ResolvedExpressions.{factor_negated, factor_plain, primary_number, primary_truth}
-use Rattle.annex_resolve.proofs.ResolvedExpressions.{primary_group}
+use Rattle.annex_resolve.proofs.ResolvedExpressions.{relation_compared, expression_alone, expression_several}
+use Rattle.annex_resolve.proofs.ResolvedExpressions.{factors_none, factors_next, of_factors, terms_none, terms_next}
+use Rattle.annex_resolve.proofs.ResolvedExpressions.{of_terms, relations_none, relations_next, of_relations}
+use Rattle.annex_resolve.proofs.ResolvedExpressions.{factor_absolute, factor_negated, factor_plain, primary_number}
+use Rattle.annex_resolve.proofs.ResolvedExpressions.{primary_truth, primary_group}
 use Rattle.annex_resolve.proofs.expressions.+expression.Goals as goal
 use Rattle.annex_resolve.proofs.expressions.+expression.Goals.{resolve_sum-else-is_none-via-then-is_none+else-is_empty}
 use Rattle.annex_resolve.proofs.expressions.+expression.Goals.{resolve_sum-else-is_none-via-else-is_none}

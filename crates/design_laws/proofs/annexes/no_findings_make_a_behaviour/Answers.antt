@@ -3,8 +3,9 @@ use Rattle.std.specs.List.{enumerate_from}
 use Rattle.std.proofs.lemmas.List.{length-map}
 use Rattle.annex_resolve.specs.declared.violation.TheConstants.{NO_INITIAL}
 use Rattle.annex_resolve.specs.NamesAndFindings.{found_if}
-use Rattle.annex_resolve.specs.BehavioursAndFindings.{declared, states_of, transitions_of, leg_of, behaviour_of, has_initial}
-use Rattle.annex_resolve.specs.BehavioursAndFindings.{transition_findings, rule_findings, state_rules, cycles_of}
+use Rattle.annex_resolve.specs.BehavioursAndFindings.{declared, states_of, transitions_of, leg_of, behaviour_of}
+use Rattle.annex_resolve.specs.BehavioursAndFindings.{has_initial, transition_findings, rule_findings, state_rules}
+use Rattle.annex_resolve.specs.BehavioursAndFindings.{cycles_of}
 use Rattle.design_laws.proofs.EmptyFindingLists.{nothing_left, is_right}
 use Rattle.design_laws.proofs.SoundTransitions.{edges_sound, all_have_ways, no_cycles}
 use Rattle.design_laws.proofs.InitialStates.{may_begin_there}

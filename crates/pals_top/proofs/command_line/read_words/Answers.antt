@@ -3,7 +3,8 @@ use Rattle.std.proofs.lemmas.Bool.Decides.{nat_tests}
 use Rattle.pals_top.specs.CommandWords.{is_plain, form, rooted_form, IsRead}
 use Rattle.pals_top.proofs.CommandWords.{form_rooted, form_none, form_unplain, form_long, is_same, no_items, two_items}
 use Rattle.pals_top.proofs.CommandWords.{three_items}
-use Rattle.pals_top.proofs.command_line.read_words.Goals.{in_default-via-then-words-lt1, in_default-via-in-len2+else-is_plain}
+use Rattle.pals_top.proofs.command_line.read_words.Goals.{in_default-via-then-words-lt1}
+use Rattle.pals_top.proofs.command_line.read_words.Goals.{in_default-via-in-len2+else-is_plain}
 use Rattle.pals_top.proofs.command_line.read_words.Goals.{in_default-via-in-len3-4+else-is_plain-2}
 use Rattle.pals_top.proofs.command_line.read_words.Goals.{in_default-via-in-len3-4+then-is_plain-2+else-is_plain-3}
 use Rattle.pals_top.proofs.command_line.read_words.Goals.{in_default-via-in-len3-4+then-is_plain-2+then-is_plain-3+else-is_plain-4}

@@ -3,8 +3,8 @@ use Rattle.aadl_tree.specs.proof.ValueViews.{value_view}
 use Rattle.aadl_tree.specs.proof.PlaceMaps.{no_place}
 use Rattle.aadl_tree.proofs.ValueViews.{view-List, view-Record, view-Text, view-Reference, view-Classifier, view-Named}
 use Rattle.aadl_tree.proofs.ValueViews.{view-Number}
-use Rattle.aadl_tree.proofs.ValueVariants.{only_list, only_record, only_text, only_reference, only_classifier, only_name}
-use Rattle.aadl_tree.proofs.ValueVariants.{only_number}
+use Rattle.aadl_tree.proofs.ValueVariants.{only_list, only_record, only_text, only_reference, only_classifier}
+use Rattle.aadl_tree.proofs.ValueVariants.{only_name, only_number}
 use Rattle.aadl_tree.proofs.EqualLengths.{values-length, associations-length}
 use Rattle.aadl_tree.proofs.same.values.+same_value.Goals as goal
 

@@ -6,7 +6,8 @@ use Rattle.pals_base.specs.declared.values.Gamma.{Gamma}
 use Rattle.pals_model.specs.declared.design.DesignParts.{DesignParts}
 use Rattle.run_laws.specs.EventFaults.{Reading, apart, clock_apart}
 use Rattle.timed_world.specs.proof.WorldValues.{WorldValue}
-use Rattle.timed_world.proofs.FaultSearch.{readings_left, readings_more, goes_past, has_found, within_found, within_past}
+use Rattle.timed_world.proofs.FaultSearch.{readings_left, readings_more, goes_past, has_found, within_found}
+use Rattle.timed_world.proofs.FaultSearch.{within_past}
 use Rattle.timed_world.proofs.world.World.clock_apart.Goals as goal
 
 pub returns-then-eps-abs_diff : goal.returns-then-eps-abs_diff
