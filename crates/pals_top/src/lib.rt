@@ -10,7 +10,6 @@ mod check;
 pub mod command_line;
 mod execution;
 mod fuse;
-mod loose_world;
 mod opening_bus;
 mod print;
 mod program;
@@ -21,6 +20,7 @@ mod sync;
 mod vote;
 mod watch;
 mod world;
+mod world_loose;
 
 pub use command_line::{WordsEnd, read_words};
 pub use program::pals;

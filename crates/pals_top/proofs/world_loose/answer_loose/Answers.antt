@@ -1,5 +1,5 @@
 use Rattle.pals_top.proofs.LooseWorlds.{left_says}
-use Rattle.pals_top.proofs.loose_world.answer_loose.Goals as goal
+use Rattle.pals_top.proofs.world_loose.answer_loose.Goals as goal
 
 pub returns : goal.returns
 returns c =
