@@ -18,7 +18,7 @@ mod mark_spelling;
 pub mod names;
 pub mod nesting_limit;
 pub mod package;
-pub mod same;
+pub mod sameness;
 mod short_lists;
 pub mod values;
 
@@ -38,6 +38,6 @@ pub use mark::Mark;
 pub use names::{Identifier, Identifiers, Name, Path, Reference};
 pub use nesting_limit::GREATEST_NESTING;
 pub use package::PackageTree;
-pub use same::{Same, same};
+pub use sameness::{Same, same};
 pub use short_lists::push_exact;
 pub use values::{Association, AssociationOperator, Number, Quantity, UnsignedNumber, Value};

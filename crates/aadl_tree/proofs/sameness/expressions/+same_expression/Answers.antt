@@ -9,9 +9,9 @@ use Rattle.aadl_tree.proofs.ExpressionViews.{view-Named, view-Group, view-Abs, v
 use Rattle.aadl_tree.proofs.PrimaryVariants.{only_whole, only_truth, only_named, only_group}
 use Rattle.aadl_tree.proofs.FactorVariants.{only_absolute, only_negated, only_bare}
 use Rattle.aadl_tree.proofs.EqualLengths.{factors-length, terms-length, relations-length}
-use Rattle.aadl_tree.proofs.same.expressions.+same_expression.Goals as goal
-use Rattle.aadl_tree.proofs.same.expressions.+same_expression.Goals.{same_sum-then-same_option}
-use Rattle.aadl_tree.proofs.same.expressions.+same_expression.Goals.{same_sum-else-same_option}
+use Rattle.aadl_tree.proofs.sameness.expressions.+same_expression.Goals as goal
+use Rattle.aadl_tree.proofs.sameness.expressions.+same_expression.Goals.{same_sum-then-same_option}
+use Rattle.aadl_tree.proofs.sameness.expressions.+same_expression.Goals.{same_sum-else-same_option}
 
 pub same_factors-returns-then-left-right : goal.same_factors-returns-then-left-right
 same_factors-returns-then-left-right t c =

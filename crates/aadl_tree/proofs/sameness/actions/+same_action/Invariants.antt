@@ -2,7 +2,7 @@ use Rattle.std.proofs.Common.{◌≡◌, length, drop}
 use Rattle.std.specs.Prelude.{◌↔◌}
 use Rattle.aadl_tree.specs.proof.ActionViews.{mores_view, elsifs_view}
 use Rattle.aadl_tree.specs.proof.PlaceMaps.{no_place}
-use Rattle.aadl_tree.proofs.same.actions.+same_action.Given as goal
+use Rattle.aadl_tree.proofs.sameness.actions.+same_action.Given as goal
 
 -- all mean the same exactly where those that are left do
 abbrev pub invariant-same_mores-loop-at : goal.invariant-same_mores-loop-at

@@ -4,11 +4,11 @@ use Rattle.aadl_tree.specs.proof.PlaceMaps.{no_place}
 use Rattle.aadl_tree.proofs.ActionVariants.{only_assign, only_send, only_choose, only_loop}
 use Rattle.aadl_tree.proofs.ActionViews.{view-Assign, view-Send, view-If, view-For, view-out-choice, view-out-loop}
 use Rattle.aadl_tree.proofs.EqualLengths.{mores-length, elsifs-length}
-use Rattle.aadl_tree.proofs.same.actions.+same_action.Goals as goal
-use Rattle.aadl_tree.proofs.same.actions.+same_action.Goals.{same_choice-then-same_expression}
-use Rattle.aadl_tree.proofs.same.actions.+same_action.Goals.{same_choice-else-same_expression}
-use Rattle.aadl_tree.proofs.same.actions.+same_action.Goals.{same_choice-then-same_actions}
-use Rattle.aadl_tree.proofs.same.actions.+same_action.Goals.{same_choice-else-same_actions}
+use Rattle.aadl_tree.proofs.sameness.actions.+same_action.Goals as goal
+use Rattle.aadl_tree.proofs.sameness.actions.+same_action.Goals.{same_choice-then-same_expression}
+use Rattle.aadl_tree.proofs.sameness.actions.+same_action.Goals.{same_choice-else-same_expression}
+use Rattle.aadl_tree.proofs.sameness.actions.+same_action.Goals.{same_choice-then-same_actions}
+use Rattle.aadl_tree.proofs.sameness.actions.+same_action.Goals.{same_choice-else-same_actions}
 
 pub same_mores-returns-then-left-right : goal.same_mores-returns-then-left-right
 same_mores-returns-then-left-right t c =

@@ -2,7 +2,7 @@ use Rattle.std.proofs.Common.{◌≡◌, length, drop}
 use Rattle.std.specs.Prelude.{◌↔◌}
 use Rattle.aadl_tree.specs.proof.ValueViews.{values_view, associations_view}
 use Rattle.aadl_tree.specs.proof.PlaceMaps.{no_place}
-use Rattle.aadl_tree.proofs.same.values.+same_value.Given as goal
+use Rattle.aadl_tree.proofs.sameness.values.+same_value.Given as goal
 
 -- all mean the same exactly where those that are left do
 abbrev pub invariant-same_values-loop-at : goal.invariant-same_values-loop-at

@@ -1,6 +1,6 @@
 use Rattle.std.proofs.Common.{◌≡◌, length, map, drop}
 use Rattle.std.specs.Prelude.{◌↔◌}
-use Rattle.aadl_tree.proofs.same.lists.same_items.Given as goal
+use Rattle.aadl_tree.proofs.sameness.lists.same_items.Given as goal
 
 -- all mean the same exactly where those that are left do
 abbrev pub invariant-loop-at : goal.invariant-loop-at

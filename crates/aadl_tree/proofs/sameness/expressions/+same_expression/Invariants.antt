@@ -2,7 +2,7 @@ use Rattle.std.proofs.Common.{◌≡◌, length, drop}
 use Rattle.std.specs.Prelude.{◌↔◌}
 use Rattle.aadl_tree.specs.proof.ExpressionViews.{factors_view, terms_view, relations_view}
 use Rattle.aadl_tree.specs.proof.PlaceMaps.{no_place}
-use Rattle.aadl_tree.proofs.same.expressions.+same_expression.Given as goal
+use Rattle.aadl_tree.proofs.sameness.expressions.+same_expression.Given as goal
 
 -- all mean the same exactly where those that are left do
 abbrev pub invariant-same_factors-loop-at : goal.invariant-same_factors-loop-at
