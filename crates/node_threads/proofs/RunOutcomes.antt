@@ -1,6 +1,8 @@
 -- For `driven` and `run_threads`: what comes out of a run of a design, and that it opens anew as fresh.
-use Rattle.std.proofs.Common.{◌≡◌, Bool, true, false, List, map, Some, refl, sym, ap, ◌∙◌, subst}
+use Rattle.std.proofs.Common.{◌≡◌, ◌≢◌, ℕ, ◌≤◌, Bool, true, false, List, length, map, Some, None, slice_get, refl, sym}
+use Rattle.std.proofs.Common.{ap, ◌∙◌, subst, arith}
 use Rattle.std.specs.Prelude.{Result, Ok, Err, IfOk}
+use Rattle.pals_base.specs.declared.limits.TheConstants.{COMPONENTS}
 use Rattle.pals_clock.specs.ClockStates.{ClockState}
 use Rattle.pals_clock.specs.declared.clock.Clocks.{Clocks}
 use Rattle.pals_clock.specs.declared.clock.Clocks.TheVariants.{Meet, Lists}
@@ -9,6 +11,7 @@ use Rattle.pals_bus.specs.BusValues.{BusValue}
 use Rattle.pals_bus.specs.proof.NodeAndCodeValues.{opening_bus}
 use Rattle.run_laws.specs.Runs.{lists_in, Runs}
 use Rattle.node_threads.specs.declared.node_end.NodeEnd.{NodeEnd}
+use Rattle.node_threads.specs.declared.node_end.NodeEnd.TheVariants as ended
 use Rattle.node_threads.specs.declared.node_end.NodeNote.{NodeNote}
 use Rattle.node_threads.specs.proof.SharedCourses.{CourseValue, AreClocksOf, clocks_of, course_of, IsOf, Stays}
 use Rattle.node_threads.specs.declared.threads.RunEnd.{RunEnd}
@@ -49,6 +52,18 @@ pub outcome_by : (old c : CourseValue) (new : BusValue) (ends : List NodeEnd) �
 outcome_by old c new ends stays is rules runs fit =
     subst (λ (b : BusValue). IsOutcome old.bus old.clocks b ends) (sym is)
     (record { run = stays.run; rules = rules; later = c.clocks; lists = stays.lists; runs = runs; ends_fit = fit })
+
+pub few_ends : (b : BusValue) (clocks : Clocks) (ends : List NodeEnd) → IsRunOf b.run → EndsFit b clocks ends
+    → length ends ≤ COMPONENTS
+few_ends b clocks ends rules fit =
+    let many = fit.many in
+    let few = rules.design.components.count in
+    omega (arith, many, few)
+
+pub none_stopped : (b new : BusValue) (clocks : Clocks) (ends : List NodeEnd) → new ≡ b → EndsFit b clocks ends
+    → (node : ℕ) → slice_get ends node ≡ Some ended.Stopped → new.state.stop ≢ None
+none_stopped b new clocks ends is fit node stopped =
+    subst (λ (v : BusValue). v.state.stop ≢ None) (sym is) (fit.each node ended.Stopped stopped)
 
 -- a course is of the run of a bus and of its lists, and what comes of it is what comes of them
 outcome_of : (b : BusValue) (clocks : Clocks) (kept c : CourseValue) (new : BusValue) (ends : List NodeEnd)

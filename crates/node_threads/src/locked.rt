@@ -37,10 +37,11 @@ impl Locked {
         self.course
     }
 
-    /// The next turn of a node: its job that was done comes in, and then it goes on. The second answer
-    /// is whom to wake once the lock is free: one thread at most, which tells of the next one in its own
-    /// turn, so that they do not all ask for the lock at once. Where a job comes in while others are to
-    /// be woken, it is nobody: a thread that is on its way to its turn will tell of the next one.
+    /// The next turn of a node: its job that was done comes in, it sends its round where that comes next, and then it
+    /// goes on up to a job, to a wait, or to its end. The second answer is whom to wake once the lock is free: one
+    /// thread at most, which tells of the next one in its own turn, so that they do not all ask for the lock at once.
+    /// Where a job comes in while others are to be woken, it is nobody: a thread that is on its way to its turn will
+    /// tell of the next one.
     #[tactic(auto, using(crate::proofs::ChangesUnderLock::stays_on))]
     pub fn turn(&mut self, node: NodeNo, done: Option<Done>) -> (NextMove, Option<Sleeper>)
         ensures { Stays self.old.course self.new.course }
@@ -50,10 +51,13 @@ impl Locked {
         if let Some(done) = done {
             self.finish(node, done);
         }
-        let turn = match self.begin(node) {
-            NextMove::Again => self.begin(node),
-            other => other,
+        self.send_first(node);
+        let turn = if self.sleepers.is_early(&self.course, node) {
+            NextMove::Wait
+        } else {
+            self.course.begin(node)
         };
+        self.wake_others(node, &turn);
         let wake = if tells {
             self.sleepers.take_wake()
         } else {
@@ -130,15 +134,21 @@ impl Locked {
         self.move_hour(node);
     }
 
-    // A node goes on, and the threads that waited for that are woken.
+    // A node that sends next does so, unless it waits for the hour, and the threads that waited for that are woken.
     #[tactic(auto, using(crate::proofs::ChangesUnderLock::stays_on))]
-    fn begin(&mut self, node: NodeNo) -> NextMove
+    fn send_first(&mut self, node: NodeNo)
         ensures { Stays self.old.course self.new.course }
     {
-        if self.sleepers.is_early(&self.course, node) {
-            return NextMove::Wait;
+        if self.course.is_to_send(node) && !self.sleepers.is_early(&self.course, node) {
+            let turn = self.course.begin(node);
+            self.wake_others(node, &turn);
         }
-        let turn = self.course.begin(node);
+    }
+
+    // The threads that waited for what a node has done are woken.
+    fn wake_others(&mut self, node: NodeNo, turn: &NextMove)
+        ensures { Stays self.old.course self.new.course }
+    {
         match turn {
             NextMove::Again => {
                 self.sleepers.wake_targets(&self.course, node);
@@ -147,7 +157,6 @@ impl Locked {
             NextMove::Over => self.sleepers.wake_behind(&self.course, node),
             NextMove::Wait | NextMove::Work(_) => {}
         }
-        turn
     }
 
     // Where the nodes meet: if a node was the last one at the hour, the hour moves. Nodes that send then

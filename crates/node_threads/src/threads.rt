@@ -1,8 +1,10 @@
 //! A run of nodes in threads.
-ghost use Rattle.std.specs.Prelude.{◌≡◌, length, vec_len, IfOk};
+ghost use Rattle.std.specs.Prelude.{◌≡◌, ◌≢◌, ◌≤◌, ℕ, length, vec_len, None, Some, IfOk, slice_get};
+ghost use Rattle.pals_base.specs.declared.limits.TheConstants.{COMPONENTS};
 ghost use Rattle.pals_bus.specs.proof.NodeAndCodeValues.{opening_bus};
 ghost use Rattle.node_threads.specs.proof.SharedCourses.{AreClocksOf};
 ghost use Rattle.node_threads.specs.proof.NodeEnds.{IsOutcome};
+ghost use Rattle.node_threads.specs.declared.node_end.NodeEnd.TheVariants as ended;
 
 use crate::course::SharedRun;
 use crate::drive_remaining::drive_with_spare;
@@ -22,11 +24,14 @@ use std::alloc::Global;
 use std::sync::{Mutex, Wait};
 use std::thread::Threads;
 
-/// A bus that comes out of a run, and how the part of each node ended, in the order of the nodes.
+/// A bus that comes out of a run, and how the part of each node ended, in the order of the nodes. A part was stopped
+/// only where a stop stands.
 #[derive(Drop)]
 pub struct RunEnd {
     pub bus: Bus,
     pub ends: Items<NodeEnd>,
+    pub ghost few: { length ends ≤ COMPONENTS },
+    pub ghost stopped: { (node : ℕ) → slice_get ends node ≡ Some ended.Stopped → bus.state.stop ≢ None },
 }
 
 /// Runs a bus from its opening to its end, with a thread for each node that the starter admits and
@@ -43,43 +48,17 @@ pub fn run_threads<R: Threads + Wait + Sync, W: Starter, G: Gate + Sync>(
     requires clocks { AreClocksOf bus clocks }
     ensures { IfOk result (λ end. IsOutcome bus clocks end.bus end.ends) }
 {
-    let (course, kept) = open_with_spare(alloc, bus, clocks)?;
-    run_beside(host, alloc, course, kept)
-}
-
-// A run in threads, and what comes of it for the run that is kept beside it.
-fn run_beside<R: Threads + Wait + Sync, W: Starter, G: Gate + Sync>(
-    host: Host<'_, R, W, G>,
-    alloc: Global,
-    course: SharedRun,
-    kept: SharedRun,
-) -> Result<RunEnd, NoMemory>
-    ensures { IfOk result (λ end. IsOutcome kept.bus kept.clocks end.bus end.ends) }
-{
     let Host {
         runtime,
         starter,
         gate,
     } = host;
-    match in_threads(runtime, alloc, course, starter, gate) {
-        Ok(out) => drive_with_spare(runtime, alloc, out, kept, gate),
-        Err(no_memory) => Err(no_memory),
-    }
-}
-
-// What comes out of the lock once all threads have ended. Only the type of a course tells what that is, so
-// there is no clause here.
-fn in_threads<R: Threads + Wait + Sync, W: Starter, G: Gate + Sync>(
-    rt: &R,
-    alloc: Global,
-    course: SharedRun,
-    starter: &mut W,
-    gate: &G,
-) -> Result<SharedRun, NoMemory> {
+    let (course, kept) = open_with_spare(alloc, bus, clocks)?;
     let count = course.count();
     let (lock, bells) = shared(alloc, course)?;
-    work_all(rt, &lock, &bells, count, starter, gate);
-    Ok(lock.into_inner().into_course())
+    work_all(runtime, &lock, &bells, count, starter, gate);
+    let out = lock.into_inner().into_course();
+    drive_with_spare(runtime, alloc, out, kept, gate)
 }
 
 // A course under a lock, and the bells of its nodes.

@@ -3,16 +3,15 @@
 ghost use Rattle.std.specs.Prelude.{◌<◌, ◌≤◌, length, OnOk, Some};
 ghost use Rattle.pals_base.specs.declared.limits.TheConstants.{READING};
 ghost use Rattle.bus_machine.specs.Machine.{Start, Step, Send};
-ghost use Rattle.node_threads.specs.proof.SharedCourses.{Stays, IsOpen, IsNext, IsReady, EndsAt, IsToStartIn};
-ghost use Rattle.node_threads.specs.proof.SharedCourses.{IsAwaitedIn, Allows};
+ghost use Rattle.node_threads.specs.proof.SharedCourses.{Stays, IsOpen, EndsAt, IsToStartIn, IsAwaitedIn, Allows};
 
 use crate::clocks::ClockAnswer;
 use crate::course::SharedRun;
 use crate::node_end::NodeNote;
-use bus_machine::{Next, NodeAction};
+use bus_machine::NodeAction;
 use pals_base::{Nanos, NodeNo};
-use pals_bus::{BusError, BusFinishEnd, BusSendEnd, BusStartEnd, BusStepEnd, DueEnd};
-use pals_node::{Done, Finished, Job, StartEnd, StepEnd};
+use pals_bus::{BusError, DueEnd};
+use pals_node::{Done, Job, StartEnd, StepEnd};
 
 /// What a thread does with its node after a locked step.
 #[derive(Drop)]
@@ -28,16 +27,28 @@ pub enum NextMove {
 }
 
 impl SharedRun {
-    /// A node goes on, where its part has not ended: up to a job, to a wait, or to its end.
+    /// A node goes on, where its part has not ended: up to a job, to a wait, or to its end. What comes next it
+    /// does at a reading that its clock shows.
+    #[tactic(auto, using(crate::proofs::ChangesUnderLock::stays_on))]
     pub fn begin(&mut self, node: NodeNo) -> NextMove
         ensures { Stays self.old self.new }
     {
         if !self.is_open(node) {
             return NextMove::Over;
         }
-        match self.bus.next(node) {
-            None => self.recover(node),
-            Some(next) => self.go(node, next),
+        let Some(next) = self.bus.next(node) else {
+            return self.recover(node);
+        };
+        let reading = match self.look(node, next) {
+            ClockAnswer::At(reading) => reading,
+            ClockAnswer::Wait => return NextMove::Wait,
+            ClockAnswer::Ended => return self.note_end(node, next.target),
+        };
+        self.agreement();
+        match next.action {
+            NodeAction::Start { .. } => self.start(node, reading),
+            NodeAction::Step { .. } => self.step(node, reading),
+            NodeAction::Send { .. } => self.send(node, reading),
         }
     }
 
@@ -45,17 +56,10 @@ impl SharedRun {
     pub fn hand_in(&mut self, node: NodeNo, done: Done)
         ensures { Stays self.old self.new }
     {
-        if node.0 < self.count() {
-            let _ = self.finish(node, done);
+        if node.0 >= self.count() {
+            return;
         }
-    }
-
-    // The step of a node is finished, where its job is out.
-    fn finish(&mut self, node: NodeNo, done: Done) -> Result<Finished, BusFinishEnd>
-        requires { node.0 < length self.old.bus.run.design.components }
-        ensures { Stays self.old self.new }
-    {
-        self.bus.finish(node, done)
+        let _ = self.bus.finish(node, done);
     }
 
     // Where a node's thread came back without its job, the job is run here.
@@ -63,28 +67,8 @@ impl SharedRun {
         requires { node.0 < length self.old.bus.run.design.components }
         ensures { Stays self.old self.new }
     {
-        let _ = self.finish_here(node);
+        let _ = self.bus.finish_here(node);
         NextMove::Again
-    }
-
-    fn finish_here(&mut self, node: NodeNo) -> Result<(), BusFinishEnd>
-        requires { node.0 < length self.old.bus.run.design.components }
-        ensures { Stays self.old self.new }
-    {
-        self.bus.finish_here(node)
-    }
-
-    // A node does what comes next, if its clock lets it.
-    fn go(&mut self, node: NodeNo, next: Next) -> NextMove
-        requires is_open { IsOpen self.old node.0 }
-        requires next { IsNext self.old node.0 next }
-        ensures { Stays self.old self.new }
-    {
-        match self.look(node, next) {
-            ClockAnswer::At(reading) => self.act(node, next.action, reading),
-            ClockAnswer::Wait => NextMove::Wait,
-            ClockAnswer::Ended => self.note_end(node, next.target),
-        }
     }
 
     // It is noted that the clock of a node has ended.
@@ -98,20 +82,8 @@ impl SharedRun {
         NextMove::Over
     }
 
-    // A node does its next action at a reading that its clock shows.
-    fn act(&mut self, node: NodeNo, action: NodeAction, reading: Nanos) -> NextMove
-        requires { IsReady self.old node action reading }
-        ensures { Stays self.old self.new }
-    {
-        self.agreement();
-        match action {
-            NodeAction::Start { .. } => self.start(node, reading),
-            NodeAction::Step { .. } => self.step(node, reading),
-            NodeAction::Send { .. } => self.send(node, reading),
-        }
-    }
-
     // A node takes what is due to it, and starts its next round.
+    #[tactic(auto, using(crate::proofs::ChangesUnderLock::stays_on))]
     fn start(&mut self, node: NodeNo, reading: Nanos) -> NextMove
         requires is_open { IsOpen self.old node.0 }
         requires waits { IsToStartIn self.old node reading }
@@ -121,9 +93,15 @@ impl SharedRun {
             return NextMove::Wait;
         }
         match self.take(node, reading) {
-            Ok(()) => self.launch(node, reading),
+            Ok(()) => {}
+            Err(BusError::Stopped(_)) => return NextMove::Over,
+            Err(BusError::Refused(_)) => return self.out_of_memory(node),
+        }
+        match self.bus.start(node, Some(reading)) {
+            Ok(job) => NextMove::Work(job),
+            Err(BusError::Refused(StartEnd::Memory)) => self.out_of_memory(node),
             Err(BusError::Stopped(_)) => NextMove::Over,
-            Err(BusError::Refused(_)) => self.out_of_memory(node),
+            Err(_) => NextMove::Again,
         }
     }
 
@@ -139,48 +117,19 @@ impl SharedRun {
         self.bus.take_due(node, reading)
     }
 
-    // A node starts its next round.
-    fn launch(&mut self, node: NodeNo, reading: Nanos) -> NextMove
-        requires is_open { IsOpen self.old node.0 }
-        requires begins { Allows self.old (Start node (Some reading)) }
-        ensures { Stays self.old self.new }
-    {
-        match self.start_round(node, reading) {
-            Ok(job) => NextMove::Work(job),
-            Err(BusError::Refused(StartEnd::Memory)) => self.out_of_memory(node),
-            Err(BusError::Stopped(_)) => NextMove::Over,
-            Err(_) => NextMove::Again,
-        }
-    }
-
-    fn start_round(&mut self, node: NodeNo, reading: Nanos) -> Result<Job, BusStartEnd>
-        requires is_open { IsOpen self.old node.0 }
-        requires begins { Allows self.old (Start node (Some reading)) }
-        ensures { Stays self.old self.new }
-    {
-        self.bus.start(node, Some(reading))
-    }
-
     // A node starts the next step of its round.
+    #[tactic(auto, using(crate::proofs::ChangesUnderLock::stays_on))]
     fn step(&mut self, node: NodeNo, reading: Nanos) -> NextMove
         requires is_open { IsOpen self.old node.0 }
         requires steps { Allows self.old (Step node (Some reading)) }
         ensures { Stays self.old self.new }
     {
-        match self.start_step(node, reading) {
+        match self.bus.step(node, Some(reading)) {
             Ok(job) => NextMove::Work(job),
             Err(BusError::Refused(StepEnd::Memory)) => self.out_of_memory(node),
             Err(BusError::Stopped(_)) => NextMove::Over,
             Err(_) => NextMove::Again,
         }
-    }
-
-    fn start_step(&mut self, node: NodeNo, reading: Nanos) -> Result<Job, BusStepEnd>
-        requires is_open { IsOpen self.old node.0 }
-        requires steps { Allows self.old (Step node (Some reading)) }
-        ensures { Stays self.old self.new }
-    {
-        self.bus.step(node, Some(reading))
     }
 
     // A node sends its round.
@@ -190,17 +139,8 @@ impl SharedRun {
         requires range { reading ≤ READING }
         ensures { Stays self.old self.new }
     {
-        let _ = self.send_round(node, reading);
+        let _ = self.bus.send(node, Some(reading));
         NextMove::Again
-    }
-
-    fn send_round(&mut self, node: NodeNo, reading: Nanos) -> Result<(), BusSendEnd>
-        requires is_open { IsOpen self.old node.0 }
-        requires sends { Allows self.old (Send node (Some reading)) }
-        requires range { reading ≤ READING }
-        ensures { Stays self.old self.new }
-    {
-        self.bus.send(node, Some(reading))
     }
 
     // A node finds no memory, and the run is closed.

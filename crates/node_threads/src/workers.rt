@@ -7,7 +7,7 @@ use crate::under_lock::NextMove;
 use crate::wake_signals::WakeSignals;
 use pals_base::NodeNo;
 use pals_node::Done;
-use std::sync::{Mutex, MutexGuard, Wait};
+use std::sync::{Mutex, Wait};
 use std::thread;
 use std::thread::Threads;
 
@@ -35,8 +35,8 @@ pub fn work_all<R: Threads + Wait + Sync, W: Starter, G: Gate + Sync>(
     });
 }
 
-// The part of a node, in a thread of its own: it does the job that its last turn asked for, if there is
-// one, and takes its next turn.
+// The part of a node, in a thread of its own: turns under the lock, and jobs outside it. Where a turn waits, the
+// thread sleeps under the same lock, and takes the next one as soon as it is woken.
 fn work<R: Wait, G: Gate>(
     rt: &R,
     lock: &Mutex<Locked>,
@@ -44,47 +44,25 @@ fn work<R: Wait, G: Gate>(
     gate: &G,
     node: NodeNo,
 ) {
-    let mut turn = NextMove::Again;
+    let mut done = None;
     for _ in rt.forever() {
-        turn = take_turn(rt, lock, bells, node, done_in(turn, gate, node));
-        if matches!(&turn, NextMove::Over) {
-            return;
-        }
-    }
-}
-
-// The turn of a node that has a thread. Where it waits, it sleeps under the same lock, and takes its next
-// turn as soon as it is woken.
-fn take_turn<R: Wait>(
-    rt: &R,
-    lock: &Mutex<Locked>,
-    bells: &WakeSignals,
-    node: NodeNo,
-    done: Option<Done>,
-) -> NextMove {
-    let mut locked = lock.lock(rt);
-    let (turn, wake) = locked.turn(node, done);
-    if !matches!(&turn, NextMove::Wait) {
+        let mut locked = lock.lock(rt);
+        let (turn, wake) = match locked.turn(node, done) {
+            (NextMove::Wait, wake) => {
+                bells.ring(wake);
+                locked = bells.sleep(rt, locked, node);
+                locked.turn(node, None)
+            }
+            other => other,
+        };
         drop(locked);
         bells.ring(wake);
-        return turn;
+        done = match turn {
+            NextMove::Work(job) => Some(done_by(gate, node, job)),
+            NextMove::Wait | NextMove::Again => None,
+            NextMove::Over => return,
+        };
     }
-    bells.ring(wake);
-    turn_after_sleep(rt, bells, locked, node)
-}
-
-// A node sleeps until it need not wait, and has its next turn.
-fn turn_after_sleep<R: Wait>(
-    rt: &R,
-    bells: &WakeSignals,
-    locked: MutexGuard<'_, Locked>,
-    node: NodeNo,
-) -> NextMove {
-    let mut locked = bells.sleep(rt, locked, node);
-    let (turn, wake) = locked.turn(node, None);
-    drop(locked);
-    bells.ring(wake);
-    turn
 }
 
 // The parts of the nodes that have no thread, in turns, in the thread that calls it.
@@ -119,13 +97,5 @@ fn work_one_turn<R: Wait, G: Gate>(
         let done = done_by(gate, node, job);
         let wake = lock.lock(rt).finish_of_caller(node, done);
         bells.ring(wake);
-    }
-}
-
-// Does the job that a node's turn asks for, if it asks for one.
-fn done_in<G: Gate>(turn: NextMove, gate: &G, node: NodeNo) -> Option<Done> {
-    match turn {
-        NextMove::Work(job) => Some(done_by(gate, node, job)),
-        NextMove::Wait | NextMove::Again | NextMove::Over => None,
     }
 }

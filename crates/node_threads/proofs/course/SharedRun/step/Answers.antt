@@ -1,7 +1,7 @@
 use Rattle.std.proofs.Common.{Some}
 use Rattle.node_threads.proofs.BusCalls.{step_keeps}
 use Rattle.node_threads.proofs.NextReadings.{goes_at}
-use Rattle.node_threads.proofs.course.SharedRun.start_step.Goals as goal
+use Rattle.node_threads.proofs.course.SharedRun.step.Goals as goal
 
 pub step-requires-clause-meets : goal.step-requires-clause-meets
 step-requires-clause-meets c = λ meets.
@@ -14,8 +14,8 @@ invariant_of-self c =
     (Some c.args.reading) c.step.result c.self.view_is c.self.invariant c.requires.steps c.step.ensures.ok
     c.step.ensures.same).course
 
-pub returns : goal.returns
-returns c =
+pub invariant_of-self-in-Err-Stopped : goal.invariant_of-self-in-Err-Stopped
+invariant_of-self-in-Err-Stopped c =
     (step_keeps c.self.inside.bus c.self.inside.lists c.self.inside.notes c.step.new.self _ c.args.node
     (Some c.args.reading) c.step.result c.self.view_is c.self.invariant c.requires.steps c.step.ensures.ok
-    c.step.ensures.same).stays
+    c.step.ensures.same).course

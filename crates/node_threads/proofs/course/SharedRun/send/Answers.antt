@@ -1,7 +1,7 @@
 use Rattle.std.proofs.Common.{Some}
 use Rattle.node_threads.proofs.BusCalls.{send_keeps}
 use Rattle.node_threads.proofs.NextReadings.{goes_at}
-use Rattle.node_threads.proofs.course.SharedRun.send_round.Goals as goal
+use Rattle.node_threads.proofs.course.SharedRun.send.Goals as goal
 
 pub send-requires-clause-meets : goal.send-requires-clause-meets
 send-requires-clause-meets c = λ meets.

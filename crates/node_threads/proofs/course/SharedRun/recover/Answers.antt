@@ -1,5 +1,5 @@
 use Rattle.node_threads.proofs.BusCalls.{finish_here_keeps}
-use Rattle.node_threads.proofs.course.SharedRun.finish_here.Goals as goal
+use Rattle.node_threads.proofs.course.SharedRun.recover.Goals as goal
 
 pub invariant_of-self : goal.invariant_of-self
 invariant_of-self c =
