@@ -1,10 +1,7 @@
 -- A run of each scenario comes to its end, and an answer tells it.
-use Rattle.std.proofs.Common.{◌≡◌, ◌⊎◌, inl, inr, ℕ, ◌<◌, ◌≤◌, Bool, List, [], ◌++◌, length, All, Option, Some, None}
-use Rattle.std.proofs.Common.{refl, sym, ap, subst, if◌then◌else◌}
-use Rattle.std.proofs.lemmas.Bool.{cases_lt}
-use Rattle.std.proofs.lemmas.List.{get_or_past}
-use Rattle.std.proofs.lemmas.List.Elements.{All-nil}
-use Rattle.pals_base.specs.declared.limits.TheConstants.{ROUNDS, READING}
+use Rattle.std.proofs.Common.{◌≡◌, ◌⊎◌, inl, inr, ℕ, ◌<◌, ◌≤◌, Bool, List, [], ◌++◌, length, Option, Some, None}
+use Rattle.std.proofs.Common.{refl, ap, if◌then◌else◌}
+use Rattle.pals_base.specs.declared.limits.TheConstants.{ROUNDS}
 use Rattle.pals_clock.specs.ClockStates.{ClockState}
 use Rattle.pals_clock.specs.declared.clock.Clocks.{Clocks}
 use Rattle.pals_clock.specs.declared.clock.Clocks.TheVariants.{Meet, Lists}
@@ -31,6 +28,7 @@ use Rattle.run_texts.proofs.RunTexts.{outcome, completed, stopped}
 use Rattle.pals_top.specs.declared.status.TheConstants.{DONE, STOPPED, CLOCK_ENDED}
 use Rattle.pals_top.specs.LooseWorlds.{run_of}
 use Rattle.pals_top.specs.Run.{IsRunAnswer}
+use Rattle.pals_top.proofs.ScenarioRuns.{are_readings}
 
 -- ---- the clocks of a scenario
 module _ (run : Run) (clocks : List ClockState) (are : AreClocksOf run.design clocks) where
@@ -44,21 +42,9 @@ module _ (run : Run) (clocks : List ClockState) (are : AreClocksOf run.design cl
     order = λ node within. (opening_at node within).order;
   }
 
-  in_range : (node : ℕ) → All (λ reading. reading ≤ READING) (clock_at clocks node).readings
-  in_range node = elim (cases_lt node (length clocks)) [
-    | inl within ↦ (opening_at node within).within
-    | inr past ↦
-        subst (λ (c : ClockState). All (λ reading. reading ≤ READING) c.readings)
-        (sym (get_or_past clocks node no_clock past)) (All-nil (λ reading. reading ≤ READING))
-  ]
-
 begins : (run : Run) (clocks : Clocks) → AreClocksFor run.design clocks → Begin run clocks
 begins run Meet are = tt
 begins run (Lists clocks) are = fresh run clocks are
-
-are_readings : (run : Run) (clocks : Clocks) → AreClocksFor run.design clocks → AreReadings clocks
-are_readings run Meet are = tt
-are_readings run (Lists clocks) are = in_range run clocks are
 
 -- ---- what is told of a run at its end
 abbrev Tells : Run → Clocks → Bool → ℕ → List ℕ → Type 0
@@ -140,5 +126,5 @@ run_answer ends named design scenario trace rules suits =
     let run = run_of design scenario in
     let is_run : IsRunOf run = record { design = rules; rounds = suits.long.0 } in
     let e = ends run scenario.clocks is_run (begins run scenario.clocks suits.clock) in
-    by_stop named run scenario.clocks trace is_run suits.long.1 (are_readings run scenario.clocks suits.clock) e.later
+    by_stop named run scenario.clocks trace is_run suits.long.1 (are_readings run.design scenario.clocks suits.clock) e.later
     e.more e.state e.state.stop e.runs e.lists refl e.come

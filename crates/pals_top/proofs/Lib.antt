@@ -7,3 +7,4 @@ mod RefusalAnswers
 mod ScenarioFaultAnswers
 pub mod Audits
 pub mod TimelyProcessors
+pub mod ScenarioRuns

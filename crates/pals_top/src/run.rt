@@ -6,7 +6,6 @@ ghost use Rattle.pals_runs.specs.declared.commands.Command.TheVariants as comman
 ghost use Rattle.scenario_json.specs.proof.ScenarioFacts.{IsScenarioOf};
 ghost use Rattle.pals_top.specs.ExecutionCommands.{Run};
 ghost use Rattle.pals_top.specs.Answers.{IsSourceAnswer};
-ghost use Rattle.pals_top.specs.ExecutionAnswers.{IsExecutionAnswer};
 ghost use Rattle.pals_top.specs.ProgramInput.{reading};
 ghost use Rattle.pals_top.specs.Run.{IsRunAnswer};
 ghost use Rattle.pals_top.specs.proof.StatusAndText.{status_of, text_of};
@@ -14,7 +13,7 @@ ghost use Rattle.pals_top.specs.proof.StatusAndText.{status_of, text_of};
 use crate::answer::Answer;
 use crate::bundle_meaning::{BundleMeaning, Coded, CodedCommand, meaning_of};
 use crate::opening_bus::opened;
-use node_threads::{Gate, Host, Starter};
+use node_threads::{Gate, Host, Starter, run_threads};
 use pals_base::limits::BUNDLE_BYTES;
 use pals_base::{NoMemory, Text};
 use pals_clock::Clocks;
@@ -56,26 +55,14 @@ pub fn answer_run<R: Threads + Wait + Sync, S: Source, W: Starter, G: Gate + Syn
         (reading (S.shown source.old) (S.shown source.new)) (status_of answer) (text_of answer)) }
     ensures err { OnErr result (GivesWithin (S.shown source.old) (S.shown source.new) BUNDLE_BYTES) }
 {
-    match read_all(alloc, source, BUNDLE_BYTES) {
-        Ok(bundle) => run_bundle(host, alloc, bundle.as_slice(), root, trace),
-        Err(ReadEnd::ReadFault) => Ok(Answer::ReadFault),
-        Err(ReadEnd::TooLong) => Ok(Answer::TooLong),
-        Err(ReadEnd::Memory) => Err(AllocError),
-    }
-}
-
-// The answer of `run` to a bundle.
-fn run_bundle<R: Threads + Wait + Sync, W: Starter, G: Gate + Sync>(
-    host: Host<'_, R, W, G>,
-    alloc: Global,
-    bundle: &[u8],
-    root: Text,
-    trace: bool,
-) -> Result<Answer, NoMemory>
-    ensures { IfOk result (λ answer. IsExecutionAnswer (Run trace) root bundle.now (status_of answer) (text_of answer)) }
-{
+    let bundle = match read_all(alloc, source, BUNDLE_BYTES) {
+        Ok(bundle) => bundle,
+        Err(ReadEnd::ReadFault) => return Ok(Answer::ReadFault),
+        Err(ReadEnd::TooLong) => return Ok(Answer::TooLong),
+        Err(ReadEnd::Memory) => return Err(AllocError),
+    };
     let command = RunCommand { trace };
-    match meaning_of(alloc, bundle, root, &command)? {
+    match meaning_of(alloc, bundle.as_slice(), root, &command)? {
         BundleMeaning::Coded(coded) => run_nodes(host, alloc, coded, trace),
         BundleMeaning::Refused(answer) => Ok(answer),
     }
@@ -106,7 +93,8 @@ fn run_nodes<R: Threads + Wait + Sync, W: Starter, G: Gate + Sync>(
     } = scenario;
     let meeting = matches!(clocks, Clocks::Meet);
     let bus = opened(alloc, design, codes, env, rounds, delays, meeting)?;
-    match tell_run(host, alloc, bus, clocks, trace)? {
+    let end = run_threads(host, alloc, bus, clocks)?;
+    match tell_run(alloc, &end, trace)? {
         RunReport::Completed(text) => Ok(Answer::Done(text)),
         RunReport::Stopped(text) => Ok(Answer::Stopped(text)),
         RunReport::ClockEnded(text) => Ok(Answer::ClockEnded(text)),

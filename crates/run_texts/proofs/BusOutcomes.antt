@@ -1,8 +1,7 @@
 -- What is told of a bus that has come to its end holds of the bus's run.
 use Rattle.std.proofs.Common.{◌≡◌, ◌≢◌, ◌∙◌, inl, inr, ℕ, ◌<◌, ◌≤◌, Bool, List, [], length, ◌++◌, Option, Some, None}
-use Rattle.std.proofs.Common.{slice_get, refl, sym, ap, subst, arith, if◌then◌else◌}
-use Rattle.std.specs.Prelude.{Result, Ok, Err, IfOk}
-use Rattle.pals_base.specs.declared.limits.TheConstants.{COMPONENTS, ROUNDS}
+use Rattle.std.proofs.Common.{slice_get, refl, ap, subst, arith, if◌then◌else◌}
+use Rattle.pals_base.specs.declared.limits.TheConstants.{ROUNDS}
 use Rattle.pals_clock.specs.ClockStates.{ClockState}
 use Rattle.pals_clock.specs.declared.clock.Clocks.{Clocks}
 use Rattle.pals_clock.specs.declared.clock.Clocks.TheVariants.{Meet, Lists}
@@ -28,18 +27,6 @@ use Rattle.run_texts.specs.proof.NodeEnds.{IsComeEnd, journal_lines, TellsEnd}
 use Rattle.run_texts.proofs.RunTexts.{outcome, completed, stopped}
 
 -- ---- what the ends say
-pub no_stop_left : (old : BusValue) (clocks : Clocks) (new : BusValue) (ends : List NodeEnd)
-    → IsOutcome old clocks new ends
-    → (node : ℕ) → slice_get ends node ≡ Some end.Stopped → new.state.stop ≢ None
-no_stop_left old clocks new ends out node is = out.ends_fit.each node end.Stopped is
-
-pub few_ends : (old : BusValue) (clocks : Clocks) (new : BusValue) (ends : List NodeEnd) → IsOutcome old clocks new ends
-    → length ends ≤ COMPONENTS
-few_ends old clocks new ends out =
-    let many = out.ends_fit.many in
-    let few = out.rules.design.components.count in
-    omega (arith, many, few)
-
 ends_at : (b : BusValue) (later : Clocks) (node goal : ℕ) → EndsAtOn b later node goal
     → EndsAt b.run later b.state node goal
 ends_at b Meet node goal ends = ends
@@ -110,12 +97,10 @@ module _ (old : BusValue) (clocks : Clocks) (new : BusValue) (ends : List NodeEn
         text_is = tells.1.2;
       }
 
-pub told_of : {E : Type 0} (old : BusValue) (clocks : Clocks) (new : BusValue) (ends : List NodeEnd) (trace : Bool)
-    (result : Result RunReport E)
-    → old.run.rounds ≤ ROUNDS → AreReadings clocks → IsOutcome old clocks new ends
-    → IfOk result (TellsEnd new ends trace) → IfOk result (TellsRun old.run clocks trace)
-told_of old clocks new ends trace (Ok told) few range out tells =
-    let still : new.run.rounds ≤ ROUNDS = subst (λ (r : Run). r.rounds ≤ ROUNDS) (sym out.run) few in
+pub told_of : (new : BusValue) (ends : List NodeEnd) (trace : Bool) (told : RunReport) → new.run.rounds ≤ ROUNDS
+    → TellsEnd new ends trace told
+    → (old : BusValue) (clocks : Clocks) → IsOutcome old clocks new ends → AreReadings clocks
+    → TellsRun old.run clocks trace told
+told_of new ends trace told few tells old clocks out range =
     subst (λ (r : Run). TellsRun r clocks trace told) out.run
-    (told_new old clocks new ends out still range trace told tells)
-told_of old clocks new ends trace (Err e) few range out tells = tt
+    (told_new old clocks new ends out few range trace told tells)

@@ -1,12 +1,19 @@
-use Rattle.run_texts.proofs.BusOutcomes.{no_stop_left, told_of}
+use Rattle.std.proofs.Common.{rules}
+use Rattle.run_texts.specs.declared.run_report.RunReport.TheVariants as told
+use Rattle.run_texts.proofs.BusOutcomes.{told_of}
 use Rattle.run_texts.proofs.run_report.tell_run.Goals as goal
 
-pub tell_ended-requires-clause-stopped : goal.tell_ended-requires-clause-stopped
-tell_ended-requires-clause-stopped g c =
-    no_stop_left c.args.bus c.args.clocks c.in_ok-end.end.bus c.in_ok-end.end.ends c.in_ok-end.ensures
+pub returns-then-is_some : goal.returns-then-is_some
+returns-then-is_some c =
+    told_of c.args.end.now.bus c.args.end.now.ends c.args.trace (told.Stopped c.in_ok-traced_text.field-0)
+    c.agreement.ensures.rounds.1 (search rules)
 
-pub returns : goal.returns
-returns g c =
-    told_of c.args.bus c.args.clocks c.in_ok-end.end.bus c.in_ok-end.end.ends c.args.trace c.tell_ended.result
-    c.agreement.ensures.rounds.1
-    c.are_readings.ensures c.in_ok-end.ensures c.tell_ended.ensures
+pub returns-in_ok-clock_end_text-in-Some : goal.returns-in_ok-clock_end_text-in-Some
+returns-in_ok-clock_end_text-in-Some c =
+    told_of c.args.end.now.bus c.args.end.now.ends c.args.trace
+    (told.ClockEnded c.in_ok-clock_end_text-in-Some.field-0) c.agreement.ensures.rounds.1 (search rules)
+
+pub returns-in_ok-traced_text-in-None : goal.returns-in_ok-traced_text-in-None
+returns-in_ok-traced_text-in-None c =
+    told_of c.args.end.now.bus c.args.end.now.ends c.args.trace
+    (told.Completed c.in_ok-traced_text-in-None.field-0) c.agreement.ensures.rounds.1 (search rules)
