@@ -11,9 +11,11 @@ pub mod TerminalSpots
 pub mod WordAndSymbolLexing
 pub mod SymbolMoves
 pub mod PartSequences
+pub mod ListSteps
 pub mod QualifiedReferences
 pub mod SignedQuantities
 pub mod PropertyLists
+pub mod ListSymbols
 mod KeywordLists
 mod ReachabilityWitnesses
 mod OnlyListedKeywords

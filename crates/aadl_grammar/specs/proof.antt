@@ -6,6 +6,7 @@ pub mod MovedPackages
 pub mod ExampleTerminals
 pub mod TerminalSpots
 pub mod ParserAnswers
+pub mod ListAnswers
 pub mod ReachableKeywords
 pub mod TextOutcomes
 pub mod CanonicalRoundTrip

@@ -13,6 +13,7 @@
 pub mod canon_laws;
 pub mod keyword_laws;
 pub mod laws;
+mod lists;
 mod names;
 mod parse_fault;
 mod reader;

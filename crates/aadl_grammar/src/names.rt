@@ -1,5 +1,5 @@
 //! Names and references.
-ghost use Rattle.std.specs.Prelude.{[], ◌∷◌, map, flat_map, option_map};
+ghost use Rattle.std.specs.Prelude.{[], ◌∷◌, map, flat_map, option_map, Some};
 ghost use Rattle.aadl_tree.specs.declared.mark.Mark.TheVariants as k;
 ghost use Rattle.aadl_tree.specs.SpellingParts.{behind, parts_if};
 ghost use Rattle.aadl_tree.specs.Names.{identifier_parts, name_parts, path_parts, identifiers_parts, reference_parts};
@@ -7,8 +7,11 @@ ghost use Rattle.aadl_tree.specs.proof.NameViews.{identifier_view, name_view, pa
 ghost use Rattle.aadl_tree.specs.proof.NameViews.{reference_view};
 ghost use Rattle.aadl_tree.specs.proof.PlaceMaps.{kept_place};
 ghost use Rattle.aadl_grammar.specs.proof.Symbols as s;
+ghost use Rattle.aadl_grammar.specs.proof.Symbols.{Symbol};
 ghost use Rattle.aadl_grammar.specs.proof.ParserAnswers.{Parses, AnyRoom};
+ghost use Rattle.aadl_grammar.specs.proof.ListAnswers.{Lists};
 
+use crate::lists::followers;
 use crate::parse_fault::ParseFault;
 use crate::reader::{Parsed, Reader};
 use aadl_tree::{Identifier, Identifiers, Mark, Name, Path, Reference};
@@ -25,49 +28,13 @@ pub fn identifier(reader: &Reader<'_>, at: usize) -> Parsed<Identifier>
     }
 }
 
-/// `{ "::" id }`
-fn names(reader: &Reader<'_>, at: usize) -> Parsed<Vec<Identifier>>
-    ensures { Parses reader.now AnyRoom (s.names ∷ [])
-        (λ x. flat_map (behind k.Scope identifier_parts) (map (identifier_view kept_place) x.items)) at result }
+/// `{ mark id }`
+fn more_identifiers(reader: &Reader<'_>, at: usize, mark: Mark) -> Parsed<Vec<Identifier>>
+    ensures { (list : Symbol) → Lists (Some mark) s.identifier list → Parses reader.now AnyRoom (list ∷ [])
+        (λ x. flat_map (behind mark identifier_parts) (map (identifier_view kept_place) x.items)) at result }
 {
-    let mut found = Vec::new(reader.alloc);
-    let mut rest = at;
-    while let Some(behind) = reader.take(rest, Mark::Scope) {
-        let (next, behind) = identifier(reader, behind)?;
-        found.push(next)?;
-        rest = behind;
-    }
-    Ok((found, rest))
-}
-
-/// `{ "." id }`
-fn paths(reader: &Reader<'_>, at: usize) -> Parsed<Vec<Identifier>>
-    ensures { Parses reader.now AnyRoom (s.paths ∷ [])
-        (λ x. flat_map (behind k.Dot identifier_parts) (map (identifier_view kept_place) x.items)) at result }
-{
-    let mut found = Vec::new(reader.alloc);
-    let mut rest = at;
-    while let Some(behind) = reader.take(rest, Mark::Dot) {
-        let (next, behind) = identifier(reader, behind)?;
-        found.push(next)?;
-        rest = behind;
-    }
-    Ok((found, rest))
-}
-
-/// `{ "," id }`
-fn more_identifiers(reader: &Reader<'_>, at: usize) -> Parsed<Vec<Identifier>>
-    ensures { Parses reader.now AnyRoom (s.more_identifiers ∷ [])
-        (λ x. flat_map (behind k.Comma identifier_parts) (map (identifier_view kept_place) x.items)) at result }
-{
-    let mut found = Vec::new(reader.alloc);
-    let mut rest = at;
-    while let Some(behind) = reader.take(rest, Mark::Comma) {
-        let (next, behind) = identifier(reader, behind)?;
-        found.push(next)?;
-        rest = behind;
-    }
-    Ok((found, rest))
+    let none = Vec::new(reader.alloc);
+    followers(reader, at, Some(mark), none, |at| identifier(reader, at))
 }
 
 /// `id { "." id }`
@@ -75,7 +42,7 @@ pub fn path(reader: &Reader<'_>, at: usize) -> Parsed<Path>
     ensures { Parses reader.now AnyRoom (s.path ∷ []) (λ x. path_parts (path_view kept_place x)) at result }
 {
     let (first, next) = identifier(reader, at)?;
-    let (others, next) = paths(reader, next)?;
+    let (others, next) = more_identifiers(reader, next, Mark::Dot)?;
     let path = Path {
         first,
         rest: others,
@@ -89,7 +56,7 @@ pub fn identifiers(reader: &Reader<'_>, at: usize) -> Parsed<Identifiers>
         (λ x. identifiers_parts (identifiers_view kept_place x)) at result }
 {
     let (first, next) = identifier(reader, at)?;
-    let (others, next) = more_identifiers(reader, next)?;
+    let (others, next) = more_identifiers(reader, next, Mark::Comma)?;
     let identifiers = Identifiers {
         first,
         rest: others,
@@ -102,7 +69,7 @@ pub fn name(reader: &Reader<'_>, at: usize) -> Parsed<Name>
     ensures { Parses reader.now AnyRoom (s.name ∷ []) (λ x. name_parts (name_view kept_place x)) at result }
 {
     let (first, next) = identifier(reader, at)?;
-    let (others, next) = names(reader, next)?;
+    let (others, next) = more_identifiers(reader, next, Mark::Scope)?;
     let name = Name {
         first,
         rest: others,

@@ -14,6 +14,7 @@ ghost use Rattle.aadl_grammar.specs.proof.Symbols as s;
 ghost use Rattle.aadl_grammar.specs.proof.ParseTable.{on};
 ghost use Rattle.aadl_grammar.specs.proof.ParserAnswers.{here, MissAll, Parses, AnyRoom, Room};
 
+use crate::lists::followers;
 use crate::names::{name, path, reference};
 use crate::parse_fault::ParseFault;
 use crate::reader::{Parsed, Reader};
@@ -126,21 +127,6 @@ fn operator(reader: &Reader<'_>, at: usize) -> Parsed<AssociationOperator>
     }
 }
 
-/// `{ "," path }`
-fn more_paths(reader: &Reader<'_>, at: usize) -> Parsed<Vec<Path>>
-    ensures { Parses reader.now AnyRoom (s.more_paths ∷ [])
-        (λ x. flat_map (behind k.Comma path_parts) (map (path_view kept_place) x.items)) at result }
-{
-    let mut found = Vec::new(reader.alloc);
-    let mut rest = at;
-    while let Some(behind) = reader.take(rest, Mark::Comma) {
-        let (next, behind) = path(reader, behind)?;
-        found.push(next)?;
-        rest = behind;
-    }
-    Ok((found, rest))
-}
-
 /// `[ "applies" "to" path { "," path } ]`
 fn applies(reader: &Reader<'_>, at: usize) -> Parsed<Vec<Path>>
     ensures { Parses reader.now AnyRoom (s.applies ∷ []) (λ x. applies_parts (map (path_view kept_place) x.items)) at result }
@@ -150,9 +136,9 @@ fn applies(reader: &Reader<'_>, at: usize) -> Parsed<Vec<Path>>
     };
     let start = reader.expect(next, Mark::To)?;
     let (first, next) = path(reader, start)?;
-    let (mut paths, next) = more_paths(reader, next)?;
-    paths.insert(0, first)?;
-    Ok((paths, next))
+    let mut found = Vec::new(reader.alloc);
+    found.push(first)?;
+    followers(reader, next, Some(Mark::Comma), found, |at| path(reader, at))
 }
 
 /// `[ value { "," value } ] ")"`

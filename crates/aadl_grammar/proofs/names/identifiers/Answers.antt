@@ -1,6 +1,7 @@
 use Rattle.std.proofs.Common.{◌∙◌, ◌∷◌, arith}
 use Rattle.aadl_grammar.proofs.SymbolMoves.{along, exits, no_reads}
 use Rattle.aadl_grammar.proofs.PartSequences.{then}
+use Rattle.aadl_grammar.proofs.ListSymbols.{identifiers_list}
 use Rattle.aadl_grammar.specs.proof.Symbols as s
 use Rattle.aadl_grammar.specs.proof.StackMachine.{move, depth}
 use Rattle.aadl_grammar.proofs.names.identifiers.Goals as goal
@@ -20,7 +21,7 @@ returns-in_err-others c = record {
   runs =
       λ outer below h. exits _ _ _ _ _ _ _ c.from_residual-in_err-others.ensures.1
       (along _ _ _ (c.in_ok-first.ensures.runs outer (s.more_identifiers ∷ below) (omega arith))
-      (c.in_err-others.ensures.runs outer (below) (omega arith)));
+      ((c.in_err-others.ensures s.more_identifiers identifiers_list).runs outer (below) (omega arith)));
   reads = no_reads _ _ _ c.from_residual-in_err-others.ensures.1;
 }
 
@@ -28,6 +29,6 @@ pub returns : goal.returns
 unfolding move depth
 returns c = record {
   runs = λ outer below h. c.in_ok-first.ensures.runs outer (s.more_identifiers ∷ below) (omega arith)
-      ∙ c.in_ok-others.ensures.runs outer (below) (omega arith);
-  reads = then c.in_ok-first.ensures.reads c.in_ok-others.ensures.reads;
+      ∙ (c.in_ok-others.ensures s.more_identifiers identifiers_list).runs outer (below) (omega arith);
+  reads = then c.in_ok-first.ensures.reads (c.in_ok-others.ensures s.more_identifiers identifiers_list).reads;
 }

@@ -2,6 +2,7 @@ use Rattle.std.proofs.Common.{◌∙◌, ◌∷◌, [], refl, arith}
 use Rattle.aadl_grammar.specs.proof.ParserAnswers.{here}
 use Rattle.aadl_grammar.proofs.SymbolMoves.{begins_as, along, exits, no_reads}
 use Rattle.aadl_grammar.proofs.PartSequences.{then}
+use Rattle.aadl_grammar.proofs.ListSymbols.{names_list}
 use Rattle.aadl_grammar.specs.proof.Symbols as s
 use Rattle.aadl_grammar.specs.proof.StackMachine.{move, depth}
 use Rattle.aadl_grammar.proofs.names.name.Goals as goal
@@ -25,7 +26,7 @@ returns-in_err-others c = record {
       (along _ _ _ (begins_as outer c.args.reader.now.end s.name s.identifier (s.names ∷ []) (below)
       (here c.args.reader.now c.args.at) refl refl refl
       ∙ c.in_ok-first.ensures.runs outer (s.names ∷ below) (omega arith))
-      (c.in_err-others.ensures.runs outer (below) (omega arith)));
+      ((c.in_err-others.ensures s.names names_list).runs outer (below) (omega arith)));
   reads = no_reads _ _ _ c.from_residual-in_err-others.ensures.1;
 }
 
@@ -36,6 +37,6 @@ returns c = record {
       λ outer below h. begins_as outer c.args.reader.now.end s.name s.identifier (s.names ∷ []) (below)
       (here c.args.reader.now c.args.at) refl refl refl
       ∙ c.in_ok-first.ensures.runs outer (s.names ∷ below) (omega arith)
-      ∙ c.in_ok-others.ensures.runs outer (below) (omega arith);
-  reads = then c.in_ok-first.ensures.reads c.in_ok-others.ensures.reads;
+      ∙ (c.in_ok-others.ensures s.names names_list).runs outer (below) (omega arith);
+  reads = then c.in_ok-first.ensures.reads (c.in_ok-others.ensures s.names names_list).reads;
 }

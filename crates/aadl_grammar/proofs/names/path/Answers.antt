@@ -2,6 +2,7 @@ use Rattle.std.proofs.Common.{◌∙◌, ◌∷◌, [], refl, arith}
 use Rattle.aadl_grammar.specs.proof.ParserAnswers.{here}
 use Rattle.aadl_grammar.proofs.SymbolMoves.{begins_as, along, exits, no_reads}
 use Rattle.aadl_grammar.proofs.PartSequences.{then}
+use Rattle.aadl_grammar.proofs.ListSymbols.{paths_list}
 use Rattle.aadl_grammar.specs.proof.Symbols as s
 use Rattle.aadl_grammar.specs.proof.StackMachine.{move, depth}
 use Rattle.aadl_grammar.proofs.names.path.Goals as goal
@@ -25,7 +26,7 @@ returns-in_err-others c = record {
       (along _ _ _ (begins_as outer c.args.reader.now.end s.path s.identifier (s.paths ∷ []) (below)
       (here c.args.reader.now c.args.at) refl refl refl
       ∙ c.in_ok-first.ensures.runs outer (s.paths ∷ below) (omega arith))
-      (c.in_err-others.ensures.runs outer (below) (omega arith)));
+      ((c.in_err-others.ensures s.paths paths_list).runs outer (below) (omega arith)));
   reads = no_reads _ _ _ c.from_residual-in_err-others.ensures.1;
 }
 
@@ -36,6 +37,6 @@ returns c = record {
       λ outer below h. begins_as outer c.args.reader.now.end s.path s.identifier (s.paths ∷ []) (below)
       (here c.args.reader.now c.args.at) refl refl refl
       ∙ c.in_ok-first.ensures.runs outer (s.paths ∷ below) (omega arith)
-      ∙ c.in_ok-others.ensures.runs outer (below) (omega arith);
-  reads = then c.in_ok-first.ensures.reads c.in_ok-others.ensures.reads;
+      ∙ (c.in_ok-others.ensures s.paths paths_list).runs outer (below) (omega arith);
+  reads = then c.in_ok-first.ensures.reads (c.in_ok-others.ensures s.paths paths_list).reads;
 }

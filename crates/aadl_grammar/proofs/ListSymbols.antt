@@ -1,0 +1,160 @@
+-- The lists of the grammar, and what a function answers that reads one. For the proofs of parsers.
+use Rattle.std.proofs.Common.{◌≡◌, ℕ, ◌+◌, ◌<◌, ◌≤◌, true, false, cond, ◌∙◌, sym, ap, subst, refl, List, [], ◌∷◌, ◌++◌}
+use Rattle.std.proofs.Common.{length, map, flat_map, arith}
+use Rattle.std.specs.Prelude.{Result, Ok, Err, IfOk, Option, Some, None}
+use Rattle.std.specs.Global.{Vec}
+use Rattle.std.proofs.lemmas.List.Folds.{flat_map-map}
+use Rattle.aadl_tree.specs.declared.mark.Mark.{Mark}
+use Rattle.aadl_tree.specs.declared.mark.Mark.TheVariants as k
+use Rattle.aadl_tree.specs.Terminals.{mark, word, Spot}
+use Rattle.aadl_tree.specs.SpellingParts.{Part, behind}
+use Rattle.aadl_grammar.specs.proof.Symbols.{a_word, the, Symbol, Row}
+use Rattle.aadl_grammar.specs.proof.Symbols as s
+use Rattle.aadl_grammar.specs.proof.ParseTable.{by, on, rows, can_omit}
+use Rattle.aadl_grammar.specs.proof.ParseTable as table
+use Rattle.aadl_grammar.specs.proof.StackMachine.{Stack, takes, move_by, move, closes, depth, Fate, fate}
+use Rattle.aadl_grammar.specs.declared.reader.Reader.{Reader}
+use Rattle.aadl_grammar.specs.declared.parse_fault.ParseFault.{ParseFault}
+use Rattle.aadl_grammar.specs.proof.ParserAnswers.{here, MissAll, Reads, RunsTo, Parses}
+use Rattle.aadl_grammar.specs.proof.ListAnswers.{Allows, with_mark, Lists, Answers, ItemsOf, Grows, ParsesMore}
+use Rattle.aadl_grammar.proofs.Fates.FirstTerminalFates.{fits_itself}
+use Rattle.aadl_grammar.proofs.SymbolMoves.{takes_row, omits_unless, begins_as, enters_as}
+use Rattle.aadl_grammar.proofs.PartSequences.{respelled}
+use Rattle.aadl_grammar.proofs.PropertyLists.{starts_at}
+
+-- a list whose only row is for the mark, and has an item and the list behind it, or what begins so
+marked_list : (m : Mark) (f : List Symbol) (item list : Symbol) → rows list ≡ on m f ∷ [] → can_omit list ≡ true
+    → closes item ≡ 0 → ((below : Stack) → depth (f ++ below) ≤ depth (list ∷ below))
+    → ((outer end : ℕ) (below : Stack) (ss : List Spot)
+    → fate outer end (f ++ below) ss ≡ fate outer end (item ∷ list ∷ below) ss) → Lists (Some m) item list
+unfolding move
+marked_list m f item list row o c d same = record {
+  goes_on =
+      λ outer end below ss start l h. takes_row outer end list below l
+      (ap (λ (rs : List Row). move_by rs (can_omit list) (mark m)) row
+      ∙ ap (λ b. cond b (takes f) (move_by [] (can_omit list) (mark m))) (fits_itself m))
+      (omega (arith, d below, h))
+      ∙ same outer end below start;
+  stops =
+      λ outer end below ss n. omits_unless outer end list below ss o
+      (subst (λ (rs : List Row). MissAll rs ss) (sym row) (n, tt));
+  no_closer = c;
+}
+
+pub names_list : Lists (Some k.Scope) s.identifier s.names
+unfolding depth
+names_list =
+    marked_list k.Scope (s.name ∷ []) s.identifier s.names refl refl refl (λ below. omega arith)
+    (λ outer end below ss. begins_as outer end s.name s.identifier (s.names ∷ []) below ss refl refl refl)
+
+pub paths_list : Lists (Some k.Dot) s.identifier s.paths
+unfolding depth
+paths_list =
+    marked_list k.Dot (s.path ∷ []) s.identifier s.paths refl refl refl (λ below. omega arith)
+    (λ outer end below ss. begins_as outer end s.path s.identifier (s.paths ∷ []) below ss refl refl refl)
+
+pub identifiers_list : Lists (Some k.Comma) s.identifier s.more_identifiers
+unfolding depth
+identifiers_list =
+    marked_list k.Comma (s.identifier ∷ s.more_identifiers ∷ []) s.identifier s.more_identifiers refl refl refl
+    (λ below. omega arith) (λ outer end below ss. refl)
+
+pub path_list : Lists (Some k.Comma) s.path s.more_paths
+unfolding depth
+path_list =
+    marked_list k.Comma (s.path ∷ s.more_paths ∷ []) s.path s.more_paths refl refl refl (λ below. omega arith)
+    (λ outer end below ss. refl)
+
+-- a list of items that begin with a word, and of which nothing else is known
+pub word_list : (item list : Symbol) (f : List Symbol) → rows item ≡ by a_word f ∷ []
+    → rows list ≡ table.behind (list ∷ []) (rows item) → can_omit list ≡ true → can_omit item ≡ false
+    → closes item ≡ 0 → Lists None item list
+unfolding move
+word_list item list f row rows_are o p c = record {
+  goes_on =
+      λ outer end below ss start (w, e) h. enters_as outer end list item (list ∷ []) below rows_are p (starts_at w)
+      (ap (λ (rs : List Row). move_by rs (can_omit item) (word w.spelling)) row)
+      ∙ ap (fate outer end (item ∷ list ∷ below)) (sym e);
+  stops =
+      λ outer end below ss n. omits_unless outer end list below ss o
+      (subst (λ (rs : List Row). MissAll rs ss) (sym (rows_are ∙ ap (table.behind (list ∷ [])) row)) (n, tt));
+  no_closer = c;
+}
+
+pub spelled : {X Y : Type 0} (before : Option Mark) (f : Y → List (Part ℕ)) (g : X → Y) (xs : List X)
+    → flat_map (with_mark before (λ x. f (g x))) xs ≡ flat_map (with_mark before f) (map g xs)
+spelled (Some m) f g xs = sym (flat_map-map (behind m f) g xs)
+spelled None f g xs = sym (flat_map-map f g xs)
+
+-- a list with the function that reads its items
+abbrev pub items_of : {X Y : Type 0} {r : Reader} {before : Option Mark} {answers : Answers X} (f : Y → List (Part ℕ))
+    (g : X → Y) (allowed : Option ℕ) (item list : Symbol) → Lists before item list
+    → ((at : ℕ) (result : Result (X × ℕ) ParseFault) → answers at result
+    → Parses r (Allows allowed) (item ∷ []) (λ x. f (g x)) at result) → ItemsOf r before answers
+items_of f g allowed item list lists each =
+    record { item = item; list = list; lists = lists; parts = λ x. f (g x); allowed = allowed; each = each }
+
+-- what is read behind nothing is the whole list
+all_read : {X Y : Type 0} (before : Option Mark) (f : Y → List (Part ℕ)) (g : X → Y) (r : Reader) (old : List X) (at : ℕ)
+    (result : Result (Vec X × ℕ) ParseFault) → old ≡ []
+    → IfOk result (λ y. Grows (with_mark before (λ x. f (g x))) old y.0.items (here r at) (here r y.1))
+    → IfOk result (λ y. Reads (flat_map (with_mark before f) (map g y.0.items)) (here r at) (here r y.1))
+all_read before f g r old at (Err e) n h = tt
+all_read before f g r old at (Ok y) n h =
+    respelled (spelled before f g h.more
+    ∙ ap (λ l. flat_map (with_mark before f) (map g l)) (sym (h.whole ∙ ap (λ l. l ++ h.more) n))) h.reads
+
+pub whole_list : {X Y : Type 0} {r : Reader} {before : Option Mark} {answers : Answers X} {old : List X} {at : ℕ}
+    {result : Result (Vec X × ℕ) ParseFault} (f : Y → List (Part ℕ)) (g : X → Y) (allowed : Option ℕ)
+    (item list : Symbol) → Lists before item list → old ≡ []
+    → ((at : ℕ) (result : Result (X × ℕ) ParseFault) → answers at result
+    → Parses r (Allows allowed) (item ∷ []) (λ x. f (g x)) at result)
+    → ParsesMore r before answers old at result
+    → Parses r (Allows allowed) (list ∷ []) (λ (x : Vec X). flat_map (with_mark before f) (map g x.items)) at result
+whole_list {X} {Y} {r} {before} {answers} {old} {at} {result} f g allowed item list lists n each p =
+    let of : ItemsOf r before answers = items_of f g allowed item list lists each in
+    record { runs = p.runs of; reads = all_read before f g r old at result n (p.reads of) }
+
+-- what is read behind a first item is the rest of the list
+rest_read : {X : Type 0} (parts : X → List (Part ℕ)) (r : Reader) (old : List X) (first : X) (at mid : ℕ)
+    (whole : List X → List (Part ℕ)) (result : Result (Vec X × ℕ) ParseFault) → old ≡ first ∷ []
+    → ((more : List X) (rest : List Spot) → Reads (flat_map parts more) (here r mid) rest
+    → Reads (whole (first ∷ more)) (here r at) rest)
+    → IfOk result (λ y. Grows parts old y.0.items (here r mid) (here r y.1))
+    → IfOk result (λ y. Reads (whole y.0.items) (here r at) (here r y.1))
+rest_read parts r old first at mid whole (Err e) n k h = tt
+rest_read parts r old first at mid whole (Ok y) n k h =
+    respelled (ap whole (sym (h.whole ∙ ap (λ l. l ++ h.more) n))) (k h.more (here r y.1) h.reads)
+
+pub list_from : {X : Type 0} {r : Reader} {before : Option Mark} {answers : Answers X} {old : List X} {at mid : ℕ}
+    {wanted : Stack} {result : Result (Vec X × ℕ) ParseFault} (of : ItemsOf r before answers) (first : X)
+    (whole : List X → List (Part ℕ)) → old ≡ first ∷ []
+    → ((outer : ℕ) (below : Stack) → Allows of.allowed (outer + depth (wanted ++ below))
+    → Allows of.allowed (outer + depth (of.list ∷ below))
+    × (fate outer r.end (wanted ++ below) (here r at) ≡ fate outer r.end (of.list ∷ below) (here r mid)))
+    → ((more : List X) (rest : List Spot) → Reads (flat_map (with_mark before of.parts) more) (here r mid) rest
+    → Reads (whole (first ∷ more)) (here r at) rest)
+    → ParsesMore r before answers old mid result
+    → Parses r (Allows of.allowed) wanted (λ (x : Vec X). whole x.items) at result
+list_from {X} {r} {before} {answers} {old} {at} {mid} {wanted} {result} of first whole n to reading p = record {
+  runs =
+      λ outer below h. let there = to outer below h in
+      subst (λ (w : Fate). RunsTo (λ (y : Vec X × ℕ). y.1) r outer below w result) (sym there.1)
+      (p.runs of outer below there.0);
+  reads = rest_read (with_mark before of.parts) r old first at mid whole result n reading (p.reads of);
+}
+
+-- what a call answered, written otherwise
+pub same_answer : {X : Type 0} {r : Reader} {Allowed : ℕ → Type 0} {wanted : Stack} {parts : X → List (Part ℕ)} {at : ℕ}
+    {found result : Result (X × ℕ) ParseFault} → Parses r Allowed wanted parts at found → result ≡ found
+    → Parses r Allowed wanted parts at result
+same_answer {X} {r = r} {Allowed = Allowed} {wanted = wanted} {parts = parts} {at = at} p e =
+    subst (λ (y : Result (X × ℕ) ParseFault). Parses r Allowed wanted parts at y) (sym e) p
+
+-- an item takes a terminal
+pub item_advances : {X : Type 0} {r : Reader} (Allowed : ℕ → Type 0) (wanted : Stack) (parts : X → List (Part ℕ))
+    {at : ℕ} (result : Result (X × ℕ) ParseFault)
+    → ((x : X) (ss rest : List Spot) → Reads (parts x) ss rest → length rest < length ss)
+    → Parses r Allowed wanted parts at result → IfOk result (λ y. length (here r y.1) < length (here r at))
+item_advances {r = r} Allowed wanted parts {at = at} (Err e) begun p = tt
+item_advances {r = r} Allowed wanted parts {at = at} (Ok y) begun p = begun y.0 (here r at) (here r y.1) p.reads

@@ -1,0 +1,75 @@
+-- What a function of a parser answers that reads a list, with a function that is passed to it for each item. For the
+-- contracts of parsers.
+use Rattle.std.specs.Prelude.{ℕ, ◌+◌, ◌≡◌, ◌≤◌, ◌<◌, IfOk, List, [], ◌∷◌, ◌++◌, flat_map, length, Result, Option, Some}
+use Rattle.std.specs.Prelude.{None}
+use Rattle.std.specs.Global.{Vec}
+use Rattle.aadl_tree.specs.declared.mark.Mark.{Mark}
+use Rattle.aadl_tree.specs.Terminals.{Spot}
+use Rattle.aadl_tree.specs.SpellingParts.{Part, behind}
+use Rattle.aadl_tree.specs.declared.nesting_limit.TheConstants.{GREATEST_NESTING}
+use Rattle.aadl_grammar.specs.proof.Symbols.{a_word, the, Symbol}
+use Rattle.aadl_grammar.specs.proof.StackMachine.{Stack, closes, depth, fate}
+use Rattle.aadl_grammar.specs.declared.reader.Reader.{Reader}
+use Rattle.aadl_grammar.specs.declared.parse_fault.ParseFault.{ParseFault}
+use Rattle.aadl_grammar.specs.proof.ParserAnswers.{here, AtMark, StartsWord, Misses, Reads, RunsTo, Parses, AnyRoom, Room}
+
+-- how many openers may be open before a part: what leaves this room, or any number
+abbrev pub Allows : Option ℕ → ℕ → Type 0
+Allows None = AnyRoom
+Allows (Some room) = Room room
+
+-- Another item follows: behind its mark, or, where items have no mark before them, with a word.
+abbrev pub Follows : Option Mark → List Spot → List Spot → Type 0
+Follows (Some m) ss start = AtMark m ss start
+Follows None ss start = StartsWord ss × (start ≡ ss)
+
+abbrev pub NoneFollows : Option Mark → List Spot → Type 0
+NoneFollows (Some m) ss = Misses (the m) ss
+NoneFollows None ss = Misses a_word ss
+
+abbrev pub with_mark : {X : Type 0} → Option Mark → (X → List (Part ℕ)) → X → List (Part ℕ)
+with_mark (Some m) parts = behind m parts
+with_mark None parts = parts
+
+-- The machine reads the symbol as a list of items, which close no opener.
+pub record Lists (before : Option Mark) (item list : Symbol) : Type 0 where
+  pub goes_on : (outer end : ℕ) (below : Stack) (ss start : List Spot) → Follows before ss start
+      → outer + depth (list ∷ below) ≤ GREATEST_NESTING
+      → fate outer end (list ∷ below) ss ≡ fate outer end (item ∷ list ∷ below) start
+  pub stops : (outer end : ℕ) (below : Stack) (ss : List Spot) → NoneFollows before ss
+      → fate outer end (list ∷ below) ss ≡ fate outer end below ss
+  pub no_closer : closes item ≡ 0
+
+-- what a function answers at each place
+abbrev pub Answers : Type 0 → Type 1
+Answers X = ℕ → Result (X × ℕ) ParseFault → Type 0
+
+-- what it reads has a terminal at least
+abbrev pub Advances : {X : Type 0} → Reader → Answers X → Type 0
+Advances {X} r answers = (at : ℕ) (result : Result (X × ℕ) ParseFault) → answers at result
+    → IfOk result (λ y. length (here r y.1) < length (here r at))
+
+-- the symbols of a list and of its items, and what an item's parts are, where the function is the item's part
+pub record ItemsOf {X : Type 0} (r : Reader) (before : Option Mark) (answers : Answers X) : Type 0 where
+  pub item : Symbol
+  pub list : Symbol
+  pub lists : Lists before item list
+  pub parts : X → List (Part ℕ)
+  pub allowed : Option ℕ
+  pub each : (at : ℕ) (result : Result (X × ℕ) ParseFault) → answers at result
+      → Parses r (Allows allowed) (item ∷ []) parts at result
+
+-- these items more
+pub record Grows {X : Type 0} (parts : X → List (Part ℕ)) (old new : List X) (ss rest : List Spot) : Type 0 where
+  pub more : List X
+  pub whole : new ≡ old ++ more
+  pub reads : Reads (flat_map parts more) ss rest
+
+-- The part of a parser for more of a list, behind the items that were found before.
+pub record ParsesMore {X : Type 0} (r : Reader) (before : Option Mark) (answers : Answers X) (found : List X) (at : ℕ)
+    (result : Result (Vec X × ℕ) ParseFault) : Type 0 where
+  pub runs : (l : ItemsOf r before answers) (outer : ℕ) (below : Stack)
+      → Allows l.allowed (outer + depth (l.list ∷ below))
+      → RunsTo (λ (y : Vec X × ℕ). y.1) r outer below (fate outer r.end (l.list ∷ below) (here r at)) result
+  pub reads : (l : ItemsOf r before answers)
+      → IfOk result (λ y. Grows (with_mark before l.parts) found y.0.items (here r at) (here r y.1))
