@@ -16,6 +16,7 @@ pub mod QualifiedReferences
 pub mod SignedQuantities
 pub mod PropertyLists
 pub mod ListSymbols
+pub mod ListSections
 mod KeywordLists
 mod ReachabilityWitnesses
 mod OnlyListedKeywords

@@ -1,6 +1,6 @@
 -- One item more of a list. For the loop that reads lists.
 use Rattle.std.proofs.Common.{◌≡◌, ℕ, ◌+◌, ◌≤◌, ◌∙◌, sym, ap, subst, List, [], ◌∷◌, ◌++◌, arith, append_assoc, flat_map}
-use Rattle.std.specs.Prelude.{Result, Ok, Option, Some, None}
+use Rattle.std.specs.Prelude.{Result, Option, Some, None}
 use Rattle.std.proofs.lemmas.List.{append-nil}
 use Rattle.std.proofs.lemmas.Grind.{flat_map-append}
 use Rattle.aadl_tree.specs.declared.mark.Mark.{Mark}
@@ -10,11 +10,11 @@ use Rattle.aadl_tree.specs.declared.nesting_limit.TheConstants.{GREATEST_NESTING
 use Rattle.aadl_grammar.specs.proof.StackMachine.{Stack, depth, Fate, fate}
 use Rattle.aadl_grammar.specs.declared.reader.Reader.{Reader}
 use Rattle.aadl_grammar.specs.declared.parse_fault.ParseFault.{ParseFault}
-use Rattle.aadl_grammar.specs.proof.ParserAnswers.{here, Reads, RunsTo, Room}
+use Rattle.aadl_grammar.specs.proof.ParserAnswers.{here, Reads, RunsTo}
 use Rattle.aadl_grammar.specs.proof.ListAnswers.{Allows, Follows, with_mark, Answers, ItemsOf, Grows}
 use Rattle.aadl_grammar.proofs.PartSequences.{then, marked, respelled}
 
-allows_few : (o : Option ℕ) (n : ℕ) → Allows o n → n ≤ GREATEST_NESTING
+pub allows_few : (o : Option ℕ) (n : ℕ) → Allows o n → n ≤ GREATEST_NESTING
 allows_few None n h = h
 allows_few (Some room) n h = omega (arith, h)
 

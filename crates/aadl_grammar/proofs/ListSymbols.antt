@@ -22,17 +22,22 @@ use Rattle.aadl_grammar.proofs.SymbolMoves.{takes_row, omits_unless, begins_as, 
 use Rattle.aadl_grammar.proofs.PartSequences.{respelled}
 use Rattle.aadl_grammar.proofs.PropertyLists.{starts_at}
 
+-- what a symbol does at the mark of its first row
+pub marked_moves : (m : Mark) (f : List Symbol) (rs : List Row) (x : Symbol) → rows x ≡ on m f ∷ rs
+    → move x (mark m) ≡ takes f
+unfolding move
+marked_moves m f rs x row =
+    ap (λ (l : List Row). move_by l (can_omit x) (mark m)) row
+    ∙ ap (λ b. cond b (takes f) (move_by rs (can_omit x) (mark m))) (fits_itself m)
+
 -- a list whose only row is for the mark, and has an item and the list behind it, or what begins so
 marked_list : (m : Mark) (f : List Symbol) (item list : Symbol) → rows list ≡ on m f ∷ [] → can_omit list ≡ true
     → closes item ≡ 0 → ((below : Stack) → depth (f ++ below) ≤ depth (list ∷ below))
     → ((outer end : ℕ) (below : Stack) (ss : List Spot)
     → fate outer end (f ++ below) ss ≡ fate outer end (item ∷ list ∷ below) ss) → Lists (Some m) item list
-unfolding move
 marked_list m f item list row o c d same = record {
   goes_on =
-      λ outer end below ss start l h. takes_row outer end list below l
-      (ap (λ (rs : List Row). move_by rs (can_omit list) (mark m)) row
-      ∙ ap (λ b. cond b (takes f) (move_by [] (can_omit list) (mark m))) (fits_itself m))
+      λ outer end below ss start l h. takes_row outer end list below l (marked_moves m f [] list row)
       (omega (arith, d below, h))
       ∙ same outer end below start;
   stops =
@@ -65,12 +70,18 @@ path_list =
     marked_list k.Comma (s.path ∷ s.more_paths ∷ []) s.path s.more_paths refl refl refl (λ below. omega arith)
     (λ outer end below ss. refl)
 
+pub name_list : Lists (Some k.Comma) s.name s.more_names
+unfolding depth
+name_list =
+    marked_list k.Comma (s.name ∷ s.more_names ∷ []) s.name s.more_names refl refl refl (λ below. omega arith)
+    (λ outer end below ss. refl)
+
 -- a list of items that begin with a word, and of which nothing else is known
-pub word_list : (item list : Symbol) (f : List Symbol) → rows item ≡ by a_word f ∷ []
+pub word_list : (item list : Symbol) {f : List Symbol} → rows item ≡ by a_word f ∷ []
     → rows list ≡ table.behind (list ∷ []) (rows item) → can_omit list ≡ true → can_omit item ≡ false
     → closes item ≡ 0 → Lists None item list
 unfolding move
-word_list item list f row rows_are o p c = record {
+word_list item list row rows_are o p c = record {
   goes_on =
       λ outer end below ss start (w, e) h. enters_as outer end list item (list ∷ []) below rows_are p (starts_at w)
       (ap (λ (rs : List Row). move_by rs (can_omit item) (word w.spelling)) row)
@@ -95,8 +106,8 @@ items_of f g allowed item list lists each =
     record { item = item; list = list; lists = lists; parts = λ x. f (g x); allowed = allowed; each = each }
 
 -- what is read behind nothing is the whole list
-all_read : {X Y : Type 0} (before : Option Mark) (f : Y → List (Part ℕ)) (g : X → Y) (r : Reader) (old : List X) (at : ℕ)
-    (result : Result (Vec X × ℕ) ParseFault) → old ≡ []
+all_read : {X Y : Type 0} (before : Option Mark) (f : Y → List (Part ℕ)) (g : X → Y) (r : Reader) (old : List X)
+    (at : ℕ) (result : Result (Vec X × ℕ) ParseFault) → old ≡ []
     → IfOk result (λ y. Grows (with_mark before (λ x. f (g x))) old y.0.items (here r at) (here r y.1))
     → IfOk result (λ y. Reads (flat_map (with_mark before f) (map g y.0.items)) (here r at) (here r y.1))
 all_read before f g r old at (Err e) n h = tt
@@ -150,6 +161,19 @@ pub same_answer : {X : Type 0} {r : Reader} {Allowed : ℕ → Type 0} {wanted :
     → Parses r Allowed wanted parts at result
 same_answer {X} {r = r} {Allowed = Allowed} {wanted = wanted} {parts = parts} {at = at} p e =
     subst (λ (y : Result (X × ℕ) ParseFault). Parses r Allowed wanted parts at y) (sym e) p
+
+-- the same answer, whose parts are written otherwise
+read_so : {X : Type 0} {p q : X → List (Part ℕ)} (r : Reader) (at : ℕ) (result : Result (X × ℕ) ParseFault)
+    → ((x : X) → p x ≡ q x) → IfOk result (λ y. Reads (p y.0) (here r at) (here r y.1))
+    → IfOk result (λ y. Reads (q y.0) (here r at) (here r y.1))
+read_so r at (Err e) same a = tt
+read_so r at (Ok y) same a = respelled (same y.0) a
+
+pub respelled_answer : {X : Type 0} {r : Reader} {Allowed : ℕ → Type 0} {wanted : Stack} {p q : X → List (Part ℕ)}
+    {at : ℕ} {result : Result (X × ℕ) ParseFault} → ((x : X) → p x ≡ q x) → Parses r Allowed wanted p at result
+    → Parses r Allowed wanted q at result
+respelled_answer {r = r} {at = at} {result = result} same a =
+    record { runs = a.runs; reads = read_so r at result same a.reads }
 
 -- an item takes a terminal
 pub item_advances : {X : Type 0} {r : Reader} (Allowed : ℕ → Type 0) (wanted : Stack) (parts : X → List (Part ℕ))

@@ -1,5 +1,6 @@
 -- Lists of values and of properties that grow by one item, as the loops of parsers read them.
-use Rattle.std.proofs.Common.{◌≡◌, ℕ, ◌+◌, ◌<◌, ◌∙◌, sym, ap, List, [], ◌∷◌, ◌++◌, length, append_assoc, arith}
+use Rattle.std.proofs.Common.{◌≡◌, ℕ, ◌<◌, ◌∙◌, sym, ap, List, [], ◌∷◌, ◌++◌, length, append_assoc, arith}
+use Rattle.std.proofs.Common.{refl, flat_map}
 use Rattle.std.specs.Prelude.{Result}
 use Rattle.std.proofs.lemmas.List.{append-nil}
 use Rattle.aadl_tree.specs.declared.mark.Mark.TheVariants as k
@@ -18,7 +19,7 @@ use Rattle.aadl_grammar.specs.proof.ParseTable.{by, on}
 use Rattle.aadl_grammar.specs.declared.reader.Reader.{Reader}
 use Rattle.aadl_grammar.specs.declared.parse_fault.ParseFault.{ParseFault}
 use Rattle.aadl_grammar.specs.proof.ParserAnswers.{spot, At, AtMark, StartsWord, Reads, Parses, AnyRoom, Room}
-use Rattle.aadl_grammar.proofs.PartSequences.{nothing, then, marked, respelled, begun}
+use Rattle.aadl_grammar.proofs.PartSequences.{nothing, then, marked, respelled, regroup, begun}
 
 pub starts_at : {ss : List Spot} (l : StartsWord ss) → At (word l.spelling) ss l.rest
 starts_at l = record { at = l.at; whole = l.whole }
@@ -46,12 +47,15 @@ more_listed (y ∷ xs) x =
     (sym (append_assoc (v.value_parts (value_view kept_place y)) (v.more_values_parts (values_view kept_place xs))
     (plain k.Comma ∷ v.value_parts (value_view kept_place x))))
 
-pub more_values_push : (xs ys : List Value) (x : Value) {ss mid rest : List Spot} → ys ≡ xs ++ x ∷ []
-    → Reads (v.more_values_parts (values_view kept_place xs)) ss mid
+pub values_push : (old new : List Value) (first : Value) (others : List Value) (x : Value) {ss mid rest : List Spot}
+    → old ≡ first ∷ others → new ≡ old ++ x ∷ [] → Reads (v.values_parts (values_view kept_place old)) ss mid
     → Reads (plain k.Comma ∷ v.value_parts (value_view kept_place x)) mid rest
-    → Reads (v.more_values_parts (values_view kept_place ys)) ss rest
-more_values_push xs ys x e a b =
-    respelled (sym (ap (λ l. v.more_values_parts (values_view kept_place l)) e ∙ more_listed xs x)) (then a b)
+    → Reads (v.values_parts (values_view kept_place new)) ss rest
+values_push old new first others x is e a b =
+    respelled (sym (ap (λ l. v.values_parts (values_view kept_place l)) (e ∙ ap (λ l. l ++ x ∷ []) is)
+    ∙ ap (λ l. v.value_parts (value_view kept_place first) ++ l) (more_listed others x)))
+    (regroup (v.value_parts (value_view kept_place first)) (v.more_values_parts (values_view kept_place others))
+    (respelled (ap (λ l. v.values_parts (values_view kept_place l)) is) a) b)
 
 associations_listed : (xs : List Association) (x : Association)
     → v.associations_parts (associations_view kept_place (xs ++ x ∷ []))
@@ -69,6 +73,13 @@ pub associations_push : (xs ys : List Association) (x : Association) {ss mid res
 associations_push xs ys x e a b =
     respelled (sym (ap (λ l. v.associations_parts (associations_view kept_place l)) e
     ∙ associations_listed xs x)) (then a b)
+
+pub associations_spelled : (xs : List Association)
+    → flat_map (λ x. v.association_parts (association_view kept_place x)) xs
+    ≡ v.associations_parts (associations_view kept_place xs)
+associations_spelled [] = refl
+associations_spelled (x ∷ xs) =
+    ap (λ l. v.association_parts (association_view kept_place x) ++ l) (associations_spelled xs)
 
 plain_begun : (t : v.Association ℕ) {ss rest : List Spot} → Reads (v.association_parts t) ss rest
     → length rest < length ss

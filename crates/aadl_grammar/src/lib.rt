@@ -22,6 +22,7 @@ mod terminal;
 pub mod text_laws;
 mod values;
 
+pub use lists::{followers, section};
 pub use names::{dot_identifier, identifier, identifiers, name, path, reference};
 pub use parse_fault::ParseFault;
 pub use reader::{Parsed, Reader};

@@ -1,7 +1,10 @@
 //! Lists, read item by item.
-ghost use Rattle.std.specs.Prelude.{MatchOption};
-ghost use Rattle.aadl_grammar.specs.proof.ParserAnswers.{here};
-ghost use Rattle.aadl_grammar.specs.proof.ListAnswers.{Follows, NoneFollows, Advances, ParsesMore};
+ghost use Rattle.std.specs.Prelude.{◌≡◌, [], ◌∷◌, MatchOption, None, flat_map};
+ghost use Rattle.aadl_tree.specs.SpellingParts.{Section, section_mark};
+ghost use Rattle.aadl_tree.specs.Declarations.{section_parts};
+ghost use Rattle.aadl_grammar.specs.proof.Symbols.{Symbol};
+ghost use Rattle.aadl_grammar.specs.proof.ParserAnswers.{here, Parses};
+ghost use Rattle.aadl_grammar.specs.proof.ListAnswers.{Allows, Follows, NoneFollows, IsSection, Advances, ItemsOf, ParsesMore};
 
 use crate::reader::{Parsed, Reader};
 use aadl_tree::Mark;
@@ -35,4 +38,30 @@ pub fn followers<T: Drop, F: Fn(usize) -> Parsed<T>>(
         rest = behind;
     }
     Ok((found, rest))
+}
+
+/// `[ keyword ( "none" ";" | item { item } ) ]` of items that begin with a word.
+pub fn section<T: Drop, F: Fn(usize) -> Parsed<T>>(
+    reader: &Reader<'_>,
+    at: usize,
+    keyword: Mark,
+    item: F,
+) -> Parsed<Vec<T>>
+    requires callable { F.IsAlwaysCallable item }
+    requires advances { Advances reader.now (λ a r. F.post item a r) }
+    ensures { (kind : Section) (symbol : Symbol) (of : ItemsOf reader.now None (λ a r. F.post item a r))
+        → section_mark kind ≡ keyword → IsSection keyword of.item of.list symbol
+        → Parses reader.now (Allows of.allowed) (symbol ∷ []) (λ x. section_parts kind (flat_map of.parts x.items)) at result }
+{
+    let mut found = Vec::new(reader.alloc);
+    let Some(next) = reader.take(at, keyword) else {
+        return Ok((found, at));
+    };
+    if let Some(nothing) = reader.take(next, Mark::Nothing) {
+        let end = reader.expect(nothing, Mark::Semicolon)?;
+        return Ok((found, end));
+    }
+    let (first, next) = item(next)?;
+    found.push(first)?;
+    followers(reader, next, None, found, item)
 }

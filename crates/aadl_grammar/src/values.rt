@@ -138,7 +138,13 @@ fn applies(reader: &Reader<'_>, at: usize) -> Parsed<Vec<Path>>
     let (first, next) = path(reader, start)?;
     let mut found = Vec::new(reader.alloc);
     found.push(first)?;
-    followers(reader, next, Some(Mark::Comma), found, |at| path(reader, at))
+    followers(
+        reader,
+        next,
+        Some(Mark::Comma),
+        found,
+        |at| path(reader, at),
+    )
 }
 
 /// `[ value { "," value } ] ")"`
@@ -147,29 +153,19 @@ fn values(reader: &Reader<'_>, at: usize, room: usize) -> Parsed<Vec<Value>>
     ensures { Parses reader.now (Room room) (s.values ∷ s.only k.ParenClose ∷ [])
         (λ x. values_parts (values_view kept_place x.items) ++ plain k.ParenClose ∷ []) at result }
 {
-    if let Some(next) = reader.take(at, Mark::ParenClose) {
-        return Ok((Vec::new(reader.alloc), next));
-    }
-    let (first, next) = value(reader, at, room)?;
-    let (mut values, next) = more_values(reader, next, room)?;
-    values.insert(0, first)?;
-    let end = reader.expect(next, Mark::ParenClose)?;
-    Ok((values, end))
-}
-
-/// `{ "," value }`
-#[cycle(value)]
-fn more_values(reader: &Reader<'_>, at: usize, room: usize) -> Parsed<Vec<Value>>
-    ensures { Parses reader.now (Room room) (s.more_values ∷ []) (λ x. more_values_parts (values_view kept_place x.items)) at result }
-{
     let mut found = Vec::new(reader.alloc);
-    let mut rest = at;
+    if let Some(next) = reader.take(at, Mark::ParenClose) {
+        return Ok((found, next));
+    }
+    let (first, mut rest) = value(reader, at, room)?;
+    found.push(first)?;
     while let Some(behind) = reader.take(rest, Mark::Comma) {
         let (next, behind) = value(reader, behind, room)?;
         found.push(next)?;
         rest = behind;
     }
-    Ok((found, rest))
+    let end = reader.expect(rest, Mark::ParenClose)?;
+    Ok((found, end))
 }
 
 /// A value that begins with a bracket or a keyword; none where another one has to come.

@@ -1,17 +1,20 @@
 -- What a function of a parser answers that reads a list, with a function that is passed to it for each item. For the
 -- contracts of parsers.
 use Rattle.std.specs.Prelude.{ℕ, ◌+◌, ◌≡◌, ◌≤◌, ◌<◌, IfOk, List, [], ◌∷◌, ◌++◌, flat_map, length, Result, Option, Some}
-use Rattle.std.specs.Prelude.{None}
+use Rattle.std.specs.Prelude.{None, true, false}
 use Rattle.std.specs.Global.{Vec}
 use Rattle.aadl_tree.specs.declared.mark.Mark.{Mark}
 use Rattle.aadl_tree.specs.Terminals.{Spot}
 use Rattle.aadl_tree.specs.SpellingParts.{Part, behind}
 use Rattle.aadl_tree.specs.declared.nesting_limit.TheConstants.{GREATEST_NESTING}
 use Rattle.aadl_grammar.specs.proof.Symbols.{a_word, the, Symbol}
+use Rattle.aadl_grammar.specs.proof.ParseTable as table
+use Rattle.aadl_grammar.specs.proof.ParseTable.{on, rows, section_rows, can_omit}
 use Rattle.aadl_grammar.specs.proof.StackMachine.{Stack, closes, depth, fate}
 use Rattle.aadl_grammar.specs.declared.reader.Reader.{Reader}
 use Rattle.aadl_grammar.specs.declared.parse_fault.ParseFault.{ParseFault}
-use Rattle.aadl_grammar.specs.proof.ParserAnswers.{here, AtMark, StartsWord, Misses, Reads, RunsTo, Parses, AnyRoom, Room}
+use Rattle.aadl_grammar.specs.proof.ParserAnswers.{here, AtMark, StartsWord, Misses, Reads, RunsTo, Parses, AnyRoom}
+use Rattle.aadl_grammar.specs.proof.ParserAnswers.{Room}
 
 -- how many openers may be open before a part: what leaves this room, or any number
 abbrev pub Allows : Option ℕ → ℕ → Type 0
@@ -23,10 +26,12 @@ abbrev pub Follows : Option Mark → List Spot → List Spot → Type 0
 Follows (Some m) ss start = AtMark m ss start
 Follows None ss start = StartsWord ss × (start ≡ ss)
 
+-- no other item follows
 abbrev pub NoneFollows : Option Mark → List Spot → Type 0
 NoneFollows (Some m) ss = Misses (the m) ss
 NoneFollows None ss = Misses a_word ss
 
+-- an item's parts, behind its mark if it has one
 abbrev pub with_mark : {X : Type 0} → Option Mark → (X → List (Part ℕ)) → X → List (Part ℕ)
 with_mark (Some m) parts = behind m parts
 with_mark None parts = parts
@@ -40,16 +45,27 @@ pub record Lists (before : Option Mark) (item list : Symbol) : Type 0 where
       → fate outer end (list ∷ below) ss ≡ fate outer end below ss
   pub no_closer : closes item ≡ 0
 
--- what a function answers at each place
+-- The machine reads the symbol as a section of a list: nothing, or the keyword and then `none ;` or the list's items.
+pub record IsSection (keyword : Mark) (item list symbol : Symbol) : Type 0 where
+  pub opened : Symbol
+  pub own_rows : rows symbol ≡ on keyword (opened ∷ []) ∷ []
+  pub opened_rows : rows opened ≡ section_rows (table.behind (list ∷ []) (rows item))
+  pub may_omit : can_omit symbol ≡ true
+  pub opened_stays : can_omit opened ≡ false
+  pub item_stays : can_omit item ≡ false
+  pub no_closers : closes symbol + closes opened + closes list ≡ 0
+
+-- which answers a function may give at each place
 abbrev pub Answers : Type 0 → Type 1
 Answers X = ℕ → Result (X × ℕ) ParseFault → Type 0
 
--- what it reads has a terminal at least
+-- what the function reads has a terminal at least
 abbrev pub Advances : {X : Type 0} → Reader → Answers X → Type 0
 Advances {X} r answers = (at : ℕ) (result : Result (X × ℕ) ParseFault) → answers at result
     → IfOk result (λ y. length (here r y.1) < length (here r at))
 
--- the symbols of a list and of its items, and what an item's parts are, where the function is the item's part
+-- The symbols of a list and of its items, the parts of an item, and that the function is the part of a parser for an
+-- item.
 pub record ItemsOf {X : Type 0} (r : Reader) (before : Option Mark) (answers : Answers X) : Type 0 where
   pub item : Symbol
   pub list : Symbol
@@ -59,17 +75,17 @@ pub record ItemsOf {X : Type 0} (r : Reader) (before : Option Mark) (answers : A
   pub each : (at : ℕ) (result : Result (X × ℕ) ParseFault) → answers at result
       → Parses r (Allows allowed) (item ∷ []) parts at result
 
--- these items more
+-- the new list is the old one, with what is read here behind it
 pub record Grows {X : Type 0} (parts : X → List (Part ℕ)) (old new : List X) (ss rest : List Spot) : Type 0 where
   pub more : List X
   pub whole : new ≡ old ++ more
   pub reads : Reads (flat_map parts more) ss rest
 
--- The part of a parser for more of a list, behind the items that were found before.
+-- The part of a parser for more of a list, behind what was found before, whatever symbols the list and its items have.
 pub record ParsesMore {X : Type 0} (r : Reader) (before : Option Mark) (answers : Answers X) (found : List X) (at : ℕ)
     (result : Result (Vec X × ℕ) ParseFault) : Type 0 where
-  pub runs : (l : ItemsOf r before answers) (outer : ℕ) (below : Stack)
-      → Allows l.allowed (outer + depth (l.list ∷ below))
-      → RunsTo (λ (y : Vec X × ℕ). y.1) r outer below (fate outer r.end (l.list ∷ below) (here r at)) result
-  pub reads : (l : ItemsOf r before answers)
-      → IfOk result (λ y. Grows (with_mark before l.parts) found y.0.items (here r at) (here r y.1))
+  pub runs : (of : ItemsOf r before answers) (outer : ℕ) (below : Stack)
+      → Allows of.allowed (outer + depth (of.list ∷ below))
+      → RunsTo (λ (y : Vec X × ℕ). y.1) r outer below (fate outer r.end (of.list ∷ below) (here r at)) result
+  pub reads : (of : ItemsOf r before answers)
+      → IfOk result (λ y. Grows (with_mark before of.parts) found y.0.items (here r at) (here r y.1))

@@ -1,4 +1,4 @@
-use Rattle.std.proofs.Common.{◌+◌, ◌∙◌, ◌∷◌, [], ◌++◌, ap, sym, refl, arith, map}
+use Rattle.std.proofs.Common.{◌∙◌, ◌∷◌, [], ◌++◌, ap, sym, refl, arith, map}
 use Rattle.aadl_grammar.specs.proof.ParserAnswers.{here}
 use Rattle.aadl_grammar.proofs.SymbolMoves.{takes_row, omits_unless, begins_as, along, exits, no_reads}
 use Rattle.aadl_grammar.proofs.PartSequences.{then, respelled, regroup}

@@ -1,4 +1,4 @@
-use Rattle.std.proofs.Common.{◌+◌, ◌∙◌, ◌∷◌, [], ◌++◌, ap, sym, refl, arith}
+use Rattle.std.proofs.Common.{◌∙◌, ◌∷◌, [], ◌++◌, ap, sym, refl, arith}
 use Rattle.aadl_grammar.specs.proof.ParserAnswers.{here}
 use Rattle.aadl_grammar.proofs.SymbolMoves.{takes_row, deep_row, omits_unless, begins_as, enters_as, before_closer}
 use Rattle.aadl_grammar.proofs.SymbolMoves.{misses_at, along, exits, no_reads, too_deep, flag_runs, only_takes}
@@ -9,7 +9,7 @@ use Rattle.aadl_tree.specs.proof.ValueViews.{values_view, associations_view}
 use Rattle.aadl_tree.specs.proof.PlaceMaps.{kept_place}
 use Rattle.aadl_tree.proofs.ValueViews.{view-List, view-Record, view-Reference, view-Classifier, view-association}
 use Rattle.aadl_grammar.specs.proof.ParseTable.{rows}
-use Rattle.aadl_grammar.proofs.PropertyLists.{more_values_push, associations_push, with_room, starts_at}
+use Rattle.aadl_grammar.proofs.PropertyLists.{values_push, associations_push, with_room, starts_at}
 use Rattle.aadl_grammar.proofs.PropertyLists.{association_begun}
 use Rattle.aadl_tree.specs.declared.mark.Mark.TheVariants as k
 use Rattle.aadl_grammar.specs.proof.Symbols as s
@@ -25,7 +25,8 @@ values-returns-in-Some t c = record {
       ∙ takes_row outer c.args.reader.now.end (s.only k.ParenClose) (below) c.in-Some.ensures (only_takes k.ParenClose)
       (omega arith);
   reads =
-      respelled (ap (λ l. values_parts (values_view kept_place l) ++ plain k.ParenClose ∷ []) (sym c.new.ensures.items))
+      respelled (ap (λ l. values_parts (values_view kept_place l) ++ plain k.ParenClose ∷ [])
+      (sym c.new-found.ensures.items))
       (marked c.in-Some.ensures nothing);
 }
 
@@ -40,27 +41,63 @@ values-returns-in_err-first t c = record {
   reads = no_reads _ _ _ c.from_residual.ensures.1;
 }
 
-pub values-returns-in_err-values : goal.values-returns-in_err-values
+pub values-loop-behind-init : goal.values-loop-behind-init
 unfolding move depth
-values-returns-in_err-values t c = record {
+values-loop-behind-init t c =
+    let one = c.in_ok-push.ensures.items ∙ ap (λ l. l ++ c.in_ok-first.first ∷ []) c.new-found.ensures.items in record {
+      runs =
+          λ outer below h. before_closer outer c.args.reader.now.end s.values s.value [] (s.more_values ∷ [])
+          k.ParenClose below (here c.args.reader.now c.args.at) refl refl refl tt c.in_default.ensures
+          ∙ c.in_ok-first.ensures.runs outer (s.more_values ∷ s.only k.ParenClose ∷ below) (omega arith);
+      reads =
+          respelled (ap (λ l. values_parts (values_view kept_place l)) (sym one))
+          (then c.in_ok-first.ensures.reads nothing);
+      some = (c.in_ok-first.first, [], one);
+    }
+
+pub values-returns-in_err-next : goal.values-returns-in_err-next
+unfolding move depth
+values-returns-in_err-next t c = record {
   runs =
-      λ outer below h. exits _ _ _ _ _ _ _ c.from_residual-in_err-values.ensures.1
-      (along _ _ _ (before_closer outer c.args.reader.now.end s.values s.value [] (s.more_values ∷ []) k.ParenClose
-      below (here c.args.reader.now c.args.at) refl refl refl tt c.in_default.ensures
-      ∙ c.in_ok-first.ensures.runs outer (s.more_values ∷ s.only k.ParenClose ∷ below) (omega arith))
-      (c.in_err-values.ensures.runs outer (s.only k.ParenClose ∷ below) (omega arith)));
-  reads = no_reads _ _ _ c.from_residual-in_err-values.ensures.1;
+      λ outer below h. exits _ _ _ _ _ _ _ c.from_residual-in_err-next.ensures.1
+      (along _ _ _ (c.loop-behind.invariant.runs outer below (omega arith)
+      ∙ takes_row outer c.args.reader.now.end s.more_values (s.only k.ParenClose ∷ below) c.in-Some-take.ensures refl
+      (omega arith))
+      (c.in_err-next.ensures.runs outer (s.more_values ∷ s.only k.ParenClose ∷ below) (omega arith)));
+  reads = no_reads _ _ _ c.from_residual-in_err-next.ensures.1;
 }
+
+pub values-loop-behind-preserved : goal.values-loop-behind-preserved
+unfolding move depth
+values-loop-behind-preserved t c =
+    let (first, others, is) = c.loop-behind.invariant.some in record {
+      runs = λ outer below h. c.loop-behind.invariant.runs outer below (omega arith)
+          ∙ takes_row outer c.args.reader.now.end s.more_values (s.only k.ParenClose ∷ below) c.in-Some-take.ensures
+          refl (omega arith)
+          ∙ c.in_ok-next.ensures.runs outer (s.more_values ∷ s.only k.ParenClose ∷ below) (omega arith);
+      reads =
+          values_push c.loop-behind.found.items c.push-in-Some-take.new.self.items first others c.in_ok-next.next is
+          c.in_ok-push-2.ensures.items c.loop-behind.invariant.reads
+          (marked c.in-Some-take.ensures c.in_ok-next.ensures.reads);
+      some = (
+        first,
+        others ++ c.in_ok-next.next ∷ [],
+        c.in_ok-push-2.ensures.items ∙ ap (λ l. l ++ c.in_ok-next.next ∷ []) is,
+      );
+    }
+
+pub values-loop-behind-smaller : goal.values-loop-behind-smaller
+unfolding move depth
+values-loop-behind-smaller t c = shorter c.in-Some-take.ensures c.in_ok-next.ensures.reads
 
 pub values-returns-in_err-end : goal.values-returns-in_err-end
 unfolding move depth
 values-returns-in_err-end t c = record {
   runs =
       λ outer below h. exits _ _ _ _ _ _ _ c.from_residual-in_err-end.ensures.1
-      (along _ _ _ (before_closer outer c.args.reader.now.end s.values s.value [] (s.more_values ∷ []) k.ParenClose
-      below (here c.args.reader.now c.args.at) refl refl refl tt c.in_default.ensures
-      ∙ c.in_ok-first.ensures.runs outer (s.more_values ∷ s.only k.ParenClose ∷ below) (omega arith)
-      ∙ c.in_ok-values.ensures.runs outer (s.only k.ParenClose ∷ below) (omega arith))
+      (along _ _ _ (c.loop-behind.invariant.runs outer below (omega arith)
+      ∙ omits_unless outer c.args.reader.now.end s.more_values (s.only k.ParenClose ∷ below)
+      (here c.args.reader.now c.loop-behind.rest) refl (c.in_default-take.ensures, tt))
       (c.in_err-end.ensures.runs outer (below) (omega arith)));
   reads = no_reads _ _ _ c.from_residual-in_err-end.ensures.1;
 }
@@ -68,53 +105,12 @@ values-returns-in_err-end t c = record {
 pub values-returns : goal.values-returns
 unfolding move depth
 values-returns t c = record {
-  runs =
-      λ outer below h. before_closer outer c.args.reader.now.end s.values s.value [] (s.more_values ∷ []) k.ParenClose
-      below (here c.args.reader.now c.args.at) refl refl refl tt c.in_default.ensures
-      ∙ c.in_ok-first.ensures.runs outer (s.more_values ∷ s.only k.ParenClose ∷ below) (omega arith)
-      ∙ c.in_ok-values.ensures.runs outer (s.only k.ParenClose ∷ below) (omega arith)
+  runs = λ outer below h. c.loop-behind.invariant.runs outer below (omega arith)
+      ∙ omits_unless outer c.args.reader.now.end s.more_values (s.only k.ParenClose ∷ below)
+      (here c.args.reader.now c.loop-behind.rest) refl (c.in_default-take.ensures, tt)
       ∙ c.in_ok-end.ensures.runs outer (below) (omega arith);
-  reads =
-      respelled (ap (λ l. values_parts (values_view kept_place l) ++ plain k.ParenClose ∷ [])
-      (sym c.in_ok-insert.ensures.items))
-      (then (then c.in_ok-first.ensures.reads c.in_ok-values.ensures.reads)
-      (marked c.in_ok-end.ensures.reads nothing));
+  reads = then c.loop-behind.invariant.reads (marked c.in_ok-end.ensures.reads nothing);
 }
-
-pub more_values-returns-in_err-next : goal.more_values-returns-in_err-next
-unfolding move depth
-more_values-returns-in_err-next t c = record {
-  runs =
-      λ outer below h. exits _ _ _ _ _ _ _ c.from_residual.ensures.1
-      (along _ _ _ (c.loop-behind.invariant.runs outer below (omega arith)
-      ∙ takes_row outer c.args.reader.now.end s.more_values (below) c.in-Some.ensures refl (omega arith))
-      (c.in_err-next.ensures.runs outer (s.more_values ∷ below) (omega arith)));
-  reads = no_reads _ _ _ c.from_residual.ensures.1;
-}
-
-pub more_values-loop-behind-preserved : goal.more_values-loop-behind-preserved
-unfolding move depth
-more_values-loop-behind-preserved t c = record {
-  runs = λ outer below h. c.loop-behind.invariant.runs outer below (omega arith)
-      ∙ takes_row outer c.args.reader.now.end s.more_values (below) c.in-Some.ensures refl (omega arith)
-      ∙ c.in_ok-next.ensures.runs outer (s.more_values ∷ below) (omega arith);
-  reads =
-      more_values_push c.loop-behind.found.items c.push.new.self.items c.in_ok-next.next c.in_ok-push.ensures.items
-      c.loop-behind.invariant.reads (marked c.in-Some.ensures c.in_ok-next.ensures.reads);
-}
-
-pub more_values-returns : goal.more_values-returns
-unfolding move depth
-more_values-returns t c = record {
-  runs = λ outer below h. c.loop-behind.invariant.runs outer below (omega arith)
-      ∙ omits_unless outer c.args.reader.now.end s.more_values (below) (here c.args.reader.now c.loop-behind.rest) refl
-      (c.in_default.ensures, tt);
-  reads = c.loop-behind.invariant.reads;
-}
-
-pub more_values-loop-behind-smaller : goal.more_values-loop-behind-smaller
-unfolding move depth
-more_values-loop-behind-smaller t c = shorter c.in-Some.ensures c.in_ok-next.ensures.reads
 
 pub value-returns-in_err-inner : goal.value-returns-in_err-inner
 unfolding move depth

@@ -1,5 +1,7 @@
-use Rattle.std.proofs.Common.{◌≡◌, ℕ, ◌+◌, ◌*◌, ◌∷◌, length}
-use Rattle.aadl_tree.specs.Values.{more_values_parts, associations_parts}
+use Rattle.std.proofs.Common.{◌≡◌, ℕ, ◌+◌, ◌*◌, List, ◌∷◌, length}
+use Rattle.aadl_tree.specs.declared.mark.Mark.TheVariants as k
+use Rattle.aadl_tree.specs.declared.values.Value.{Value}
+use Rattle.aadl_tree.specs.Values.{values_parts, associations_parts}
 use Rattle.aadl_tree.specs.proof.ValueViews.{values_view, associations_view}
 use Rattle.aadl_tree.specs.proof.PlaceMaps.{kept_place}
 use Rattle.aadl_tree.specs.declared.nesting_limit.TheConstants.{GREATEST_NESTING}
@@ -11,9 +13,6 @@ use Rattle.aadl_grammar.proofs.values.+value.Given as goal
 abbrev pub decreases-value : goal.decreases-value
 decreases-value l = 8 * l.room + 0
 
-abbrev pub decreases-more_values : goal.decreases-more_values
-decreases-more_values l = 8 * l.room + 1
-
 abbrev pub decreases-values : goal.decreases-values
 decreases-values l = 8 * l.room + 2
 
@@ -23,16 +22,17 @@ decreases-association l = 8 * l.room + 1
 abbrev pub decreases-associations : goal.decreases-associations
 decreases-associations l = 8 * l.room + 2
 
-abbrev pub invariant-more_values-loop-behind : goal.invariant-more_values-loop-behind
-invariant-more_values-loop-behind l = record {
-  runs : (outer : ℕ) (below : Stack) → outer + depth below + l.room ≡ GREATEST_NESTING
-      → fate outer l.reader.end (s.more_values ∷ below) (here l.reader l.at)
-      ≡ fate outer l.reader.end (s.more_values ∷ below) (here l.reader l.rest);
-  reads : Reads (more_values_parts (values_view kept_place l.found.items)) (here l.reader l.at) (here l.reader l.rest);
+abbrev pub invariant-values-loop-behind : goal.invariant-values-loop-behind
+invariant-values-loop-behind l = record {
+  runs : (outer : ℕ) (below : Stack) → outer + depth (s.only k.ParenClose ∷ below) + l.room ≡ GREATEST_NESTING
+      → fate outer l.reader.end (s.values ∷ s.only k.ParenClose ∷ below) (here l.reader l.at)
+      ≡ fate outer l.reader.end (s.more_values ∷ s.only k.ParenClose ∷ below) (here l.reader l.rest);
+  reads : Reads (values_parts (values_view kept_place l.found.items)) (here l.reader l.at) (here l.reader l.rest);
+  some : (x : Value) × (xs : List Value) × (l.found.items ≡ x ∷ xs);
 }
 
-abbrev pub decreases-more_values-loop-behind : goal.decreases-more_values-loop-behind
-decreases-more_values-loop-behind l = length (here l.reader l.rest)
+abbrev pub decreases-values-loop-behind : goal.decreases-values-loop-behind
+decreases-values-loop-behind l = length (here l.reader l.rest)
 
 abbrev pub invariant-associations-loop-found : goal.invariant-associations-loop-found
 invariant-associations-loop-found l = record {

@@ -50,14 +50,16 @@ returns-in_err-first c = record {
 pub returns : goal.returns
 unfolding move depth
 returns c =
-    list_from (items_of path_parts (path_view kept_place) None s.path s.more_paths path_list (λ at r p. search (rules, same_answer)))
+    list_from
+    (items_of path_parts (path_view kept_place) None s.path s.more_paths path_list
+    (λ at r p. search (rules, same_answer)))
     c.in_ok-first.first (λ l. applies_parts (map (path_view kept_place) l))
     (c.in_ok-push.ensures.items ∙ ap (λ l. l ++ c.in_ok-first.first ∷ []) c.new-found.ensures.items)
     (λ outer below h. (
       omega arith,
       takes_row outer c.args.reader.now.end s.applies (below) c.in-Some.ensures refl (omega arith)
-      ∙ c.in_ok-start.ensures.runs outer (s.path ∷ s.more_paths ∷ below) (omega arith)
-      ∙ c.in_ok-first.ensures.runs outer (s.more_paths ∷ below) (omega arith),
+          ∙ c.in_ok-start.ensures.runs outer (s.path ∷ s.more_paths ∷ below) (omega arith)
+          ∙ c.in_ok-first.ensures.runs outer (s.more_paths ∷ below) (omega arith),
     ))
     (λ more rest a. marked c.in-Some.ensures
     (marked c.in_ok-start.ensures.reads (then c.in_ok-first.ensures.reads
