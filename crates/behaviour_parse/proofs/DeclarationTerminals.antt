@@ -1,25 +1,15 @@
--- Each declaration of a variable, a state or a transition begins with a terminal.
+-- A transition begins with a terminal, and how one starts.
 use Rattle.std.proofs.Common.{◌≡◌, ◌∙◌, ap, sym, ℕ, ◌<◌, List, [], ◌∷◌, ◌++◌, length, append_assoc, Option, Some, None}
 use Rattle.aadl_tree.specs.declared.mark.Mark.TheVariants as k
-use Rattle.aadl_tree.specs.declared.annex.VariableDeclaration.{VariableDeclaration}
-use Rattle.aadl_tree.specs.declared.annex.StateDeclaration.{StateDeclaration}
 use Rattle.aadl_tree.specs.declared.annex.Transition.{Transition}
 use Rattle.aadl_tree.specs.Terminals.{Spot}
 use Rattle.aadl_tree.specs.SpellingParts.{Part, plain}
 use Rattle.aadl_tree.specs.Names as n
 use Rattle.aadl_tree.specs.Annexes as x
-use Rattle.aadl_tree.specs.proof.DeclarationViews.{variable_view, state_view, transition_view}
+use Rattle.aadl_tree.specs.proof.DeclarationViews.{transition_view}
 use Rattle.aadl_tree.specs.proof.PlaceMaps.{kept_place}
 use Rattle.aadl_grammar.specs.proof.ParserAnswers.{Reads}
 use Rattle.aadl_grammar.proofs.PartSequences.{begun}
-
-pub variable_begun : (t : VariableDeclaration) {ss rest : List Spot}
-    → Reads (x.variable_parts (variable_view kept_place t)) ss rest → length rest < length ss
-variable_begun t a = begun a
-
-pub state_begun : (t : StateDeclaration) {ss rest : List Spot} → Reads (x.state_parts (state_view kept_place t)) ss rest
-    → length rest < length ss
-state_begun t a = begun a
 
 plain_begun : (label : Option (n.Identifier ℕ)) (t : x.Transition ℕ) {ss rest : List Spot}
     → Reads (x.transition_parts

@@ -1,5 +1,5 @@
 //! What a behaviour annex declares.
-ghost use Rattle.std.specs.Prelude.{◌≡◌, [], ◌∷◌, ◌++◌, flat_map, map, option_map};
+ghost use Rattle.std.specs.Prelude.{◌≡◌, [], ◌∷◌, ◌++◌, map, option_map};
 ghost use Rattle.aadl_tree.specs.declared.mark.Mark.TheVariants as k;
 ghost use Rattle.aadl_tree.specs.SpellingParts.{plain, behind, parts_if};
 ghost use Rattle.aadl_tree.specs.Names.{identifier_parts};
@@ -17,7 +17,9 @@ ghost use Rattle.aadl_grammar.specs.proof.ParserAnswers.{Parses, AnyRoom, Room};
 
 use crate::actions::block;
 use crate::expressions::expression;
-use aadl_grammar::{ParseFault, Parsed, Reader, identifier, identifiers, properties, reference};
+use aadl_grammar::{
+    ParseFault, Parsed, Reader, followers, identifier, identifiers, properties, reference,
+};
 use aadl_tree::{
     AnnexTree, Block, Guard, Identifier, Mark, StateDeclaration, Transition, VariableDeclaration,
 };
@@ -39,21 +41,6 @@ fn variable(reader: &Reader<'_>, at: usize, room: usize) -> Parsed<VariableDecla
     Ok((variable, end))
 }
 
-/// `{ variable }`
-fn variable_list(reader: &Reader<'_>, at: usize, room: usize) -> Parsed<Vec<VariableDeclaration>>
-    ensures { Parses reader.now (Room room) (s.variable_list ∷ [])
-        (λ x. flat_map variable_parts (map (variable_view kept_place) x.items)) at result }
-{
-    let mut found = Vec::new(reader.alloc);
-    let mut rest = at;
-    while reader.is_word(rest) {
-        let (next, behind) = variable(reader, rest, room)?;
-        found.push(next)?;
-        rest = behind;
-    }
-    Ok((found, rest))
-}
-
 /// `[ "variables" { variable } ]`
 fn variables(
     reader: &Reader<'_>,
@@ -66,7 +53,8 @@ fn variables(
     let Some(next) = reader.take(at, Mark::Variables) else {
         return Ok((None, at));
     };
-    let (found, end) = variable_list(reader, next, room)?;
+    let none = Vec::new(reader.alloc);
+    let (found, end) = followers(reader, next, None, none, |at| variable(reader, at, room))?;
     Ok((Some(found), end))
 }
 
@@ -88,21 +76,6 @@ fn state(reader: &Reader<'_>, at: usize) -> Parsed<StateDeclaration>
     Ok((state, end))
 }
 
-/// `{ state }`
-fn state_list(reader: &Reader<'_>, at: usize) -> Parsed<Vec<StateDeclaration>>
-    ensures { Parses reader.now AnyRoom (s.state_list ∷ [])
-        (λ x. flat_map state_parts (map (state_view kept_place) x.items)) at result }
-{
-    let mut found = Vec::new(reader.alloc);
-    let mut rest = at;
-    while reader.is_word(rest) {
-        let (next, behind) = state(reader, rest)?;
-        found.push(next)?;
-        rest = behind;
-    }
-    Ok((found, rest))
-}
-
 /// `[ "states" { state } ]`
 fn states(reader: &Reader<'_>, at: usize) -> Parsed<Option<Vec<StateDeclaration>>>
     ensures { Parses reader.now AnyRoom (s.states ∷ [])
@@ -111,7 +84,8 @@ fn states(reader: &Reader<'_>, at: usize) -> Parsed<Option<Vec<StateDeclaration>
     let Some(next) = reader.take(at, Mark::States) else {
         return Ok((None, at));
     };
-    let (found, end) = state_list(reader, next)?;
+    let none = Vec::new(reader.alloc);
+    let (found, end) = followers(reader, next, None, none, |at| state(reader, at))?;
     Ok((Some(found), end))
 }
 
@@ -224,21 +198,6 @@ fn transition(reader: &Reader<'_>, at: usize, room: usize) -> Parsed<Transition>
     Ok((transition, end))
 }
 
-/// `{ transition }`
-fn transition_list(reader: &Reader<'_>, at: usize, room: usize) -> Parsed<Vec<Transition>>
-    ensures { Parses reader.now (Room room) (s.transition_list ∷ [])
-        (λ x. flat_map transition_parts (map (transition_view kept_place) x.items)) at result }
-{
-    let mut found = Vec::new(reader.alloc);
-    let mut rest = at;
-    while reader.is_word(rest) {
-        let (next, behind) = transition(reader, rest, room)?;
-        found.push(next)?;
-        rest = behind;
-    }
-    Ok((found, rest))
-}
-
 /// `[ "transitions" { transition } ]`
 fn transitions(reader: &Reader<'_>, at: usize, room: usize) -> Parsed<Option<Vec<Transition>>>
     ensures { Parses reader.now (Room room) (s.transitions ∷ [])
@@ -247,7 +206,8 @@ fn transitions(reader: &Reader<'_>, at: usize, room: usize) -> Parsed<Option<Vec
     let Some(next) = reader.take(at, Mark::Transitions) else {
         return Ok((None, at));
     };
-    let (found, end) = transition_list(reader, next, room)?;
+    let none = Vec::new(reader.alloc);
+    let (found, end) = followers(reader, next, None, none, |at| transition(reader, at, room))?;
     Ok((Some(found), end))
 }
 
