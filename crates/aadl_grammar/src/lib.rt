@@ -27,4 +27,4 @@ pub use names::{dot_identifier, identifier, identifiers, name, path, reference};
 pub use parse_fault::ParseFault;
 pub use reader::{Parsed, Reader};
 pub use terminal::{Terminal, TerminalKind, narrow, resolve};
-pub use values::{association, associations, properties};
+pub use values::{association, properties};

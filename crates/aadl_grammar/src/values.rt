@@ -235,7 +235,7 @@ pub fn association(reader: &Reader<'_>, at: usize, room: usize) -> Parsed<Associ
 
 /// `{ property }`
 #[cycle(value)]
-pub fn associations(reader: &Reader<'_>, at: usize, room: usize) -> Parsed<Vec<Association>>
+fn associations(reader: &Reader<'_>, at: usize, room: usize) -> Parsed<Vec<Association>>
     ensures { Parses reader.now (Room room) (s.associations ∷ []) (λ x. associations_parts (associations_view kept_place x.items)) at result }
 {
     let mut found = Vec::new(reader.alloc);

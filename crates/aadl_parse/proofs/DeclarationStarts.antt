@@ -1,33 +1,17 @@
--- Each declaration takes at least one terminal, and what the machine does at a category. For the loops of the
--- parser.
+-- An annex takes at least one terminal, and what the machine does at a category. For the loops of the parser.
 use Rattle.std.proofs.Common.{◌≡◌, ◌<◌, List, [], ◌∷◌, length, refl}
 use Rattle.aadl_tree.specs.declared.declarations.Category.{Category}
 use Rattle.aadl_tree.specs.declared.declarations.Category.TheVariants as categories
-use Rattle.aadl_tree.specs.declared.declarations.Feature.{Feature}
-use Rattle.aadl_tree.specs.declared.declarations.Subcomponent.{Subcomponent}
-use Rattle.aadl_tree.specs.declared.declarations.Connection.{Connection}
 use Rattle.aadl_tree.specs.declared.annex.Annex.{Annex}
 use Rattle.aadl_tree.specs.Terminals.{mark, Spot}
 use Rattle.aadl_tree.specs.Annexes.{annex_parts}
-use Rattle.aadl_tree.specs.Declarations.{category_mark, feature_parts, subcomponent_parts, connection_parts}
-use Rattle.aadl_tree.specs.proof.DeclarationViews.{feature_view, subcomponent_view, connection_view, annex_view}
+use Rattle.aadl_tree.specs.Declarations.{category_mark}
+use Rattle.aadl_tree.specs.proof.DeclarationViews.{annex_view}
 use Rattle.aadl_tree.specs.proof.PlaceMaps.{kept_place}
 use Rattle.aadl_grammar.specs.proof.Symbols as s
 use Rattle.aadl_grammar.specs.proof.StackMachine.{takes, move}
 use Rattle.aadl_grammar.specs.proof.ParserAnswers.{Reads}
 use Rattle.aadl_grammar.proofs.PartSequences.{begun}
-
-pub feature_begun : (x : Feature) {ss rest : List Spot} → Reads (feature_parts (feature_view kept_place x)) ss rest
-    → length rest < length ss
-feature_begun x a = begun a
-
-pub subcomponent_begun : (x : Subcomponent) {ss rest : List Spot}
-    → Reads (subcomponent_parts (subcomponent_view kept_place x)) ss rest → length rest < length ss
-subcomponent_begun x a = begun a
-
-pub connection_begun : (x : Connection) {ss rest : List Spot}
-    → Reads (connection_parts (connection_view kept_place x)) ss rest → length rest < length ss
-connection_begun x a = begun a
 
 pub annex_begun : (x : Annex) {ss rest : List Spot} → Reads (annex_parts (annex_view kept_place x)) ss rest
     → length rest < length ss

@@ -1,3 +1,2 @@
 pub mod DeclarationStarts
-pub mod Sections
 pub mod PackageFates

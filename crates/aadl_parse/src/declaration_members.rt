@@ -16,8 +16,8 @@ ghost use Rattle.aadl_grammar.specs.proof.ParseTable.{rows};
 ghost use Rattle.aadl_grammar.specs.proof.ParserAnswers.{here, AtMark, MissAll, Parses, AnyRoom, Room};
 
 use aadl_grammar::{
-    ParseFault, Parsed, Reader, association, associations, dot_identifier, identifier, properties,
-    reference,
+    ParseFault, Parsed, Reader, association, dot_identifier, identifier, properties, reference,
+    section,
 };
 use aadl_tree::{
     Association, Category, Connection, ConnectionEnd, Direction, Feature, Mark, Reference,
@@ -101,37 +101,12 @@ fn feature(reader: &Reader<'_>, at: usize, room: usize) -> Parsed<Feature>
     Ok((feature, end))
 }
 
-/// `{ feature }`
-fn feature_list(reader: &Reader<'_>, at: usize, room: usize) -> Parsed<Vec<Feature>>
-    ensures { Parses reader.now (Room room) (s.feature_list ∷ [])
-        (λ x. flat_map feature_parts (map (feature_view kept_place) x.items)) at result }
-{
-    let mut found = Vec::new(reader.alloc);
-    let mut rest = at;
-    while reader.is_word(rest) {
-        let (next, behind) = feature(reader, rest, room)?;
-        found.push(next)?;
-        rest = behind;
-    }
-    Ok((found, rest))
-}
-
 /// `[ "features" ( "none" ";" | feature { feature } ) ]`
 pub fn features(reader: &Reader<'_>, at: usize, room: usize) -> Parsed<Vec<Feature>>
     ensures { Parses reader.now (Room room) (s.features ∷ [])
         (λ x. section_parts feature_section (flat_map feature_parts (map (feature_view kept_place) x.items))) at result }
 {
-    let Some(next) = reader.take(at, Mark::Features) else {
-        return Ok((Vec::new(reader.alloc), at));
-    };
-    if let Some(nothing) = reader.take(next, Mark::Nothing) {
-        let end = reader.expect(nothing, Mark::Semicolon)?;
-        return Ok((Vec::new(reader.alloc), end));
-    }
-    let (first, next) = feature(reader, next, room)?;
-    let (mut found, end) = feature_list(reader, next, room)?;
-    found.insert(0, first)?;
-    Ok((found, end))
+    section(reader, at, Mark::Features, |at| feature(reader, at, room))
 }
 
 /// `id ":" category reference [ properties ] ";"`
@@ -154,37 +129,17 @@ fn subcomponent(reader: &Reader<'_>, at: usize, room: usize) -> Parsed<Subcompon
     Ok((subcomponent, end))
 }
 
-/// `{ subcomponent }`
-fn subcomponent_list(reader: &Reader<'_>, at: usize, room: usize) -> Parsed<Vec<Subcomponent>>
-    ensures { Parses reader.now (Room room) (s.subcomponent_list ∷ [])
-        (λ x. flat_map subcomponent_parts (map (subcomponent_view kept_place) x.items)) at result }
-{
-    let mut found = Vec::new(reader.alloc);
-    let mut rest = at;
-    while reader.is_word(rest) {
-        let (next, behind) = subcomponent(reader, rest, room)?;
-        found.push(next)?;
-        rest = behind;
-    }
-    Ok((found, rest))
-}
-
 /// `[ "subcomponents" ( "none" ";" | subcomponent { subcomponent } ) ]`
 pub fn subcomponents(reader: &Reader<'_>, at: usize, room: usize) -> Parsed<Vec<Subcomponent>>
     ensures { Parses reader.now (Room room) (s.subcomponents ∷ [])
         (λ x. section_parts subcomponent_section (flat_map subcomponent_parts (map (subcomponent_view kept_place) x.items))) at result }
 {
-    let Some(next) = reader.take(at, Mark::Subcomponents) else {
-        return Ok((Vec::new(reader.alloc), at));
-    };
-    if let Some(nothing) = reader.take(next, Mark::Nothing) {
-        let end = reader.expect(nothing, Mark::Semicolon)?;
-        return Ok((Vec::new(reader.alloc), end));
-    }
-    let (first, next) = subcomponent(reader, next, room)?;
-    let (mut found, end) = subcomponent_list(reader, next, room)?;
-    found.insert(0, first)?;
-    Ok((found, end))
+    section(
+        reader,
+        at,
+        Mark::Subcomponents,
+        |at| subcomponent(reader, at, room),
+    )
 }
 
 /// `id [ "." id ]`
@@ -217,37 +172,17 @@ fn connection(reader: &Reader<'_>, at: usize, room: usize) -> Parsed<Connection>
     Ok((connection, end))
 }
 
-/// `{ connection }`
-fn connection_list(reader: &Reader<'_>, at: usize, room: usize) -> Parsed<Vec<Connection>>
-    ensures { Parses reader.now (Room room) (s.connection_list ∷ [])
-        (λ x. flat_map connection_parts (map (connection_view kept_place) x.items)) at result }
-{
-    let mut found = Vec::new(reader.alloc);
-    let mut rest = at;
-    while reader.is_word(rest) {
-        let (next, behind) = connection(reader, rest, room)?;
-        found.push(next)?;
-        rest = behind;
-    }
-    Ok((found, rest))
-}
-
 /// `[ "connections" ( "none" ";" | connection { connection } ) ]`
 pub fn connections(reader: &Reader<'_>, at: usize, room: usize) -> Parsed<Vec<Connection>>
     ensures { Parses reader.now (Room room) (s.connections ∷ [])
         (λ x. section_parts connection_section (flat_map connection_parts (map (connection_view kept_place) x.items))) at result }
 {
-    let Some(next) = reader.take(at, Mark::Connections) else {
-        return Ok((Vec::new(reader.alloc), at));
-    };
-    if let Some(nothing) = reader.take(next, Mark::Nothing) {
-        let end = reader.expect(nothing, Mark::Semicolon)?;
-        return Ok((Vec::new(reader.alloc), end));
-    }
-    let (first, next) = connection(reader, next, room)?;
-    let (mut found, end) = connection_list(reader, next, room)?;
-    found.insert(0, first)?;
-    Ok((found, end))
+    section(
+        reader,
+        at,
+        Mark::Connections,
+        |at| connection(reader, at, room),
+    )
 }
 
 /// `[ "properties" ( "none" ";" | property { property } ) ]`
@@ -255,15 +190,10 @@ pub fn own_properties(reader: &Reader<'_>, at: usize, room: usize) -> Parsed<Vec
     ensures { Parses reader.now (Room room) (s.own_properties ∷ [])
         (λ x. section_parts property_section (associations_parts (associations_view kept_place x.items))) at result }
 {
-    let Some(next) = reader.take(at, Mark::Properties) else {
-        return Ok((Vec::new(reader.alloc), at));
-    };
-    if let Some(nothing) = reader.take(next, Mark::Nothing) {
-        let end = reader.expect(nothing, Mark::Semicolon)?;
-        return Ok((Vec::new(reader.alloc), end));
-    }
-    let (first, next) = association(reader, next, room)?;
-    let (mut found, end) = associations(reader, next, room)?;
-    found.insert(0, first)?;
-    Ok((found, end))
+    section(
+        reader,
+        at,
+        Mark::Properties,
+        |at| association(reader, at, room),
+    )
 }

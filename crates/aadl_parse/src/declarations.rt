@@ -16,7 +16,7 @@ ghost use Rattle.aadl_grammar.specs.proof.ParserAnswers.{Parses, AnyRoom, Room};
 ghost use Rattle.aadl_parse.specs.proof.DeclarationRests.{rest_parts, package_of};
 
 use crate::declaration_members::{category, connections, features, own_properties, subcomponents};
-use aadl_grammar::{ParseFault, Parsed, Reader, identifier, name};
+use aadl_grammar::{ParseFault, Parsed, Reader, followers, identifier, name};
 use aadl_tree::{
     Annex, AnnexContent, Association, Category, Connection, Declaration, Feature, Identifier,
     Implementation, ImplementationName, Mark, Name, Subcomponent, TypeDeclaration, With,
@@ -251,14 +251,8 @@ fn more_names(reader: &Reader<'_>, at: usize) -> Parsed<Vec<Name>>
     ensures { Parses reader.now AnyRoom (s.more_names ∷ [])
         (λ x. flat_map (behind k.Comma name_parts) (map (name_view kept_place) x.items)) at result }
 {
-    let mut found = Vec::new(reader.alloc);
-    let mut rest = at;
-    while let Some(behind) = reader.take(rest, Mark::Comma) {
-        let (next, behind) = name(reader, behind)?;
-        found.push(next)?;
-        rest = behind;
-    }
-    Ok((found, rest))
+    let none = Vec::new(reader.alloc);
+    followers(reader, at, Some(Mark::Comma), none, |at| name(reader, at))
 }
 
 /// `{ "with" name { "," name } ";" }`

@@ -1,48 +1,19 @@
-use Rattle.std.proofs.Common.{◌∙◌, ◌∷◌, refl, arith}
-use Rattle.aadl_grammar.specs.proof.ParserAnswers.{here}
-use Rattle.aadl_grammar.proofs.SymbolMoves.{takes_row, omits_unless, along, exits, no_reads}
-use Rattle.aadl_grammar.proofs.PartSequences.{marked, pushed, shorter}
-use Rattle.aadl_tree.specs.SpellingParts.{behind}
+use Rattle.std.proofs.Common.{◌∷◌, [], rules, None}
 use Rattle.aadl_tree.specs.Names.{name_parts}
 use Rattle.aadl_tree.specs.proof.NameViews.{name_view}
 use Rattle.aadl_tree.specs.proof.PlaceMaps.{kept_place}
-use Rattle.aadl_tree.specs.declared.mark.Mark.TheVariants as k
 use Rattle.aadl_grammar.specs.proof.Symbols as s
-use Rattle.aadl_grammar.specs.proof.StackMachine.{move, depth}
+use Rattle.aadl_grammar.specs.proof.ParserAnswers.{AnyRoom}
+use Rattle.aadl_grammar.proofs.PartSequences.{begun}
+use Rattle.aadl_grammar.proofs.ListSymbols.{name_list, whole_list, same_answer, item_advances}
 use Rattle.aadl_parse.proofs.declarations.more_names.Goals as goal
 
-pub returns-in_err-next : goal.returns-in_err-next
-unfolding move depth
-returns-in_err-next c = record {
-  runs =
-      λ outer below h. exits _ _ _ _ _ _ _ c.from_residual.ensures.1
-      (along _ _ _ (c.loop-behind.invariant.runs outer below (omega arith)
-      ∙ takes_row outer c.args.reader.now.end s.more_names (below) c.in-Some.ensures refl (omega arith))
-      (c.in_err-next.ensures.runs outer (s.more_names ∷ below) (omega arith)));
-  reads = no_reads _ _ _ c.from_residual.ensures.1;
-}
-
-pub loop-behind-preserved : goal.loop-behind-preserved
-unfolding move depth
-loop-behind-preserved c = record {
-  runs = λ outer below h. c.loop-behind.invariant.runs outer below (omega arith)
-      ∙ takes_row outer c.args.reader.now.end s.more_names (below) c.in-Some.ensures refl (omega arith)
-      ∙ c.in_ok-next.ensures.runs outer (s.more_names ∷ below) (omega arith);
-  reads =
-      pushed (behind k.Comma name_parts) (name_view kept_place) c.loop-behind.found.items c.push.new.self.items
-      c.in_ok-next.next c.in_ok-push.ensures.items c.loop-behind.invariant.reads
-      (marked c.in-Some.ensures c.in_ok-next.ensures.reads);
-}
-
-pub loop-behind-smaller : goal.loop-behind-smaller
-unfolding move depth
-loop-behind-smaller c = shorter c.in-Some.ensures c.in_ok-next.ensures.reads
+pub followers-requires-clause-advances : goal.followers-requires-clause-advances
+followers-requires-clause-advances c at r p =
+    item_advances AnyRoom (s.name ∷ []) (λ x. name_parts (name_view kept_place x)) r (λ x ss rest a. begun a)
+    (search (rules, same_answer))
 
 pub returns : goal.returns
-unfolding move depth
-returns c = record {
-  runs = λ outer below h. c.loop-behind.invariant.runs outer below (omega arith)
-      ∙ omits_unless outer c.args.reader.now.end s.more_names (below) (here c.args.reader.now c.loop-behind.rest) refl
-      (c.in_default.ensures, tt);
-  reads = c.loop-behind.invariant.reads;
-}
+returns c =
+    whole_list name_parts (name_view kept_place) None s.name s.more_names name_list c.new-none.ensures.items
+    (λ at r p. search (rules, same_answer)) c.followers.ensures
