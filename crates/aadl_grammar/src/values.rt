@@ -6,8 +6,8 @@ ghost use Rattle.aadl_tree.specs.Names.{identifier_parts, path_parts, reference_
 ghost use Rattle.aadl_tree.specs.Values.{figure_parts, quantity_parts, value_parts, values_parts, more_values_parts};
 ghost use Rattle.aadl_tree.specs.Values.{association_parts, associations_parts, properties_parts, applies_parts};
 ghost use Rattle.aadl_tree.specs.Values.{association_mark};
-ghost use Rattle.aadl_tree.specs.proof.NameViews.{identifier_view, path_view, reference_view};
-ghost use Rattle.aadl_tree.specs.proof.ValueViews.{figure_view, quantity_view, value_view, values_view};
+ghost use Rattle.aadl_tree.specs.proof.NameViews.{path_view, reference_view};
+ghost use Rattle.aadl_tree.specs.proof.ValueViews.{figure_view, unit_view, quantity_view, value_view, values_view};
 ghost use Rattle.aadl_tree.specs.proof.ValueViews.{association_view, associations_view};
 ghost use Rattle.aadl_tree.specs.proof.PlaceMaps.{kept_place};
 ghost use Rattle.aadl_grammar.specs.proof.Symbols as s;
@@ -31,7 +31,10 @@ fn figure(reader: &Reader<'_>, at: usize) -> Parsed<UnsignedNumber>
         return Ok((UnsignedNumber::Whole(value), next));
     }
     match reader.real(at)? {
-        Some((bytes, next)) => Ok((UnsignedNumber::Real(bytes), next)),
+        Some((bytes, next)) => {
+            let boxed = Box::new(reader.alloc, bytes)?;
+            Ok((UnsignedNumber::Real(boxed), next))
+        }
         None => Err(ParseFault::Syntax {
             at: reader.place(at),
         }),
@@ -39,12 +42,15 @@ fn figure(reader: &Reader<'_>, at: usize) -> Parsed<UnsignedNumber>
 }
 
 /// `[ id ]`
-fn unit(reader: &Reader<'_>, at: usize) -> Parsed<Option<Identifier>>
+fn unit(reader: &Reader<'_>, at: usize) -> Parsed<Option<Box<Identifier>>>
     ensures { Parses reader.now AnyRoom (s.unit ∷ [])
-        (λ x. parts_if identifier_parts (option_map (identifier_view kept_place) x)) at result }
+        (λ x. parts_if identifier_parts (unit_view kept_place x)) at result }
 {
     match reader.word(at)? {
-        Some((found, next)) => Ok((Some(found), next)),
+        Some((found, next)) => {
+            let boxed = Box::new(reader.alloc, found)?;
+            Ok((Some(boxed), next))
+        }
         None => Ok((None, at)),
     }
 }
@@ -69,15 +75,16 @@ fn quantity(reader: &Reader<'_>, at: usize) -> Parsed<Quantity>
 }
 
 /// `[ ".." quantity ]`
-fn upper(reader: &Reader<'_>, at: usize) -> Parsed<Option<Quantity>>
+fn upper(reader: &Reader<'_>, at: usize) -> Parsed<Option<Box<Quantity>>>
     ensures { Parses reader.now AnyRoom (s.upper ∷ [])
-        (λ x. parts_if (behind k.Range quantity_parts) (option_map (quantity_view kept_place) x)) at result }
+        (λ x. parts_if (behind k.Range quantity_parts) (option_map (λ y. quantity_view kept_place y.value) x)) at result }
 {
     let Some(next) = reader.take(at, Mark::Range) else {
         return Ok((None, at));
     };
     let (found, next) = quantity(reader, next)?;
-    Ok((Some(found), next))
+    let boxed = Box::new(reader.alloc, found)?;
+    Ok((Some(boxed), next))
 }
 
 /// `"(" path ")"`
@@ -186,11 +193,13 @@ fn value(reader: &Reader<'_>, at: usize, room: usize) -> Parsed<Value>
     }
     if let Some(next) = reader.take(at, Mark::Reference) {
         let (path, end) = path_group(reader, next, room)?;
-        return Ok((Value::Reference(path), end));
+        let boxed = Box::new(reader.alloc, path)?;
+        return Ok((Value::Reference(boxed), end));
     }
     if let Some(next) = reader.take(at, Mark::Classifier) {
         let (classifier, end) = reference_group(reader, next, room)?;
-        return Ok((Value::Classifier(classifier), end));
+        let boxed = Box::new(reader.alloc, classifier)?;
+        return Ok((Value::Classifier(boxed), end));
     }
     plain_value(reader, at)
 }
@@ -205,7 +214,8 @@ fn plain_value(reader: &Reader<'_>, at: usize) -> Parsed<Value>
     }
     if reader.is_word(at) {
         let (named, next) = reference(reader, at)?;
-        return Ok((Value::Named(named), next));
+        let boxed = Box::new(reader.alloc, named)?;
+        return Ok((Value::Named(boxed), next));
     }
     let (low, next) = quantity(reader, at)?;
     let (high, next) = upper(reader, next)?;

@@ -26,6 +26,18 @@ pub trait PrintItem {
         ensures { OnOk result (printer.new ≡ printed printer.old (parts (tree self.now))) };
 }
 
+impl<T: PrintItem> PrintItem for Box<T> {
+    ghost Tree = { T.Tree };
+
+    ghost tree = { λ boxed. T.tree boxed.value };
+
+    ghost parts = { T.parts };
+
+    fn print(&self, printer: &mut Printer) -> Result<(), AllocError> {
+        (**self).print(printer)
+    }
+}
+
 /// Writes one thing after another.
 pub fn print_all<T: PrintItem>(printer: &mut Printer, items: &[T]) -> Result<(), AllocError>
     ensures { OnOk result (printer.new ≡ printed printer.old (flat_map T.parts (map T.tree items.now))) }

@@ -1,5 +1,5 @@
 -- Which variant a value is, by the plain value that it stands for. For the comparison of values.
-use Rattle.std.proofs.Common.{◌≡◌, ◌∙◌, ℕ, List, Option, Vec, Global, ap, sym}
+use Rattle.std.proofs.Common.{◌≡◌, ◌∙◌, ℕ, List, Option, Vec, Global, Box, ap, sym}
 use Rattle.aadl_tree.specs.declared.names.Path.{Path}
 use Rattle.aadl_tree.specs.declared.names.Reference.{Reference}
 use Rattle.aadl_tree.specs.declared.values.Quantity.{Quantity}
@@ -83,7 +83,7 @@ pub only_text : (x : Value) (y : List ℕ) → view x ≡ text y → IsText x
 only_text x y e = text_layer x (out-Value x) y (sym (roll-out-Value x)) e
 
 abbrev IsReference : Value → Type 0
-IsReference x = (z : Path) × (x ≡ ReferenceTo z)
+IsReference x = (z : Box Path Global) × (x ≡ ReferenceTo z)
 
 reference_layer : (x : Value) (layer : Layer) (y : plain_names.Path (Unit {0})) → x ≡ roll-Value layer
     → view x ≡ reference y → IsReference x
@@ -103,7 +103,7 @@ pub only_reference : (x : Value) (y : plain_names.Path (Unit {0})) → view x �
 only_reference x y e = reference_layer x (out-Value x) y (sym (roll-out-Value x)) e
 
 abbrev IsClassifier : Value → Type 0
-IsClassifier x = (z : Reference) × (x ≡ Classifier z)
+IsClassifier x = (z : Box Reference Global) × (x ≡ Classifier z)
 
 classifier_layer : (x : Value) (layer : Layer) (y : plain_names.Reference (Unit {0})) → x ≡ roll-Value layer
     → view x ≡ classifier y → IsClassifier x
@@ -123,7 +123,7 @@ pub only_classifier : (x : Value) (y : plain_names.Reference (Unit {0})) → vie
 only_classifier x y e = classifier_layer x (out-Value x) y (sym (roll-out-Value x)) e
 
 abbrev IsName : Value → Type 0
-IsName x = (z : Reference) × (x ≡ Named z)
+IsName x = (z : Box Reference Global) × (x ≡ Named z)
 
 name_layer : (x : Value) (layer : Layer) (y : plain_names.Reference (Unit {0})) → x ≡ roll-Value layer
     → view x ≡ named y → IsName x
@@ -143,7 +143,7 @@ pub only_name : (x : Value) (y : plain_names.Reference (Unit {0})) → view x �
 only_name x y e = name_layer x (out-Value x) y (sym (roll-out-Value x)) e
 
 abbrev IsNumber : Value → Type 0
-IsNumber x = (low : Quantity) × (high : Option Quantity) × (x ≡ Number low high)
+IsNumber x = (low : Quantity) × (high : Option (Box Quantity Global)) × (x ≡ Number low high)
 
 number_layer : (x : Value) (layer : Layer) (y : plain.Quantity (Unit {0})) (w : Option (plain.Quantity (Unit {0})))
     → x ≡ roll-Value layer → view x ≡ number y w → IsNumber x

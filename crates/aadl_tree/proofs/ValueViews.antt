@@ -1,5 +1,5 @@
 -- The views of properties and their values, level by level.
-use Rattle.std.proofs.Common.{◌≡◌, ℕ, Bool, map, Option, Vec, Global, rules}
+use Rattle.std.proofs.Common.{◌≡◌, ℕ, Bool, map, Option, Vec, Global, Box, rules}
 use Rattle.std.specs.Prelude.{option_map}
 use Rattle.aadl_tree.specs.declared.names.Name.{Name}
 use Rattle.aadl_tree.specs.declared.names.Path.{Path}
@@ -25,20 +25,21 @@ view-Record place xs = search (rules, the_lemmas)
 pub view-Text : {P : Type 0} (place : ℕ → P) (bytes : Vec ℕ Global) → value_view place (Text bytes) ≡ text bytes.items
 view-Text place bytes = search (rules, the_lemmas)
 
-pub view-Reference : {P : Type 0} (place : ℕ → P) (x : Path)
-    → value_view place (ReferenceTo x) ≡ reference (path_view place x)
+pub view-Reference : {P : Type 0} (place : ℕ → P) (x : Box Path Global)
+    → value_view place (ReferenceTo x) ≡ reference (path_view place x.value)
 view-Reference place x = search (rules, the_lemmas)
 
-pub view-Classifier : {P : Type 0} (place : ℕ → P) (x : Reference)
-    → value_view place (Classifier x) ≡ classifier (reference_view place x)
+pub view-Classifier : {P : Type 0} (place : ℕ → P) (x : Box Reference Global)
+    → value_view place (Classifier x) ≡ classifier (reference_view place x.value)
 view-Classifier place x = search (rules, the_lemmas)
 
-pub view-Named : {P : Type 0} (place : ℕ → P) (x : Reference)
-    → value_view place (Named x) ≡ named (reference_view place x)
+pub view-Named : {P : Type 0} (place : ℕ → P) (x : Box Reference Global)
+    → value_view place (Named x) ≡ named (reference_view place x.value)
 view-Named place x = search (rules, the_lemmas)
 
-pub view-Number : {P : Type 0} (place : ℕ → P) (low : Quantity) (high : Option Quantity)
-    → value_view place (Number low high) ≡ number (quantity_view place low) (option_map (quantity_view place) high)
+pub view-Number : {P : Type 0} (place : ℕ → P) (low : Quantity) (high : Option (Box Quantity Global))
+    → value_view place (Number low high)
+    ≡ number (quantity_view place low) (option_map (λ x. quantity_view place x.value) high)
 view-Number place low high = search (rules, the_lemmas)
 
 pub view-association : {P : Type 0} (place : ℕ → P) (name : Name) (operator : AssociationOperator) (constant : Bool)

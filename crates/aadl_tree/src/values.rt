@@ -38,7 +38,7 @@ impl Drop for Association {
     }
 }
 
-/// The value of a property.
+/// The value of a property. What few values have is boxed, so that one takes 48 bytes.
 #[cycle(value)]
 pub enum Value {
     /// `"(" [ value { "," value } ] ")"`
@@ -48,15 +48,15 @@ pub enum Value {
     /// A string, with its quotes.
     Text(Vec<u8>),
     /// `"reference" "(" path ")"`
-    Reference(Path),
+    Reference(Box<Path>),
     /// `"classifier" "(" reference ")"`
-    Classifier(Reference),
+    Classifier(Box<Reference>),
     /// A name.
-    Named(Reference),
+    Named(Box<Reference>),
     /// A number with its unit, or a range of two: `number [ id ] [ ".." number [ id ] ]`.
     Number {
         low: Quantity,
-        high: Option<Quantity>,
+        high: Option<Box<Quantity>>,
     },
 }
 
@@ -78,7 +78,7 @@ impl Drop for Value {
 /// A number with its unit: `number [ id ]`.
 pub struct Quantity {
     pub number: Number,
-    pub unit: Option<Identifier>,
+    pub unit: Option<Box<Identifier>>,
 }
 
 impl Drop for Quantity {
@@ -100,5 +100,5 @@ pub enum UnsignedNumber {
     /// A whole number.
     Whole(i64),
     /// A real, as the text spells it.
-    Real(Vec<u8>),
+    Real(Box<Vec<u8>>),
 }

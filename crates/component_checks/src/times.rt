@@ -1,11 +1,10 @@
 //! The times of properties, and those that are above an hour.
-ghost use Rattle.std.specs.Prelude.{◌≡◌, ◌*◌, ◌++◌, nat_lt, OnOk, option_map};
+ghost use Rattle.std.specs.Prelude.{◌≡◌, ◌*◌, ◌++◌, nat_lt, OnOk};
 ghost use Rattle.pals_base.specs.declared.limits.TheConstants.{HOUR};
 ghost use Rattle.std.specs.Option.{option_and_then};
 ghost use Rattle.aadl_tree.specs.proof.PlaceMaps.{kept_place};
-ghost use Rattle.aadl_tree.specs.proof.NameViews.{identifier_view};
-ghost use Rattle.aadl_tree.specs.proof.ValueViews.{figure_view, quantity_view, value_view, association_view};
-ghost use Rattle.aadl_tree.specs.proof.ValueViews.{associations_view};
+ghost use Rattle.aadl_tree.specs.proof.ValueViews.{figure_view, unit_view, quantity_view, value_view};
+ghost use Rattle.aadl_tree.specs.proof.ValueViews.{association_view, associations_view};
 ghost use Rattle.aadl_names.specs.RecognisedProperties as properties;
 ghost use Rattle.component_checks.specs.BoundsAndRates.{within_hour, range_within};
 ghost use Rattle.component_checks.specs.Times as spec;
@@ -31,8 +30,8 @@ fn whole_of(figure: &UnsignedNumber) -> Option<u64>
 }
 
 // A unit of time in nanoseconds.
-fn unit_in(unit: &Option<Identifier>) -> Option<u64>
-    ensures { result ≡ properties.unit_in (option_map (identifier_view kept_place) unit.now) }
+fn unit_in(unit: &Option<Box<Identifier>>) -> Option<u64>
+    ensures { result ≡ properties.unit_in (unit_view kept_place unit.now) }
 {
     match unit {
         Some(unit) => unit_of(unit.spelling.as_str()),

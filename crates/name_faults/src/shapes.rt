@@ -1,9 +1,8 @@
 //! The shapes of the values of properties.
 
-ghost use Rattle.std.specs.Prelude.{◌≡◌, option_map};
+ghost use Rattle.std.specs.Prelude.{◌≡◌};
 ghost use Rattle.std.specs.Option.{is_some};
-ghost use Rattle.aadl_tree.specs.proof.NameViews.{identifier_view};
-ghost use Rattle.aadl_tree.specs.proof.ValueViews.{figure_view, quantity_view, value_view, values_view};
+ghost use Rattle.aadl_tree.specs.proof.ValueViews.{figure_view, unit_view, quantity_view, value_view, values_view};
 ghost use Rattle.aadl_tree.specs.Values.{list};
 ghost use Rattle.aadl_tree.specs.proof.PlaceMaps.{kept_place};
 ghost use Rattle.aadl_names.specs.RecognisedProperties as spec;
@@ -14,8 +13,8 @@ use aadl_names::time_units::unit_of;
 use aadl_tree::{Identifier, Quantity, Sign, UnsignedNumber, Value};
 
 // Whether it is a unit of time.
-fn is_unit(unit: &Option<Identifier>) -> bool
-    ensures { result ≡ is_some (spec.unit_in (option_map (identifier_view kept_place) unit.now)) }
+fn is_unit(unit: &Option<Box<Identifier>>) -> bool
+    ensures { result ≡ is_some (spec.unit_in (unit_view kept_place unit.now)) }
 {
     match unit {
         Some(unit) => unit_of(unit.spelling.as_str()).is_some(),

@@ -10,18 +10,19 @@ use Rattle.aadl_tree.specs.declared.values.Association.{Association}
 use Rattle.aadl_tree.specs.declared.values.Quantity as source_quantity
 use Rattle.aadl_tree.specs.Names as n
 use Rattle.aadl_tree.specs.Values as v
-use Rattle.aadl_tree.specs.proof.PlaceMaps.{path_to, quantity_to, value_to, values_to, association_to, associations_to}
-use Rattle.aadl_tree.specs.proof.NameViews.{name_view, path_view}
+use Rattle.aadl_tree.specs.proof.PlaceMaps.{identifier_to, path_to, quantity_to, value_to, values_to, association_to}
+use Rattle.aadl_tree.specs.proof.PlaceMaps.{associations_to}
+use Rattle.aadl_tree.specs.proof.NameViews.{identifier_view, name_view, path_view}
 use Rattle.aadl_tree.specs.proof.ValueViews.{number_view, quantity_view, values_of, associations_of, value_step}
 use Rattle.aadl_tree.specs.proof.ValueViews.{association_step, value_view, association_view, associations_view}
-use Rattle.aadl_tree.proofs.PlaceMaps.Names.{each_tied, perhaps_tied, identifier_perhaps, name_tied, path_tied}
-use Rattle.aadl_tree.proofs.PlaceMaps.Names.{reference_tied}
+use Rattle.aadl_tree.proofs.PlaceMaps.Names.{each_tied, perhaps_tied, name_tied, path_tied, reference_tied}
 
 pub quantity_tied : {P Q : Type 0} (f : P → Q) (g : ℕ → P) (x : source_quantity.Quantity)
     → quantity_to f (quantity_view g x) ≡ quantity_view (λ n. f (g n)) x
 quantity_tied {Q = Q} f g x =
     ap (λ (q : Option (n.Identifier Q)). let r : v.Quantity Q = record { number = number_view x.number; unit = q } in r)
-    (identifier_perhaps f g x.unit)
+    (perhaps_tied (identifier_to f) (λ y. identifier_view g y.value) (λ y. identifier_view (λ n. f (g n)) y.value)
+    (λ y. refl) x.unit)
 
 abbrev ValueTied : {P Q : Type 0} → (P → Q) → (ℕ → P) → Value → Type 0
 ValueTied f g x = value_to f (value_view g x) ≡ value_view (λ n. f (g n)) x
@@ -69,12 +70,13 @@ value_by : {P Q : Type 0} (f : P → Q) (g : ℕ → P) (y : Value-F (V f g) (A 
 value_by f g (Value-F.List xs) = ap v.list (values_each f g xs.items)
 value_by f g (Value-F.Record xs) = ap v.fields (associations_each f g xs.items)
 value_by f g (Value-F.Text bytes) = refl
-value_by f g (Value-F.Reference x) = ap v.reference (path_tied f g x)
-value_by f g (Value-F.Classifier x) = ap v.classifier (reference_tied f g x)
-value_by f g (Value-F.Named x) = ap v.named (reference_tied f g x)
+value_by f g (Value-F.Reference x) = ap v.reference (path_tied f g x.value)
+value_by f g (Value-F.Classifier x) = ap v.classifier (reference_tied f g x.value)
+value_by f g (Value-F.Named x) = ap v.named (reference_tied f g x.value)
 value_by f g (Value-F.Number low high) =
     ap₂ v.number (quantity_tied f g low)
-    (perhaps_tied (quantity_to f) (quantity_view g) (quantity_view (λ n. f (g n))) (quantity_tied f g) high)
+    (perhaps_tied (quantity_to f) (λ x. quantity_view g x.value) (λ x. quantity_view (λ n. f (g n)) x.value)
+    (λ x. quantity_tied f g x.value) high)
 
 association_by : {P Q : Type 0} (f : P → Q) (g : ℕ → P) (y : Association-F (V f g) (A f g))
     → association_to f (association_step g (seen_association g (association_layer f g y)))

@@ -12,6 +12,19 @@ pub trait Same {
         ensures { IsTrue result ↔ (meaning self.now ≡ meaning other.now) };
 }
 
+impl<T: Same> Same for Box<T> {
+    ghost use Rattle.std.specs.Prelude.{Box};
+    ghost use Rattle.std.specs.declared.alloc.Global.{Global};
+
+    ghost Meaning = { T.Meaning };
+
+    ghost meaning = { λ boxed. T.meaning boxed.value };
+
+    fn same(&self, other: &Box<T>) -> bool {
+        (**self).same(&**other)
+    }
+}
+
 /// Whether two lists have items of the same meaning in the same order.
 pub fn same_items<T: Same>(left: &[T], right: &[T]) -> bool
     ensures { IsTrue result ↔ (map T.meaning left.now ≡ map T.meaning right.now) }

@@ -4,7 +4,9 @@ use Rattle.aadl_grammar.proofs.SymbolMoves.{takes_row, deep_row, omits_unless, b
 use Rattle.aadl_grammar.proofs.SymbolMoves.{misses_at, along, exits, no_reads, too_deep, flag_runs, only_takes}
 use Rattle.aadl_grammar.proofs.PartSequences.{nothing, then, marked, respelled, shorter, flagged}
 use Rattle.aadl_tree.specs.SpellingParts.{plain}
-use Rattle.aadl_tree.specs.Values.{value_parts, values_parts, association_parts, associations_parts}
+use Rattle.aadl_tree.specs.Values.{reference, classifier, value_parts, values_parts, association_parts}
+use Rattle.aadl_tree.specs.Values.{associations_parts}
+use Rattle.aadl_tree.specs.proof.NameViews.{path_view, reference_view}
 use Rattle.aadl_tree.specs.proof.ValueViews.{values_view, associations_view}
 use Rattle.aadl_tree.specs.proof.PlaceMaps.{kept_place}
 use Rattle.aadl_tree.proofs.ValueViews.{view-List, view-Record, view-Reference, view-Classifier, view-association}
@@ -211,7 +213,9 @@ value-returns-in-Some-take-2 t c = record {
       λ outer below h. takes_row outer c.args.reader.now.end s.value (below) c.in-Some-take-2.ensures refl (omega arith)
       ∙ c.in_ok-path.ensures.runs outer (below) (omega arith);
   reads =
-      respelled (ap value_parts (sym (view-Reference kept_place c.in_ok-path.path)))
+      respelled
+      (ap (λ x. value_parts (reference (path_view kept_place x))) (sym c.in_ok-boxed.ensures.ok)
+      ∙ ap value_parts (sym (view-Reference kept_place c.in_ok-boxed.boxed)))
       (marked c.in-Some-take-2.ensures c.in_ok-path.ensures.reads);
 }
 
@@ -232,7 +236,9 @@ value-returns-in-Some-take-3 t c = record {
       λ outer below h. takes_row outer c.args.reader.now.end s.value (below) c.in-Some-take-3.ensures refl (omega arith)
       ∙ c.in_ok-classifier.ensures.runs outer (below) (omega arith);
   reads =
-      respelled (ap value_parts (sym (view-Classifier kept_place c.in_ok-classifier.classifier)))
+      respelled
+      (ap (λ x. value_parts (classifier (reference_view kept_place x))) (sym c.in_ok-boxed-2.ensures.ok)
+      ∙ ap value_parts (sym (view-Classifier kept_place c.in_ok-boxed-2.boxed)))
       (marked c.in-Some-take-3.ensures c.in_ok-classifier.ensures.reads);
 }
 

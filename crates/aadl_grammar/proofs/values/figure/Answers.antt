@@ -4,7 +4,7 @@ use Rattle.std.proofs.Common.{◌≡◌, ◌∙◌, ◌∷◌, [], ap, sym, refl
 use Rattle.aadl_grammar.specs.proof.ParserAnswers.{here}
 use Rattle.aadl_grammar.proofs.SymbolMoves.{takes_row, refuses_unless}
 use Rattle.aadl_grammar.proofs.PartSequences.{nothing, told, respelled}
-use Rattle.aadl_tree.specs.Terminals.{whole}
+use Rattle.aadl_tree.specs.Terminals.{whole, real}
 use Rattle.aadl_tree.specs.SpellingParts.{token}
 use Rattle.aadl_grammar.specs.proof.Symbols as s
 use Rattle.aadl_grammar.specs.proof.StackMachine.{move, depth, syntax_at}
@@ -18,13 +18,15 @@ returns-in-Some c = let f : SFits w64 c.in-Some.value = search rules in
       reads = respelled (ap (λ z. token (whole z) [] ∷ []) (sym e)) (told c.in-Some.ensures nothing);
     }
 
-pub returns-in-Some-2 : goal.returns-in-Some-2
+pub returns-in_ok-boxed-in-Some-2 : goal.returns-in_ok-boxed-in-Some-2
 unfolding move depth
-returns-in-Some-2 c = record {
+returns-in_ok-boxed-in-Some-2 c = record {
   runs =
       λ outer below h. takes_row outer c.args.reader.now.end s.figure (below)
       (rw c.in-Some-2.is at c.in_ok-bytes.ensures.ok) refl (omega arith);
-  reads = told (rw c.in-Some-2.is at c.in_ok-bytes.ensures.ok) nothing;
+  reads =
+      respelled (ap (λ x. token (real x.items) [] ∷ []) (sym c.in_ok-boxed-in-Some-2.ensures.ok))
+      (told (rw c.in-Some-2.is at c.in_ok-bytes.ensures.ok) nothing);
 }
 
 pub returns-in-None : goal.returns-in-None

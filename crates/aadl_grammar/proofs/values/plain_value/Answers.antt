@@ -2,7 +2,8 @@ use Rattle.std.proofs.Common.{◌∙◌, ◌∷◌, [], ap, sym, refl, arith}
 use Rattle.aadl_grammar.specs.proof.ParserAnswers.{here}
 use Rattle.aadl_grammar.proofs.SymbolMoves.{takes_row, begins_past, acts_as, along, exits, no_reads}
 use Rattle.aadl_grammar.proofs.PartSequences.{nothing, then, told, respelled}
-use Rattle.aadl_tree.specs.Values.{value_parts}
+use Rattle.aadl_tree.specs.Values.{named, value_parts}
+use Rattle.aadl_tree.specs.proof.NameViews.{reference_view}
 use Rattle.aadl_tree.specs.proof.PlaceMaps.{kept_place}
 use Rattle.aadl_tree.proofs.ValueViews.{view-Text, view-Named, view-Number}
 use Rattle.aadl_grammar.proofs.PropertyLists.{value_own, starts_at}
@@ -39,7 +40,10 @@ returns-then-is_word c = record {
       λ outer below h. acts_as outer c.args.reader.now.end s.value s.reference (below)
       (starts_at (rw c.if-is_word.true at c.is_word.ensures)) refl
       ∙ c.in_ok-named.ensures.runs outer (below) (omega arith);
-  reads = respelled (ap value_parts (sym (view-Named kept_place c.in_ok-named.named))) c.in_ok-named.ensures.reads;
+  reads =
+      respelled
+      (ap (λ x. value_parts (named (reference_view kept_place x))) (sym c.in_ok-boxed.ensures.ok)
+      ∙ ap value_parts (sym (view-Named kept_place c.in_ok-boxed.boxed))) c.in_ok-named.ensures.reads;
 }
 
 pub returns-in_err-low : goal.returns-in_err-low

@@ -1,18 +1,23 @@
-use Rattle.std.proofs.Common.{refl, arith}
+use Rattle.std.proofs.Common.{ap, sym, refl, arith}
 use Rattle.aadl_grammar.specs.proof.ParserAnswers.{here}
 use Rattle.aadl_grammar.proofs.SymbolMoves.{takes_row, omits_unless, a_word_at}
-use Rattle.aadl_grammar.proofs.PartSequences.{nothing, named}
+use Rattle.aadl_grammar.proofs.PartSequences.{nothing, named, respelled}
+use Rattle.aadl_tree.specs.Names.{identifier_parts}
+use Rattle.aadl_tree.specs.proof.NameViews.{identifier_view}
+use Rattle.aadl_tree.specs.proof.PlaceMaps.{kept_place}
 use Rattle.aadl_grammar.specs.proof.Symbols as s
 use Rattle.aadl_grammar.specs.proof.StackMachine.{move, depth}
 use Rattle.aadl_grammar.proofs.values.unit.Goals as goal
 
-pub returns-in-Some : goal.returns-in-Some
+pub returns-in_ok-boxed-in-Some : goal.returns-in_ok-boxed-in-Some
 unfolding move depth
-returns-in-Some c = record {
+returns-in_ok-boxed-in-Some c = record {
   runs =
       λ outer below h. takes_row outer c.args.reader.now.end s.unit (below)
       (a_word_at (rw c.in-Some.is at c.in_ok-found.ensures.ok)) refl (omega arith);
-  reads = named (rw c.in-Some.is at c.in_ok-found.ensures.ok);
+  reads =
+      respelled (ap (λ x. identifier_parts (identifier_view kept_place x)) (sym c.in_ok-boxed-in-Some.ensures.ok))
+      (named (rw c.in-Some.is at c.in_ok-found.ensures.ok));
 }
 
 pub returns-in-None : goal.returns-in-None

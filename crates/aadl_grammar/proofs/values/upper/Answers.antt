@@ -1,7 +1,12 @@
-use Rattle.std.proofs.Common.{◌∙◌, refl, arith}
+use Rattle.std.proofs.Common.{◌∙◌, ◌∷◌, ap, sym, refl, arith}
 use Rattle.aadl_grammar.specs.proof.ParserAnswers.{here}
 use Rattle.aadl_grammar.proofs.SymbolMoves.{takes_row, omits_unless, along, exits, no_reads}
-use Rattle.aadl_grammar.proofs.PartSequences.{nothing, marked}
+use Rattle.aadl_grammar.proofs.PartSequences.{nothing, marked, respelled}
+use Rattle.aadl_tree.specs.SpellingParts.{plain}
+use Rattle.aadl_tree.specs.Values.{quantity_parts}
+use Rattle.aadl_tree.specs.proof.ValueViews.{quantity_view}
+use Rattle.aadl_tree.specs.proof.PlaceMaps.{kept_place}
+use Rattle.aadl_tree.specs.declared.mark.Mark.TheVariants as k
 use Rattle.aadl_grammar.specs.proof.Symbols as s
 use Rattle.aadl_grammar.specs.proof.StackMachine.{move, depth}
 use Rattle.aadl_grammar.proofs.values.upper.Goals as goal
@@ -30,5 +35,8 @@ unfolding move depth
 returns c = record {
   runs = λ outer below h. takes_row outer c.args.reader.now.end s.upper (below) c.in-Some.ensures refl (omega arith)
       ∙ c.in_ok-found.ensures.runs outer (below) (omega arith);
-  reads = marked c.in-Some.ensures c.in_ok-found.ensures.reads;
+  reads =
+      respelled
+      (ap (λ x. plain k.Range ∷ quantity_parts (quantity_view kept_place x)) (sym c.in_ok-boxed.ensures.ok))
+      (marked c.in-Some.ensures c.in_ok-found.ensures.reads);
 }
