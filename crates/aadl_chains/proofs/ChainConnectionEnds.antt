@@ -1,5 +1,5 @@
--- If a connection is on a chain at some place, its ends lead to where a chain begins and where one ends. For the
--- faults at ends.
+-- If a connection is on a chain, what its source leads back to is where a chain begins, and what its target leads to
+-- is where a chain ends.
 use Rattle.std.proofs.Common.{◌≡◌, inl, inr, ℕ, zero, suc, Bool, true, false, not, List, [], ◌∷◌, slice_get, Contains}
 use Rattle.std.proofs.Common.{Some, refl, sym, ap, subst, ◌∙◌}
 use Rattle.std.proofs.lemmas.Option.{same_Some}

@@ -1,4 +1,5 @@
--- Findings one after the other, and the first of all.
+-- Faults that are found one list after the other: that none is added, that two lists are put together, that two
+-- properties are the same, and that what is found in the end is the first of all.
 use Rattle.std.proofs.Common.{◌⊎◌, inl, inr, [], ◌++◌, Contains, Option, Some, None, refl, sym, ap, subst, ◌∙◌}
 use Rattle.std.proofs.lemmas.List.Elements.{Contains-append_left, Contains-append_right, Contains-append_cases}
 use Rattle.list_lemmas.proofs.Elements.{Contains-nil}

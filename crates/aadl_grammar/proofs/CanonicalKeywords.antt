@@ -1,4 +1,5 @@
--- What is read as a keyword is read as that keyword in lower case too, and is no annex's name.
+-- What is read as a keyword or a symbol is read as the same one where it is spelled as in canonical texts; and a
+-- keyword is no name of an annex.
 use Rattle.std.proofs.Common.{◌≡◌, ℕ, Bool, true, false, ◌∙◌, sym, ap, refl, List, [], ◌∷◌, map, length, arith, Option}
 use Rattle.std.proofs.Common.{Some}
 use Rattle.std.specs.Prelude.{codes, if◌then◌else◌}

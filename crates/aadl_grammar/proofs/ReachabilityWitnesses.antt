@@ -1,4 +1,5 @@
--- A way through the table: from a symbol that is wanted first to the one that begins with a keyword.
+-- A route through the parse table, from a symbol that is wanted first to one that begins with a keyword, shows that
+-- the keyword can come.
 use Rattle.std.proofs.Common.{◌≡◌, ◌≢◌, ℕ, Bool, true, false, not, ◌&&◌, ◌==◌, List, [], ◌∷◌, length, get_or, ap}
 use Rattle.std.proofs.Common.{eq-eqb}
 use Rattle.std.specs.Prelude.{nat_lt}

@@ -1,4 +1,4 @@
--- Ends of chains, as an instance shows them.
+-- Ends of chains, as an instance shows them: the numbers of their threads, by paths, and of their ports.
 use Rattle.std.proofs.Common.{◌≡◌, ◌⊎◌, inl, inr, ℕ, zero, suc, ◌+◌, ◌<◌, ◌≤◌, Bool, true, false, cond, ◌&&◌, ◌||◌}
 use Rattle.std.proofs.Common.{nat_eq, nat_lt, List, [], ◌∷◌, length, map, reverse, take, slice_get, get_or, AllPairs}
 use Rattle.std.proofs.Common.{Option, Some, None, count_by, Vec, Global, refl, sym, ap, subst, ◌∙◌, arith}

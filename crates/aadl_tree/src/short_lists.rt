@@ -1,4 +1,4 @@
-//! Lists that mostly have one item.
+//! One push on a list, which starts at room for one item: for lists that mostly have one.
 ghost use Rattle.std.specs.Prelude.{◌≡◌, [], ◌∷◌, ◌++◌, OnOk};
 
 use std::alloc::AllocError;

@@ -1,4 +1,5 @@
--- The way from a root down a path, one subcomponent at a time.
+-- The first subcomponents along a path from a root, and one more: what stands at their end, its name with dots, and
+-- the subcomponents on the way.
 use Rattle.std.proofs.Common.{◌≡◌, ℕ, ◌+◌, ◌<◌, ◌≤◌, true, List, [], ◌∷◌, ◌++◌, length, take, drop, reverse, codes}
 use Rattle.std.proofs.Common.{Option, Some, None, is_some, get_or, refl, sym, ap, ◌∙◌, arith, append_assoc}
 use Rattle.std.specs.Option.{option_and_then}

@@ -1,5 +1,5 @@
--- For AnalysisFacts: each processor that was read has a time for an instruction, and serves components of the
--- design.
+-- For FaultAndProcessorFacts: each processor that was read has a time for an instruction, and serves components of
+-- the design.
 use Rattle.std.proofs.Common.{◌≡◌, ℕ, zero, suc, ◌<◌, ◌≤◌, ◌+◌, Bool, true, false, ◌&&◌, cond, List, [], ◌∷◌, ◌++◌}
 use Rattle.std.proofs.Common.{length, map, get_or, codes, Result, Ok, Option, Some, None, All, replicate, refl, ap, ◌∙◌}
 use Rattle.std.proofs.Common.{subst, arith}

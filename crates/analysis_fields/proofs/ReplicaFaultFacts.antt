@@ -1,4 +1,4 @@
--- For AnalysisFacts: each fault of a scenario that was read is one of a replica of the design.
+-- For FaultAndProcessorFacts: each fault of a scenario that was read is one of a replica of the design.
 use Rattle.std.proofs.Common.{◌≡◌, ℕ, ◌≤◌, ◌+◌, true, not, ◌&&◌, List, [], ◌∷◌, ◌++◌, length, codes, decimal, Result}
 use Rattle.std.proofs.Common.{Ok, All, slice_get, sym, ap, ◌∙◌, subst, arith, length-append}
 use Rattle.std.specs.Prelude.{nat_eq}

@@ -1,4 +1,5 @@
--- Tables of what each round or component has, filled item by item.
+-- The tables of a vote, filled item by item: the faults of each round, which components have replicas, and the names
+-- of replicas.
 use Rattle.std.proofs.Common.{◌≡◌, ◌≢◌, ◌∙◌, inl, inr, ℕ, zero, suc, ◌+◌, ◌-◌, ◌<◌, ◌≤◌, Bool, true, false, cond}
 use Rattle.std.proofs.Common.{nat_eq, ◌||◌, List, [], ◌∷◌, ◌++◌, length, map, take, filter, replicate, codes, decimal}
 use Rattle.std.proofs.Common.{refl, sym, ap, ap₂, arith}

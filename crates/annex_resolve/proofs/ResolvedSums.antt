@@ -1,5 +1,5 @@
--- The factors, terms, sums and comparisons of a text are resolved as they are meant, one level of their trees after
--- another.
+-- The terms and sums of a text, with the lists of factors and terms in them, and its comparisons are resolved as
+-- they are meant, one level of their trees after another.
 use Rattle.std.proofs.Common.{◌≡◌, ℕ, ◌+◌, ◌<◌, List, [], ◌∷◌, ◌++◌, length, take, get_or, Option, Some, None, refl}
 use Rattle.std.proofs.Common.{sym, ap, ◌∙◌, append_assoc, arith}
 use Rattle.std.specs.Prelude.{option_map}

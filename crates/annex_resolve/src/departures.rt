@@ -1,4 +1,5 @@
-//! The ways that lead from a state.
+//! The transitions that leave a state: whether a step may be unable to leave it, and whether the right number leave
+//! it at the dispatch.
 ghost use Rattle.std.specs.Prelude.{◌≡◌, IfOk, option_map, option_copied, filter, map, nat_eq};
 ghost use Rattle.std.specs.List.{list_any};
 ghost use Rattle.pals_base.specs.BehaviourRules.{dispatch_count};

@@ -1,4 +1,4 @@
-//! The lines on a design: its period and its bounds.
+//! The first line of a listing, and the lines of the design's period and bounds.
 ghost use Rattle.std.specs.Prelude.{◌≡◌, ◌++◌, OnOk, OnErr};
 ghost use Rattle.pals_model.specs.RoundTexts.{line_end, text_of};
 ghost use Rattle.pals_report.specs.proof.PartialWrites.{BeginsWith};

@@ -1,4 +1,4 @@
-//! The names behind the numbers of instructions.
+//! The names of ports, states and slots behind the numbers of instructions.
 ghost use Rattle.std.specs.Prelude.{◌≡◌, slice_get};
 ghost use Rattle.pals_model.specs.NamesInTexts.{port_name};
 ghost use Rattle.pals_model.specs.RoundTexts.{state_name};

@@ -1,4 +1,5 @@
--- What is wrong with a component: its dispatch, and its period.
+-- The period and the rate of a component, the greatest rate of all, and what is wrong with a component: its
+-- dispatch, and its period.
 use Rattle.std.specs.Prelude.{ℕ, max, Bool, false, not, List, ◌++◌, codes, fold, Option, Some, None}
 use Rattle.std.specs.Option.{option_and_then}
 use Rattle.aadl_tree.specs.Names.{Reference, same_name}

@@ -1,5 +1,5 @@
--- What exists where declarations contain one another: the list of all that one reaches, an order of declarations,
--- lists of paths.
+-- What there is a list of where declarations contain one another: all that one reaches, all declarations in an
+-- order, and paths.
 use Rattle.std.specs.Prelude.{◌↔◌, ℕ, Bool, List, Contains}
 use Rattle.aadl_uses.specs.proof.ContainmentGraphs.{Graph, IsReached, LeadsBack}
 use Rattle.aadl_uses.specs.proof.ContainmentOrders.{IsOrder}

@@ -1,5 +1,5 @@
--- For `setting_of`: what is made of the lists of an implementation's ports and variables is what is made of its
--- behaviour.
+-- For `setting_of`: the lists of an implementation's ports and variables, as they were read, are those that its
+-- behaviour is made of.
 use Rattle.std.proofs.Common.{◌≡◌, ◌∙◌, ℕ, List, ap}
 use Rattle.aadl_tree.specs.Annexes.{AnnexTree}
 use Rattle.aadl_tree.specs.Declarations.{Feature, Implementation, PackageTree}

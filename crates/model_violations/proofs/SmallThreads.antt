@@ -1,5 +1,5 @@
--- For `add_used_findings`: the root of an instance is a declaration of its package, and its threads are within the
--- limits.
+-- For `add_used_findings`: the root of an instance is a declaration of its package, and its threads have no more
+-- ports and variables than the limits.
 use Rattle.std.proofs.Common.{◌≡◌, ◌∙◌, inl, inr, ℕ, ◌<◌, ◌≤◌, Bool, true, List, [], ◌∷◌, length, Option, Some, None}
 use Rattle.std.proofs.Common.{refl, sym, ap, subst, arith, codes, length-append}
 use Rattle.aadl_tree.specs.Names.{identifiers, listed_in}

@@ -1,4 +1,4 @@
-//! The values of a behaviour, and what their names stand for.
+//! The values of a behaviour over its ports and variables, and the scope that tells what their names stand for.
 ghost use Rattle.std.specs.Prelude.{◌≡◌, ◌++◌, ◌<◌, ◌^◌, IfOk, OnOk, length, map};
 ghost use Rattle.std.specs.List.{enumerate_from};
 ghost use Rattle.model_violations.specs.PortsAndVariables as spec;

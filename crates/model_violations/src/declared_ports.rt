@@ -1,4 +1,5 @@
-//! What a thread declares.
+//! What a thread declares: a port or a variable with its type and first value, and the lists of in ports and of out
+//! ports.
 ghost use Rattle.std.specs.Prelude.{◌≡◌, ◌∷◌, ◌++◌, [], IfOk, OnOk, if◌then◌else◌, map};
 ghost use Rattle.aadl_tree.specs.proof.PlaceMaps.{kept_place};
 ghost use Rattle.aadl_tree.specs.proof.DeclarationViews.{feature_view};

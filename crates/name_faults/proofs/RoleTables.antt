@@ -1,5 +1,5 @@
--- For the functions of `behaviour_names`: a table of names and their roles that a loop fills, one name after the
--- other.
+-- For the functions of `variable_and_state_names`: a table of names and their roles that a loop fills, one name
+-- after the other.
 use Rattle.std.proofs.Common.{◌≡◌, ℕ, ◌+◌, ◌<◌, ◌≤◌, Bool, true, false, ◌||◌, List, [], ◌∷◌, length, drop, get_or}
 use Rattle.std.proofs.Common.{Option, None, refl, sym, ap, ◌∙◌}
 use Rattle.std.specs.Option.{option_or}

@@ -1,4 +1,5 @@
--- One step of a behaviour, and the steps of a round.
+-- One step of a behaviour: held inputs, transitions and what the step leaves; and the frame that a component starts
+-- with, and its shape.
 use Rattle.std.specs.Prelude.{◌≡◌, IsTrue, ℕ, zero, suc, nat_eq, ℤ, pos, Bool, true, false, if◌then◌else◌, List, []}
 use Rattle.std.specs.Prelude.{◌∷◌, length, map, replicate, filter, find, Option, Some, None, Result, Ok, Err, slice_get}
 use Rattle.pals_base.specs.declared.values.Trap.{Trap}

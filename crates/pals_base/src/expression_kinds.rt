@@ -1,4 +1,4 @@
-//! The types of expressions, and whether actions are well typed.
+//! The types that an expression may have.
 ghost use Rattle.std.specs.Prelude.{◌≡◌, option_copied};
 ghost use Rattle.pals_base.specs.proof.TreeViews.{tree_of, operands_along};
 ghost use Rattle.pals_base.specs.TypingRules.{may_be, only, allows, literal_kinds, port_kinds, variable_kinds, joined};

@@ -1,4 +1,5 @@
--- For the functions of `written_tuples` and `inputs`: tuples that are written place by place, cut, or empty.
+-- For the functions of `written_tuples` and `slots_and_input_vectors`: tuples that are written place by place or
+-- cut, two lists that are gone through in pairs, and empty slots.
 use Rattle.std.proofs.Common.{◌≡◌, ◌∙◌, ℕ, zero, suc, ◌+◌, ◌-◌, ◌<◌, ◌≤◌, inl, inr, Bool, cond, if◌then◌else◌, nat_lt}
 use Rattle.std.proofs.Common.{List, [], ◌∷◌, ◌++◌, length, map, take, drop, replicate, All, Option, Some, None}
 use Rattle.std.proofs.Common.{slice_index_or, refl, sym, ap, ap₂, arith, add-one}

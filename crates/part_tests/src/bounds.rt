@@ -1,4 +1,4 @@
-//! The bound, by worked numbers.
+//! Periods held to the bound, and least periods that all rates divide, by worked numbers.
 use bound_checker::{backoff, least_multiple, least_period, meets};
 use pals_base::{Gamma, Nanos};
 

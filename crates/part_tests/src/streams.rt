@@ -1,4 +1,5 @@
-//! What no clause says: that calls succeed, the printed texts, and std's readers and writers.
+//! Sources and sinks of bytes: what memory, readers and writers that fail, and std's readers and writers give and
+//! take.
 ghost use Rattle.std.specs.Prelude.{◌<◌};
 
 use pals_io::{

@@ -1,4 +1,4 @@
--- The equations have one solution.
+-- The equations have exactly one solution: the claims SolutionExists and SolutionIsOne.
 use Rattle.std.proofs.Common.{◌≡◌, ◌∙◌, ℕ, zero, suc, ◌*◌, List, [], sym, subst₂, arith}
 use Rattle.pals_model.specs.declared.design.DesignParts.{DesignParts}
 use Rattle.pals_model.specs.declared.inputs_and_parts.Env.{Env}

@@ -1,4 +1,5 @@
--- Two runs of the two counters.
+-- Two runs of the design of two counters: one with a meeting, which is done, and one with lists, of which the first
+-- is too short.
 use Rattle.std.proofs.Common.{◌≡◌, inl, inr, ℕ, zero, suc, ◌+◌, ◌<◌, ◌≤◌, nat_le, nat_eq, Bool, true, false, not, cond}
 use Rattle.std.proofs.Common.{List, [], ◌∷◌, length, Option, Some, None, refl, sym, ap, ◌∙◌, subst, arith}
 use Rattle.std.specs.List.{list_all}

@@ -1,5 +1,5 @@
--- A message that is due to a node at its clock's reading can arrive, and the run goes on; and how a list clock picks
--- or ends.
+-- A message that is due to a node at its clock's reading can arrive, and the run goes on; and a list clock picks for
+-- its node's next action, or has ended.
 use Rattle.std.proofs.Common.{◌-◌, inl, inr, Bool, cond, ◌≡◌, ℕ, ◌<◌, ◌≤◌, true, List, length, Some, refl, sym, ap, ◌∙◌}
 use Rattle.std.proofs.Common.{subst, arith}
 use Rattle.std.proofs.lemmas.Option.{slice_get_within}

@@ -1,4 +1,4 @@
--- With list clocks a journal shows the picks of each node's list, at its starts and sends too.
+-- With list clocks the readings of starts and sends in a journal, and of a stop, are picks of their nodes' lists.
 use Rattle.std.proofs.Common.{◌≡◌, inl, inr, ℕ, nat_eq, Bool, true, false, cond, List, [], ◌∷◌, ◌++◌, length, slice_get}
 use Rattle.std.proofs.Common.{Option, Some, None, refl, sym, ap, ◌∙◌, subst, arith}
 use Rattle.std.proofs.lemmas.Bool.{cases_eq, eqb-true}

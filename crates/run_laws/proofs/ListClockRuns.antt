@@ -1,4 +1,5 @@
--- What runs with list clocks tell of the picks of their lists.
+-- With list clocks: at the end each round is in time, a node is done where its picks reach its last target, and else
+-- they end before its next one; and what a stop tells.
 use Rattle.std.proofs.Common.{◌≡◌, inl, inr, ℕ, suc, ◌+◌, ◌-◌, ◌*◌, ◌<◌, ◌≤◌, true, List, [], ◌∷◌, length, slice_get}
 use Rattle.std.proofs.Common.{Option, Some, None, refl, sym, ap, ◌∙◌, subst, arith, length-append}
 use Rattle.std.specs.Prelude.{◌≢◌, IfSome}

@@ -1,4 +1,5 @@
--- A node whose clock shows a reading for its next action can do that action.
+-- A node whose clock shows a reading for its next action can do that action, or a message that is due to it can
+-- arrive first; and a step that runs can finish.
 use Rattle.std.proofs.Common.{◌≡◌, ◌⊎◌, inl, inr, ℕ, suc, ◌+◌, ◌*◌, ◌<◌, nat_eq, nat_lt, nat_le, Bool, true, false, not}
 use Rattle.std.proofs.Common.{◌&&◌, ◌||◌, cond, List, [], ◌∷◌, length, slice_get, All, Option, Some, refl, sym, ap, ◌∙◌}
 use Rattle.std.proofs.Common.{subst, arith}

@@ -1,4 +1,5 @@
--- An event without a fault keeps what a world keeps of its time, and a list of events within the bounds goes right.
+-- Each event without a fault keeps what a world keeps of its time, so arrivals are kept and counts are close; and a
+-- list of events within the bounds goes right.
 use Rattle.std.proofs.Common.{List, [], ◌∷◌, ◌++◌, sym, subst}
 use Rattle.std.proofs.lemmas.Option.{none-some}
 use Rattle.pals_runs.specs.declared.events.Event.{Event}

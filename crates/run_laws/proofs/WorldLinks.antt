@@ -1,5 +1,5 @@
--- The links of a world against its time: what arrives is of the last round that its target has started, and what a
--- start needs has arrived.
+-- The messages of links against the time of a world: what arrives is of the last round that its target has started,
+-- and what a start needs has arrived.
 use Rattle.std.proofs.Common.{◌≡◌, inl, inr, ℕ, suc, ◌+◌, ◌-◌, ◌<◌, ◌≤◌, nat_eq, Bool, true, false, List, length}
 use Rattle.std.proofs.Common.{slice_get, Option, Some, None, refl, sym, ap, ap₂, ◌∙◌, arith}
 use Rattle.std.specs.Prelude.{nat_lt, nat_le, ◌&&◌, is_some, is_none, if◌then◌else◌}

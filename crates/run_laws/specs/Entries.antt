@@ -1,4 +1,4 @@
--- The entries of a design's journals.
+-- Which entries are of a design: of a node or a link that is there, with numbers within their limits.
 use Rattle.std.specs.Prelude.{ℕ, ◌<◌, ◌≤◌, length, Option, None, IfSome}
 use Rattle.pals_base.specs.declared.limits.TheConstants.{ROUNDS, READING}
 use Rattle.pals_model.specs.declared.design.DesignParts.{DesignParts}

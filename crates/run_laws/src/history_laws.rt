@@ -1,4 +1,5 @@
-//! What a trace is that is judged sound. Each law is the contract of a function that does nothing.
+//! Laws of histories and of the traces that tell them: a trace is judged sound exactly where it is one of a history
+//! that is over. Each law is the contract of a function that does nothing.
 ghost use Rattle.run_laws.specs.proof.SoundTraces.{HistoriesReplay, RunsAreHistories, RunsAreTraces, SoundAreTraces};
 ghost use Rattle.run_laws.specs.proof.SoundTraces.{SoundIsTrace, ToldAreLines, TracesAreSound};
 

@@ -1,4 +1,5 @@
-//! Laws of traces. The functions do nothing: their contracts are the laws.
+//! Laws of lines: those of entries have forms and tell the entries, those of texts and reports are as they are made;
+//! and the verdict on four traces. The functions do nothing: their contracts are the laws.
 ghost use Rattle.run_laws.specs.proof.EntryLines.{EntriesHaveLines, LinesDiffer, LinesHaveForms, LinesTellEntries};
 ghost use Rattle.run_laws.specs.proof.EntryLines.{ToldAreIn};
 ghost use Rattle.run_laws.specs.proof.ReportLines.{ReportsHaveNoForms, ReportsHaveRows, TextsHaveLines};

@@ -1,4 +1,4 @@
--- The fields of runs keep what their readers look at.
+-- The inputs, delays and clocks of a scenario that was read keep what their readers look at.
 use Rattle.std.proofs.Common.{◌≡◌, ℕ, ◌<◌, ◌≤◌, ◌+◌, ◌-◌, Bool, true, false, cond, List, [], ◌∷◌, ◌++◌, length}
 use Rattle.std.proofs.Common.{replicate, Ok, All, refl, ◌∙◌, subst, arith, codes, decimal, length-append, lit<}
 use Rattle.std.specs.Prelude.{nat_lt, slice_set}

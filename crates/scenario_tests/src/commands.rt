@@ -1,4 +1,4 @@
-//! Commands by their words.
+//! Commands that read a scenario, from their words.
 use pals_base::{NoMemory, Text};
 use pals_runs::Command;
 use std::alloc::Global;

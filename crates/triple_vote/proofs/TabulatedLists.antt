@@ -1,4 +1,4 @@
--- Lists that have an element for each number below one.
+-- Lists that have an element for each number below one, and what a search through a list finds.
 use Rattle.std.proofs.Common.{◌≡◌, ◌∙◌, ℕ, zero, suc, ◌+◌, ◌<◌, Bool, true, false, cond, List, [], ◌∷◌, length, map}
 use Rattle.std.proofs.Common.{get_or, Some, find, Contains, refl, sym, ap, arith}
 use Rattle.std.proofs.lemmas.List.{length-map, ext_get_or}

@@ -1,4 +1,5 @@
--- Lists of tuples, of which those are written over that pass a test, place by place.
+-- Lists of which those elements are written over whose item passes a test, place by place, as the tuples of a layer
+-- are.
 use Rattle.std.proofs.Common.{◌≡◌, ◌∙◌, ℕ, ◌+◌, ◌<◌, ◌≤◌, inl, inr, Bool, true, false, List, length, set, Some}
 use Rattle.std.proofs.Common.{slice_get, sym, ap, ap₂, arith, eq-or-lt_of_le}
 use Rattle.std.proofs.lemmas.Bool.{false≢true}

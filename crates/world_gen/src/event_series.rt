@@ -1,5 +1,4 @@
-//! Courses: what is done over and over in a schedule, at equal distances in time. All times are
-//! nanoseconds.
+//! Event series: what is done over and over in a schedule, at equal distances in time. All times are nanoseconds.
 ghost use Rattle.std.specs.Prelude.{◌≡◌, ◌<◌, IfSome, option_map};
 ghost use Rattle.world_gen.specs.proof.Schedules.{which};
 ghost use Rattle.world_gen.specs.proof.EventSeries.{HasSteps, deed_event, IsEventSeries, time_of, next_of};

@@ -1,4 +1,4 @@
-//! The courses of a design, and what they do moment by moment. All times are nanoseconds.
+//! The event series of a design's nodes and links, and what they do moment by moment. All times are nanoseconds.
 ghost use Rattle.std.specs.Prelude.{◌≡◌, ◌<◌, ◌≤◌, ◌++◌, length, All, IfOk, OnOk};
 ghost use Rattle.pals_base.specs.declared.limits.TheConstants.{ROUNDS};
 ghost use Rattle.run_laws.specs.Deadlines.{lesser};

@@ -1,4 +1,5 @@
--- What is found at the connections of implementations, added to what was found before.
+-- The faults at connections of implementations (one on no chain, or a second one into a port), as they are added to
+-- what was found before.
 use Rattle.std.specs.Prelude.{◌≡◌, ◌⊎◌, ℕ, Bool, List, [], ◌∷◌, Option, Some, slice_get, Contains, if◌then◌else◌}
 use Rattle.aadl_tree.specs.Declarations.{Connection, PackageTree}
 use Rattle.aadl_names.specs.declared.fault.PackageFault.{PackageFault}

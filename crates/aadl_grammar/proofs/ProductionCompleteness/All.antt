@@ -1,4 +1,5 @@
--- Each symbol: how its trees begin, and what is left out.
+-- All symbols together: each tree of a symbol that terminals spell is built by one of its rows, or the symbol is
+-- left out, and nothing spells its tree then.
 use Rattle.std.proofs.Common.{◌≡◌, ◌⊎◌, Bool, true, false, refl, List, inl}
 use Rattle.aadl_tree.specs.Terminals.{Kind}
 use Rattle.aadl_tree.specs.SpellingParts.{Spells}

@@ -1,4 +1,4 @@
--- Terminals that a tree keeps have a tree that is the same except for its places.
+-- Terminals that are just those that a tree keeps have a tree of their own, which is the same except for its places.
 use Rattle.std.proofs.Common.{◌≡◌, ℕ, ◌<◌, cond, ◌==◌, ◌∙◌, sym, ap, ap₂, refl, subst, List, [], ◌∷◌, map, arith}
 use Rattle.std.proofs.Common.{eq-eqb, inl, inr}
 use Rattle.std.proofs.lemmas.Bool.{eqb-true, false_from_ne_true}

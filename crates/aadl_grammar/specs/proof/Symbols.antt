@@ -1,4 +1,5 @@
--- The symbols of the grammar: what may still be wanted of a text.
+-- The symbols of the grammar, which say what may still be wanted of a text; the classes of terminals; and what a row
+-- of the parse table is.
 use Rattle.std.specs.Prelude.{List}
 use Rattle.aadl_tree.specs.declared.mark.Mark.{Mark}
 

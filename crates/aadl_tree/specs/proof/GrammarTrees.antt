@@ -1,4 +1,4 @@
--- Which tree a text is read as, and where a behaviour stops being one or nests too deep.
+-- Where a behaviour stops being one or nests too deep; and that the grammar gives a tree for some text.
 use Rattle.std.specs.Prelude.{ℕ, true, List, [], ◌∷◌}
 use Rattle.aadl_lex.specs.declared.token.Token.{Token}
 use Rattle.aadl_tree.specs.Terminals.{spots_from}

@@ -1,4 +1,4 @@
--- What the fields of a scenario that was read keep, for a design.
+-- What each fault of a replica and each processor that was read keeps, for a design.
 use Rattle.std.specs.Prelude.{◌≡◌, ◌<◌, ◌≤◌, true, List, length, slice_get, All, AllPairs}
 use Rattle.pals_base.specs.declared.values.NodeNo.{NodeNo}
 use Rattle.pals_base.specs.declared.limits.TheConstants.{HOUR, ROUNDS}

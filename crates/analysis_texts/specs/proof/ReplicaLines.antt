@@ -1,4 +1,4 @@
--- Replicas and their lines, as they are gathered for votes.
+-- The names of replicas and their lines, and one fault more in the table of rounds, as they are gathered for votes.
 use Rattle.std.specs.Prelude.{ℕ, Bool, if◌then◌else◌, List, [], ◌∷◌, ◌++◌, slice_set, slice_index_or, map, flat_map}
 use Rattle.std.specs.List.{enumerate_from}
 use Rattle.pals_base.specs.declared.values.Frame.{Frame}

@@ -1,4 +1,5 @@
--- Laws of the machine, at every run of a design.
+-- Laws of the machine: a run of a design agrees with the composition at its opening, after each step, and after each
+-- journal.
 use Rattle.std.specs.Prelude.{◌≤◌, List}
 use Rattle.pals_model.specs.DesignRules.{IsDesign}
 use Rattle.pals_runs.specs.declared.journal.JournalEntry.{JournalEntry}

@@ -1,4 +1,5 @@
--- Two runs of the two counters: one with a meeting, which is done, and one with lists, of which the first is too short.
+-- Two runs of the design of two counters: one with a meeting, which is done, and one with lists, of which the first
+-- is too short.
 use Rattle.std.specs.Prelude.{◌≡◌, ℕ, List, [], ◌∷◌, map, Some}
 use Rattle.pals_clock.specs.ClockStates.{ClockState}
 use Rattle.pals_model.specs.declared.design.Link.{Link}

@@ -1,4 +1,5 @@
--- Runs in time: their clocks and their delays let no stop come, in whatever order the nodes act.
+-- Runs in time: their clocks and delays let no stop come, in whatever order the nodes act. And how runs with the
+-- same lists end: all done, or the same node first.
 use Rattle.std.specs.Prelude.{◌≡◌, ◌⊎◌, ℕ, ◌+◌, ◌<◌, ◌≤◌, List, None}
 use Rattle.pals_clock.specs.ClockStates.{ClockState}
 use Rattle.pals_clock.specs.declared.clock.Clocks.{Clocks}

@@ -1,4 +1,4 @@
--- What the fields of a scenario that was read keep, for a design.
+-- What the inputs, delays and clocks of a scenario that was read keep, for a design.
 use Rattle.std.specs.Prelude.{ℕ, ◌≡◌, ◌<◌, ◌≤◌, List, length, All}
 use Rattle.std.specs.List.Sorted.{IsNonDecreasing}
 use Rattle.pals_base.specs.declared.limits.TheConstants.{HOUR, READING}
