@@ -8,7 +8,7 @@ use Rattle.aadl_tree.specs.Declarations.{PackageTree}
 use Rattle.aadl_names.specs.declared.port_place.PortPlace.{PortPlace}
 use Rattle.aadl_names.specs.declared.port_place.PortPlace.TheVariants.{Own, Inner}
 use Rattle.aadl_uses.specs.Uses.{standing}
-use Rattle.aadl_uses.specs.proof.DeclarationWires.{connection_into}
+use Rattle.aadl_uses.specs.proof.IncomingConnections.{connection_into}
 use Rattle.aadl_chains.specs.Chains.{Port, Place, Goes, Leads}
 use Rattle.aadl_chains.specs.proof.Walks.{Crossing, Climb, nowhere, at_root, crosses, climb_along, climb_into, climb}
 use Rattle.aadl_chains.proofs.FirstIncomingConnections.{Entered, entered, goes_into}

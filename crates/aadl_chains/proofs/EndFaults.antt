@@ -18,7 +18,7 @@ use Rattle.aadl_names.specs.proof.FirstFaultSoFar.{found}
 use Rattle.aadl_names.proofs.FirstFaultSoFar.{found_append}
 use Rattle.aadl_uses.specs.Uses.{IsInUse}
 use Rattle.aadl_uses.specs.proof.PackageContainment.{FirstIn}
-use Rattle.aadl_uses.specs.declared.connections.Wire.{Wire}
+use Rattle.aadl_uses.specs.declared.connections_by_target.Wire.{Wire}
 use Rattle.aadl_uses.specs.SecondConnections.{IsSecond}
 use Rattle.aadl_uses.specs.Wiring.{wire_of, wires_of, wires_at}
 use Rattle.aadl_chains.specs.proof.PortsJoinedOutside.{LeadsFrom}
@@ -26,8 +26,8 @@ use Rattle.aadl_chains.proofs.JoinedInsideByDeclaration.{one_of_two}
 use Rattle.aadl_chains.specs.Chains.{IsDeadEnd, IsEndFault}
 use Rattle.aadl_chains.specs.proof.DeclaredEnds.{AreDeclared}
 use Rattle.aadl_chains.specs.proof.ConnectionsOnChains.{IsOnWay}
-use Rattle.aadl_chains.specs.proof.FoundFaults.{FindsAll, IsOnWayAt, IsFoundAt, IsFoundIn, dead_end, second}
-use Rattle.aadl_chains.proofs.FoundFaults.{finds_nothing, finds_both, finds_same, first_found}
+use Rattle.aadl_chains.specs.proof.ConnectionFaults.{FindsAll, IsOnWayAt, IsFoundAt, IsFoundIn, dead_end, second}
+use Rattle.aadl_chains.proofs.AccumulatedFaults.{finds_nothing, finds_both, finds_same, first_found}
 use Rattle.aadl_chains.proofs.ConnectionsOnChains.{chained}
 use Rattle.aadl_chains.proofs.ChainConnectionEnds.{on_way}
 

@@ -14,12 +14,12 @@ use Rattle.aadl_names.specs.declared.port_place.PortPlace.{PortPlace}
 use Rattle.aadl_names.specs.declared.port_place.PortPlace.TheVariants.{Own, Inner}
 use Rattle.aadl_names.specs.ReferenceResolution.{implementation_at}
 use Rattle.aadl_uses.specs.Uses.{standing}
-use Rattle.aadl_uses.specs.declared.connections.Wire.{Wire}
+use Rattle.aadl_uses.specs.declared.connections_by_target.Wire.{Wire}
 use Rattle.aadl_uses.specs.proof.NumbersByPort.{is_site}
 use Rattle.aadl_uses.specs.SecondConnections.{target_in, IsSecond}
 use Rattle.aadl_uses.specs.proof.FirstConnections.{is_before}
 use Rattle.aadl_uses.specs.Wiring.{wire_of, wires_of, wires_at}
-use Rattle.aadl_uses.specs.proof.DeclarationWires.{first_into_at, with_source, sourced, connection_into}
+use Rattle.aadl_uses.specs.proof.IncomingConnections.{first_into_at, with_source, sourced, connection_into}
 use Rattle.aadl_uses.proofs.DeclarationTables.{listed}
 use Rattle.aadl_uses.proofs.FirstConnectionTables.{same_site-true, itself, second_from}
 use Rattle.aadl_chains.specs.proof.PortsJoinedInside.{is_thread_at, is_in_at}

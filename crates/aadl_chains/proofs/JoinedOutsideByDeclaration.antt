@@ -14,7 +14,7 @@ use Rattle.aadl_names.specs.declared.port_place.PortPlace.TheVariants.{Own, Inne
 use Rattle.aadl_uses.specs.Uses.{below, IsInUse}
 use Rattle.aadl_uses.specs.proof.PackageContainment.{containment, targets_in}
 use Rattle.aadl_uses.proofs.PackageContainment.{below-same}
-use Rattle.aadl_uses.specs.declared.connections.Wire.{Wire}
+use Rattle.aadl_uses.specs.declared.connections_by_target.Wire.{Wire}
 use Rattle.aadl_uses.specs.Wiring.{wires_at}
 use Rattle.aadl_uses.specs.proof.ContainmentOrders.{IsOrder}
 use Rattle.aadl_chains.specs.declared.port_set.PortAt.{PortAt}

@@ -5,7 +5,7 @@ pub mod JoinedOutsideByConnection
 pub mod JoinedOutsideByDeclaration
 pub mod ConnectionsOnChains
 pub mod ChainConnectionEnds
-pub mod FoundFaults
+pub mod AccumulatedFaults
 pub mod EndFaults
 pub mod DeclaredEnds
 pub mod ChainsFromEnds
@@ -21,4 +21,4 @@ pub mod LinkLimits
 pub mod SoundConnections
 pub mod TracedChains
 pub mod OutermostFirstWalks
-pub mod WholeWalks
+pub mod WalksUpAndDown

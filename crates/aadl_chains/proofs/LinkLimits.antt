@@ -23,7 +23,7 @@ use Rattle.aadl_uses.specs.Uses.{sub_at, below, standing}
 use Rattle.aadl_uses.specs.proof.PackageContainment.{targets_of}
 use Rattle.aadl_uses.specs.ThreadsBelow.{IsThreadAt, MoreThan}
 use Rattle.aadl_uses.specs.proof.ThreadCounts.{is_thread_in}
-use Rattle.aadl_uses.specs.declared.connections.Wire.{Wire}
+use Rattle.aadl_uses.specs.declared.connections_by_target.Wire.{Wire}
 use Rattle.aadl_uses.specs.SecondConnections.{target_in}
 use Rattle.aadl_uses.specs.Wiring.{wire_of, wires_of, wires_at}
 use Rattle.aadl_uses.proofs.DeclarationTables.{listed}

@@ -18,7 +18,7 @@ use Rattle.aadl_uses.specs.Uses.{below}
 use Rattle.aadl_uses.specs.proof.PackageContainment.{containment}
 use Rattle.aadl_uses.specs.proof.ThreadCounts.{is_thread_in}
 use Rattle.aadl_uses.proofs.PackageContainment.{below-same}
-use Rattle.aadl_uses.specs.declared.connections.Wire.{Wire}
+use Rattle.aadl_uses.specs.declared.connections_by_target.Wire.{Wire}
 use Rattle.aadl_uses.specs.SecondConnections.{IsSecond}
 use Rattle.aadl_uses.specs.Wiring.{wires_at}
 use Rattle.aadl_chains.specs.declared.port_set.PortAt.{PortAt}

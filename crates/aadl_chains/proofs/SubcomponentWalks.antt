@@ -11,7 +11,7 @@ use Rattle.aadl_names.specs.PackageFaults.{goes_in}
 use Rattle.aadl_uses.specs.Uses.{below, standing, component_at}
 use Rattle.aadl_uses.specs.ThreadsBelow.{IsThreadAt}
 use Rattle.aadl_uses.specs.proof.ThreadCounts.{is_thread_in}
-use Rattle.aadl_uses.specs.proof.DeclarationWires.{connection_into}
+use Rattle.aadl_uses.specs.proof.IncomingConnections.{connection_into}
 use Rattle.aadl_chains.specs.proof.PortsJoinedInside.{is_thread_at}
 use Rattle.aadl_chains.specs.Chains.{Port, is_in}
 use Rattle.aadl_chains.specs.proof.Walks.{Crossing, Climb, nowhere, at_root, crosses, climb_by, climb_along, climb_into}

@@ -11,7 +11,7 @@ use Rattle.aadl_names.specs.declared.port_place.PortPlace.TheVariants.{Own, Inne
 use Rattle.aadl_names.specs.ReferenceResolution.{implementation_at, site}
 use Rattle.aadl_uses.specs.Uses.{below, standing}
 use Rattle.aadl_uses.specs.ThreadsBelow.{IsThreadAt}
-use Rattle.aadl_uses.specs.proof.DeclarationWires.{connection_into}
+use Rattle.aadl_uses.specs.proof.IncomingConnections.{connection_into}
 use Rattle.aadl_chains.specs.proof.PortsJoinedInside.{is_in_at, Reaches, of_thread, of_inner}
 use Rattle.aadl_chains.specs.Chains.{Port, Place, port_at, Goes, Leads, is_in, IsStart}
 use Rattle.aadl_chains.specs.proof.DeclaredEnds.{MayLeave, MayEnter, NotBothOwn, AreDeclared}

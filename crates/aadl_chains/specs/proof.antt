@@ -4,7 +4,7 @@ pub mod PortsJoinedInside
 pub mod PortsJoinedOutside
 pub mod DeclaredEnds
 pub mod ConnectionsOnChains
-pub mod FoundFaults
+pub mod ConnectionFaults
 pub mod SoundConnections
 pub mod Walks
 pub mod LimitedCounts

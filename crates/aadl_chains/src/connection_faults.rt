@@ -11,9 +11,9 @@ ghost use Rattle.aadl_uses.specs.proof.ContainmentOrders.{IsOrder};
 ghost use Rattle.aadl_chains.specs.Chains.{IsEndFault};
 ghost use Rattle.aadl_chains.specs.proof.DeclaredEnds.{AreDeclared};
 ghost use Rattle.aadl_chains.specs.proof.ConnectionsOnChains.{AreWays};
-ghost use Rattle.aadl_chains.specs.proof.FoundFaults.{FindsAll, IsFoundIn, IsFoundAt, dead_end, second};
+ghost use Rattle.aadl_chains.specs.proof.ConnectionFaults.{FindsAll, IsFoundIn, IsFoundAt, dead_end, second};
 
-use crate::joined_ports::JoinedPorts;
+use crate::chain_connections::JoinedPorts;
 use aadl_names::{Finder, PackageFault};
 use aadl_tree::Connection;
 use aadl_uses::{Wire, Wires};

@@ -22,7 +22,7 @@ use crate::InnerJoins;
 use crate::port_counts::PortCounts;
 use aadl_names::PortPlace;
 use aadl_tree::Direction;
-use aadl_uses::below_counts::add_up_to;
+use aadl_uses::marked_counts::add_up_to;
 use aadl_uses::{Wire, Wires};
 use indexmap::IndexSet;
 use pals_base::limits::LINKS;

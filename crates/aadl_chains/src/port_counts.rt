@@ -13,7 +13,7 @@ ghost use Rattle.aadl_chains.specs.proof.EnteredPortCounts.{AreAdded};
 
 use crate::PortAt;
 use aadl_names::PortPlace;
-use aadl_uses::below_counts::add_up_to;
+use aadl_uses::marked_counts::add_up_to;
 use aadl_uses::{Wire, Wires};
 use indexmap::{IndexMap, IndexSet};
 use std::alloc::{AllocError, Global};

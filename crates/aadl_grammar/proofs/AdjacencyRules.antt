@@ -3,7 +3,7 @@
 use Rattle.std.specs.Prelude.{ℕ, ◌≡◌, ◌==◌, Bool, true, not, ◌&&◌, ◌||◌, List, [], ◌∷◌}
 use Rattle.aadl_tree.specs.declared.mark.Mark.TheVariants as k
 use Rattle.aadl_tree.specs.Terminals.{Kind}
-use Rattle.aadl_grammar.specs.proof.Symbols.{Class, a_word, an_unread, the}
+use Rattle.aadl_grammar.specs.proof.GrammarSymbols.{Class, a_word, an_unread, the}
 use Rattle.aadl_grammar.specs.proof.StackMachine.{class_number, kind_number}
 
 -- the terminal of this number is of the class

@@ -6,14 +6,14 @@ use Rattle.aadl_tree.specs.declared.mark.Mark.{Mark}
 use Rattle.aadl_tree.specs.declared.mark.Mark.TheVariants as k
 use Rattle.aadl_tree.specs.proof.MarkNumbers.{mark_number}
 use Rattle.aadl_tree.specs.Terminals.{Kind}
-use Rattle.aadl_grammar.specs.proof.Symbols.{Class, a_word, a_whole, a_real, a_quoted, an_unread, the, Symbol}
-use Rattle.aadl_grammar.specs.proof.Symbols as s
+use Rattle.aadl_grammar.specs.proof.GrammarSymbols.{Class, a_word, a_whole, a_real, a_quoted, an_unread, the, Symbol}
+use Rattle.aadl_grammar.specs.proof.GrammarSymbols as s
 use Rattle.aadl_grammar.specs.proof.StackMachine.{class_number, kind_number, whole_package}
-use Rattle.aadl_grammar.proofs.DerivationTrees.Derivations.{Derives}
+use Rattle.aadl_grammar.proofs.DerivationTrees.DerivationsAndMachineSteps.{Derives}
 use Rattle.aadl_grammar.proofs.AdjacencyRules.{of_class, AreNeighbours}
-use Rattle.aadl_grammar.proofs.AdjacencyInvariant.{neat, on_top, seam, Guard, Beside, guarded}
-use Rattle.aadl_grammar.proofs.AdjacencyChecks.{after_check, after_beside, after_guard, before_check, before_beside}
-use Rattle.aadl_grammar.proofs.AdjacencyChecks.{before_guard}
+use Rattle.aadl_grammar.proofs.StackAdjacency.{neat, on_top, seam, Guard, Beside, guarded}
+use Rattle.aadl_grammar.proofs.ParseTableAdjacency.{after_check, after_beside, after_guard, before_check, before_beside}
+use Rattle.aadl_grammar.proofs.ParseTableAdjacency.{before_guard}
 
 abbrev nothing_more : Symbol → Bool
 nothing_more x = false

@@ -12,24 +12,24 @@ use Rattle.aadl_tree.specs.Terminals.{Kind, mark, inside_behind, spots_from, spo
 use Rattle.aadl_tree.specs.SpellingParts.{Spells, Written, kept}
 use Rattle.aadl_tree.specs.Declarations.{PackageTree, package_parts}
 use Rattle.aadl_tree.specs.proof.PlaceMaps.{package_to, no_place}
-use Rattle.aadl_tree.specs.Grammar.{IsShallow}
-use Rattle.aadl_tree.specs.GrammarTrees.{IsTreeOf}
-use Rattle.aadl_tree.specs.Canon.{canon, canonical}
-use Rattle.aadl_tree.proofs.SpellingParts.{written_spells, kept_spells}
+use Rattle.aadl_tree.specs.LanguagesAndNesting.{IsShallow}
+use Rattle.aadl_tree.specs.TextTreesAndFaults.{IsTreeOf}
+use Rattle.aadl_tree.specs.CanonicalText.{canon, canonical}
+use Rattle.aadl_tree.proofs.ConcatenatedSpellings.{written_spells, kept_spells}
 use Rattle.aadl_grammar.specs.proof.StackMachine.{whole_package}
 use Rattle.aadl_grammar.specs.proof.MovedPackages.{Behind, Rising}
 use Rattle.aadl_grammar.proofs.PlaceIndependence.AlikeParts.{alike_kept}
 use Rattle.aadl_grammar.proofs.PlaceIndependence.Declarations.{package_alike}
-use Rattle.aadl_grammar.proofs.DerivationTrees.Derivations.{Derives}
-use Rattle.aadl_grammar.proofs.UniquePlacedTrees.All.{one_placed_package}
-use Rattle.aadl_grammar.proofs.UniquePlacedTrees.KeptTerminals.{same_package}
+use Rattle.aadl_grammar.proofs.DerivationTrees.DerivationsAndMachineSteps.{Derives}
+use Rattle.aadl_grammar.proofs.UniquePlacedTrees.PackagesAndBehaviours.{one_placed_package}
+use Rattle.aadl_grammar.proofs.UniquePlacedTrees.KeptTerminalTrees.{same_package}
 use Rattle.aadl_grammar.proofs.Fates.GrammarLanguages.{packages}
 use Rattle.aadl_grammar.specs.proof.CanonicalRoundTrip.{HasTree}
 use Rattle.aadl_grammar.proofs.AdjacentTerminals.{neighbours}
 use Rattle.aadl_grammar.proofs.KeptTerminalNesting.{kept_shallow}
 use Rattle.aadl_grammar.proofs.PossibleTerminals.{Said, kept_said}
-use Rattle.aadl_grammar.proofs.CanonLexing.{outer}
-use Rattle.aadl_grammar.proofs.TokenTerminals.{text_said}
+use Rattle.aadl_grammar.proofs.CanonicalTextLexing.{outer}
+use Rattle.aadl_grammar.proofs.PossibleTokenTerminals.{text_said}
 use Rattle.aadl_grammar.proofs.CanonicalUtf8.{text_utf8}
 
 -- tokens in order stand one behind the other

@@ -13,11 +13,11 @@ use Rattle.aadl_lex.specs.declared.rules.Reading.{Reading}
 use Rattle.aadl_lex.specs.Rules.{is_word, is_in_word, is_blank}
 use Rattle.aadl_tree.specs.declared.mark.Mark.{Mark}
 use Rattle.aadl_tree.specs.declared.mark.Mark.TheVariants as k
-use Rattle.aadl_tree.specs.Marks.{mark_text}
+use Rattle.aadl_tree.specs.KeywordsAndSymbols.{mark_text}
 use Rattle.aadl_tree.specs.Terminals.{Kind}
-use Rattle.aadl_tree.specs.Canon.{kind_text, line_end, between, text_behind}
+use Rattle.aadl_tree.specs.CanonicalText.{kind_text, line_end, between, text_behind}
 use Rattle.aadl_lex.specs.proof.TokenSpellings.{IsReal}
-use Rattle.aadl_grammar.proofs.LiteralLexing.{number_digits}
+use Rattle.aadl_grammar.proofs.LiteralAndAnnexLexing.{number_digits}
 use Rattle.aadl_grammar.proofs.PossibleTerminals.{Spoken, a_word, a_number, a_real, a_string, an_annex, a_keyword}
 use Rattle.aadl_grammar.proofs.PossibleTerminals.{a_symbol, opens, closes, behind, Said}
 use Rattle.aadl_grammar.proofs.NoAnnexEnds.{all_weaker, all_append}

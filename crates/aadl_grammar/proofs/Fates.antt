@@ -3,7 +3,7 @@
 pub mod ProductionNesting
 pub mod StackNesting
 pub mod MachineWalks
-pub mod MachineStops
+pub mod FateRuns
 pub mod FateMeanings
 pub mod GrammarLanguages
 pub mod ExclusiveFates

@@ -9,34 +9,34 @@ pub mod OneTerminalLookahead
 pub mod UniquePlacedTrees
 pub mod TerminalSpots
 pub mod WordAndSymbolLexing
-pub mod SymbolMoves
+pub mod TopSymbolMoves
 pub mod PartSequences
 pub mod ListSteps
-pub mod QualifiedReferences
+pub mod ReferenceLoop
 pub mod SignedQuantities
-pub mod PropertyLists
+pub mod ValueAndPropertyLists
 pub mod ListSymbols
 pub mod ListSections
-mod KeywordLists
-mod ReachabilityWitnesses
+mod KeywordListMembership
+mod ParseTableRoutes
 mod OnlyListedKeywords
 mod ReachedKeywords
 pub mod TokensOrFault
 pub mod PlaceFilling
 pub mod TreeOrFault
 pub mod AdjacencyRules
-pub mod AdjacencyInvariant
-pub mod AdjacencyChecks
+pub mod StackAdjacency
+pub mod ParseTableAdjacency
 pub mod AdjacentTerminals
 pub mod KeptTerminalNesting
-pub mod LiteralLexing
+pub mod LiteralAndAnnexLexing
 pub mod PossibleTerminals
 pub mod TerminalRelexing
 pub mod TerminalSeparation
 pub mod NoAnnexEnds
 pub mod TextPieces
-pub mod CanonLexing
-pub mod CanonicalKeywords
-pub mod TokenTerminals
+pub mod CanonicalTextLexing
+pub mod KeywordAndSymbolSpellings
+pub mod PossibleTokenTerminals
 pub mod CanonicalUtf8
 pub mod CanonicalRoundTrip

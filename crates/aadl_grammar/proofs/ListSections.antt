@@ -8,13 +8,13 @@ use Rattle.aadl_tree.specs.Terminals.{mark, Spot}
 use Rattle.aadl_tree.specs.SpellingParts.{Part, Section, section_mark}
 use Rattle.aadl_tree.specs.Declarations.{section_parts}
 use Rattle.aadl_tree.specs.declared.nesting_limit.TheConstants.{GREATEST_NESTING}
-use Rattle.aadl_grammar.specs.proof.Symbols.{the, Symbol, Row}
-use Rattle.aadl_grammar.specs.proof.Symbols as s
+use Rattle.aadl_grammar.specs.proof.GrammarSymbols.{the, Symbol, Row}
+use Rattle.aadl_grammar.specs.proof.GrammarSymbols as s
 use Rattle.aadl_grammar.specs.proof.ParseTable.{on, behind, rows, section_rows, can_omit}
 use Rattle.aadl_grammar.specs.proof.StackMachine.{Stack, closes, depth, fate}
 use Rattle.aadl_grammar.specs.proof.ParserAnswers.{spot, AtMark, Misses, MissAll, Reads}
 use Rattle.aadl_grammar.specs.proof.ListAnswers.{Allows, Lists, IsSection}
-use Rattle.aadl_grammar.proofs.SymbolMoves.{takes_row, omits_unless, begins_past}
+use Rattle.aadl_grammar.proofs.TopSymbolMoves.{takes_row, omits_unless, begins_past}
 use Rattle.aadl_grammar.proofs.PartSequences.{then, marked, respelled}
 use Rattle.aadl_grammar.proofs.ListSteps.{allows_few}
 use Rattle.aadl_grammar.proofs.ListSymbols.{marked_moves}

@@ -8,8 +8,8 @@ use Rattle.aadl_tree.specs.declared.mark.Mark.{Mark}
 use Rattle.aadl_tree.specs.declared.mark.Mark.TheVariants as k
 use Rattle.aadl_tree.specs.Terminals.{mark, word, Spot}
 use Rattle.aadl_tree.specs.SpellingParts.{Part, behind}
-use Rattle.aadl_grammar.specs.proof.Symbols.{a_word, the, Symbol, Row}
-use Rattle.aadl_grammar.specs.proof.Symbols as s
+use Rattle.aadl_grammar.specs.proof.GrammarSymbols.{a_word, the, Symbol, Row}
+use Rattle.aadl_grammar.specs.proof.GrammarSymbols as s
 use Rattle.aadl_grammar.specs.proof.ParseTable.{by, on, rows, can_omit}
 use Rattle.aadl_grammar.specs.proof.ParseTable as table
 use Rattle.aadl_grammar.specs.proof.StackMachine.{Stack, takes, move_by, move, closes, depth, Fate, fate}
@@ -18,9 +18,9 @@ use Rattle.aadl_grammar.specs.declared.parse_fault.ParseFault.{ParseFault}
 use Rattle.aadl_grammar.specs.proof.ParserAnswers.{here, MissAll, Reads, RunsTo, Parses}
 use Rattle.aadl_grammar.specs.proof.ListAnswers.{Allows, with_mark, Lists, Answers, ItemsOf, Grows, ParsesMore}
 use Rattle.aadl_grammar.proofs.Fates.FirstTerminalFates.{fits_itself}
-use Rattle.aadl_grammar.proofs.SymbolMoves.{takes_row, omits_unless, begins_as, enters_as}
+use Rattle.aadl_grammar.proofs.TopSymbolMoves.{takes_row, omits_unless, begins_as, enters_as}
 use Rattle.aadl_grammar.proofs.PartSequences.{respelled}
-use Rattle.aadl_grammar.proofs.PropertyLists.{starts_at}
+use Rattle.aadl_grammar.proofs.ValueAndPropertyLists.{starts_at}
 
 -- what a symbol does at the mark of its first row
 pub marked_moves : (m : Mark) (f : List Symbol) (rs : List Row) (x : Symbol) → rows x ≡ on m f ∷ rs

@@ -14,13 +14,13 @@ use Rattle.aadl_lex.specs.declared.rules.Reading.TheVariants.{Inside}
 use Rattle.aadl_lex.specs.Rules.{is_in_word, is_word, close_from}
 use Rattle.aadl_tree.specs.declared.mark.Mark.{Mark}
 use Rattle.aadl_tree.specs.declared.mark.Mark.TheVariants as k
-use Rattle.aadl_tree.specs.Marks.{mark_text}
+use Rattle.aadl_tree.specs.KeywordsAndSymbols.{mark_text}
 use Rattle.aadl_tree.specs.Terminals.{Kind, mark}
-use Rattle.aadl_tree.specs.Canon.{kind_text}
+use Rattle.aadl_tree.specs.CanonicalText.{kind_text}
 use Rattle.aadl_grammar.proofs.WordAndSymbolLexing.{other_bytes}
 use Rattle.aadl_lex.proofs.AnnexEnds.{none_parts}
 use Rattle.aadl_lex.specs.proof.TokenSpellings.{IsReal, IsString}
-use Rattle.aadl_grammar.proofs.LiteralLexing.{number_digits}
+use Rattle.aadl_grammar.proofs.LiteralAndAnnexLexing.{number_digits}
 use Rattle.aadl_grammar.proofs.PossibleTerminals.{Spoken, a_word, a_number, a_real, a_string, a_keyword, a_symbol}
 use Rattle.aadl_grammar.proofs.PossibleTerminals.{closes}
 use Rattle.aadl_grammar.proofs.TerminalRelexing.{Ends, IsPlain, keyword_is_word}

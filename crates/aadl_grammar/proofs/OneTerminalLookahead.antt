@@ -3,7 +3,7 @@
 use Rattle.std.proofs.Common.{◌≡◌, true, not, ◌==◌, sym, ap, List, [], ◌∷◌, eq-eqb}
 use Rattle.std.proofs.lemmas.Bool.{or_left, or_right}
 use Rattle.std.specs.Cmp.{first_so, second_so}
-use Rattle.aadl_grammar.specs.proof.Symbols.{Class, Symbol, Row}
+use Rattle.aadl_grammar.specs.proof.GrammarSymbols.{Class, Symbol, Row}
 use Rattle.aadl_grammar.specs.proof.ParseTable.{rows, Differ, Decides}
 use Rattle.aadl_grammar.specs.proof.StackMachine.{class_number}
 use Rattle.aadl_grammar.proofs.HeadsAndTails.{not_both}

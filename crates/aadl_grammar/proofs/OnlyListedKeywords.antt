@@ -7,14 +7,14 @@ use Rattle.std.proofs.lemmas.Bool.{false_from_ne_true}
 use Rattle.list_lemmas.proofs.Elements.{passes_by_list_all}
 use Rattle.aadl_tree.specs.declared.mark.Mark.{Mark}
 use Rattle.aadl_tree.specs.declared.mark.Mark.TheVariants as k
-use Rattle.aadl_tree.specs.Marks.{keywords_outside, keywords_inside}
-use Rattle.aadl_grammar.specs.proof.Symbols.{Class, the, Symbol, Row}
-use Rattle.aadl_grammar.specs.proof.Symbols as s
+use Rattle.aadl_tree.specs.KeywordsAndSymbols.{keywords_outside, keywords_inside}
+use Rattle.aadl_grammar.specs.proof.GrammarSymbols.{Class, the, Symbol, Row}
+use Rattle.aadl_grammar.specs.proof.GrammarSymbols as s
 use Rattle.aadl_grammar.specs.proof.ParseTable.{rows}
 use Rattle.aadl_grammar.specs.proof.StackMachine.{whole_package, annex_body}
 use Rattle.aadl_grammar.specs.proof.ReachableKeywords.{is_word, Stands, at_first, later, CanCome}
-use Rattle.aadl_grammar.proofs.KeywordLists.{or_not, or_false, listed, is_listed}
-use Rattle.aadl_grammar.proofs.ReachabilityWitnesses.{is_the, the_mark}
+use Rattle.aadl_grammar.proofs.KeywordListMembership.{or_not, or_false, listed, is_listed}
+use Rattle.aadl_grammar.proofs.ParseTableRoutes.{is_the, the_mark}
 
 -- a keyword or symbol that may come where these are the keywords
 abbrev fine_mark : List Mark → Mark → Bool

@@ -1,6 +1,6 @@
 -- How a tree is spelled does not depend on its places, by kinds of trees.
 pub mod AlikeParts
-pub mod Values
+pub mod NamesAndValues
 pub mod Expressions
 pub mod Actions
 pub mod Annexes

@@ -1,6 +1,6 @@
 -- What a production, which is a row of the parse table, builds is spelled by terminals that it takes, by kinds of
 -- symbols.
-pub mod Values
+pub mod NamesAndValues
 pub mod Expressions
 pub mod Actions
 pub mod Annexes

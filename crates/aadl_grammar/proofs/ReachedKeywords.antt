@@ -6,11 +6,11 @@ use Rattle.std.specs.Cmp.{first_so, second_so}
 use Rattle.list_lemmas.proofs.Elements.{passes_by_list_all}
 use Rattle.aadl_tree.specs.declared.mark.Mark.{Mark}
 use Rattle.aadl_tree.specs.declared.mark.Mark.TheVariants as k
-use Rattle.aadl_tree.specs.Marks.{keywords_outside, keywords_inside}
-use Rattle.aadl_grammar.specs.proof.Symbols.{Symbol}
+use Rattle.aadl_tree.specs.KeywordsAndSymbols.{keywords_outside, keywords_inside}
+use Rattle.aadl_grammar.specs.proof.GrammarSymbols.{Symbol}
 use Rattle.aadl_grammar.specs.proof.StackMachine.{whole_package, annex_body}
 use Rattle.aadl_grammar.specs.proof.ReachableKeywords.{is_word, CanCome}
-use Rattle.aadl_grammar.proofs.ReachabilityWitnesses.{Turn, Way, leads_to, comes}
+use Rattle.aadl_grammar.proofs.ParseTableRoutes.{Turn, Way, leads_to, comes}
 
 turn : ℕ → ℕ → Turn
 turn by to = record { by = by; to = to }

@@ -4,7 +4,7 @@ use Rattle.aadl_tree.specs.declared.expressions.Sign.{Sign}
 use Rattle.aadl_tree.specs.declared.expressions.Sign.TheVariants as signs
 use Rattle.aadl_tree.specs.Terminals.{mark}
 use Rattle.aadl_tree.specs.Values.{sign_mark}
-use Rattle.aadl_grammar.specs.proof.Symbols as s
+use Rattle.aadl_grammar.specs.proof.GrammarSymbols as s
 use Rattle.aadl_grammar.specs.proof.StackMachine.{takes, move}
 
 pub sign_quantity : (o : Sign) → move s.quantity (mark (sign_mark o)) ≡ takes (s.figure ∷ s.unit ∷ [])

@@ -15,13 +15,13 @@ use Rattle.aadl_lex.specs.declared.rules.Reading.TheVariants.{Outside, AfterName
 use Rattle.aadl_lex.specs.Rules.{is_in_word, is_word, first, after}
 use Rattle.aadl_tree.specs.declared.mark.Mark.{Mark}
 use Rattle.aadl_tree.specs.declared.mark.Mark.TheVariants as k
-use Rattle.aadl_tree.specs.Marks.{mark_text, keyword_of, symbol_of}
+use Rattle.aadl_tree.specs.KeywordsAndSymbols.{mark_text, keyword_of, symbol_of}
 use Rattle.aadl_tree.specs.Terminals.{Kind, word, whole, real, quoted, mark, word_kind, symbol_kind, class_kind}
 use Rattle.aadl_tree.specs.Terminals.{inside_behind}
-use Rattle.aadl_tree.specs.Canon.{kind_text}
+use Rattle.aadl_tree.specs.CanonicalText.{kind_text}
 use Rattle.aadl_grammar.proofs.WordAndSymbolLexing.{stops, extends, word_first, symbol_first}
-use Rattle.aadl_grammar.proofs.LiteralLexing.{in_number, number_first, number_some, real_first, string_first}
-use Rattle.aadl_grammar.proofs.LiteralLexing.{unread_first}
+use Rattle.aadl_grammar.proofs.LiteralAndAnnexLexing.{in_number, number_first, number_some, real_first, string_first}
+use Rattle.aadl_grammar.proofs.LiteralAndAnnexLexing.{unread_first}
 use Rattle.aadl_grammar.proofs.PossibleTerminals.{is_inside, Spoken, a_word, a_number, a_real, a_string, an_annex}
 use Rattle.aadl_grammar.proofs.PossibleTerminals.{a_keyword, a_symbol, opens, closes, behind}
 

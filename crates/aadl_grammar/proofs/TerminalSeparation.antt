@@ -10,10 +10,10 @@ use Rattle.aadl_lex.specs.declared.rules.Reading.{Reading}
 use Rattle.aadl_lex.specs.Rules.{is_word, is_in_word}
 use Rattle.aadl_tree.specs.declared.mark.Mark.{Mark}
 use Rattle.aadl_tree.specs.declared.mark.Mark.TheVariants as k
-use Rattle.aadl_tree.specs.Marks.{mark_text}
+use Rattle.aadl_tree.specs.KeywordsAndSymbols.{mark_text}
 use Rattle.aadl_tree.specs.proof.MarkNumbers.{mark_number}
 use Rattle.aadl_tree.specs.Terminals.{Kind, whole, mark}
-use Rattle.aadl_tree.specs.Canon.{kind_text, holds_left, holds_right, ends_line, line_end, text_behind}
+use Rattle.aadl_tree.specs.CanonicalText.{kind_text, holds_left, holds_right, ends_line, line_end, text_behind}
 use Rattle.aadl_grammar.specs.proof.StackMachine.{kind_number}
 use Rattle.aadl_grammar.proofs.AdjacencyRules.{may_stand_behind, AreNeighbours}
 use Rattle.aadl_grammar.proofs.WordAndSymbolLexing.{other_bytes}

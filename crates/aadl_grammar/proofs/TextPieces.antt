@@ -12,7 +12,7 @@ use Rattle.aadl_lex.specs.declared.rules.Reading.{Reading}
 use Rattle.aadl_lex.specs.Rules.{is_blank, close_from, first}
 use Rattle.aadl_lex.specs.Tokens.{token, bytes_of, Lexes, skips}
 use Rattle.aadl_tree.specs.Terminals.{Kind}
-use Rattle.aadl_tree.specs.Canon.{holds_left, holds_right, ends_line, line_end, between}
+use Rattle.aadl_tree.specs.CanonicalText.{holds_left, holds_right, ends_line, line_end, between}
 use Rattle.aadl_grammar.proofs.WordAndSymbolLexing.{space_first, line_end_first}
 
 pub data IsGap : List ℕ → Type 0 where

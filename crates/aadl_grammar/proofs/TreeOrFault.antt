@@ -5,7 +5,7 @@ use Rattle.aadl_lex.specs.Tokens.{AreTokensOf}
 use Rattle.aadl_tree.specs.Terminals.{Spot, spots, kinds_of}
 use Rattle.aadl_tree.specs.SpellingParts.{Part, Spells, Written}
 use Rattle.aadl_tree.specs.Declarations.{PackageTree, package_parts}
-use Rattle.aadl_tree.specs.Grammar.{IsPackage}
+use Rattle.aadl_tree.specs.LanguagesAndNesting.{IsPackage}
 use Rattle.aadl_tree.specs.proof.PlaceMaps.{no_place, package_to}
 use Rattle.aadl_grammar.specs.proof.StackMachine.{Fate, finished, syntax_at, deep_at, fate, whole_package}
 use Rattle.aadl_grammar.proofs.PlaceIndependence.AlikeParts.{alike_spells}

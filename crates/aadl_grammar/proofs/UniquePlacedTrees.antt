@@ -8,6 +8,6 @@ pub mod Actions
 pub mod Annexes
 pub mod DeclarationMembers
 pub mod Declarations
-pub mod All
+pub mod PackagesAndBehaviours
 pub mod MovedTrees
-pub mod KeptTerminals
+pub mod KeptTerminalTrees

@@ -17,7 +17,7 @@ use Rattle.aadl_lex.specs.declared.token.TheConstants.{NAME_BYTES}
 use Rattle.aadl_lex.specs.Rules.{is_blank, is_in_word, run, is_word, first}
 use Rattle.aadl_tree.specs.declared.mark.Mark.{Mark}
 use Rattle.aadl_tree.specs.declared.mark.Mark.TheVariants as k
-use Rattle.aadl_tree.specs.Marks.{mark_text, symbol_of}
+use Rattle.aadl_tree.specs.KeywordsAndSymbols.{mark_text, symbol_of}
 
 -- a byte that passes a test is none that does not
 pub other_byte : (p : ℕ → Bool) (c d : ℕ) → p c ≡ true → p d ≡ false → (c == d) ≡ false

@@ -1,5 +1,5 @@
 -- What the theorem of the program does not rest on: definitions of contracts below it, of laws, and of proofs.
-pub mod Symbols
+pub mod GrammarSymbols
 pub mod ParseTable
 pub mod StackMachine
 pub mod MovedPackages

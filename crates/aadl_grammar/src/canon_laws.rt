@@ -1,8 +1,8 @@
 //! Laws of canonical texts. Each function does nothing; its contract is proved.
 ghost use Rattle.std.specs.Prelude.{◌≡◌, ℕ, List};
 ghost use Rattle.aadl_tree.specs.Declarations.{PackageTree};
-ghost use Rattle.aadl_tree.specs.GrammarTrees.{IsTreeOf};
-ghost use Rattle.aadl_tree.specs.Canon.{canon};
+ghost use Rattle.aadl_tree.specs.TextTreesAndFaults.{IsTreeOf};
+ghost use Rattle.aadl_tree.specs.CanonicalText.{canon};
 ghost use Rattle.aadl_tree.specs.proof.PlaceMaps.{package_to, no_place};
 ghost use Rattle.aadl_tree.specs.proof.PackageViews.{meaning};
 ghost use Rattle.aadl_tree.specs.declared.package.PackageTree.{PackageTree as SourceTree};

@@ -2,7 +2,7 @@
 //! inside.
 ghost use Rattle.std.specs.Prelude.{◌≡◌, ◌↔◌, true, Contains};
 ghost use Rattle.aadl_tree.specs.declared.mark.Mark.{Mark};
-ghost use Rattle.aadl_tree.specs.Marks.{keywords_outside, keywords_inside};
+ghost use Rattle.aadl_tree.specs.KeywordsAndSymbols.{keywords_outside, keywords_inside};
 ghost use Rattle.aadl_grammar.specs.proof.StackMachine.{whole_package, annex_body};
 ghost use Rattle.aadl_grammar.specs.proof.ReachableKeywords.{is_word, CanCome};
 

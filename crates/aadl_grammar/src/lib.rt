@@ -12,7 +12,7 @@
 
 pub mod canon_laws;
 pub mod keyword_laws;
-pub mod laws;
+pub mod fate_and_uniqueness_laws;
 mod lists;
 mod names;
 mod parse_fault;

@@ -2,7 +2,7 @@
 ghost use Rattle.std.specs.Prelude.{◌≡◌, [], ◌∷◌, MatchOption, None, flat_map};
 ghost use Rattle.aadl_tree.specs.SpellingParts.{Section, section_mark};
 ghost use Rattle.aadl_tree.specs.Declarations.{section_parts};
-ghost use Rattle.aadl_grammar.specs.proof.Symbols.{Symbol};
+ghost use Rattle.aadl_grammar.specs.proof.GrammarSymbols.{Symbol};
 ghost use Rattle.aadl_grammar.specs.proof.ParserAnswers.{here, Parses};
 ghost use Rattle.aadl_grammar.specs.proof.ListAnswers.{Allows, Follows, NoneFollows, IsSection, Advances, ItemsOf, ParsesMore};
 

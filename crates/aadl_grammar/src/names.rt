@@ -6,8 +6,8 @@ ghost use Rattle.aadl_tree.specs.Names.{identifier_parts, name_parts, path_parts
 ghost use Rattle.aadl_tree.specs.proof.NameViews.{identifier_view, name_view, path_view, identifiers_view};
 ghost use Rattle.aadl_tree.specs.proof.NameViews.{reference_view};
 ghost use Rattle.aadl_tree.specs.proof.PlaceMaps.{kept_place};
-ghost use Rattle.aadl_grammar.specs.proof.Symbols as s;
-ghost use Rattle.aadl_grammar.specs.proof.Symbols.{Symbol};
+ghost use Rattle.aadl_grammar.specs.proof.GrammarSymbols as s;
+ghost use Rattle.aadl_grammar.specs.proof.GrammarSymbols.{Symbol};
 ghost use Rattle.aadl_grammar.specs.proof.ParserAnswers.{Parses, AnyRoom};
 ghost use Rattle.aadl_grammar.specs.proof.ListAnswers.{Lists};
 

@@ -1,13 +1,13 @@
 //! The terminal at a place, by its class.
 ghost use Rattle.std.specs.Prelude.{◌≡◌, [], true, MatchOption, MatchBool, IfOk, IfErr, string_bytes};
-ghost use Rattle.aadl_tree.specs.Grammar as grammar;
+ghost use Rattle.aadl_tree.specs.LanguagesAndNesting as grammar;
 ghost use Rattle.aadl_tree.specs.Terminals.{whole, real, quoted, unread};
 ghost use Rattle.aadl_tree.specs.proof.NameViews.{identifier_view};
 ghost use Rattle.aadl_tree.specs.proof.PlaceMaps.{kept_place};
-ghost use Rattle.aadl_grammar.specs.proof.Symbols as s;
+ghost use Rattle.aadl_grammar.specs.proof.GrammarSymbols as s;
 ghost use Rattle.aadl_grammar.specs.proof.ParseTable.{rows};
 ghost use Rattle.aadl_tree.specs.Values.{sign_mark};
-ghost use Rattle.aadl_grammar.specs.proof.Symbols.{a_word, a_whole, a_real, a_quoted, an_unread, the};
+ghost use Rattle.aadl_grammar.specs.proof.GrammarSymbols.{a_word, a_whole, a_real, a_quoted, an_unread, the};
 ghost use Rattle.aadl_grammar.specs.declared.parse_fault.ParseFault.TheVariants.{Memory};
 ghost use Rattle.aadl_grammar.specs.proof.TerminalSpots.{between, is_word_at};
 ghost use Rattle.aadl_grammar.specs.proof.ParserAnswers.{here, IsFirst, AtMark, AtWord, At, Misses, StartsWord};

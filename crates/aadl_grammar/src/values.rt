@@ -10,7 +10,7 @@ ghost use Rattle.aadl_tree.specs.proof.NameViews.{path_view, reference_view};
 ghost use Rattle.aadl_tree.specs.proof.ValueViews.{figure_view, unit_view, quantity_view, value_view, values_view};
 ghost use Rattle.aadl_tree.specs.proof.ValueViews.{association_view, associations_view};
 ghost use Rattle.aadl_tree.specs.proof.PlaceMaps.{kept_place};
-ghost use Rattle.aadl_grammar.specs.proof.Symbols as s;
+ghost use Rattle.aadl_grammar.specs.proof.GrammarSymbols as s;
 ghost use Rattle.aadl_grammar.specs.proof.ParseTable.{on};
 ghost use Rattle.aadl_grammar.specs.proof.ParserAnswers.{here, MissAll, Parses, AnyRoom, Room};
 

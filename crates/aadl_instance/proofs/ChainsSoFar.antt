@@ -22,7 +22,7 @@ use Rattle.aadl_instance.specs.Instances.{chain_in}
 use Rattle.aadl_instance.specs.proof.ChainsSoFar.{HasPort, AreShown, IsPassed, AreInto, AreTapsTo}
 use Rattle.aadl_instance.proofs.OrderedLists.{lists_same, lists_more, lists_none}
 use Rattle.aadl_instance.proofs.DeclaredEndPorts.{in_within, ends_there}
-use Rattle.aadl_instance.proofs.ChainEnds.{same_itself, open_at}
+use Rattle.aadl_instance.proofs.ChainEndNumbers.{same_itself, open_at}
 
 -- ---- the ports so far
 module _ (paths : List (List ℕ)) where

@@ -9,7 +9,7 @@ use Rattle.std.proofs.lemmas.Option.{slice_get_read}
 use Rattle.std.specs.List.Sorted.{IsPartitionedBy, IsPartitionPoint}
 use Rattle.aadl_uses.specs.ThreadsBelow.{path_before, PathBefore}
 use Rattle.aadl_instance.specs.proof.ChainsSoFar.{paths_of}
-use Rattle.aadl_instance.proofs.ChainEnds.{never_before}
+use Rattle.aadl_instance.proofs.ChainEndNumbers.{never_before}
 
 -- ---- where a comparison ends
 pub ended_before : (p q : List ℕ) (i : ℕ) → length p ≤ i → i < length q → path_before (drop i p) (drop i q) ≡ true

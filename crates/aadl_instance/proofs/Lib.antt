@@ -7,8 +7,8 @@ pub mod FirstFaultUniqueness
 pub mod OrderedLists
 pub mod DeclaredEndPorts
 pub mod ChainsSoFar
-pub mod ChainEnds
+pub mod ChainEndNumbers
 pub mod DepthFirstOrder
 pub mod AddedChains
-pub mod FaultlessInstances
+pub mod InstanceThreadsAndChains
 pub mod PortNumberTables

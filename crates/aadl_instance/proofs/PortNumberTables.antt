@@ -16,7 +16,7 @@ use Rattle.aadl_names.specs.ReferenceResolution.{type_in, type_numbered, feature
 use Rattle.aadl_instance.specs.Instances.{same_direction, goes_as, number_among}
 use Rattle.aadl_instance.specs.proof.PortNumberTables.{AreAmong, AreNumbers, seen, with_port}
 use Rattle.aadl_instance.specs.declared.port_numbers.SeenPorts.{SeenPorts}
-use Rattle.aadl_instance.proofs.ChainEnds.{number_is}
+use Rattle.aadl_instance.proofs.ChainEndNumbers.{number_is}
 
 -- ---- lists
 pub more_at : {X : Type 0} (P : ℕ → X → Type 0) (xs : List X) (x d : X) (n : ℕ) → length xs ≡ n

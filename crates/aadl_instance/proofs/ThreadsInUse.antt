@@ -9,8 +9,8 @@ use Rattle.aadl_names.specs.ReferenceResolution.{implementation_in, implementati
 use Rattle.aadl_uses.specs.Uses.{standing, IsInUse}
 use Rattle.aadl_uses.specs.proof.ThreadCounts.{is_thread_in}
 use Rattle.aadl_uses.specs.ThreadLocations.{ThreadWith}
-use Rattle.aadl_instance.specs.declared.thread_parts.ThreadPart.{ThreadPart}
-use Rattle.aadl_instance.specs.proof.ThreadPartCounts.{most, count_of, count_at, IsUsedThread, HasTooMany}
+use Rattle.aadl_instance.specs.declared.thread_limits.ThreadPart.{ThreadPart}
+use Rattle.aadl_instance.specs.proof.ThreadLimits.{most, count_of, count_at, IsUsedThread, HasTooMany}
 
 module _ (tree : PackageTree ℕ) (root : ℕ) (used : List ℕ) (part : ThreadPart)
     (same : (n : ℕ) → Contains used n ↔ IsInUse tree root n) where

@@ -1,8 +1,8 @@
 -- What the theorem of the program does not rest on: definitions of contracts below it, of laws, and of proofs.
-pub mod ThreadPartCounts
+pub mod ThreadLimits
 pub mod PathLengths
 pub mod Limits
-pub mod FaultlessPackages
+pub mod CheckedPackages
 pub mod ChainsSoFar
 pub mod PortNumberTables
-pub mod ChainMaps
+pub mod ChainSearchStates

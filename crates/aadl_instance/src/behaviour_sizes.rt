@@ -7,8 +7,8 @@ ghost use Rattle.aadl_tree.specs.proof.DeclarationViews.{implementation_view};
 ghost use Rattle.aadl_instance.specs.BehaviourSizes.{variable_count, state_count};
 
 use aadl_tree::{Identifiers, Implementation};
-use aadl_uses::below_counts::add_up_to;
-use name_faults::annex_sections::{states_in, variables_in};
+use aadl_uses::marked_counts::add_up_to;
+use name_faults::behaviour_sections::{states_in, variables_in};
 use name_faults::first_behaviour;
 
 /// The number of variables.

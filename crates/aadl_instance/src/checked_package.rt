@@ -9,7 +9,7 @@ ghost use Rattle.aadl_names.specs.ReferenceResolution as resolving;
 ghost use Rattle.aadl_uses.specs.Uses.{IsRecursive};
 ghost use Rattle.aadl_chains.specs.Chains.{IsEndFault};
 ghost use Rattle.aadl_instance.specs.Faults.{FoundIn, IsFault, IsRoot};
-ghost use Rattle.aadl_instance.specs.proof.FaultlessPackages.{IsOrdered, IsChecked, FindsFault};
+ghost use Rattle.aadl_instance.specs.proof.CheckedPackages.{IsOrdered, IsChecked, FindsFault};
 
 use crate::limits::first_limit;
 use crate::root::root_number;

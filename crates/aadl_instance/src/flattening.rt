@@ -4,7 +4,7 @@ ghost use Rattle.aadl_tree.specs.proof.PackageViews.{placed};
 ghost use Rattle.aadl_names.specs.declared.fault.PackageFault.TheVariants.{Memory};
 ghost use Rattle.aadl_names.specs.ReferenceResolution.{root_number};
 ghost use Rattle.aadl_instance.specs.Faults.{IsFault};
-ghost use Rattle.aadl_instance.specs.proof.FaultlessPackages.{IsChecked};
+ghost use Rattle.aadl_instance.specs.proof.CheckedPackages.{IsChecked};
 ghost use Rattle.aadl_instance.specs.Instances.{IsInstance};
 
 use crate::chain_search::{incoming_of, taps_of};

@@ -14,7 +14,7 @@ mod longest_path;
 mod numbered_ends;
 mod port_numbers;
 mod root;
-mod thread_parts;
+mod thread_limits;
 
 pub use aadl_names::PackageFault;
 pub use aadl_uses::{SubAt, ThreadAt};
@@ -24,4 +24,4 @@ pub use flattening::flatten;
 pub use instance::Instance;
 pub use limits::Limit;
 pub use longest_path::has_too_long_path;
-pub use thread_parts::{ThreadPart, has_too_many};
+pub use thread_limits::{ThreadPart, has_too_many};

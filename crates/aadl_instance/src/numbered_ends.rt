@@ -3,7 +3,7 @@ ghost use Rattle.std.specs.Prelude.{◌≡◌, ◌≤◌, Some, [], length, reve
 ghost use Rattle.aadl_uses.specs.ThreadsBelow.{path_before, IsThreadAt, PathBefore};
 ghost use Rattle.aadl_chains.specs.proof.TracedChains.{begin_port};
 ghost use Rattle.aadl_instance.specs.Instances.{end_in};
-ghost use Rattle.aadl_instance.specs.proof.ChainMaps.{tree_of, paths_in, IsReady, IsNode};
+ghost use Rattle.aadl_instance.specs.proof.ChainSearchStates.{tree_of, paths_in, IsReady, IsNode};
 ghost use Rattle.aadl_instance.specs.proof.ChainsSoFar.{paths_of, HasPort, IsBegin};
 
 use crate::chain::ChainEnd;

@@ -1,5 +1,5 @@
 pub mod TokenOrder
-pub mod ScanLengths
+pub mod ByteScanLoops
 pub mod UniqueTokens
 pub mod FrontExtents
 pub mod LongestWords

@@ -51,7 +51,7 @@ fn begins_digit(text: &[u8]) -> bool
 }
 
 /// How many bytes a whole number at the front has.
-#[tactic(auto, using(crate::proofs::ScanLengths::whole_step))]
+#[tactic(auto, using(crate::proofs::ByteScanLoops::whole_step))]
 pub fn whole_len(text: &[u8]) -> usize
     ensures value { result ≡ spec.whole_len text.now }
     ensures within { result ≤ length text.now }
@@ -65,7 +65,7 @@ pub fn whole_len(text: &[u8]) -> usize
 }
 
 /// How many bytes stand before the first `**}`.
-#[tactic(auto, using(crate::proofs::ScanLengths::close_step))]
+#[tactic(auto, using(crate::proofs::ByteScanLoops::close_step))]
 pub fn body_len(text: &[u8]) -> Option<usize>
     ensures value { result ≡ spec.body_len text.now }
     ensures within { IfSome result (λ len. len + 3 ≤ length text.now) }
@@ -96,7 +96,7 @@ pub fn real_len(text: &[u8]) -> Option<usize>
 const MOST: u64 = 9_223_372_036_854_775_807;
 
 /// The number that the digits say, where it is a whole number of the language.
-#[tactic(auto, using(crate::proofs::ScanLengths::decimal_step))]
+#[tactic(auto, using(crate::proofs::ByteScanLoops::decimal_step))]
 pub fn decimal(text: &[u8]) -> Option<i64>
     ensures { result ≡ (if nat_le (decimal text.now) most then Some (pos (decimal text.now)) else None) }
 {

@@ -1,13 +1,13 @@
 pub mod FirstFaultSoFar
 pub mod Lookups
-pub mod FirstMatches
-pub mod WordLists
+pub mod MatchesAndMemberTables
+pub mod UnequalWordLists
 pub mod NumberedDeclarations
 pub mod EarliestDeclarations
 pub mod GrowingLists
 pub mod ListMembers
 pub mod SameFirstFaults
 pub mod PortDuplicates
-pub mod FirstFaults
-pub mod PlaceOrder
+pub mod FirstPackageFault
+pub mod RisingPlaces
 pub mod PiecewiseComparison

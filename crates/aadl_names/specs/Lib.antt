@@ -5,6 +5,6 @@ pub mod DuplicateNames
 pub mod RecognisedProperties
 pub mod BehaviourAnnexes
 pub mod DuplicatesByNamespace
-pub mod AnnexNames
+pub mod NameUsesInAnnexes
 pub mod PackageFaults
 pub mod proof

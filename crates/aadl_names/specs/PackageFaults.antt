@@ -24,7 +24,7 @@ use Rattle.aadl_names.specs.declared.name_roles.Role.{Role}
 use Rattle.aadl_names.specs.declared.name_roles.Role.TheVariants.{Receives, Gives, Varies}
 use Rattle.aadl_names.specs.declared.port_place.PortPlace.{PortPlace}
 use Rattle.aadl_names.specs.declared.port_place.PortPlace.TheVariants.{Own, Inner}
-use Rattle.aadl_names.specs.AnnexNames.{Known, either, expression_uses, block_uses}
+use Rattle.aadl_names.specs.NameUsesInAnnexes.{Known, either, expression_uses, block_uses}
 use Rattle.aadl_tree.specs.declared.declarations.Category.TheVariants as categories
 use Rattle.aadl_tree.specs.declared.declarations.Direction.TheVariants as directions
 use Rattle.aadl_names.specs.declared.recognised_properties.PropertyHolder.TheVariants as holders

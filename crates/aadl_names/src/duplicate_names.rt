@@ -7,7 +7,7 @@ ghost use Rattle.aadl_names.specs.proof.NameTables.{value_of};
 ghost use Rattle.aadl_names.specs.proof.EarliestDeclarations.{again_by};
 ghost use Rattle.aadl_names.specs.DuplicateNames.{twice};
 
-use crate::earliest_places::{earliest_of, is_before};
+use crate::earliest_by_name::{earliest_of, is_before};
 use crate::fault_finder::Finder;
 use crate::name_table::NameTable;
 use crate::numbered_place::NumberedPlace;

@@ -4,7 +4,7 @@
 
 pub mod declarations_by_number;
 pub mod duplicate_names;
-pub mod earliest_places;
+pub mod earliest_by_name;
 pub mod fault;
 pub mod fault_finder;
 pub mod first_fault_laws;
@@ -12,7 +12,7 @@ pub mod name_comparison;
 pub mod name_roles;
 pub mod name_table;
 pub mod name_texts;
-pub mod names;
+pub mod package_names;
 pub mod numbered_place;
 pub mod place_laws;
 pub mod port_place;
@@ -25,7 +25,7 @@ pub use fault::PackageFault;
 pub use fault_finder::Finder;
 pub use name_roles::{Role, Usage};
 pub use name_table::NameTable;
-pub use names::Names;
+pub use package_names::Names;
 pub use numbered_place::NumberedPlace;
 pub use port_place::PortPlace;
 pub use recognised_properties::{PropertyHolder, PropertyName};

@@ -1,7 +1,7 @@
 //! Where the tokens of a tree stand. The law is the contract of a function that does nothing.
 ghost use Rattle.std.specs.Prelude.{ℕ, ◌<◌, List};
 ghost use Rattle.aadl_tree.specs.Declarations.{PackageTree, package_parts};
-ghost use Rattle.aadl_tree.specs.GrammarTrees.{IsTreeOf};
+ghost use Rattle.aadl_tree.specs.TextTreesAndFaults.{IsTreeOf};
 ghost use Rattle.aadl_names.specs.proof.PlaceOrder.{StandsBefore};
 
 /// In the tree of a text, a place that is kept in front of some part is less than one that is kept

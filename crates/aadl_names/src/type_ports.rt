@@ -6,7 +6,7 @@ ghost use Rattle.aadl_tree.specs.proof.PlaceMaps.{kept_place};
 ghost use Rattle.aadl_names.specs.ReferenceResolution as spec;
 
 use crate::declarations_by_number::type_numbered;
-use crate::names::Names;
+use crate::package_names::Names;
 use aadl_tree::{Direction, Implementation};
 use std::alloc::{AllocError, Global};
 

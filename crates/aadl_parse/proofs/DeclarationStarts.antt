@@ -8,7 +8,7 @@ use Rattle.aadl_tree.specs.Annexes.{annex_parts}
 use Rattle.aadl_tree.specs.Declarations.{category_mark}
 use Rattle.aadl_tree.specs.proof.DeclarationViews.{annex_view}
 use Rattle.aadl_tree.specs.proof.PlaceMaps.{kept_place}
-use Rattle.aadl_grammar.specs.proof.Symbols as s
+use Rattle.aadl_grammar.specs.proof.GrammarSymbols as s
 use Rattle.aadl_grammar.specs.proof.StackMachine.{takes, move}
 use Rattle.aadl_grammar.specs.proof.ParserAnswers.{Reads}
 use Rattle.aadl_grammar.proofs.PartSequences.{begun}

@@ -5,18 +5,18 @@ use Rattle.std.specs.Result.{IsErrAnd}
 use Rattle.aadl_lex.specs.declared.token.Token.{Token}
 use Rattle.aadl_lex.specs.Tokens.{AreTokensOf}
 use Rattle.aadl_lex.proofs.UniqueTokens.{one_list, one_fault, not_both}
-use Rattle.aadl_tree.proofs.SpellingParts.{written_spells}
+use Rattle.aadl_tree.proofs.ConcatenatedSpellings.{written_spells}
 use Rattle.aadl_tree.specs.Terminals.{Spot, spots, kinds_of}
 use Rattle.aadl_tree.specs.SpellingParts.{Written}
 use Rattle.aadl_tree.specs.Declarations.{PackageTree, package_parts}
-use Rattle.aadl_tree.specs.Grammar.{IsPackage, IsShallow, FailsAt, DeepAt, place}
-use Rattle.aadl_tree.specs.GrammarTrees.{IsTreeOf}
-use Rattle.aadl_grammar.specs.proof.Symbols as s
+use Rattle.aadl_tree.specs.LanguagesAndNesting.{IsPackage, IsShallow, FailsAt, DeepAt, place}
+use Rattle.aadl_tree.specs.TextTreesAndFaults.{IsTreeOf}
+use Rattle.aadl_grammar.specs.proof.GrammarSymbols as s
 use Rattle.aadl_grammar.specs.proof.StackMachine.{fate, syntax_at}
 use Rattle.aadl_grammar.proofs.Fates.Answers.{answers_text, answers_fault, answers_depth}
 use Rattle.aadl_grammar.proofs.Fates.ExclusiveFates.{fails_once, fails_not_deep, deep_once}
 use Rattle.aadl_grammar.proofs.Fates.FateMeanings.{fails_no_text, deep_not_shallow}
-use Rattle.aadl_grammar.proofs.UniquePlacedTrees.All.{one_placed_package}
+use Rattle.aadl_grammar.proofs.UniquePlacedTrees.PackagesAndBehaviours.{one_placed_package}
 use Rattle.aadl_grammar.proofs.Fates.GrammarLanguages.{packages}
 use Rattle.aadl_grammar.proofs.Fates.FirstTerminalFates.{fate_end, fate_left}
 use Rattle.aadl_grammar.specs.declared.parse_fault.ParseFault.{ParseFault}

@@ -3,7 +3,7 @@ use Rattle.std.specs.Prelude.{ℕ, ◌≡◌, ◌≢◌, List}
 use Rattle.std.specs.Str.{IsUtf8}
 use Rattle.aadl_lex.specs.Tokens.{IsFaultOf}
 use Rattle.aadl_tree.specs.Declarations.{PackageTree}
-use Rattle.aadl_tree.specs.GrammarTrees.{IsTreeOf, StopsAt, NestsAt}
+use Rattle.aadl_tree.specs.TextTreesAndFaults.{IsTreeOf, StopsAt, NestsAt}
 use Rattle.aadl_grammar.specs.declared.parse_fault.ParseFault.{ParseFault}
 use Rattle.aadl_parse.specs.declared.text_fault.TextFault.{TextFault}
 use Rattle.aadl_parse.specs.declared.text_fault.TextFault.TheVariants.{Lex, Memory, Syntax, TooDeep}

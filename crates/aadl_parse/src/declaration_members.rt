@@ -11,7 +11,7 @@ ghost use Rattle.aadl_tree.specs.proof.NameViews.{reference_view};
 ghost use Rattle.aadl_tree.specs.proof.ValueViews.{associations_view};
 ghost use Rattle.aadl_tree.specs.proof.DeclarationViews.{feature_view, subcomponent_view, connection_view, end_view};
 ghost use Rattle.aadl_tree.specs.proof.PlaceMaps.{kept_place};
-ghost use Rattle.aadl_grammar.specs.proof.Symbols as s;
+ghost use Rattle.aadl_grammar.specs.proof.GrammarSymbols as s;
 ghost use Rattle.aadl_grammar.specs.proof.ParseTable.{rows};
 ghost use Rattle.aadl_grammar.specs.proof.ParserAnswers.{here, AtMark, MissAll, Parses, AnyRoom, Room};
 

@@ -11,9 +11,9 @@ ghost use Rattle.aadl_tree.specs.proof.NameViews.{identifier_view, name_view};
 ghost use Rattle.aadl_tree.specs.proof.DeclarationViews.{annex_view, content_view, declaration_view, with_view};
 ghost use Rattle.aadl_tree.specs.proof.DeclarationViews.{implementation_name_view};
 ghost use Rattle.aadl_tree.specs.proof.PlaceMaps.{kept_place};
-ghost use Rattle.aadl_grammar.specs.proof.Symbols as s;
+ghost use Rattle.aadl_grammar.specs.proof.GrammarSymbols as s;
 ghost use Rattle.aadl_grammar.specs.proof.ParserAnswers.{Parses, AnyRoom, Room};
-ghost use Rattle.aadl_parse.specs.proof.DeclarationRests.{rest_parts, package_of};
+ghost use Rattle.aadl_parse.specs.proof.DeclarationAndPackageParts.{rest_parts, package_of};
 
 use crate::declaration_members::{category, connections, features, own_properties, subcomponents};
 use aadl_grammar::{ParseFault, Parsed, Reader, followers, identifier, name};

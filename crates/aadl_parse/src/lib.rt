@@ -6,7 +6,7 @@
 
 ghost use Rattle.std.specs.Prelude.{ℕ, ◌≡◌, ◌≢◌, List, IfOk, IfErr};
 ghost use Rattle.aadl_tree.specs.Declarations.{PackageTree as Tree};
-ghost use Rattle.aadl_tree.specs.GrammarTrees.{IsTreeOf};
+ghost use Rattle.aadl_tree.specs.TextTreesAndFaults.{IsTreeOf};
 ghost use Rattle.aadl_tree.specs.proof.PackageViews.{placed};
 ghost use Rattle.aadl_parse.specs.declared.text_fault.TextFault.{TextFault};
 ghost use Rattle.aadl_parse.specs.ParseResults.{IsOnlyTreeOf, IsFaultOfText};

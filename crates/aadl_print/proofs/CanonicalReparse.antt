@@ -4,8 +4,8 @@ use Rattle.std.specs.Prelude.{◌≢◌, IsTrue}
 use Rattle.std.proofs.Math.Bool.{Bool-set}
 use Rattle.std.proofs.Math.Logic.{∥∥₁_elim}
 use Rattle.aadl_tree.specs.declared.package.PackageTree.{PackageTree as SourceTree}
-use Rattle.aadl_tree.specs.Canon.{canon}
-use Rattle.aadl_tree.specs.GrammarTrees.{IsTreeOf}
+use Rattle.aadl_tree.specs.CanonicalText.{canon}
+use Rattle.aadl_tree.specs.TextTreesAndFaults.{IsTreeOf}
 use Rattle.aadl_tree.specs.proof.PlaceMaps.{kept_place, no_place}
 use Rattle.aadl_tree.specs.proof.PackageViews.{placed, meaning}
 use Rattle.aadl_tree.proofs.PlaceMaps.Declarations.{package_tied}

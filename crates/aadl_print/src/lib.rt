@@ -4,7 +4,7 @@
 #![tactic(auto)]
 
 ghost use Rattle.std.specs.Prelude.{◌≡◌, IfOk, OnOk};
-ghost use Rattle.aadl_tree.specs.Canon.{canon};
+ghost use Rattle.aadl_tree.specs.CanonicalText.{canon};
 ghost use Rattle.aadl_tree.specs.Declarations.{package_parts};
 ghost use Rattle.aadl_tree.specs.proof.PackageViews.{meaning};
 ghost use Rattle.aadl_print.specs.proof.PrintedText.{printed};

@@ -25,7 +25,7 @@ impl Model for Printer {
 
 impl Printer {
     ghost use Rattle.std.specs.Prelude.{◌++◌, IfOk};
-    ghost use Rattle.aadl_tree.specs.Canon.{line_end};
+    ghost use Rattle.aadl_tree.specs.CanonicalText.{line_end};
     ghost use Rattle.aadl_print.specs.proof.PrintedText.{blank, put};
 
     /// A printer that has written nothing. It takes no memory.

@@ -1,7 +1,7 @@
 //! What stands between two terminals.
 ghost use Rattle.std.specs.Prelude.{◌≡◌};
 ghost use Rattle.aadl_tree.specs.Terminals.{mark};
-ghost use Rattle.aadl_tree.specs.Canon.{holds_left};
+ghost use Rattle.aadl_tree.specs.CanonicalText.{holds_left};
 
 use aadl_tree::Mark;
 

@@ -1,1 +1,1 @@
-mod TokenSequences
+mod TokenSlices

@@ -1,5 +1,5 @@
 //! The first name that is wrong in a package.
-use crate::containment::uses;
+use crate::cycles_and_uses::uses;
 use aadl_names::PackageFault;
 use aadl_tree::PackageTree;
 use aadl_uses::Wires;

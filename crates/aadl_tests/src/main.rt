@@ -2,20 +2,20 @@
 //! one, what stands in what, and which implementation contains itself.
 #![tactic(auto)]
 
-mod behaviours;
-mod containment;
+mod behaviour_answers;
+mod cycles_and_uses;
 mod first_name_faults;
-mod packages;
-mod text_checks;
+mod package_answers;
+mod text_answers;
 mod text_faults;
 mod thread_limit;
 
-use behaviours::behaviour;
+use behaviour_answers::behaviour;
 use case_files::{Answers, asked, check, text_of};
-use packages::Packages;
+use package_answers::Packages;
 use std::alloc::{AllocError, Global};
 use std::io;
-use text_checks::{compared, printed, read, tokens};
+use text_answers::{compared, printed, read, tokens};
 use text_faults::messages;
 
 // What an answer tells of a text.

@@ -4,7 +4,7 @@ ghost use Rattle.aadl_tree.specs.proof.PackageViews.{placed};
 ghost use Rattle.aadl_uses.specs.proof.PackageContainment.{containment};
 ghost use Rattle.aadl_uses.specs.proof.ContainmentOrders.{IsOrder};
 
-use crate::containment::uses;
+use crate::cycles_and_uses::uses;
 use aadl_tree::PackageTree;
 use aadl_uses::{Uses, first_recursive};
 use indexmap::IndexSet;

@@ -13,8 +13,8 @@ use Rattle.aadl_lex.specs.Tokens.{Lexes, ended, skips, takes, AreTokensOf}
 use Rattle.aadl_tree.specs.Terminals.{Kind, spots, kinds_of}
 use Rattle.aadl_tree.specs.SpellingParts.{Written}
 use Rattle.aadl_tree.specs.Declarations.{package_parts}
-use Rattle.aadl_tree.specs.Grammar.{opened, is_end, nesting_from, IsShallow}
-use Rattle.aadl_tree.specs.GrammarTrees.{IsTreeOf}
+use Rattle.aadl_tree.specs.LanguagesAndNesting.{opened, is_end, nesting_from, IsShallow}
+use Rattle.aadl_tree.specs.TextTreesAndFaults.{IsTreeOf}
 use Rattle.aadl_tree.specs.proof.EmptyPackage.{package_text, package_tokens, small_package}
 
 low_ascii : (w : List ℕ) → list_all (λ c. nat_lt c 128) w ≡ true → IsAscii w

@@ -5,7 +5,7 @@ use Rattle.aadl_tree.specs.declared.mark.Mark.TheVariants as k
 use Rattle.aadl_tree.specs.Terminals.{mark}
 use Rattle.aadl_tree.specs.SpellingParts.{Spells, kept}
 use Rattle.aadl_tree.specs.Annexes.{transition_parts}
-use Rattle.aadl_tree.specs.Canon.{canonical}
+use Rattle.aadl_tree.specs.CanonicalText.{canonical}
 use Rattle.aadl_tree.specs.proof.ExampleTransition.{counting, counting_kinds, counting_text}
 
 pub counting_plain : Spells (transition_parts counting) (counting_kinds []) []

@@ -1,4 +1,4 @@
-pub mod SpellingParts
+pub mod ConcatenatedSpellings
 pub mod ExampleTransition
 pub mod ExpressionViews
 pub mod ValueViews
@@ -8,7 +8,7 @@ pub mod PrimaryVariants
 pub mod FactorVariants
 pub mod ValueVariants
 pub mod ActionVariants
-pub mod SymbolTokens
+pub mod LexedSymbols
 pub mod EmptyPackage
 pub mod MarkNumbers
 pub mod ListSearch

@@ -7,7 +7,7 @@ use Rattle.std.specs.Str.{bytes_eq, str_eq_ignore_ascii_case, str_to_ascii_lower
 use Rattle.std.specs.Char.{to_ascii_lowercase}
 use Rattle.std.proofs.lemmas.Bool.{eq-eqb, eqb-true}
 use Rattle.std.proofs.lemmas.Slice.Eq.{bytes_eq-Decides}
-use Rattle.aadl_tree.specs.Marks.{mark_text, keywords, keyword_of, symbols, symbol_of}
+use Rattle.aadl_tree.specs.KeywordsAndSymbols.{mark_text, keywords, keyword_of, symbols, symbol_of}
 use Rattle.aadl_tree.specs.proof.MarkFirstBytes.{keywords_from, symbols_from}
 
 kept : {A : Type 0} (p : A → Bool) (x : A) (xs ys : List A) (a b : Bool) → p x ≡ a → (a ≡ true → b ≡ true)

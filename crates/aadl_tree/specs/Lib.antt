@@ -1,4 +1,4 @@
-pub mod Marks
+pub mod KeywordsAndSymbols
 pub mod Terminals
 pub mod SpellingParts
 pub mod Names
@@ -7,8 +7,8 @@ pub mod Expressions
 pub mod Actions
 pub mod Annexes
 pub mod Declarations
-pub mod Grammar
-pub mod Canon
+pub mod LanguagesAndNesting
+pub mod CanonicalText
 pub mod ExpressionOffsets
-pub mod GrammarTrees
+pub mod TextTreesAndFaults
 pub mod proof

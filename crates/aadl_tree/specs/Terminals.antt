@@ -4,7 +4,7 @@ use Rattle.aadl_lex.specs.declared.token.Token.{Token}
 use Rattle.aadl_lex.specs.declared.token.TokenKind.{TokenKind}
 use Rattle.aadl_lex.specs.Tokens.{bytes_of}
 use Rattle.aadl_tree.specs.declared.mark.Mark.{Mark}
-use Rattle.aadl_tree.specs.Marks.{keyword_of, symbol_of}
+use Rattle.aadl_tree.specs.KeywordsAndSymbols.{keyword_of, symbol_of}
 use Rattle.aadl_lex.specs.declared.token.TokenKind.TheVariants as class
 use Rattle.aadl_tree.specs.declared.mark.Mark.TheVariants as k
 

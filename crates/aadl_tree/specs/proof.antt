@@ -8,6 +8,6 @@ pub mod ValueViews
 pub mod ExpressionViews
 pub mod ActionViews
 pub mod DeclarationViews
-pub mod GrammarTrees
+pub mod BehaviourFaultPlaces
 pub mod PackageViews
 pub mod EmptyPackage

@@ -4,10 +4,10 @@ use Rattle.std.proofs.Common.{refl, sym, ap, ◌∙◌, arith}
 use Rattle.std.proofs.lemmas.Option.{same_Some, none-some}
 use Rattle.aadl_tree.specs.Declarations.{PackageTree}
 use Rattle.aadl_names.specs.ReferenceResolution.{implementation_in}
-use Rattle.aadl_uses.specs.declared.connections.Wire.{Wire}
+use Rattle.aadl_uses.specs.declared.connections_by_target.Wire.{Wire}
 use Rattle.aadl_uses.specs.Wiring.{wires_of, wires_at}
 use Rattle.aadl_uses.specs.proof.ImplementationTypes.{type_number_by, type_in, type_number_at}
-use Rattle.aadl_uses.specs.proof.DeclarationWires.{wires_in}
+use Rattle.aadl_uses.specs.proof.IncomingConnections.{wires_in}
 
 module _ {D X : Type 0} (f : D → X) where
   pub listed : (ds : List D) (n : ℕ) (x : X) → slice_get (map f ds) n ≡ Some x

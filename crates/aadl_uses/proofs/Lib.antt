@@ -9,7 +9,7 @@ pub mod PackageContainment
 pub mod FirstRecursion
 pub mod ThreadCounts
 pub mod ThreadPaths
-pub mod PathDescent
+pub mod SubcomponentsAlongPaths
 pub mod FirstConnectionTables
 pub mod DeclarationTables
 pub mod EndPorts

@@ -13,7 +13,7 @@ use Rattle.std.proofs.lemmas.List.Elements.{Contains-push_cases}
 use Rattle.std.proofs.lemmas.List.Kept.{AllPairs-cons}
 use Rattle.std.proofs.lemmas.Option.{option_and_then_some}
 use Rattle.list_lemmas.proofs.Booleans.{or_and_right}
-use Rattle.list_lemmas.proofs.ElementPairs.{AllPairs-nil}
+use Rattle.list_lemmas.proofs.PairwiseProperties.{AllPairs-nil}
 use Rattle.list_lemmas.proofs.Elements.{Contains-nil}
 use Rattle.aadl_tree.specs.Declarations.{Implementation, Declaration, PackageTree}
 use Rattle.aadl_names.specs.ReferenceResolution.{implementation_in, implementation_at, is_thread}

@@ -11,7 +11,7 @@ use Rattle.aadl_uses.proofs.PackageContainment.{below-same}
 use Rattle.aadl_uses.proofs.ThreadCounts.{threads_listed}
 use Rattle.aadl_uses.specs.proof.ContainmentGraphs.{Graph, below_in}
 use Rattle.aadl_uses.specs.proof.MarkedPathCounts.{AreListed, IsMarkedAt}
-use Rattle.aadl_uses.specs.proof.PathsToMarked.{paths_from, IsClosed}
+use Rattle.aadl_uses.specs.proof.PathTables.{paths_from, IsClosed}
 
 -- ---- what is in use
 pub closed_by : (tree : PackageTree ℕ) (root : ℕ) (g : Graph) (used : List ℕ) → g ≡ containment tree

@@ -2,7 +2,7 @@
 use Rattle.std.specs.Prelude.{ℕ, List, [], map, Option, Some, None}
 use Rattle.aadl_tree.specs.Declarations.{Connection, Implementation, PackageTree}
 use Rattle.aadl_names.specs.ReferenceResolution.{implementation_at, site}
-use Rattle.aadl_uses.specs.declared.connections.Wire.{Wire}
+use Rattle.aadl_uses.specs.declared.connections_by_target.Wire.{Wire}
 
 abbrev pub wire_of : PackageTree ℕ → Implementation ℕ → Connection ℕ → Wire
 wire_of tree x c = record { source = site tree x c.source; target = site tree x c.target }

@@ -3,7 +3,7 @@ pub mod ContainmentGraphs
 pub mod RecursionSuspects
 pub mod ContainmentOrders
 pub mod MarkedPathCounts
-pub mod PathsToMarked
+pub mod PathTables
 pub mod PathWeights
 pub mod PackageContainment
 pub mod ThreadCounts
@@ -11,4 +11,4 @@ pub mod FirstRecursion
 pub mod ImplementationTypes
 pub mod NumbersByPort
 pub mod FirstConnections
-pub mod DeclarationWires
+pub mod IncomingConnections

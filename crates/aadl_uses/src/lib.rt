@@ -3,8 +3,8 @@
 //! threads below a root: where each stands, and by which path it is known.
 #![tactic(auto)]
 
-pub mod below_counts;
-pub mod connections;
+pub mod marked_counts;
+pub mod connections_by_target;
 pub mod containment;
 pub mod containment_order;
 pub mod cycle_suspects;
@@ -21,8 +21,8 @@ mod resolved_connections;
 mod thread_locations;
 pub mod uses;
 
-pub use below_counts::counts_below;
-pub use connections::{Connections, Wire};
+pub use marked_counts::counts_below;
+pub use connections_by_target::{Connections, Wire};
 pub use containment::Containment;
 pub use containment_order::order;
 pub use cycle_suspects::{leads_back, suspects};

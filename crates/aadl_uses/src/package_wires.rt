@@ -7,11 +7,11 @@ ghost use Rattle.aadl_tree.specs.proof.PlaceMaps.{kept_place};
 ghost use Rattle.aadl_names.specs.ReferenceResolution.{implementation_at, connections_of, ports_at, direction_in};
 ghost use Rattle.aadl_names.specs.PackageFaults as faults;
 ghost use Rattle.aadl_uses.specs.SecondConnections.{IsSecond};
-ghost use Rattle.aadl_uses.specs.proof.DeclarationWires.{wires_in};
+ghost use Rattle.aadl_uses.specs.proof.IncomingConnections.{wires_in};
 ghost use Rattle.aadl_uses.specs.Wiring.{wires_at};
-ghost use Rattle.aadl_uses.specs.proof.DeclarationWires as spec;
+ghost use Rattle.aadl_uses.specs.proof.IncomingConnections as spec;
 
-use crate::connections::{Connections, Wire};
+use crate::connections_by_target::{Connections, Wire};
 use crate::resolved_connections::wiring_of;
 use crate::uses::Uses;
 use aadl_names::PortPlace;

@@ -6,7 +6,7 @@ ghost use Rattle.aadl_uses.specs.proof.PathWeights as spec;
 ghost use Rattle.aadl_uses.specs.proof.PathWeights.{IsHeaviest, AreWeighed};
 
 use crate::Containment;
-use crate::below_counts::add_up_to;
+use crate::marked_counts::add_up_to;
 use indexmap::IndexSet;
 use std::alloc::{AllocError, Global};
 use std::marker::Model;

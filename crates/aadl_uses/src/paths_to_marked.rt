@@ -4,8 +4,8 @@ ghost use Rattle.std.specs.Prelude.{Contains, IfOk, OnOk};
 ghost use Rattle.aadl_uses.specs.proof.MarkedPathCounts.{AreListed, IsMarkedAt, own_paths};
 ghost use Rattle.aadl_uses.specs.ThreadsBelow.{path_before};
 ghost use Rattle.aadl_uses.specs.proof.ContainmentOrders.{IsOrder};
-ghost use Rattle.aadl_uses.specs.proof.PathsToMarked as spec;
-ghost use Rattle.aadl_uses.specs.proof.PathsToMarked.{IsClosed, AreKnown};
+ghost use Rattle.aadl_uses.specs.proof.PathTables as spec;
+ghost use Rattle.aadl_uses.specs.proof.PathTables.{IsClosed, AreKnown};
 
 use crate::Containment;
 use indexmap::IndexSet;

@@ -5,7 +5,7 @@ ghost use Rattle.aadl_uses.specs.Uses.{IsInUse};
 ghost use Rattle.aadl_uses.specs.proof.PackageContainment.{containment};
 ghost use Rattle.aadl_uses.specs.ThreadsBelow.{Lists, IsThreadAt, PathBefore};
 ghost use Rattle.aadl_uses.specs.proof.ContainmentOrders.{IsOrder};
-ghost use Rattle.aadl_uses.specs.proof.PathsToMarked.{paths_from};
+ghost use Rattle.aadl_uses.specs.proof.PathTables.{paths_from};
 
 use crate::{Paths, Uses, paths_below};
 use indexmap::IndexSet;

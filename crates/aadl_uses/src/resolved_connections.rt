@@ -6,9 +6,9 @@ ghost use Rattle.aadl_tree.specs.proof.PlaceMaps.{kept_place};
 ghost use Rattle.aadl_tree.specs.Declarations.{Implementation};
 ghost use Rattle.aadl_names.specs.ReferenceResolution.{implementation_at};
 ghost use Rattle.aadl_uses.specs.Wiring as spec;
-ghost use Rattle.aadl_uses.specs.proof.DeclarationWires.{wires_in};
+ghost use Rattle.aadl_uses.specs.proof.IncomingConnections.{wires_in};
 
-use crate::connections::{Connections, Wire};
+use crate::connections_by_target::{Connections, Wire};
 use crate::ports_of_ends::site_of;
 use crate::uses::Uses;
 use aadl_tree::{Connection, Declaration};

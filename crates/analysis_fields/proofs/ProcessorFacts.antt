@@ -27,7 +27,7 @@ use Rattle.scenario_values.proofs.SuccessfulResults.{ok_same, ok_bind, ok_given,
 use Rattle.scenario_values.proofs.SuccessfulResults.{whole_within}
 use Rattle.scenario_values.specs.NameLookup.{node_no, node_at}
 use Rattle.scenario_values.proofs.NameSearch.{within}
-use Rattle.analysis_fields.specs.proof.AnalysisFacts.{IsProcessorOf}
+use Rattle.analysis_fields.specs.proof.FaultAndProcessorFacts.{IsProcessorOf}
 use Rattle.analysis_fields.specs.declared.limits.TheConstants.{PROCESSORS}
 use Rattle.analysis_fields.specs.declared.processors.Processor.{Processor}
 use Rattle.analysis_fields.specs.Processors.{with_member, with_members, nodes_of, processor_parts, processor_in}

@@ -20,7 +20,7 @@ use Rattle.scenario_values.specs.FaultPlaces.{inside}
 use Rattle.scenario_values.specs.FieldValues.{elements, text, whole, is_whole, port_value}
 use Rattle.scenario_values.proofs.SuccessfulResults.{ok_same, ok_bind, ok_only_if, through_keeps, whole_within}
 use Rattle.scenario_values.specs.NameLookup.{node_no, link_no, node_at, link_at}
-use Rattle.analysis_fields.specs.proof.AnalysisFacts.{IsFaultOf}
+use Rattle.analysis_fields.specs.proof.FaultAndProcessorFacts.{IsFaultOf}
 use Rattle.analysis_fields.specs.declared.replica_faults.FaultEnds.{FaultEnds}
 use Rattle.analysis_fields.specs.declared.replica_faults.RoundFault.{RoundFault}
 use Rattle.analysis_fields.specs.declared.limits.TheConstants.{REPLICAS}

@@ -11,8 +11,8 @@ ghost use Rattle.analysis_fields.specs.Plants.{are_equals, is_alone, is_sound, p
 use pals_base::{Items, NodeNo};
 use pals_model::{DesignParts, Link};
 use pals_runs::Pair;
-use scenario_values::json::{entries, text};
-use scenario_values::place::{Place, out_of_range};
+use scenario_values::json_values::{entries, text};
+use scenario_values::placed_faults::{Place, out_of_range};
 use scenario_values::{DesignNames, ScenarioFault};
 use serde_json::{Map, Value};
 use std::alloc::Global;

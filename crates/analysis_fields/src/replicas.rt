@@ -5,8 +5,8 @@ ghost use Rattle.scenario_values.specs.ResultCombinators.{Answers, Shows};
 ghost use Rattle.analysis_fields.specs.ReplicasAndFaults.{is_among, with_replica, replicas_in};
 
 use pals_base::{Items, NodeNo};
-use scenario_values::json::{elements, text};
-use scenario_values::place::{Place, out_of_range};
+use scenario_values::json_values::{elements, text};
+use scenario_values::placed_faults::{Place, out_of_range};
 use scenario_values::{DesignNames, ScenarioFault};
 use serde_json::Value;
 use std::alloc::Global;

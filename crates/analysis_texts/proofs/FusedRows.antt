@@ -2,7 +2,7 @@
 use Rattle.std.proofs.Common.{◌≡◌, ◌∙◌, ◌++◌, ℕ, suc, ◌+◌, List, [], sym, ap, subst, slice_get, add-one}
 use Rattle.pals_base.specs.declared.values.PortValue.{PortValue}
 use Rattle.pals_model.specs.declared.design.DesignParts.{DesignParts}
-use Rattle.pals_model.specs.declared.inputs_and_parts.Env.{Env}
+use Rattle.pals_model.specs.declared.inputs_parts_and_delays.Env.{Env}
 use Rattle.pals_model.specs.ComponentInputs.{values_at}
 use Rattle.pals_model.specs.DesignRules.{IsDesign}
 use Rattle.pals_model.specs.RoundTexts.{text_of, row_lines}
@@ -10,8 +10,8 @@ use Rattle.pals_runs.specs.declared.vote_faults_and_pairs.Pair.{Pair}
 use Rattle.plant_fuse.specs.proof.Fusibility.{IsFirstBad}
 use Rattle.plant_fuse.specs.FusedComposition.{ArePairs, Inputs, IsFused}
 use Rattle.plant_fuse.specs.proof.FuseState.{FuseState, begun, IsAdvanced}
-use Rattle.plant_fuse.specs.FusedText.{freport, IsFusedReport}
-use Rattle.plant_fuse.proofs.Solutions.{solution_exists}
+use Rattle.plant_fuse.specs.FusedReport.{freport, IsFusedReport}
+use Rattle.plant_fuse.proofs.ExactlyOneSolution.{solution_exists}
 use Rattle.plant_fuse.proofs.StateSolutions.{StandsAt, begins, stands_next, leaves_parts}
 use Rattle.plant_fuse.proofs.ComponentPairs.{pair_at, others_apart}
 use Rattle.plant_fuse.proofs.Reports.{reported_more}

@@ -1,8 +1,8 @@
-pub mod ProductRounds
+pub mod ProductRoundsAndRows
 pub mod LineBlocks
 pub mod WatchedRounds
-pub mod FilledTables
+pub mod FaultAndReplicaTables
 pub mod VotedRows
-pub mod AllowedVoteFaults
+pub mod WellFormedVoteFaults
 pub mod FusedRows
 pub mod OutvotedFaults

@@ -8,18 +8,18 @@ use Rattle.std.proofs.Math.ListN.{get_or-map}
 use Rattle.pals_base.specs.StepSequences.{upwards}
 use Rattle.pals_base.specs.declared.values.NodeNo.{NodeNo}
 use Rattle.pals_model.specs.declared.design.DesignParts.{DesignParts}
-use Rattle.pals_model.specs.declared.inputs_and_parts.Env.{Env}
+use Rattle.pals_model.specs.declared.inputs_parts_and_delays.Env.{Env}
 use Rattle.pals_model.specs.RoundTexts.{report}
 use Rattle.pals_model.specs.DesignRules.{IsDesign}
 use Rattle.analysis_fields.specs.declared.replica_faults.RoundFault.{RoundFault}
-use Rattle.analysis_fields.specs.proof.AnalysisFacts.{IsFaultOf}
+use Rattle.analysis_fields.specs.proof.FaultAndProcessorFacts.{IsFaultOf}
 use Rattle.analysis_fields.specs.ReplicasAndFaults.{is_among}
 use Rattle.triple_vote.specs.OutvotedFaults.{AreOutvoted}
 use Rattle.triple_vote.specs.Replicas.{is_replicated}
 use Rattle.triple_vote.specs.VotedText.{vreport, thrice}
-use Rattle.triple_vote.proofs.VotedReports.{report_is_thrice, thrice_without_replicas}
+use Rattle.triple_vote.proofs.OutvotedFaultReports.{report_is_thrice, thrice_without_replicas}
 use Rattle.analysis_texts.specs.VoteInputs.{replicated_in, faults_of}
-use Rattle.analysis_texts.proofs.AllowedVoteFaults.{faults_keep}
+use Rattle.analysis_texts.proofs.WellFormedVoteFaults.{faults_keep}
 
 -- a component without replicas has no faults
 no_faults : (design : DesignParts) (faults : List RoundFault) → All (IsFaultOf design []) faults → faults ≡ []

@@ -2,7 +2,7 @@
 ghost use Rattle.std.specs.Prelude.{◌≡◌, [], map, IfOk, OnOk};
 ghost use Rattle.pals_base.specs.StepSequences.{upwards};
 ghost use Rattle.analysis_texts.specs.VoteInputs.{faults_of};
-ghost use Rattle.analysis_texts.specs.proof.ReplicaLines.{filed};
+ghost use Rattle.analysis_texts.specs.proof.ReplicaNamesAndLines.{filed};
 
 use analysis_fields::RoundFault;
 use pals_base::{Items, NoMemory};

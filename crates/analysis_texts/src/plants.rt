@@ -5,7 +5,7 @@ ghost use Rattle.pals_model.specs.RoundTexts.{text_of, row_lines, report};
 ghost use Rattle.pals_report.specs.proof.TapPlaces.{tap_places};
 ghost use Rattle.plant_fuse.specs.FusedComposition.{ArePairs};
 ghost use Rattle.plant_fuse.specs.proof.FuseState.{begun, IsAdvanced};
-ghost use Rattle.plant_fuse.specs.FusedText.{IsFusedReport};
+ghost use Rattle.plant_fuse.specs.FusedReport.{IsFusedReport};
 
 use pals_base::{Items, NoMemory, PortValue};
 use pals_model::{Design, Env};

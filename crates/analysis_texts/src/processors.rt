@@ -1,9 +1,9 @@
 //! The round budgets of processors.
 ghost use Rattle.std.specs.Prelude.{◌≡◌, ◌++◌, All, length, map, IfOk, OnOk};
 ghost use Rattle.pals_model.specs.RoundTexts.{text_of, line_end};
-ghost use Rattle.analysis_fields.specs.proof.AnalysisFacts.{IsProcessorOf};
+ghost use Rattle.analysis_fields.specs.proof.FaultAndProcessorFacts.{IsProcessorOf};
 ghost use Rattle.round_budget.specs.BudgetText.{fits_on, processor_lines, slot_line, some_is_over, budget_text};
-ghost use Rattle.round_budget.specs.proof.ReleaseValues.{line_value};
+ghost use Rattle.round_budget.specs.proof.ReleaseAndLineValues.{line_value};
 ghost use Rattle.analysis_texts.specs.BudgetedProcessors.{processor_of, sum_line};
 
 use analysis_fields::Processor;

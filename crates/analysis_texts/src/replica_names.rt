@@ -3,7 +3,7 @@ ghost use Rattle.std.specs.Prelude.{◌≡◌, ◌<◌, length, map, true, slice
 ghost use Rattle.pals_base.specs.StepSequences.{upwards};
 ghost use Rattle.analysis_fields.specs.ReplicasAndFaults.{is_among};
 ghost use Rattle.analysis_texts.specs.VoteInputs.{replicated_in};
-ghost use Rattle.analysis_texts.specs.proof.ReplicaLines.{names_of, all_names};
+ghost use Rattle.analysis_texts.specs.proof.ReplicaNamesAndLines.{names_of, all_names};
 
 use pals_base::{Items, NoMemory, NodeNo, Text};
 use pals_model::{Component, Design};

@@ -6,14 +6,14 @@ ghost use Rattle.pals_model.specs.declared.design.Tap.{Tap};
 ghost use Rattle.pals_model.specs.DesignRules.{IsDesign};
 ghost use Rattle.pals_model.specs.RoundTexts.{text_of, report};
 ghost use Rattle.pals_runs.specs.declared.vote_faults_and_pairs.VoteFault.{VoteFault};
-ghost use Rattle.analysis_fields.specs.proof.AnalysisFacts.{IsFaultOf};
+ghost use Rattle.analysis_fields.specs.proof.FaultAndProcessorFacts.{IsFaultOf};
 ghost use Rattle.triple_vote.specs.proof.VoteLaws.{IsFault};
 ghost use Rattle.triple_vote.specs.Replicas.{is_replicated, frame_at, vopening};
 ghost use Rattle.triple_vote.specs.proof.VotedStates.{vbegun};
 ghost use Rattle.triple_vote.specs.VotedText.{replica_lines, shown_line, vrow_lines, vreport, thrice};
 ghost use Rattle.triple_vote.specs.OutvotedFaults.{AreOutvoted};
 ghost use Rattle.analysis_texts.specs.VoteInputs.{replicated_in, faults_of};
-ghost use Rattle.analysis_texts.specs.proof.ReplicaLines.{names_of, all_names, all_lines};
+ghost use Rattle.analysis_texts.specs.proof.ReplicaNamesAndLines.{names_of, all_names, all_lines};
 
 use crate::faults_by_round::by_round;
 use crate::replica_names::{replica_names, replicated};

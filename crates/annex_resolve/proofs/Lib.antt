@@ -1,8 +1,8 @@
 pub mod StructViews
 pub mod SeveralOperands
-pub mod ResolvedSums
+pub mod ResolvedTermsAndSums
 pub mod ResolvedExpressions
-pub mod SingleQualifiers
+pub mod BaseTypesQualifier
 pub mod ResolvedActions
 pub mod StateReachability
 pub mod TableCells

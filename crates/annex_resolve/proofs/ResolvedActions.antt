@@ -26,14 +26,14 @@ use Rattle.annex_resolve.specs.declared.scope.DeclaredName.{DeclaredName}
 use Rattle.annex_resolve.specs.declared.violation.Violation.{Violation}
 use Rattle.annex_resolve.specs.declared.violation.TheConstants.{BAD_TYPE, LOOP_TOO_LONG}
 use Rattle.annex_resolve.specs.NamesAndFindings.{found_if, entry_named, kind_of, may_set, may_send, given_to, with_loop}
-use Rattle.annex_resolve.specs.ExpressionTypes.{whole_types, kind_named}
+use Rattle.annex_resolve.specs.ExpressionTypesAndFindings.{whole_types, kind_named}
 use Rattle.annex_resolve.specs.ResolvedTrees.{signed, expression_of, action_of, actions_of, mores_of, elsifs_of}
 use Rattle.annex_resolve.specs.ResolvedTrees.{otherwise_of, block_of}
 use Rattle.annex_resolve.specs.ActionFindings.{turns, together, is_too_long, is_integer, action_findings}
 use Rattle.annex_resolve.specs.ActionFindings.{actions_findings, mores_findings, branch_findings, elsifs_findings}
 use Rattle.annex_resolve.specs.ActionFindings.{otherwise_findings, block_findings}
 use Rattle.annex_resolve.specs.proof.ResolutionResults.{ReadsAction, ReadsActions, ReadsBranch, ReadsBranches}
-use Rattle.annex_resolve.proofs.ResolvedSums.{take_next}
+use Rattle.annex_resolve.proofs.ResolvedTermsAndSums.{take_next}
 
 -- ---- a name that is set or sent
 given_by : (scope : Scope) (x : Identifier ℕ) (value : Expression ℕ) (test : Option DeclaredName → Bool)

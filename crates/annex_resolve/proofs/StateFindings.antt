@@ -15,7 +15,7 @@ use Rattle.annex_resolve.specs.declared.states.StateAt.{StateAt}
 use Rattle.annex_resolve.specs.declared.violation.Violation.{Violation}
 use Rattle.annex_resolve.specs.BehavioursAndFindings.{states_of, transitions_of, edge_of, parts_by, behaviour_of}
 use Rattle.annex_resolve.specs.BehavioursAndFindings.{transition_findings, rule_findings, annex_findings}
-use Rattle.annex_resolve.proofs.ResolvedSums.{take_next}
+use Rattle.annex_resolve.proofs.ResolvedTermsAndSums.{take_next}
 
 numbered_next : {A B : Type 0} (f : ℕ × A → List B) (xs : List A) (i : ℕ) (x : A) → i < length xs → x ≡ get_or xs i x
     → flat_map f (enumerate_from 0 (take (i + 1) xs)) ≡ flat_map f (enumerate_from 0 (take i xs)) ++ f (i, x)

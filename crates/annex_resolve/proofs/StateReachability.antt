@@ -11,7 +11,7 @@ use Rattle.pals_base.specs.PlainTrees.{Edge}
 use Rattle.pals_base.specs.SingleStep.{is_complete, leaving}
 use Rattle.pals_base.specs.BehaviourRules.{IsWay, IsAcyclic}
 use Rattle.pals_base.proofs.WaysAndCycles.{incomplete_within}
-use Rattle.annex_resolve.specs.CycleRules.{leads, reaches, is_on_cycle}
+use Rattle.annex_resolve.specs.IncompleteStateCycles.{leads, reaches, is_on_cycle}
 
 -- ---- tests
 

@@ -5,7 +5,7 @@ use Rattle.std.specs.Option.{unwrap_or}
 use Rattle.std.proofs.lemmas.Option.{slice_get-map}
 use Rattle.pals_base.specs.declared.behaviour.BehaviourParts.{BehaviourParts}
 use Rattle.pals_base.specs.StepSequences.{upwards}
-use Rattle.annex_resolve.specs.CycleRules.{reaches}
+use Rattle.annex_resolve.specs.IncompleteStateCycles.{reaches}
 use Rattle.annex_resolve.specs.proof.ReachTables.{row_of, table_of, cell, cell_in}
 
 pub upwards_at : (from n k : ℕ) → k < n → slice_get (upwards from n) k ≡ Some (from + k)

@@ -22,10 +22,10 @@ use Rattle.annex_resolve.specs.declared.violation.Violation.{Violation}
 use Rattle.annex_resolve.specs.declared.violation.TheConstants.{NO_INITIAL, DISPATCH_COUNT, NO_OTHERWISE}
 use Rattle.annex_resolve.specs.declared.violation.TheConstants.{CYCLE_WITHOUT_COMPLETE}
 use Rattle.annex_resolve.specs.NamesAndFindings.{found_if}
-use Rattle.annex_resolve.specs.ExpressionTypes.{whole_types}
+use Rattle.annex_resolve.specs.ExpressionTypesAndFindings.{whole_types}
 use Rattle.annex_resolve.specs.ResolvedTrees.{expression_of, block_of}
 use Rattle.annex_resolve.specs.ActionFindings.{block_findings}
-use Rattle.annex_resolve.specs.CycleRules.{is_on_cycle}
+use Rattle.annex_resolve.specs.IncompleteStateCycles.{is_on_cycle}
 use Rattle.pals_base.specs.PlainTrees as plain
 
 -- ---- states

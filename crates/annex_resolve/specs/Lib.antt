@@ -1,7 +1,7 @@
 pub mod NamesAndFindings
-pub mod ExpressionTypes
+pub mod ExpressionTypesAndFindings
 pub mod ResolvedTrees
 pub mod ActionFindings
-pub mod CycleRules
+pub mod IncompleteStateCycles
 pub mod BehavioursAndFindings
 pub mod proof

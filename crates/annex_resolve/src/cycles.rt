@@ -3,7 +3,7 @@
 ghost use Rattle.std.specs.Prelude.{◌≡◌, ◌<◌, ◌+◌, IfOk, false, length, map, replicate};
 ghost use Rattle.pals_base.specs.SingleStep.{is_complete};
 ghost use Rattle.pals_base.specs.StepSequences.{upwards};
-ghost use Rattle.annex_resolve.specs.CycleRules.{reaches, is_on_cycle};
+ghost use Rattle.annex_resolve.specs.IncompleteStateCycles.{reaches, is_on_cycle};
 ghost use Rattle.annex_resolve.specs.proof.ReachTables.{marked};
 
 use pals_base::{BehaviourParts, Items, NoMemory};

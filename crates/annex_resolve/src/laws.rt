@@ -2,7 +2,7 @@
 ghost use Rattle.std.specs.Prelude.{◌≡◌, ◌↔◌, ℕ, suc, true};
 ghost use Rattle.pals_base.specs.declared.behaviour.BehaviourParts.{BehaviourParts};
 ghost use Rattle.pals_base.specs.BehaviourRules.{IsWay};
-ghost use Rattle.annex_resolve.specs.CycleRules.{is_on_cycle};
+ghost use Rattle.annex_resolve.specs.IncompleteStateCycles.{is_on_cycle};
 
 /// A state is on a cycle exactly where a way that leaves only states that are not complete comes back
 /// to it.

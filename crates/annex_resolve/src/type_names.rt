@@ -3,7 +3,7 @@ ghost use Rattle.std.specs.Prelude.{◌≡◌, map, string_bytes};
 ghost use Rattle.aadl_tree.specs.Names.{same_name};
 ghost use Rattle.aadl_tree.specs.proof.PlaceMaps.{kept_place};
 ghost use Rattle.aadl_tree.specs.proof.NameViews.{identifier_view, reference_view};
-ghost use Rattle.annex_resolve.specs.ExpressionTypes.{is_base_types, is_base_type, kind_named};
+ghost use Rattle.annex_resolve.specs.ExpressionTypesAndFindings.{is_base_types, is_base_type, kind_named};
 
 use aadl_tree::{Identifier, Reference};
 use pals_base::Kind;

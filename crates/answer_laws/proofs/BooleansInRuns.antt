@@ -15,7 +15,7 @@ use Rattle.answer_laws.specs.proof.BooleansInRuns.{PartsOfScenariosFit, FaultsOf
 use Rattle.answer_laws.specs.proof.BooleansInRuns.{ShownOfScenariosFit, FusedOfScenariosFit, BusesOfScenariosFit}
 use Rattle.answer_laws.proofs.FittingInputs.{lists_to_env}
 use Rattle.answer_laws.proofs.FittingFaultValues.{each_round}
-use Rattle.answer_laws.proofs.FittingFields.{meant_by}
+use Rattle.answer_laws.proofs.FittingScenarios.{meant_by}
 
 pub scenarios_fit : ScenariosFit
 scenarios_fit root bundle command design scenario has =

@@ -9,9 +9,9 @@ use Rattle.scenario_json.specs.Scenarios.{Means}
 use Rattle.pals_report.specs.ScenarioFaultLines.{scenario_fault_line}
 use Rattle.bundle_designs.specs.BundleMeanings.{IsAccepted}
 use Rattle.pals_top.specs.BundleScenarios.{HasScenario, HasScenarioFault}
-use Rattle.answer_laws.proofs.UniqueScenarios.{same_scenario, same_fault, scenario_or_fault}
+use Rattle.answer_laws.proofs.UniqueScenariosAndReports.{same_scenario, same_fault, scenario_or_fault}
 use Rattle.answer_laws.proofs.UniquenessPremises.{OneDesign}
-use Rattle.answer_laws.proofs.UniqueDesigns.{one_accepted}
+use Rattle.answer_laws.proofs.UniqueDesignsAndRefusals.{one_accepted}
 
 module _ (one_design : OneDesign) (root bundle : List ℕ) (command : Command) where
   -- what one bundle's design and bytes mean, the same bundle's other design and bytes mean too

@@ -1,6 +1,6 @@
 -- Each command has an answer to each bundle.
 use Rattle.std.proofs.Common.{◌≡◌, ◌⊎◌, inl, inr, ℕ, true, false, List, ◌++◌, Ok, refl, sym, ◌∙◌}
-use Rattle.aadl_tree.specs.Canon.{canon}
+use Rattle.aadl_tree.specs.CanonicalText.{canon}
 use Rattle.pals_model.specs.RoundTexts.{line_end}
 use Rattle.pals_runs.specs.declared.commands.Command.{Command}
 use Rattle.pals_runs.specs.declared.commands.Command.TheVariants.{Print, Check, Sync, World, Run, Audit, Ring, Watch}
@@ -9,7 +9,7 @@ use Rattle.scenario_json.specs.declared.scenario.Scenario.{Scenario}
 use Rattle.scenario_json.specs.Scenarios.{Means}
 use Rattle.pals_report.specs.ScenarioFaultLines.{scenario_fault_line}
 use Rattle.design_codes.specs.OverlongCodes.{AreShort, IsFirstTooLong}
-use Rattle.world_texts.specs.RingTexts.{ring_text}
+use Rattle.world_texts.specs.RingResultLines.{ring_text}
 use Rattle.pals_top.specs.declared.status.TheConstants.{DONE, TEXT_REFUSED, SCENARIO_REFUSED, CODE_TOO_LONG}
 use Rattle.pals_top.specs.AnalysisCommands.{Analysis}
 use Rattle.pals_top.specs.AnalysisCommands as analysis

@@ -3,11 +3,11 @@ use Rattle.std.proofs.Common.{ℕ, List, refl, subst}
 use Rattle.pals_model.specs.declared.design.DesignParts.{DesignParts}
 use Rattle.pals_model.specs.DesignRules.{IsDesign}
 use Rattle.scenario_json.specs.declared.scenario.Scenario.{Scenario}
-use Rattle.scenario_json.specs.proof.ScenarioFacts.{IsScenarioOf}
+use Rattle.scenario_json.specs.proof.ScenarioValidity.{IsScenarioOf}
 use Rattle.scenario_laws.specs.proof.EventsAndTraces.{AreLooseEvents}
 use Rattle.plant_fuse.specs.FusedComposition.{ArePairs}
 use Rattle.pals_runs.specs.declared.vote_faults_and_pairs.Pair.{Pair}
-use Rattle.plant_fuse.specs.FusedText.{IsFusedReport}
+use Rattle.plant_fuse.specs.FusedReport.{IsFusedReport}
 use Rattle.plant_fuse.specs.proof.FusedLaws.{ReportExists}
 use Rattle.plant_fuse.proofs.ReportsWithoutPairs.{report_without_pairs}
 use Rattle.analysis_texts.proofs.OutvotedFaults.{rows_outvoted, rows_alone}
@@ -22,9 +22,9 @@ use Rattle.pals_top.proofs.TimelyProcessors.{all_in_time}
 use Rattle.pals_top.proofs.LooseWorlds.{rules_of}
 use Rattle.answer_laws.proofs.ExistencePremises.{ExistenceLaws}
 use Rattle.answer_laws.proofs.ExistingLayouts.{has_codes}
-use Rattle.answer_laws.proofs.ExistingRuns.{run_answer}
-use Rattle.answer_laws.proofs.ExistingLooseWorlds.{world_answer}
-use Rattle.answer_laws.proofs.UniqueTimedWorlds.{answered}
+use Rattle.answer_laws.proofs.ExistingRunAnswers.{run_answer}
+use Rattle.answer_laws.proofs.ExistingLooseWorldAnswers.{world_answer}
+use Rattle.answer_laws.proofs.TimedWorldAnswers.{answered}
 
 -- ---- analyses
 abbrev pub IsMadeByAnalysis : Analysis → DesignParts → Scenario → Type 0

@@ -14,7 +14,7 @@ use Rattle.pals_base.specs.declared.values.PortValue.{PortValue}
 use Rattle.pals_base.specs.declared.values.PortValue.TheVariants.{Absent, Present}
 use Rattle.pals_base.specs.Expressions.{truth}
 use Rattle.pals_model.specs.declared.design.DesignParts.{DesignParts}
-use Rattle.pals_model.specs.declared.inputs_and_parts.Env.{Env}
+use Rattle.pals_model.specs.declared.inputs_parts_and_delays.Env.{Env}
 use Rattle.pals_model.specs.ComponentInputs.{root_inputs}
 use Rattle.pals_model.specs.PortKinds.{root_kind}
 use Rattle.pals_model.proofs.FirstMatches.{found_at}

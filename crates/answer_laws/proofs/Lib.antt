@@ -1,10 +1,10 @@
 pub mod BundleSplits
-pub mod UniqueScenarios
+pub mod UniqueScenariosAndReports
 pub mod UniquenessPremises
-pub mod UniqueDesigns
+pub mod UniqueDesignsAndRefusals
 pub mod BundleScenarios
-pub mod UniqueLooseWorlds
-pub mod UniqueTimedWorlds
+pub mod UniqueLooseWorldAnswers
+pub mod TimedWorldAnswers
 pub mod UniqueResults
 pub mod UniqueExecutionAnswers
 pub mod UniqueAnswers
@@ -18,16 +18,16 @@ pub mod RunEnds
 pub mod RunAnswers
 mod FittingInputs
 mod FittingFaultValues
-mod FittingFields
+mod FittingScenarios
 mod BooleansInRuns
 mod ExistencePremises
 mod ExistingTrees
 mod ExistingDesigns
 mod ExistingReports
 mod LooseWorldEnds
-mod ExistingLooseWorlds
+mod ExistingLooseWorldAnswers
 mod OverlongCodes
 mod ExistingLayouts
-mod ExistingRuns
+mod ExistingRunAnswers
 mod ExistingResults
 mod ExistingAnswers

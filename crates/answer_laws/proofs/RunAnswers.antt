@@ -12,12 +12,12 @@ use Rattle.scenario_json.specs.Events.{usual_word, event_in, events_in}
 use Rattle.scenario_json.specs.declared.scenario.Scenario.{Scenario}
 use Rattle.scenario_json.specs.Scenarios.{fields_in, scen, Means}
 use Rattle.scenario_laws.specs.proof.ScenarioSuitability.{ScenariosSuit}
-use Rattle.bus_machine.specs.proof.MachineLaws.{IsRunOf}
+use Rattle.bus_machine.specs.proof.AgreementLaws.{IsRunOf}
 use Rattle.bus_machine.specs.States.{finished_by_all}
 use Rattle.run_laws.specs.TextLines.{lines_of}
 use Rattle.run_laws.specs.TraceVerdicts.{verdict}
 use Rattle.run_laws.proofs.FinalStops.{told as stop_is_last}
-use Rattle.run_laws.specs.proof.TimelyRuns.{InTime, NoneStops, BoundsAreInTime, EndsAreOne, AllPicked, PickedAreDone}
+use Rattle.run_laws.specs.proof.TimelyRunsAndEnds.{InTime, NoneStops, BoundsAreInTime, EndsAreOne, AllPicked, PickedAreDone}
 use Rattle.run_texts.specs.RunTexts.{journal_text}
 use Rattle.pals_top.specs.ExecutionCommands as execution
 use Rattle.pals_top.specs.ExecutionAnswers.{IsCodeTooLong, IsExecutionAnswer}
@@ -29,7 +29,7 @@ use Rattle.answer_laws.specs.proof.RunAnswers.{IsRunStatus, IsInTime, OneAnswerI
 use Rattle.answer_laws.specs.proof.RunAnswers.{DoneInTime, AnswersAsSync, DoneWithinBounds, DoneTracesAreSound}
 use Rattle.answer_laws.specs.proof.RunAnswers.{IsStoppedTrace, StoppedTracesAreSound}
 use Rattle.answer_laws.proofs.UniquenessPremises.{OneDesign, KeepsRules}
-use Rattle.answer_laws.proofs.UniqueDesigns.{accepted_or_refused}
+use Rattle.answer_laws.proofs.UniqueDesignsAndRefusals.{accepted_or_refused}
 use Rattle.answer_laws.proofs.BundleScenarios.{one_meaning, meant_or_refused}
 use Rattle.answer_laws.proofs.UniqueExecutionAnswers.{long_code, long_or_short, one_code_fault}
 use Rattle.answer_laws.proofs.UniqueResults.{Agree}

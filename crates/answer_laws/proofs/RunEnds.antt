@@ -7,18 +7,18 @@ use Rattle.pals_clock.specs.declared.clock.Clocks.{Clocks}
 use Rattle.pals_clock.specs.declared.clock.Clocks.TheVariants.{Meet, Lists}
 use Rattle.pals_model.specs.RoundTexts.{line_end, report}
 use Rattle.pals_runs.specs.declared.journal.Phase.TheVariants.{Done}
-use Rattle.pals_report.specs.ClocksAndVerdicts.{clock_end_line}
+use Rattle.pals_report.specs.ClockEndsAndVerdicts.{clock_end_line}
 use Rattle.bus_machine.specs.declared.node_action.NodeAction.{NodeAction}
 use Rattle.bus_machine.specs.Agreement.{Agrees}
-use Rattle.bus_machine.specs.proof.MachineLaws.{IsRunOf}
+use Rattle.bus_machine.specs.proof.AgreementLaws.{IsRunOf}
 use Rattle.bus_machine.specs.Nodes.{NodeState}
 use Rattle.bus_machine.specs.Plans.{plan_of}
 use Rattle.bus_machine.specs.States.{Run, BusState, node_at, no_node}
 use Rattle.run_laws.specs.TimelyRounds.{AllAtEnd}
-use Rattle.run_laws.specs.proof.TimelyRuns.{InTime, NoneStops, EndsFirst, EndsAreOne, AllPicked, PickedAreDone}
+use Rattle.run_laws.specs.proof.TimelyRunsAndEnds.{InTime, NoneStops, EndsFirst, EndsAreOne, AllPicked, PickedAreDone}
 use Rattle.run_laws.specs.Meetings.{AllDone}
 use Rattle.run_laws.specs.NodeActions.{upcoming}
-use Rattle.run_laws.proofs.TimelyRuns.{done_or_ended, one_first}
+use Rattle.run_laws.proofs.TimelyRunsAndEnds.{done_or_ended, one_first}
 use Rattle.run_texts.specs.RunTexts.{RunOutcome, IsCompletedRun, IsStoppedRun, IsEndedRun, EndsAt}
 use Rattle.answer_laws.specs.proof.RunAnswers.{ShowsRounds}
 

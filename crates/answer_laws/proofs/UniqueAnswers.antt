@@ -6,7 +6,7 @@ use Rattle.pals_runs.specs.declared.commands.Command.{Command}
 use Rattle.pals_runs.specs.declared.commands.Command.TheVariants.{Print, Check, Sync, World, Run, Audit, Watch, Vote}
 use Rattle.pals_runs.specs.declared.commands.Command.TheVariants.{Fuse, Budget}
 use Rattle.aadl_tree.specs.Declarations.{PackageTree}
-use Rattle.aadl_tree.specs.Canon.{canon}
+use Rattle.aadl_tree.specs.CanonicalText.{canon}
 use Rattle.pals_report.specs.CheckReports.{IsCheckReport}
 use Rattle.scenario_json.specs.declared.scenario.Scenario.{Scenario}
 use Rattle.pals_top.specs.RefusalAnswers.{IsBundleRefused}
@@ -23,9 +23,9 @@ use Rattle.pals_top.specs.ExecutionAnswers.{command_of as execution_command, IsE
 use Rattle.pals_top.specs.Answers.{IsCommandAnswer}
 use Rattle.pals_top.specs.proof.PrivateFunctions.{is_run}
 use Rattle.answer_laws.proofs.UniquenessPremises.{OneDesign, OneFault, AnalysisLaws, ExecutionLaws}
-use Rattle.answer_laws.proofs.UniqueDesigns.{one_tree, read_or_refused, one_refused_text, one_accepted}
-use Rattle.answer_laws.proofs.UniqueDesigns.{accepted_or_refused, package_or_text, one_refused_package}
-use Rattle.answer_laws.proofs.UniqueScenarios.{one_report}
+use Rattle.answer_laws.proofs.UniqueDesignsAndRefusals.{one_tree, read_or_refused, one_refused_text, one_accepted}
+use Rattle.answer_laws.proofs.UniqueDesignsAndRefusals.{accepted_or_refused, package_or_text, one_refused_package}
+use Rattle.answer_laws.proofs.UniqueScenariosAndReports.{one_report}
 use Rattle.answer_laws.proofs.BundleScenarios.{one_meaning, one_scenario_fault, meant_or_refused}
 use Rattle.answer_laws.proofs.UniqueResults.{Agree, one_analysis}
 use Rattle.answer_laws.proofs.UniqueExecutionAnswers.{IsAnswered, answered_design, one_answered}

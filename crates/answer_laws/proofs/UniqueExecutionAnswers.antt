@@ -14,7 +14,7 @@ use Rattle.pals_top.specs.ExecutionAnswers.{code_fault_line}
 use Rattle.answer_laws.specs.proof.BundleContents.{HasLongCode}
 use Rattle.pals_top.specs.proof.PrivateFunctions.{is_run}
 use Rattle.answer_laws.proofs.UniquenessPremises.{OneDesign, ExecutionLaws}
-use Rattle.answer_laws.proofs.UniqueDesigns.{one_accepted}
+use Rattle.answer_laws.proofs.UniqueDesignsAndRefusals.{one_accepted}
 use Rattle.answer_laws.proofs.BundleScenarios.{one_meaning, one_scenario_fault, meant_or_refused}
 use Rattle.answer_laws.proofs.UniqueResults.{Agree, one_execution}
 

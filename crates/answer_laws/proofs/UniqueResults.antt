@@ -16,8 +16,8 @@ use Rattle.pals_top.specs.Budget.{processors_of}
 use Rattle.pals_top.specs.proof.PrivateFunctions.{is_run}
 use Rattle.answer_laws.proofs.UniquenessPremises.{ExecutionLaws}
 use Rattle.pals_top.specs.TimedWorlds.{world_of}
-use Rattle.answer_laws.proofs.UniqueTimedWorlds.{one_timed}
-use Rattle.answer_laws.proofs.UniqueLooseWorlds.{end_of, one_world}
+use Rattle.answer_laws.proofs.TimedWorldAnswers.{one_timed}
+use Rattle.answer_laws.proofs.UniqueLooseWorldAnswers.{end_of, one_world}
 
 -- two answers are of one status, and have one text
 abbrev pub Agree : ℕ → List ℕ → ℕ → List ℕ → Type 0

@@ -4,7 +4,7 @@ use Rattle.std.specs.Prelude.{◌≡◌, ℕ, List}
 use Rattle.pals_model.specs.declared.design.DesignParts.{DesignParts}
 use Rattle.pals_model.specs.DesignRules.{IsDesign}
 use Rattle.aadl_tree.specs.Declarations.{PackageTree}
-use Rattle.aadl_tree.specs.GrammarTrees.{IsTreeOf}
+use Rattle.aadl_tree.specs.TextTreesAndFaults.{IsTreeOf}
 use Rattle.aadl_names.specs.declared.fault.PackageFault.{PackageFault}
 use Rattle.aadl_instance.specs.Faults.{IsFault}
 use Rattle.design_laws.specs.PackageDesigns.{IsDesignIn}

@@ -3,7 +3,7 @@ ghost use Rattle.std.specs.Prelude.{◌≡◌, ◌⊎◌, ℕ, List, Result};
 ghost use Rattle.pals_model.specs.declared.design.DesignParts.{DesignParts};
 ghost use Rattle.pals_runs.specs.declared.commands.Command.{Command};
 ghost use Rattle.aadl_tree.specs.Declarations.{PackageTree};
-ghost use Rattle.aadl_tree.specs.GrammarTrees.{IsTreeOf};
+ghost use Rattle.aadl_tree.specs.TextTreesAndFaults.{IsTreeOf};
 ghost use Rattle.scenario_values.specs.declared.fault.ScenarioFault.{ScenarioFault};
 ghost use Rattle.scenario_json.specs.declared.scenario.Scenario.{Scenario};
 ghost use Rattle.scenario_json.specs.Scenarios.{Means};
@@ -12,7 +12,7 @@ ghost use Rattle.bundle_designs.specs.Bundles.{IsSplit, HasNoDivider};
 ghost use Rattle.bundle_designs.specs.BundleMeanings.{IsFaulty, HasViolations, IsAccepted};
 ghost use Rattle.pals_top.specs.RefusalAnswers.{IsBundleRefused};
 
-use design_laws::first_faults::one_fault;
+use design_laws::unique_faults::one_fault;
 use design_laws::packages::one_design;
 
 /// A bundle is divided by one of its lines, in one way, or has no such line.

@@ -7,7 +7,7 @@ ghost use Rattle.pals_top.specs.ProgramInput.{Reading};
 ghost use Rattle.pals_top.specs.proof.PrivateFunctions.{is_run};
 
 use crate::accepted_designs::accepted_designs_keep_their_rules;
-use design_laws::first_faults::one_fault;
+use design_laws::unique_faults::one_fault;
 use design_laws::packages::one_design;
 use loose_world::world_laws::one_end;
 use plant_fuse::laws::one_report;

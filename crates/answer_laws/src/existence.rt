@@ -4,7 +4,7 @@ ghost use Rattle.answer_laws.specs.proof.ExistingAnswers.{EachBundleHasAnAnswer,
 
 use crate::decided_answers::answer_is_decided;
 use aadl_grammar::text_laws::tree_or_fault;
-use design_laws::existence::{
+use design_laws::package_outcomes::{
     each_instance_has_its_list, first_faults_are_named, instance_or_fault,
 };
 use design_laws::packages::designs_of_texts_keep_their_rules;

@@ -7,6 +7,6 @@ pub mod bundles;
 pub mod calls;
 pub mod decided_answers;
 pub mod existence;
-pub mod kinds;
+pub mod boolean_values;
 pub mod runs;
 pub mod statuses;

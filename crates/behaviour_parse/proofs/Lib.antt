@@ -1,4 +1,4 @@
-pub mod Operators
+pub mod OperatorsAndOperands
 pub mod ParsedActions
-pub mod DeclarationTerminals
+pub mod DeclarationStarts
 pub mod ParseOutcomes

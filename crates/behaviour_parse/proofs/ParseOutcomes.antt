@@ -2,18 +2,18 @@
 use Rattle.std.proofs.Common.{◌≡◌, sym, ℕ, ◌-◌, ◌<◌, ◌∙◌, ap, subst, refl, List, [], ◌∷◌, length, get_or, drop, arith}
 use Rattle.std.proofs.Common.{zero, suc}
 use Rattle.aadl_lex.specs.declared.token.Token.{Token}
-use Rattle.aadl_tree.proofs.SpellingParts.{written_spells}
+use Rattle.aadl_tree.proofs.ConcatenatedSpellings.{written_spells}
 use Rattle.aadl_tree.specs.Terminals.{Spot, spots_from, kinds_of}
 use Rattle.std.specs.Prelude.{true, IfErr, Result, Ok, Err}
 use Rattle.std.specs.Result.{IsErrAnd}
 use Rattle.aadl_tree.specs.SpellingParts.{Written}
 use Rattle.aadl_tree.specs.Annexes.{AnnexTree, annex_tree_parts}
-use Rattle.aadl_tree.specs.Grammar.{IsBehaviour, place}
-use Rattle.aadl_tree.specs.proof.GrammarTrees.{end_of}
-use Rattle.aadl_tree.specs.GrammarTrees.{IsBehaviourOf}
+use Rattle.aadl_tree.specs.LanguagesAndNesting.{IsBehaviour, place}
+use Rattle.aadl_tree.specs.proof.BehaviourFaultPlaces.{end_of}
+use Rattle.aadl_tree.specs.TextTreesAndFaults.{IsBehaviourOf}
 use Rattle.aadl_grammar.specs.proof.StackMachine.{fate, annex_body, syntax_at}
 use Rattle.aadl_grammar.proofs.Fates.Answers.{answers_text, answers_fault, answers_depth}
-use Rattle.aadl_grammar.proofs.UniquePlacedTrees.All.{one_placed_behaviour}
+use Rattle.aadl_grammar.proofs.UniquePlacedTrees.PackagesAndBehaviours.{one_placed_behaviour}
 use Rattle.aadl_grammar.proofs.Fates.GrammarLanguages.{behaviours}
 use Rattle.aadl_grammar.proofs.Fates.FirstTerminalFates.{fate_end, fate_left}
 use Rattle.aadl_grammar.specs.declared.parse_fault.ParseFault.{ParseFault}

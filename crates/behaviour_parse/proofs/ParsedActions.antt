@@ -13,7 +13,7 @@ use Rattle.aadl_tree.specs.declared.actions.Loop.{Loop}
 use Rattle.aadl_tree.specs.declared.actions.Action.TheOpen.{Choice-F}
 use Rattle.aadl_tree.specs.declared.actions.Action.TheViews.{out-roll-Choice}
 use Rattle.aadl_tree.specs.declared.nesting_limit.TheConstants.{GREATEST_NESTING}
-use Rattle.aadl_tree.specs.Grammar.{place}
+use Rattle.aadl_tree.specs.LanguagesAndNesting.{place}
 use Rattle.aadl_tree.specs.Terminals.{Kind, whole, Spot}
 use Rattle.aadl_tree.specs.SpellingParts.{Part, plain, may, last_semicolon}
 use Rattle.aadl_tree.specs.Names.{identifier_parts, reference_parts}
@@ -24,14 +24,14 @@ use Rattle.aadl_tree.specs.proof.ActionViews.{action_view, actions_view, mores_v
 use Rattle.aadl_tree.specs.proof.ActionViews.{otherwise_of}
 use Rattle.aadl_tree.specs.proof.PlaceMaps.{kept_place}
 use Rattle.aadl_tree.proofs.ActionViews.{view-out-choice}
-use Rattle.aadl_grammar.specs.proof.Symbols as s
-use Rattle.aadl_grammar.specs.proof.Symbols.{a_whole, the, Symbol}
+use Rattle.aadl_grammar.specs.proof.GrammarSymbols as s
+use Rattle.aadl_grammar.specs.proof.GrammarSymbols.{a_whole, the, Symbol}
 use Rattle.aadl_grammar.specs.proof.StackMachine.{Stack, takes, move, depth, syntax_at, fate}
 use Rattle.aadl_grammar.specs.proof.ParserAnswers.{At, AtMark, Begins, IsMarked, Misses, Reads}
-use Rattle.aadl_grammar.proofs.SymbolMoves.{enters_as, takes_row, refuses_unless}
+use Rattle.aadl_grammar.proofs.TopSymbolMoves.{enters_as, takes_row, refuses_unless}
 use Rattle.aadl_grammar.proofs.PartSequences.{then, marked, respelled, regroup}
 use Rattle.behaviour_parse.specs.declared.actions.LoopHead.{LoopHead}
-use Rattle.behaviour_parse.specs.proof.ActionParts.{head_parts, choice_parts}
+use Rattle.behaviour_parse.specs.proof.LoopAndChoiceParts.{head_parts, choice_parts}
 
 -- a choice behind its `if`
 pub choice_reads : (x : Choice) {ss mid rest : List Spot} → AtMark k.If ss mid → Reads (choice_parts x) mid rest

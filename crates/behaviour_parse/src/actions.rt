@@ -8,10 +8,10 @@ ghost use Rattle.aadl_tree.specs.proof.ExpressionViews.{expression_view};
 ghost use Rattle.aadl_tree.specs.proof.ActionViews.{action_view, actions_view, elsifs_view, otherwise_of, block_view};
 ghost use Rattle.aadl_tree.specs.proof.ActionViews.{loop_view};
 ghost use Rattle.aadl_tree.specs.proof.PlaceMaps.{kept_place};
-ghost use Rattle.aadl_grammar.specs.proof.Symbols as s;
+ghost use Rattle.aadl_grammar.specs.proof.GrammarSymbols as s;
 ghost use Rattle.aadl_grammar.specs.proof.ParseTable.{rows, on};
 ghost use Rattle.aadl_grammar.specs.proof.ParserAnswers.{here, MissAll, Begins, Parses, AnyRoom, Room};
-ghost use Rattle.behaviour_parse.specs.proof.ActionParts.{head_parts, choice_parts};
+ghost use Rattle.behaviour_parse.specs.proof.LoopAndChoiceParts.{head_parts, choice_parts};
 
 use crate::expressions::expression;
 use aadl_grammar::{ParseFault, Parsed, Reader, identifier, reference};

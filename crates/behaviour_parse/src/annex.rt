@@ -11,7 +11,7 @@ ghost use Rattle.aadl_tree.specs.proof.ActionViews.{block_view};
 ghost use Rattle.aadl_tree.specs.proof.DeclarationViews.{variable_view, state_view, guard_view, transition_view};
 ghost use Rattle.aadl_tree.specs.proof.DeclarationViews.{annex_tree_view};
 ghost use Rattle.aadl_tree.specs.proof.PlaceMaps.{kept_place};
-ghost use Rattle.aadl_grammar.specs.proof.Symbols as s;
+ghost use Rattle.aadl_grammar.specs.proof.GrammarSymbols as s;
 ghost use Rattle.aadl_grammar.specs.proof.StackMachine.{annex_body};
 ghost use Rattle.aadl_grammar.specs.proof.ParserAnswers.{Parses, AnyRoom, Room};
 

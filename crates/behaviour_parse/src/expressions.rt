@@ -6,7 +6,7 @@ ghost use Rattle.aadl_tree.specs.Expressions.{fresh_parts};
 ghost use Rattle.aadl_tree.specs.proof.ExpressionViews.{primary_view, factor_view, term_view, terms_view, sum_view};
 ghost use Rattle.aadl_tree.specs.proof.ExpressionViews.{relation_view, expression_view};
 ghost use Rattle.aadl_tree.specs.proof.PlaceMaps.{kept_place};
-ghost use Rattle.aadl_grammar.specs.proof.Symbols as s;
+ghost use Rattle.aadl_grammar.specs.proof.GrammarSymbols as s;
 ghost use Rattle.aadl_grammar.specs.proof.ParseTable.{rows};
 ghost use Rattle.aadl_grammar.specs.proof.ParserAnswers.{here, AtMark, MissAll, Parses, AnyRoom, Room};
 ghost use Rattle.behaviour_parse.specs.proof.LogicOperators.{Joins};

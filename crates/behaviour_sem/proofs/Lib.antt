@@ -1,4 +1,4 @@
-pub mod ActionTrees
+pub mod ActionMeanings
 pub mod StateIndependence
 pub mod TransitionsAndInputs
 pub mod StepEnds

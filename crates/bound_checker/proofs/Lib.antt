@@ -1,2 +1,2 @@
-pub mod CommonDivisors
-pub mod Multiples
+pub mod DivisorsAndMultiples
+pub mod RateMultiples

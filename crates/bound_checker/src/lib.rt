@@ -4,7 +4,7 @@
 #![tactic(auto)]
 
 mod bound;
-mod divisors;
+mod common_multiple;
 pub mod laws;
 mod shortest_period;
 

@@ -2,10 +2,10 @@
 ghost use Rattle.std.specs.Prelude.{◌≡◌, All, MatchOption};
 ghost use Rattle.bound_checker.specs.proof.OverflowLimits.{IsWithinHour, IsRate};
 ghost use Rattle.bound_checker.specs.ShortestPeriods.{greatest_rate, IsLeastMultiple, HasNoMultiple};
-ghost use Rattle.bound_checker.specs.proof.Divisors.{HasMultiplesOf};
+ghost use Rattle.bound_checker.specs.proof.DivisorsAndMultiples.{HasMultiplesOf};
 
 use crate::bound::least_period;
-use crate::divisors::lcm;
+use crate::common_multiple::lcm;
 use pals_base::limits::HOUR;
 use pals_base::{Gamma, Nanos};
 

@@ -1,7 +1,7 @@
 -- The canonical text of a bundle's design.
 use Rattle.std.specs.Prelude.{◌≡◌, ℕ, List}
 use Rattle.aadl_tree.specs.Declarations.{PackageTree}
-use Rattle.aadl_tree.specs.Canon.{canon}
+use Rattle.aadl_tree.specs.CanonicalText.{canon}
 use Rattle.bundle_designs.specs.ParsedBundles.{IsParsed}
 
 -- The design text has a tree, and the text is its canonical text.

@@ -1,7 +1,7 @@
 -- A bundle whose design text is one of the grammar.
 use Rattle.std.specs.Prelude.{ℕ, List}
 use Rattle.aadl_tree.specs.Declarations.{PackageTree}
-use Rattle.aadl_tree.specs.GrammarTrees.{IsTreeOf}
+use Rattle.aadl_tree.specs.TextTreesAndFaults.{IsTreeOf}
 use Rattle.bundle_designs.specs.Bundles.{IsSplit}
 
 -- A line divides the bundle into this text and this scenario, and the text has this tree.

@@ -4,7 +4,7 @@
 //! [`print_bundle`] gives the canonical text of its design, and [`accept`] the design of a root.
 #![tactic(auto)]
 
-mod accepted;
+mod accepted_bundle;
 mod bundle;
 mod canonical_text;
 mod parsed_bundle;
@@ -12,7 +12,7 @@ mod refusal;
 mod refused_design;
 mod refused_text;
 
-pub use accepted::{Accepted, accept};
+pub use accepted_bundle::{Accepted, accept};
 pub use bundle::split;
 pub use canonical_text::print_bundle;
 pub use refusal::Refusal;

@@ -15,8 +15,8 @@ use Rattle.pals_model.specs.declared.design.Component.{Component}
 use Rattle.pals_model.specs.declared.design.Link.{Link}
 use Rattle.pals_model.specs.declared.design.Feed.{Feed}
 use Rattle.pals_model.specs.declared.design.DesignParts.{DesignParts}
-use Rattle.pals_model.specs.declared.sources.PortSource.{PortSource}
-use Rattle.pals_model.specs.declared.sources.PortSource.TheVariants as source
+use Rattle.pals_model.specs.declared.port_sources.PortSource.{PortSource}
+use Rattle.pals_model.specs.declared.port_sources.PortSource.TheVariants as source
 use Rattle.pals_model.specs.ComponentInputs.{rate_of, values_at, feed, inputs_in, source_of, sources_of, from_feed}
 use Rattle.pals_model.specs.ComponentInputs.{from_link, link_goes_to, feed_goes_to, reading, read_feed, read_link}
 use Rattle.pals_model.specs.Composition.{comp, msg}
@@ -28,7 +28,7 @@ use Rattle.bus_machine.specs.Nodes.{NodeState, message_in, brought, vectors_of}
 use Rattle.bus_machine.specs.NodeEvents.{lacks, missing, slot_at}
 use Rattle.bus_machine.specs.States.{Run}
 use Rattle.bus_machine.specs.Agreement.{SlotAgrees}
-use Rattle.bus_machine.proofs.ListsAndFlights.{none_found}
+use Rattle.bus_machine.proofs.ListsAndOldestCopies.{none_found}
 
 -- ---- one in port
 feed_brings : (rate root : ℕ) (values : List PortValue) (slot : Option (List PortValue)) (f : Option Feed)

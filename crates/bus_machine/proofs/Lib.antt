@@ -1,9 +1,9 @@
 pub mod StoppedCounterRuns
-pub mod ListsAndFlights
+pub mod ListsAndOldestCopies
 pub mod InputAgreement
-pub mod NodeAgreement
+pub mod LoneNodeAgreement
 pub mod AgreementChanges
 pub mod NodeEventAgreement
-pub mod RunAgreement
+pub mod MessageAndRunAgreement
 pub mod TargetExamples
-pub mod NodeQuantities
+pub mod QuantitiesAndSentRounds

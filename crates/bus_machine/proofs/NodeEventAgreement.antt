@@ -7,7 +7,7 @@ use Rattle.std.proofs.lemmas.Bool.{eqb-true, false≢true}
 use Rattle.std.proofs.lemmas.List.Elements.{All-append, All-replicate}
 use Rattle.std.proofs.lemmas.Option.{slice_get_within, get_or_from_slice_get}
 use Rattle.list_lemmas.proofs.ListOperations.{length-map_enumerate_from}
-use Rattle.bus_machine.proofs.NodeQuantities.{sent_most}
+use Rattle.bus_machine.proofs.QuantitiesAndSentRounds.{sent_most}
 use Rattle.list_lemmas.proofs.Options.{option_map-none}
 use Rattle.pals_base.specs.declared.values.PortValue.{PortValue}
 use Rattle.pals_base.specs.declared.values.NodeNo.{NodeNo}
@@ -30,11 +30,11 @@ use Rattle.bus_machine.specs.States.{Run, BusState, node_at, flight_at, link_at,
 use Rattle.bus_machine.specs.MissedStarts.{missing_link, link_into, sent_rounds, rounds_sent_on}
 use Rattle.bus_machine.specs.Machine.{after_start, on_step, flight_after_send, after_send}
 use Rattle.bus_machine.specs.Agreement.{SlotAgrees, IsCopy, Agrees}
-use Rattle.bus_machine.specs.proof.MachineLaws.{IsRunOf}
-use Rattle.bus_machine.proofs.ListsAndFlights.{numbered_at}
+use Rattle.bus_machine.specs.proof.AgreementLaws.{IsRunOf}
+use Rattle.bus_machine.proofs.ListsAndOldestCopies.{numbered_at}
 use Rattle.bus_machine.proofs.InputAgreement.{SlotsAgree}
-use Rattle.bus_machine.proofs.NodeAgreement.{starts, steps_on, finishes, finish_keeps, sends, MaySend, may_send_of}
-use Rattle.bus_machine.proofs.NodeAgreement.{sends_message}
+use Rattle.bus_machine.proofs.LoneNodeAgreement.{starts, steps_on, finishes, finish_keeps, sends, MaySend, may_send_of}
+use Rattle.bus_machine.proofs.LoneNodeAgreement.{sends_message}
 use Rattle.bus_machine.proofs.AgreementChanges.{with_stop_agrees, with_flights_agrees, node_set, is_component}
 use Rattle.bus_machine.proofs.AgreementChanges.{with_node_agrees, slots_of}
 

@@ -8,6 +8,6 @@ pub mod MissedStarts
 pub mod Machine
 pub mod Replay
 pub mod Agreement
-pub mod Targets
+pub mod ActionsAndTargets
 pub mod WorldTexts
 pub mod proof

@@ -1,4 +1,4 @@
 -- What the theorem of the program does not rest on: definitions of contracts below it, of laws, and of proofs.
 pub mod StoppedCounterRuns
-pub mod MachineLaws
+pub mod AgreementLaws
 pub mod TargetExamples

@@ -1,5 +1,5 @@
 //! Laws of the machine. The functions do nothing: their contracts are the laws.
-ghost use Rattle.bus_machine.specs.proof.MachineLaws.{OpeningAgrees, StepKeepsAgreement, ReplayAgrees};
+ghost use Rattle.bus_machine.specs.proof.AgreementLaws.{OpeningAgrees, StepKeepsAgreement, ReplayAgrees};
 ghost use Rattle.bus_machine.specs.proof.TargetExamples.{NodesHaveTargets};
 ghost use Rattle.bus_machine.specs.proof.StoppedCounterRuns.{counters, early_arrival, early_lines, lost_message};
 ghost use Rattle.bus_machine.specs.proof.StoppedCounterRuns.{lost_lines, Tells};

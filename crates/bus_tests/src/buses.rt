@@ -1,5 +1,5 @@
 //! The bus, call by call.
-use crate::calls::{
+use crate::bus_calls::{
     bus_of, count, finish, finish_here, is_in_flight, meet, phase, repeat, send, start, step,
     take_due, tells,
 };

@@ -7,7 +7,7 @@ mod accepted_design;
 #[cfg(test)]
 mod buses;
 #[cfg(test)]
-mod calls;
+mod bus_calls;
 #[cfg(test)]
 mod late_jobs;
 #[cfg(test)]

@@ -9,7 +9,7 @@ ghost use Rattle.code_listing.specs.Listings.{component_lines};
 ghost use Rattle.code_listing.specs.NumberRanges.{NumberFits, FirstFits, EntryFits, EntriesFit, CodeFits, NumbersFit};
 
 use crate::instr::add_instrs;
-use crate::names::state_word;
+use crate::operand_names::state_word;
 use pals_base::{BehaviourParts, Kind, NoMemory, PortDecl, StateDecl, VarDecl};
 use pals_model::{Component, DesignParts};
 use pals_report::{LineWord, add_line};

@@ -7,7 +7,7 @@ ghost use Rattle.pals_report.specs.proof.LineWords.{word_text};
 ghost use Rattle.code_listing.specs.Listings.{mnemonic, instr_line, instr_lines};
 ghost use Rattle.code_listing.specs.NumberRanges.{InstrFits};
 
-use crate::names::{port_word, slot_word, state_word};
+use crate::operand_names::{port_word, slot_word, state_word};
 use pals_base::{BehaviourParts, NoMemory};
 use pals_report::{LineWord, add_line};
 use step_code::Instr;

@@ -2,10 +2,10 @@
 #![tactic(auto)]
 
 mod component;
-mod design;
+mod period_and_bounds;
 mod instr;
 pub mod laws;
 mod listing;
-mod names;
+mod operand_names;
 
 pub use listing::add_listing;

@@ -6,7 +6,7 @@ ghost use Rattle.code_listing.specs.Listings.{lines_of_all, listing_lines, listi
 ghost use Rattle.code_listing.specs.NumberRanges.{AllFit};
 
 use crate::component::add_component;
-use crate::design::add_bounds;
+use crate::period_and_bounds::add_bounds;
 use pals_base::NoMemory;
 use pals_model::{Design, DesignParts};
 use pals_report::{LineWord, add_feeds, add_line, add_links, add_taps, whole_or_none};

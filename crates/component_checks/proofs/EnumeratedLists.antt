@@ -8,7 +8,7 @@ use Rattle.std.proofs.lemmas.Grind.{flat_map-append}
 use Rattle.std.proofs.lemmas.Option.{slice_get-get_or, get_or_from_slice_get}
 use Rattle.list_lemmas.proofs.ListOperations.{enumerate_from-push, length-take_within}
 use Rattle.annex_resolve.proofs.MappedLists.{map_next}
-use Rattle.annex_resolve.proofs.ResolvedSums.{take_next}
+use Rattle.annex_resolve.proofs.ResolvedTermsAndSums.{take_next}
 
 -- the number of one more thing is how many stand before it
 numbered_more : {A : Type 0} (xs more : List A) (i : ℕ) (x : A) → more ≡ xs ++ x ∷ [] → length xs ≡ i

@@ -13,7 +13,7 @@ use Rattle.aadl_names.specs.ReferenceResolution.{connections_of, type_number, ty
 use Rattle.aadl_uses.specs.declared.thread_locations.SubAt.{SubAt}
 use Rattle.aadl_uses.specs.Uses.{sub_at, below}
 use Rattle.aadl_uses.specs.proof.ImplementationTypes.{type_number_at}
-use Rattle.annex_resolve.proofs.ResolvedSums.{take_next}
+use Rattle.annex_resolve.proofs.ResolvedTermsAndSums.{take_next}
 use Rattle.component_checks.specs.declared.component_properties.ComponentProperties.{ComponentProperties}
 use Rattle.component_checks.specs.PropertyLookup.{type_lists, own_lists, sub_lists, lists_at, lists_along, root_lists}
 use Rattle.component_checks.specs.PropertyLookup.{first_in}

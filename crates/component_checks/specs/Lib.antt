@@ -1,8 +1,8 @@
 pub mod BoundsAndRates
-pub mod RateFindings
+pub mod PeriodAndAdaptorFindings
 pub mod PropertyLookup
 pub mod Times
-pub mod Threads
-pub mod Roots
-pub mod Types
+pub mod ThreadRatesAndFindings
+pub mod RootFindings
+pub mod TypeFindings
 pub mod proof

@@ -1,8 +1,8 @@
 //! What is wrong with adaptors.
 ghost use Rattle.std.specs.Prelude.{◌≡◌, ◌<◌, ◌++◌, OnOk, drop};
 ghost use Rattle.annex_resolve.specs.NamesAndFindings.{found_if};
-ghost use Rattle.component_checks.specs.RateFindings.{is_digit, is_first_digit, place_number, adaptor_named};
-ghost use Rattle.component_checks.specs.RateFindings.{kind_suits, is_right};
+ghost use Rattle.component_checks.specs.PeriodAndAdaptorFindings.{is_digit, is_first_digit, place_number, adaptor_named};
+ghost use Rattle.component_checks.specs.PeriodAndAdaptorFindings.{kind_suits, is_right};
 
 use crate::periods::name_and_number;
 use annex_resolve::Violation;
@@ -128,7 +128,7 @@ pub struct Carrier {
 }
 
 impl Carrier {
-    ghost use Rattle.component_checks.specs.RateFindings.{adaptor_findings, pair_findings};
+    ghost use Rattle.component_checks.specs.PeriodAndAdaptorFindings.{adaptor_findings, pair_findings};
 
     // Where the rates differ and one divides the other.
     fn add_adaptor_findings(

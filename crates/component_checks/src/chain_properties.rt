@@ -4,12 +4,12 @@ ghost use Rattle.aadl_tree.specs.proof.PlaceMaps.{kept_place};
 ghost use Rattle.aadl_tree.specs.proof.ValueViews.{association_view, associations_view, value_view};
 ghost use Rattle.aadl_names.specs.RecognisedProperties.{text_of};
 ghost use Rattle.component_checks.specs.proof.ChainProperties.{carried_by, adaptor_of};
-ghost use Rattle.component_checks.specs.RateFindings.{adaptor_named};
-ghost use Rattle.component_checks.specs.Threads.{says};
+ghost use Rattle.component_checks.specs.PeriodAndAdaptorFindings.{adaptor_named};
+ghost use Rattle.component_checks.specs.ThreadRatesAndFindings.{says};
 
 use crate::adaptor_named;
 use crate::property_lookup::property_in;
-use crate::quotes::unquoted;
+use crate::unquoted_strings::unquoted;
 use crate::word_values::is_word;
 use aadl_names::PropertyName;
 use aadl_tree::{Association, Value};

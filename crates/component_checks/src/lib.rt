@@ -12,7 +12,7 @@ pub mod component_property_lists;
 pub mod package_properties;
 pub mod periods;
 pub mod property_lookup;
-pub mod quotes;
+pub mod unquoted_strings;
 pub mod roots;
 pub mod threads;
 pub mod times;

@@ -3,7 +3,7 @@ ghost use Rattle.std.specs.Prelude.{◌≡◌, ◌≤◌, ◌++◌, IfOk, OnOk};
 ghost use Rattle.std.specs.Option.{ForSome};
 ghost use Rattle.pals_base.specs.declared.limits.TheConstants.{RATE};
 ghost use Rattle.bound_checker.specs.proof.OverflowLimits.{IsWithinHour};
-ghost use Rattle.component_checks.specs.RateFindings.{name_and_number, period_findings, bound_findings};
+ghost use Rattle.component_checks.specs.PeriodAndAdaptorFindings.{name_and_number, period_findings, bound_findings};
 
 use crate::bounds_and_rates::divides;
 use annex_resolve::Violation;

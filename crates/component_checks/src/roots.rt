@@ -5,7 +5,7 @@ ghost use Rattle.pals_base.specs.declared.limits.TheConstants.{RATE};
 ghost use Rattle.aadl_tree.specs.proof.PlaceMaps.{kept_place};
 ghost use Rattle.aadl_tree.specs.proof.PackageViews.{placed};
 ghost use Rattle.aadl_tree.specs.proof.ValueViews.{association_view};
-ghost use Rattle.component_checks.specs.Roots as spec;
+ghost use Rattle.component_checks.specs.RootFindings as spec;
 
 use crate::package_properties::Properties;
 use crate::property_lookup::root_property;

@@ -2,7 +2,7 @@
 ghost use Rattle.std.specs.Prelude.{◌≡◌, ◌++◌, OnOk};
 ghost use Rattle.aadl_tree.specs.proof.PackageViews.{placed};
 ghost use Rattle.annex_resolve.specs.NamesAndFindings.{found_if};
-ghost use Rattle.component_checks.specs.Threads as spec;
+ghost use Rattle.component_checks.specs.ThreadRatesAndFindings as spec;
 
 use crate::package_properties::Properties;
 use crate::property_lookup::innermost;

@@ -7,11 +7,11 @@ ghost use Rattle.aadl_tree.specs.proof.ValueViews.{value_view, values_view, asso
 ghost use Rattle.aadl_tree.specs.Values.{list};
 ghost use Rattle.aadl_tree.specs.proof.DeclarationViews.{feature_view, variable_view, annex_tree_view};
 ghost use Rattle.aadl_names.specs.RecognisedProperties.{only_text, text_of};
-ghost use Rattle.annex_resolve.specs.ExpressionTypes.{kind_in};
-ghost use Rattle.component_checks.specs.Types as spec;
+ghost use Rattle.annex_resolve.specs.ExpressionTypesAndFindings.{kind_in};
+ghost use Rattle.component_checks.specs.TypeFindings as spec;
 
 use crate::property_lookup::property_in;
-use crate::quotes::unquoted;
+use crate::unquoted_strings::unquoted;
 use aadl_names::PropertyName;
 use aadl_tree::{
     AnnexTree, Association, Direction, Feature, Identifiers, Reference, Value, VariableDeclaration,

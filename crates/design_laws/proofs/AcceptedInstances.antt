@@ -14,23 +14,23 @@ use Rattle.aadl_tree.specs.Declarations.{PackageTree}
 use Rattle.aadl_uses.specs.ThreadLocations.{thread_at}
 use Rattle.aadl_instance.specs.FlattenedDesign.{Parts, IsFlat}
 use Rattle.aadl_instance.specs.Instances.{chain_at}
-use Rattle.component_checks.specs.Threads.{thread_rate, greatest_rate}
+use Rattle.component_checks.specs.ThreadRatesAndFindings.{thread_rate, greatest_rate}
 use Rattle.model_violations.specs.IgnoredProperties.{ignored_names}
 use Rattle.design_laws.specs.proof.PackageNames.{AreNamed}
 use Rattle.model_violations.specs.UsedDeclarations.{IsUse}
 use Rattle.model_violations.specs.Violations.{Shown, shown_by, rates_of}
 use Rattle.design_laws.specs.proof.AcceptedInstances.{IsShown, NothingFound, HasDesign}
 use Rattle.design_laws.specs.InstanceDesigns.{component_in, link_in, feed_in, tap_in, all_of, IsDesignOf}
-use Rattle.design_laws.proofs.FaultlessParts.{NoFindings, all_parts}
+use Rattle.design_laws.proofs.SoundInstanceParts.{NoFindings, all_parts}
 use Rattle.design_laws.proofs.InstanceBehaviours.{ThreadLaw}
-use Rattle.design_laws.proofs.SoundRates.{root_time, root_bounds, bounds_keep, enough, some_time}
+use Rattle.design_laws.proofs.InstanceBoundsAndRates.{root_time, root_bounds, bounds_keep, enough, some_time}
 use Rattle.design_laws.proofs.MatchedLists.{Zipped, Made, zipped_weaker, made_twice}
 use Rattle.design_laws.proofs.DesignComponents as composing
 use Rattle.design_laws.proofs.DesignComponents.{components, is_small, thread_of, components_keep, components_few}
 use Rattle.design_laws.proofs.DesignComponents.{components_differ, greatest_is}
-use Rattle.design_laws.proofs.ChainEnds.{Sits}
-use Rattle.design_laws.proofs.DesignLinks.{links, feeds, taps, whole, links_keep, feeds_keep, taps_keep}
-use Rattle.design_laws.proofs.ShownInstances.{of_shown, to_shown}
+use Rattle.design_laws.proofs.ChainEndPorts.{Sits}
+use Rattle.design_laws.proofs.DesignLinkRules.{links, feeds, taps, whole, links_keep, feeds_keep, taps_keep}
+use Rattle.design_laws.proofs.ShownInstancesAndRules.{of_shown, to_shown}
 
 -- ---- the design
 module _ {tree : PackageTree ℕ} {name : List ℕ} {parts : Parts} (flat : IsFlat tree name parts) (used : ℕ → Bool)

@@ -12,7 +12,7 @@ use Rattle.pals_base.specs.PeriodBound.{least_period}
 use Rattle.pals_model.specs.DesignRules.{IsGamma}
 use Rattle.component_checks.specs.BoundsAndRates.{not_zero, in_order, skew_of, range_of, divides, is_rate, rate_of}
 use Rattle.component_checks.specs.BoundsAndRates.{gamma_by}
-use Rattle.component_checks.specs.RateFindings.{bound_findings, period_findings, name_and_number}
+use Rattle.component_checks.specs.PeriodAndAdaptorFindings.{bound_findings, period_findings, name_and_number}
 use Rattle.annex_resolve.specs.declared.violation.TheConstants.{NOT_DIVISOR, RATE_TOO_HIGH, PERIOD_TOO_SHORT}
 use Rattle.annex_resolve.specs.NamesAndFindings.{finding, found_if}
 use Rattle.design_laws.proofs.EmptyFindingLists.{not_wrong}

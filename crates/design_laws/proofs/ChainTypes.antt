@@ -21,9 +21,9 @@ use Rattle.aadl_uses.specs.Uses.{sub_at, below, standing, component_at}
 use Rattle.aadl_chains.specs.Chains.{Port, Place, port_at, Goes, Leads, port_of}
 use Rattle.aadl_instance.specs.FlattenedDesign.{Parts, IsFlat}
 use Rattle.annex_resolve.specs.declared.violation.TheConstants.{BAD_TYPE}
-use Rattle.annex_resolve.specs.ExpressionTypes.{kind_in, same_kind, fits}
+use Rattle.annex_resolve.specs.ExpressionTypesAndFindings.{kind_in, same_kind, fits}
 use Rattle.design_laws.proofs.EmptyFindingLists.{none_at, is_right}
-use Rattle.component_checks.specs.Types.{port_findings}
+use Rattle.component_checks.specs.TypeFindings.{port_findings}
 use Rattle.model_violations.specs.ConnectionsAndCarriers.{carries}
 use Rattle.model_violations.specs.ConnectionFindings.{site_port, site_kind, kind_at, ends_findings, delay_findings}
 use Rattle.model_violations.specs.ConnectionFindings.{connection_findings, connections_findings}
@@ -31,7 +31,7 @@ use Rattle.model_violations.specs.UsedDeclarations.{IsUse}
 use Rattle.model_violations.specs.DeclarationFindings.{thread_findings}
 use Rattle.model_violations.specs.Violations.{shown_by, used_findings, carriers_of}
 use Rattle.design_laws.specs.proof.PortKinds.{port_kind}
-use Rattle.design_laws.proofs.FaultlessParts.{declared_at, implementation_clean, stands_at, is_used}
+use Rattle.design_laws.proofs.SoundInstanceParts.{declared_at, implementation_clean, stands_at, is_used}
 use Rattle.design_laws.proofs.InstanceBehaviours.{joined, first_is, ports_clean}
 
 -- ---- a site that is declared has a port

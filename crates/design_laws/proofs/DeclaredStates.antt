@@ -13,7 +13,7 @@ use Rattle.aadl_tree.specs.Annexes.{Transition, AnnexTree}
 use Rattle.aadl_tree.specs.Declarations.{Declaration, Implementation, implementation, PackageTree}
 use Rattle.aadl_names.specs.declared.fault.PackageFault.{PackageFault}
 use Rattle.aadl_names.specs.declared.fault.PackageFault.TheVariants.{Unknown, WrongKind}
-use Rattle.aadl_names.specs.AnnexNames.{Known}
+use Rattle.aadl_names.specs.NameUsesInAnnexes.{Known}
 use Rattle.aadl_names.specs.BehaviourAnnexes as names
 use Rattle.aadl_names.specs.ReferenceResolution.{is_thread}
 use Rattle.aadl_names.specs.DuplicatesByNamespace.{twice_names}

@@ -25,14 +25,14 @@ use Rattle.aadl_names.specs.BehaviourAnnexes.{first_behaviour}
 use Rattle.aadl_uses.specs.ThreadLocations.{spelled_path, thread_at}
 use Rattle.aadl_instance.specs.BehaviourSizes.{count_in, variable_count, state_count}
 use Rattle.aadl_instance.specs.FlattenedDesign.{Parts, IsFlat}
-use Rattle.annex_resolve.specs.ExpressionTypes.{kind_named}
+use Rattle.annex_resolve.specs.ExpressionTypesAndFindings.{kind_named}
 use Rattle.annex_resolve.specs.BehavioursAndFindings.{state_at, states_in, states_of, declared, behaviour_of}
-use Rattle.component_checks.specs.Roots.{root_findings}
-use Rattle.component_checks.specs.Threads.{thread_rate, thread_findings, greater_rate, greatest_rate}
+use Rattle.component_checks.specs.RootFindings.{root_findings}
+use Rattle.component_checks.specs.ThreadRatesAndFindings.{thread_rate, thread_findings, greater_rate, greatest_rate}
 use Rattle.model_violations.specs.PortsAndVariables.{ins_in, outs_in, first_of, variable_of, variables_in, variables_of}
 use Rattle.model_violations.specs.PortsAndVariables.{named_of, var_of, values_of, scope_of}
 use Rattle.model_violations.specs.ThreadBehaviours.{first_annex, behaviour_by, behaviour_in}
-use Rattle.model_violations.proofs.FilteringLoops.{ports_both}
+use Rattle.model_violations.proofs.FilteredAndFirstItems.{ports_both}
 use Rattle.design_laws.specs.proof.PackageNames.{AreNamed}
 use Rattle.design_laws.proofs.PartitionedPairs.{pairs_from, all_unmapped}
 use Rattle.design_laws.proofs.PairwiseDistinctNames.{all_none}
@@ -40,10 +40,10 @@ use Rattle.design_laws.proofs.BoundsAndRates.{IsRateOf}
 use Rattle.model_violations.specs.UsedDeclarations.{IsUse}
 use Rattle.model_violations.specs.Violations.{shown_by, used_findings}
 use Rattle.design_laws.specs.InstanceDesigns.{component_by, component_in, thread_behaviour}
-use Rattle.design_laws.proofs.FaultlessParts.{names_clean, not_over, declared_at}
+use Rattle.design_laws.proofs.SoundInstanceParts.{names_clean, not_over, declared_at}
 use Rattle.design_laws.proofs.InstanceBehaviours.{ThreadLaw, ThreadIs, thread_is, root_no_thread, thread_behaves}
 use Rattle.design_laws.proofs.InstanceBehaviours.{seen_behaviour}
-use Rattle.design_laws.proofs.SoundRates.{root_time, rate_is}
+use Rattle.design_laws.proofs.InstanceBoundsAndRates.{root_time, rate_is}
 use Rattle.design_laws.proofs.PathTexts.{path_is, paths_differ, before_other}
 use Rattle.design_laws.proofs.MatchedLists.{Zipped, Made, all_made, zipped_length, all_zipped, pairs_zipped}
 

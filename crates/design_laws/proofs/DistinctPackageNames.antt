@@ -17,7 +17,7 @@ use Rattle.aadl_tree.specs.Annexes.{AnnexTree}
 use Rattle.aadl_tree.specs.Declarations.{Feature, Subcomponent, Connection, TypeDeclaration, Implementation}
 use Rattle.aadl_tree.specs.Declarations.{Declaration, type, implementation, PackageTree, declaration_parts}
 use Rattle.aadl_tree.specs.Declarations.{package_parts}
-use Rattle.aadl_tree.specs.proof.GrammarTrees.{IsGiven}
+use Rattle.aadl_tree.specs.proof.BehaviourFaultPlaces.{IsGiven}
 use Rattle.aadl_names.specs.declared.spelled_name.SpelledName.{SpelledName}
 use Rattle.aadl_names.specs.Spelling.{entry_of}
 use Rattle.aadl_names.specs.BehaviourAnnexes.{behaviours, variables_of, states_of}
@@ -28,13 +28,13 @@ use Rattle.aadl_names.specs.DuplicatesByNamespace.{twice_in_first, member_entrie
 use Rattle.aadl_names.specs.DuplicatesByNamespace.{implementation_entry, twice_names}
 use Rattle.aadl_names.specs.PackageFaults.{wrong_names, package_faults}
 use Rattle.aadl_names.specs.proof.PlaceOrder.{places_of}
-use Rattle.aadl_names.proofs.PlaceOrder.{places_rise}
+use Rattle.aadl_names.proofs.RisingPlaces.{places_rise}
 use Rattle.design_laws.specs.proof.PackageNames.{NamesDiffer}
 use Rattle.design_laws.proofs.PlacedNames.{Pairs, pairs_append, pairs_weaker, Rise, rise_back, in_front, in_back, IsIn}
 use Rattle.design_laws.proofs.PlacedNames.{Placed}
 use Rattle.design_laws.proofs.PairwiseDistinctNames.{where_true, Apart, Differs, names_differ}
-use Rattle.design_laws.proofs.DeclaredNames.{type_names, member_names, first_variables, first_states, rise_declarations}
-use Rattle.design_laws.proofs.DeclaredNames.{rise_one}
+use Rattle.design_laws.proofs.DeclaredNameOrder.{type_names, member_names, first_variables, first_states, rise_declarations}
+use Rattle.design_laws.proofs.DeclaredNameOrder.{rise_one}
 
 -- ---- pairs by their numbers
 pub pairs_all : {X : Type 0} (R : X → X → Type 0) (xs : List X) → Pairs R xs → AllPairs R xs

@@ -1,19 +1,19 @@
 -- Of the faults in a package's names, those of one kind at one place are equal.
 use Rattle.std.proofs.Common.{◌≡◌, ◌⊎◌, inl, inr, ◌∙◌, ℕ, List, Contains, refl, sym, ap}
 use Rattle.aadl_tree.specs.Declarations.{PackageTree, package_parts}
-use Rattle.aadl_tree.specs.GrammarTrees.{IsTreeOf}
+use Rattle.aadl_tree.specs.TextTreesAndFaults.{IsTreeOf}
 use Rattle.aadl_names.specs.declared.fault.PackageFault.{PackageFault}
 use Rattle.aadl_names.specs.declared.fault.PackageFault.TheVariants.{NoRoot, Unknown, Twice, WrongKind, Recursive}
 use Rattle.aadl_names.specs.declared.fault.PackageFault.TheVariants.{DeadEnd, TwoSources, TooMany, Memory}
 use Rattle.aadl_names.specs.FirstFaults.{place_of, number_of}
 use Rattle.aadl_names.specs.PackageFaults.{package_faults}
-use Rattle.aadl_names.proofs.PlaceOrder.{places_rise}
+use Rattle.aadl_names.proofs.RisingPlaces.{places_rise}
 use Rattle.design_laws.proofs.PlacedNames.{Rise}
 use Rattle.design_laws.proofs.NameFaultCoverage.{IsWrongKind, Covered, covered_append}
 use Rattle.design_laws.proofs.PossibleNameFaults.{possible}
-use Rattle.design_laws.proofs.FoundNameFaults.{wrong_covered}
-use Rattle.design_laws.proofs.RepeatedDeclarations.{twice_covered}
-use Rattle.design_laws.proofs.PackageFaultPlaces.{possible_clear}
+use Rattle.design_laws.proofs.CoveredNameFaults.{wrong_covered}
+use Rattle.design_laws.proofs.CoveredDuplicates.{twice_covered}
+use Rattle.design_laws.proofs.DistinctPackageFaultPlaces.{possible_clear}
 
 all_covered : (tree : PackageTree ℕ) (root : ℕ) → Covered (package_faults tree root) (possible tree)
 all_covered tree root = covered_append (wrong_covered tree root) (twice_covered tree)

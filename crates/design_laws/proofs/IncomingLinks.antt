@@ -13,7 +13,7 @@ use Rattle.aadl_chains.proofs.OutermostFirstWalks.{crossing_from}
 use Rattle.aadl_chains.proofs.LinksByWalks.{link_from, link_met, feed_met}
 use Rattle.aadl_chains.proofs.TracedChains.{traces_nothing, traces_itself, traces_root, traces_none_over}
 use Rattle.aadl_chains.specs.proof.Walks.{Climb, Crossing, nowhere, at_root, crosses, climb, OneEach, IsThreadPort}
-use Rattle.design_laws.proofs.TerminatingDescent.{Gives, gives}
+use Rattle.design_laws.proofs.OutPortSources.{Gives, gives}
 
 -- the one that comes into a port
 pub record Comes (tree : PackageTree ℕ) (root : ℕ) (to : Port) : Type 0 where

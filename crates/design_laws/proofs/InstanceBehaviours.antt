@@ -25,7 +25,7 @@ use Rattle.aadl_uses.specs.declared.thread_locations.SubAt.{SubAt}
 use Rattle.aadl_uses.specs.ThreadLocations.{sub_in, subs_along, thread_at}
 use Rattle.aadl_instance.specs.FlattenedDesign.{Parts, IsFlat}
 use Rattle.component_checks.specs.PropertyLookup.{sub_of, innermost}
-use Rattle.component_checks.specs.Types.{port_findings}
+use Rattle.component_checks.specs.TypeFindings.{port_findings}
 use Rattle.model_violations.specs.ChainEnds.{component_of}
 use Rattle.model_violations.specs.ThreadBehaviours as threads
 use Rattle.design_laws.specs.proof.PackageNames.{HasWords, NamesDiffer, AreNamed}
@@ -35,8 +35,8 @@ use Rattle.model_violations.specs.UsedDeclarations.{IsUse}
 use Rattle.model_violations.specs.DeclarationFindings.{thread_findings}
 use Rattle.model_violations.specs.Violations.{shown_by, used_findings}
 use Rattle.design_laws.specs.InstanceDesigns.{thread_behaviour, HasRules}
-use Rattle.design_laws.proofs.FaultlessParts.{names_clean, declared_at, implementation_clean, type_clean, stands_at}
-use Rattle.design_laws.proofs.FaultlessParts.{is_used}
+use Rattle.design_laws.proofs.SoundInstanceParts.{names_clean, declared_at, implementation_clean, type_clean, stands_at}
+use Rattle.design_laws.proofs.SoundInstanceParts.{is_used}
 
 -- ---- the component that stands at a path is that of its innermost subcomponent
 

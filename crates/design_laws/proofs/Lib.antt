@@ -8,71 +8,71 @@ pub mod BoundsAndRates
 pub mod AllowedAdaptors
 pub mod PlacedNames
 pub mod PairwiseDistinctNames
-pub mod DeclaredNames
+pub mod DeclaredNameOrder
 pub mod WordIdentifiers
 pub mod DistinctPackageNames
 pub mod PackageNames
 pub mod PartitionedPairs
 pub mod ThreadMemberNames
-pub mod DeclaredKinds
+pub mod KindsAndFirstValues
 pub mod DeclaredStates
 pub mod SoundThreadBehaviour
-pub mod FaultlessParts
+pub mod SoundInstanceParts
 pub mod InstanceBehaviours
-pub mod SoundTimes
-pub mod SoundRates
+pub mod PropertyTimes
+pub mod InstanceBoundsAndRates
 pub mod PathTexts
 pub mod MatchedLists
 pub mod DesignComponents
 pub mod NoViolations
-pub mod ShownInstances
+pub mod ShownInstancesAndRules
 pub mod UniqueLists
 pub mod AsymmetricOrders
 pub mod UniqueSorts
-pub mod UniqueDesigns
+pub mod UniqueInstancesAndDesigns
 pub mod NamesFromTokens
-pub mod AcceptedPackages
-pub mod PortNumbers
+pub mod AcceptedPackageDesigns
+pub mod PortAndThreadNumbers
 pub mod ChainTypes
-pub mod ChainEnds
-pub mod InstanceLinks
-pub mod SoundLinks
-pub mod LinkOrder
+pub mod ChainEndPorts
+pub mod LinksFromChains
+pub mod SingleLinkRules
+pub mod LinkOrderAndNames
 pub mod UniqueChainStarts
-pub mod DesignLinks
+pub mod DesignLinkRules
 pub mod AcceptedInstances
-pub mod DesignsOfSoundPackages
+pub mod DesignsOfShownInstances
 pub mod DistinctFaultPlaces
-pub mod ExpressionFaultPlaces
-pub mod ActionFaultPlaces
+pub mod DistinctExpressionFaultPlaces
+pub mod DistinctActionFaultPlaces
 pub mod PossibleNameFaults
-pub mod AnnexFaultPlaces
-pub mod PackageFaultPlaces
+pub mod DistinctAnnexFaultPlaces
+pub mod DistinctPackageFaultPlaces
 pub mod NameFaultCoverage
-pub mod FoundNameFaults
-pub mod RepeatedDeclarations
+pub mod CoveredNameFaults
+pub mod CoveredDuplicates
 pub mod FaultsAtOnePlace
 pub mod UniqueFirstFaults
 pub mod LeastNumbers
 mod InsertionSort
 mod DistinctNumbers
-mod ContainmentExistence
+mod ContainmentLists
 mod ReachedDeclarations
 mod ContainmentOrders
-mod ListedPaths
+mod PathLists
 mod SoundPackages
 mod FaultSearches
 mod FirstRecursion
 mod PortsReachingThreads
 mod PortsLeadingOut
-mod ConnectionFaults
-mod FirstFaultChecks
+mod FirstConnectionFault
+mod FirstFaultOrSound
 mod IncomingLinks
-mod ListedLinks
-mod TerminatingDescent
-mod ListedTaps
+mod LinkAndFeedLists
+mod OutPortSources
+mod TapLists
 mod FirstExceededLimits
-pub mod ExistingInstances
+pub mod FirstFaultOrInstance
 mod MemoryFreeLists
 mod MemoryFreeAnnexes
 pub mod MemoryFreeFaults

@@ -8,7 +8,7 @@ use Rattle.aadl_tree.specs.Declarations.{Implementation, PackageTree}
 use Rattle.aadl_names.specs.declared.name_roles.Role.{Role}
 use Rattle.aadl_names.specs.declared.name_roles.Usage.{Usage}
 use Rattle.aadl_names.specs.declared.name_roles.Usage.TheVariants.{Set, Send}
-use Rattle.aadl_names.specs.AnnexNames as u
+use Rattle.aadl_names.specs.NameUsesInAnnexes as u
 use Rattle.aadl_names.specs.BehaviourAnnexes.{states_of}
 use Rattle.aadl_names.specs.PackageFaults as p
 use Rattle.design_laws.proofs.MemoryFreeLists.{AreNamed, none, both, each, either, kind, unknown, second}

@@ -15,7 +15,7 @@ use Rattle.aadl_lex.specs.Tokens.{bytes_of}
 use Rattle.aadl_lex.proofs.TokenSpellings.{words_of}
 use Rattle.aadl_tree.specs.declared.mark.Mark.{Mark}
 use Rattle.aadl_tree.specs.declared.mark.Mark.TheVariants as k
-use Rattle.aadl_tree.specs.Marks.{keyword_of, symbol_of}
+use Rattle.aadl_tree.specs.KeywordsAndSymbols.{keyword_of, symbol_of}
 use Rattle.aadl_tree.specs.Terminals.{Kind, word, whole, real, quoted, unread, mark, other, word_kind, symbol_kind}
 use Rattle.aadl_tree.specs.Terminals.{class_kind, Spot, spots_from, spots, inside_behind}
 use Rattle.aadl_tree.specs.SpellingParts.{Section, feature_section, subcomponent_section, connection_section}
@@ -31,7 +31,7 @@ use Rattle.aadl_tree.specs.Declarations.{Feature, Subcomponent, TypeDeclaration,
 use Rattle.aadl_tree.specs.Declarations.{implementation, PackageTree, section_parts, feature_parts, subcomponent_parts}
 use Rattle.aadl_tree.specs.Declarations.{connection_parts, type_parts, ending_parts, implementation_name_parts}
 use Rattle.aadl_tree.specs.Declarations.{implementation_parts, declaration_parts, with_parts, package_parts}
-use Rattle.aadl_tree.specs.GrammarTrees.{IsTreeOf}
+use Rattle.aadl_tree.specs.TextTreesAndFaults.{IsTreeOf}
 use Rattle.aadl_names.specs.BehaviourAnnexes.{behaviours, variables_of, states_of}
 use Rattle.design_laws.specs.proof.PackageNames.{IsNamed, HasWords}
 use Rattle.design_laws.proofs.WordIdentifiers.{same_words}

@@ -26,7 +26,7 @@ use Rattle.design_laws.proofs.PlacedNames.{Pairs}
 use Rattle.design_laws.proofs.PairwiseDistinctNames.{one_name, Differs}
 use Rattle.design_laws.proofs.PartitionedPairs.{pairs_at, pairs_from, pairs_first, pairs_second, pairs_unmapped, all_at}
 use Rattle.design_laws.proofs.PartitionedPairs.{all_true}
-use Rattle.design_laws.proofs.FaultlessParts.{declared_at}
+use Rattle.design_laws.proofs.SoundInstanceParts.{declared_at}
 
 -- ---- words have no dots
 no_dot_by : (c : ℕ) (b : Bool) → nat_eq c 46 ≡ b → is_word_byte c ≡ true → b ≡ false

@@ -9,7 +9,7 @@ use Rattle.model_violations.proofs.NumberSets.{is_use}
 use Rattle.model_violations.proofs.FindingOrder.{goes_before_orders}
 use Rattle.design_laws.proofs.InsertionSort.{has_sorted}
 use Rattle.aadl_instance.proofs.Roots.{is_root_at, root_declared}
-use Rattle.design_laws.proofs.FirstFaultChecks.{uses}
+use Rattle.design_laws.proofs.FirstFaultOrSound.{uses}
 
 sorted_by : (tree : PackageTree ℕ) (parts : Parts) (used : ℕ → Bool) → IsUse tree parts.root used → HasList tree parts
 sorted_by tree parts used is =

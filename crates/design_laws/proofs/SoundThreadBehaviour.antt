@@ -12,13 +12,13 @@ use Rattle.annex_resolve.specs.declared.ports_and_variables.DeclaredValues.{Decl
 use Rattle.annex_resolve.specs.declared.scope.Scope.{Scope}
 use Rattle.annex_resolve.specs.BehavioursAndFindings.{annex_findings, behaviour_of}
 use Rattle.design_laws.specs.proof.FittingAnnexNames.{IsReady}
-use Rattle.component_checks.specs.Types.{port_findings, variables_findings}
+use Rattle.component_checks.specs.TypeFindings.{port_findings, variables_findings}
 use Rattle.model_violations.specs.PortsAndVariables.{ins_in, outs_in, variables_of, values_of, scope_of}
 use Rattle.model_violations.specs.ThreadBehaviours.{first_annex, annex_rules, behaviour_by, implementation_findings}
 use Rattle.design_laws.specs.proof.PackageNames.{HasWords, NamesDiffer}
 use Rattle.design_laws.specs.proof.ThreadBehaviours.{Behaves}
 use Rattle.design_laws.proofs.ThreadMemberNames.{IsPort, values_apart, values_words, states_apart, states_words}
-use Rattle.design_laws.proofs.DeclaredKinds.{ins_typed, outs_typed, variables_typed, variables_first, scope_fits}
+use Rattle.design_laws.proofs.KindsAndFirstValues.{ins_typed, outs_typed, variables_typed, variables_first, scope_fits}
 use Rattle.design_laws.proofs.DeclaredStates.{all_declared, first_clean}
 
 -- ---- ports are named by words

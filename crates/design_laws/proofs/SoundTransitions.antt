@@ -24,7 +24,7 @@ use Rattle.annex_resolve.specs.declared.departures.Departure.{Departure}
 use Rattle.annex_resolve.specs.declared.departures.GuardKind.{GuardKind}
 use Rattle.annex_resolve.specs.declared.violation.TheConstants.{DISPATCH_COUNT, NO_OTHERWISE, CYCLE_WITHOUT_COMPLETE}
 use Rattle.annex_resolve.specs.NamesAndFindings.{found_if}
-use Rattle.annex_resolve.specs.CycleRules.{is_on_cycle}
+use Rattle.annex_resolve.specs.IncompleteStateCycles.{is_on_cycle}
 use Rattle.annex_resolve.specs.BehavioursAndFindings.{declared, state_number, trigger_of, effect_of, edge_of}
 use Rattle.annex_resolve.specs.BehavioursAndFindings.{guard_types, effect_findings, transition_findings}
 use Rattle.annex_resolve.specs.BehavioursAndFindings.{breaks_dispatch, way_of, leg_of, ways_from, is_otherwise}

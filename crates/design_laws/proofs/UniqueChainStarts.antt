@@ -9,7 +9,7 @@ use Rattle.aadl_names.specs.declared.fault.PackageFault.TheVariants.{TwoSources}
 use Rattle.aadl_names.specs.declared.port_place.PortPlace.{PortPlace}
 use Rattle.aadl_names.specs.ReferenceResolution.{implementation_at, connections_of}
 use Rattle.aadl_uses.specs.Uses.{IsInUse}
-use Rattle.aadl_uses.specs.declared.connections.Wire.{Wire}
+use Rattle.aadl_uses.specs.declared.connections_by_target.Wire.{Wire}
 use Rattle.aadl_uses.specs.Wiring.{wire_of, wires_of, wires_at}
 use Rattle.aadl_uses.specs.SecondConnections.{target_in}
 use Rattle.aadl_chains.specs.Chains.{Port, Place, Leads, IsStart, IsSecondEnd}
@@ -18,7 +18,7 @@ use Rattle.aadl_chains.specs.proof.SoundConnections.{IsSound}
 use Rattle.aadl_chains.proofs.ChainsFromEnds.{one_into, none_into_start}
 use Rattle.aadl_chains.proofs.SoundConnections.{sound_by}
 use Rattle.aadl_instance.specs.FlattenedDesign.{Parts, IsFlat}
-use Rattle.design_laws.proofs.FaultlessParts.{not_found, names_clean}
+use Rattle.design_laws.proofs.SoundInstanceParts.{not_found, names_clean}
 
 -- a connection that goes into a port is there
 linked : (tree : PackageTree ℕ) (x : Implementation ℕ) (c : Option (Connection ℕ)) (s : PortPlace)

@@ -18,8 +18,8 @@ use Rattle.aadl_instance.specs.Faults.{IsOver, FoundIn, Found, IsFault}
 use Rattle.aadl_instance.proofs.FirstFaultUniqueness.{one_by_line}
 use Rattle.design_laws.proofs.PlacedNames.{Rise}
 use Rattle.design_laws.proofs.PossibleNameFaults.{possible}
-use Rattle.design_laws.proofs.PackageFaultPlaces.{possible_clear}
-use Rattle.design_laws.proofs.RepeatedDeclarations.{again_of, in_package, subcomponent_has, connection_has}
+use Rattle.design_laws.proofs.DistinctPackageFaultPlaces.{possible_clear}
+use Rattle.design_laws.proofs.CoveredDuplicates.{again_of, in_package, subcomponent_has, connection_has}
 use Rattle.design_laws.proofs.FaultsAtOnePlace.{one_finding}
 
 -- ---- limits: the line says what is above its limit

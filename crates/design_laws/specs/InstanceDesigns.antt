@@ -14,9 +14,9 @@ use Rattle.aadl_uses.specs.declared.thread_locations.ThreadAt.{ThreadAt}
 use Rattle.aadl_instance.specs.declared.chain.Chain.{Chain}
 use Rattle.aadl_instance.specs.declared.chain.ChainEnd.{ChainEnd}
 use Rattle.aadl_instance.specs.declared.chain.ChainEnd.TheVariants.{Thread, Root}
-use Rattle.component_checks.specs.RateFindings.{adaptor_named}
-use Rattle.component_checks.specs.Threads.{root_period, thread_rate}
-use Rattle.component_checks.specs.Roots.{root_gamma}
+use Rattle.component_checks.specs.PeriodAndAdaptorFindings.{adaptor_named}
+use Rattle.component_checks.specs.ThreadRatesAndFindings.{root_period, thread_rate}
+use Rattle.component_checks.specs.RootFindings.{root_gamma}
 use Rattle.model_violations.specs.ConnectionsAndCarriers.{connection_of, adaptor_text}
 use Rattle.model_violations.specs.ChainEnds.{component_of}
 use Rattle.model_violations.specs.ThreadBehaviours.{behaviour_in}

@@ -8,7 +8,7 @@ ghost use Rattle.model_violations.specs.Violations.{Shown};
 ghost use Rattle.design_laws.specs.proof.AcceptedInstances.{IsShown, NothingFound, HasDesign};
 ghost use Rattle.design_laws.specs.InstanceDesigns.{IsDesignOf};
 
-use crate::behaviours::no_findings_make_a_thread_behave;
+use crate::thread_behaviours::no_findings_make_a_thread_behave;
 
 /// An instance of a package whose names are words and differ, in which nothing is found, has a design,
 /// which keeps the rules of designs.

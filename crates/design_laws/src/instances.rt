@@ -6,7 +6,7 @@ ghost use Rattle.model_violations.specs.Violations.{Shown, AreViolations};
 ghost use Rattle.design_laws.specs.proof.AcceptedInstances.{IsShown, NothingFound};
 ghost use Rattle.design_laws.specs.InstanceDesigns.{HasRules};
 
-use crate::behaviours::no_findings_make_a_thread_behave;
+use crate::thread_behaviours::no_findings_make_a_thread_behave;
 
 /// Where the list of all that is wrong is empty, nothing is found.
 pub fn no_violations_are_no_findings()

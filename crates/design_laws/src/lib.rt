@@ -4,12 +4,12 @@
 //! And why each package has an instance and the list of all that is wrong with it, or a first fault, and has one alone.
 #![tactic(auto)]
 
-pub mod annexes;
-pub mod behaviours;
+pub mod annex_behaviours;
+pub mod thread_behaviours;
 pub mod chains;
 pub mod designs;
-pub mod existence;
-pub mod first_faults;
+pub mod package_outcomes;
+pub mod unique_faults;
 pub mod instances;
 pub mod names;
 pub mod packages;

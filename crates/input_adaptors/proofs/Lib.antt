@@ -1,9 +1,9 @@
 pub mod Extremes
-pub mod JoinedGroups
-pub mod Means
+pub mod OneMoreGroup
+pub mod MeanBounds
 pub mod PresentNumbers
 pub mod Quotient
-pub mod AdaptedTuples
-pub mod SilentGroups
+pub mod TupleLengthsAndGroups
+pub mod SilenceAndLatestNumber
 pub mod NumbersFromSource
 pub mod SpreadValues

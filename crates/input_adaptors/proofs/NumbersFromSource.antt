@@ -14,7 +14,7 @@ use Rattle.pals_base.specs.declared.values.Adaptor.{Adaptor}
 use Rattle.pals_base.specs.declared.values.Adaptor.TheVariants.{Repeat, First, Last, At, Latest, Max, Min, Average}
 use Rattle.pals_base.specs.Adaptors.{adapt, groups, joined, spread, present, of_present, latest_of}
 use Rattle.input_adaptors.proofs.Extremes.{Contains-tail, Contains-from_present, IsLeast-joined, IsGreatest-joined}
-use Rattle.input_adaptors.proofs.AdaptedTuples.{adapt-faster, adapt-slower}
+use Rattle.input_adaptors.proofs.TupleLengthsAndGroups.{adapt-faster, adapt-slower}
 
 -- the number of the port, if it has one, is among those of the tuple
 abbrev IsFrom : List PortValue → PortValue → Type 0

@@ -17,7 +17,7 @@ use Rattle.pals_base.specs.declared.values.Adaptor.TheVariants.{Repeat, First, L
 use Rattle.pals_base.specs.Adaptors.{adapt, spread, placed}
 use Rattle.pals_base.specs.AllowedAdaptors.{is_allowed, may_spread, may_join}
 use Rattle.input_adaptors.specs.proof.GroupsAndExtremes.{TakesPlace}
-use Rattle.input_adaptors.proofs.AdaptedTuples.{adapt-faster, length-spread, length-spread_all}
+use Rattle.input_adaptors.proofs.TupleLengthsAndGroups.{adapt-faster, length-spread, length-spread_all}
 
 placed_there : (n m j : ℕ) (v : PortValue) → j < m → j + 1 ≡ n → slice_index_or (placed n m v) j Absent ≡ v
 placed_there n m j v below here =

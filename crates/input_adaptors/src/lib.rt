@@ -2,7 +2,7 @@
 //! rate. What each adaptor means is `pals_base`'s `adapt`; the laws that it keeps are in `laws`.
 #![tactic(auto)]
 
-mod group;
+mod group_value;
 pub mod laws;
 mod to_higher_rate;
 mod to_lower_rate;

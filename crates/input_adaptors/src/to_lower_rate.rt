@@ -2,7 +2,7 @@
 ghost use Rattle.std.specs.Prelude.{◌≡◌, ◌<◌, ◌*◌, ◌^◌, IfOk, map, take, drop};
 ghost use Rattle.pals_base.specs.Adaptors.{joined, groups};
 
-use crate::group;
+use crate::group_value;
 use pals_base::{Adaptor, NoMemory, PortValue, Tuple};
 use std::alloc::Global;
 
@@ -20,7 +20,7 @@ pub fn join_all(
     let mut rest = places;
     for _group_number in 0..count {
         let (group, later) = rest.split_at((m as usize).min(rest.len()));
-        tuple.push(group::joined(adaptor, group))?;
+        tuple.push(group_value::joined(adaptor, group))?;
         rest = later;
     }
     Ok(tuple)
@@ -33,5 +33,5 @@ pub fn joined_place(adaptor: Adaptor, m: u32, places: &[PortValue], at: usize) -
 {
     let (_earlier, rest) = places.split_at((at * m as usize).min(places.len()));
     let (group, _later) = rest.split_at((m as usize).min(rest.len()));
-    group::joined(adaptor, group)
+    group_value::joined(adaptor, group)
 }

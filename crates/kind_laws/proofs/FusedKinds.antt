@@ -17,9 +17,9 @@ use Rattle.pals_model.specs.declared.design.Component.{Component}
 use Rattle.pals_model.specs.declared.design.Link.{Link}
 use Rattle.pals_model.specs.declared.design.Tap.{Tap}
 use Rattle.pals_model.specs.declared.design.DesignParts.{DesignParts}
-use Rattle.pals_model.specs.declared.inputs_and_parts.Env.{Env}
-use Rattle.pals_model.specs.declared.sources.PortSource.{PortSource}
-use Rattle.pals_model.specs.declared.sources.PortSource.TheVariants as source
+use Rattle.pals_model.specs.declared.inputs_parts_and_delays.Env.{Env}
+use Rattle.pals_model.specs.declared.port_sources.PortSource.{PortSource}
+use Rattle.pals_model.specs.declared.port_sources.PortSource.TheVariants as source
 use Rattle.pals_model.specs.ComponentInputs.{rate_of, rate_in, link_goes_to, feed_goes_to, from_feed, from_link}
 use Rattle.pals_model.specs.ComponentInputs.{source_of, sources_of, values_at, reading}
 use Rattle.pals_model.specs.PortKinds.{out_kind}
@@ -35,13 +35,13 @@ use Rattle.pals_runs.specs.declared.vote_faults_and_pairs.Pair.{Pair}
 use Rattle.plant_fuse.specs.FusedComposition.{ArePairs, is_back, is_forth, Inputs, inputs_to, outputs_in, left_by}
 use Rattle.plant_fuse.specs.FusedComposition.{left_before, round_tuple, message_on, messages_before, from_round}
 use Rattle.plant_fuse.specs.FusedComposition.{value_on, value_read, vector_of, frame_before, IsFused}
-use Rattle.plant_fuse.specs.FusedText.{fused_part}
+use Rattle.plant_fuse.specs.FusedReport.{fused_part}
 use Rattle.plant_fuse.proofs.FunctionTables.{map_map}
 use Rattle.plant_fuse.proofs.StepRanks.{is_controller, rank, rank_upto, rank_before, rank_beside, rank_in_round}
 use Rattle.plant_fuse.proofs.StepRanks.{rank_from_round}
 use Rattle.plant_fuse.proofs.PairLinks.{back_rates, forth_is, read_from_target}
 use Rattle.plant_fuse.proofs.StepDependencies.{read_at}
-use Rattle.triple_vote.proofs.TabulatedLists.{table-at}
+use Rattle.triple_vote.proofs.ListTablesAndSearches.{table-at}
 use Rattle.kind_laws.specs.proof.FusedKinds.{SolutionsFit}
 use Rattle.kind_laws.proofs.ElementsByIndex.{upwards_all, upwards_at, places_all, either_fits}
 use Rattle.kind_laws.proofs.InPortKinds.{MessagesFit, link_read, reading_fits}

@@ -14,8 +14,8 @@ use Rattle.pals_base.specs.StepSequences.{upwards, column}
 use Rattle.pals_model.specs.declared.design.Component.{Component}
 use Rattle.pals_model.specs.declared.design.Link.{Link}
 use Rattle.pals_model.specs.declared.design.DesignParts.{DesignParts}
-use Rattle.pals_model.specs.declared.inputs_and_parts.Env.{Env}
-use Rattle.pals_model.specs.declared.sources.PortSource.{PortSource}
+use Rattle.pals_model.specs.declared.inputs_parts_and_delays.Env.{Env}
+use Rattle.pals_model.specs.declared.port_sources.PortSource.{PortSource}
 use Rattle.pals_model.specs.ComponentInputs.{rate_of, root_of, values_at, link_goes_to, feed_goes_to, from_feed}
 use Rattle.pals_model.specs.ComponentInputs.{from_link, source_of, sources_of, read_feed, read_link, reading, inputs_of}
 use Rattle.pals_model.specs.PortKinds.{kind_of, in_kind, root_kind}
@@ -27,7 +27,7 @@ use Rattle.pals_model.proofs.AllElements.{index_fits}
 use Rattle.pals_model.proofs.KindsOfAdaptors.{absent_fits, adapt_fits}
 use Rattle.pals_model.proofs.KindsOfRounds.{place_of_column}
 use Rattle.plant_fuse.proofs.FunctionTables.{map_map}
-use Rattle.triple_vote.proofs.TabulatedLists.{table-at}
+use Rattle.triple_vote.proofs.ListTablesAndSearches.{table-at}
 use Rattle.kind_laws.proofs.ElementsByIndex.{upwards_all}
 
 abbrev pub MessagesFit : DesignParts → List (List PortValue) → Type 0

@@ -20,7 +20,7 @@ use Rattle.pals_model.specs.proof.FittingValues.{PortFits, TupleFits, PortsFit, 
 use Rattle.pals_model.proofs.AllElements.{map_all, every}
 use Rattle.pals_model.proofs.KindsOfSteps.{firing_fits, outputs_fit}
 use Rattle.pals_model.proofs.KindsOfAdaptors.{absent_fits}
-use Rattle.triple_vote.proofs.TabulatedLists.{table-at}
+use Rattle.triple_vote.proofs.ListTablesAndSearches.{table-at}
 
 -- ---- a port
 -- each value is a number

@@ -21,7 +21,7 @@ use Rattle.pals_model.specs.declared.design.Component.{Component}
 use Rattle.pals_model.specs.declared.design.Link.{Link}
 use Rattle.pals_model.specs.declared.design.Tap.{Tap}
 use Rattle.pals_model.specs.declared.design.DesignParts.{DesignParts}
-use Rattle.pals_model.specs.declared.inputs_and_parts.Env.{Env}
+use Rattle.pals_model.specs.declared.inputs_parts_and_delays.Env.{Env}
 use Rattle.pals_model.specs.ComponentInputs.{rate_of, values_at, inputs_of}
 use Rattle.pals_model.specs.PortKinds.{out_kind}
 use Rattle.pals_model.specs.Composition.{no_frame}
@@ -36,7 +36,7 @@ use Rattle.triple_vote.specs.Votes.{same_port, vote, votes}
 use Rattle.triple_vote.specs.Replicas.{is_replicated, copies_of, receivers_in, Voted, frame_at, heard_by, first_frame}
 use Rattle.triple_vote.specs.Replicas.{first_tuple, vopening, steps_in, replica_steps, tuple_at, is_fault, fault_or}
 use Rattle.triple_vote.specs.Replicas.{own_message, sent_to, vote_of, receives_on, vnext, vcomp, vshown_by, vshown}
-use Rattle.triple_vote.proofs.TabulatedLists.{length-upwards, table-at, found}
+use Rattle.triple_vote.proofs.ListTablesAndSearches.{length-upwards, table-at, found}
 use Rattle.triple_vote.proofs.ReplicaRounds.{has_first, has_three}
 use Rattle.kind_laws.specs.proof.VotedKinds.{FaultFits, FaultsFit, VotesFit, ShownFit}
 use Rattle.kind_laws.proofs.ElementsByIndex.{upwards_all, either_fits}

@@ -12,7 +12,7 @@ use Rattle.std.proofs.lemmas.List.Sums.{length-filter, split_at_first, passes_at
 use Rattle.std.proofs.lemmas.Option.{slice_get_within, get_or_from_slice_get, same_Some}
 use Rattle.link_buffers.specs.declared.due_queue.DueEntry.{DueEntry}
 use Rattle.link_buffers.specs.proof.Flights.{IsFirst, least}
-use Rattle.link_buffers.specs.proof.Queues.{comes_before, is_entry, with_entry, without_entry}
+use Rattle.link_buffers.specs.proof.DueQueues.{comes_before, is_entry, with_entry, without_entry}
 use Rattle.link_buffers.proofs.FirstPassingItem.{without_any}
 use Rattle.link_buffers.proofs.DueOrder.{entry_is_itself, entry_from_test}
 

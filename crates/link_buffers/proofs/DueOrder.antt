@@ -3,7 +3,7 @@
 use Rattle.std.proofs.Common.{◌≡◌, ℕ, ◌≤◌, true, false, ap, ◌∙◌, arith}
 use Rattle.std.proofs.lemmas.Bool.Decides.{nat_tests}
 use Rattle.link_buffers.specs.declared.due_queue.DueEntry.{DueEntry}
-use Rattle.link_buffers.specs.proof.Queues.{comes_before, is_entry}
+use Rattle.link_buffers.specs.proof.DueQueues.{comes_before, is_entry}
 
 pub not_before_itself : (a : DueEntry) → comes_before a a ≡ false
 not_before_itself a = grind (arith, nat_tests)

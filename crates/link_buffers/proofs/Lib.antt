@@ -4,5 +4,5 @@ pub mod PartitionPoints
 pub mod RingCopies
 pub mod PartitionedLists
 pub mod DueOrder
-pub mod EntryPositions
+pub mod DueEntryPositions
 pub mod BufferLaws

@@ -1,5 +1,5 @@
 -- What the theorem of the program does not rest on: definitions of contracts below it, of laws, and of proofs.
 pub mod Flights
 pub mod Halving
-pub mod Queues
+pub mod DueQueues
 pub mod RingCopies

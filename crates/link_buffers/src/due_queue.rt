@@ -19,7 +19,7 @@ pub struct DueEntry {
 }
 
 impl DueEntry {
-    ghost use Rattle.link_buffers.specs.proof.Queues.{comes_before};
+    ghost use Rattle.link_buffers.specs.proof.DueQueues.{comes_before};
 
     // Whether the entry comes before another: by due reading, then by link, then by round.
     fn comes_before(&self, other: &DueEntry) -> bool
@@ -40,7 +40,7 @@ pub struct DueQueue {
 
 impl Model for DueQueue {
     ghost use Rattle.std.specs.Prelude.{◌-◌, ◌≤◌, length};
-    ghost use Rattle.link_buffers.specs.proof.Queues.{QueueState, IsRising};
+    ghost use Rattle.link_buffers.specs.proof.DueQueues.{QueueState, IsRising};
 
     ghost Value = { QueueState };
 
@@ -50,7 +50,7 @@ impl Model for DueQueue {
 }
 
 impl DueQueue {
-    ghost use Rattle.link_buffers.specs.proof.Queues.{queue_of, IsRising, with_entry, without_entry, is_due_at};
+    ghost use Rattle.link_buffers.specs.proof.DueQueues.{queue_of, IsRising, with_entry, without_entry, is_due_at};
 
     /// A queue without entries, and without room for any.
     pub fn new(alloc: Global) -> Result<DueQueue, NoMemory>

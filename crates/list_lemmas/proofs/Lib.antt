@@ -3,6 +3,6 @@ pub mod Numbers
 pub mod ListOperations
 pub mod ElementPositions
 pub mod Elements
-pub mod ElementPairs
+pub mod PairwiseProperties
 pub mod Options
 pub mod Results

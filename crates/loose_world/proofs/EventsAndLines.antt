@@ -6,7 +6,7 @@ use Rattle.std.specs.Prelude.{slice_index_or}
 use Rattle.std.proofs.lemmas.List.{take_more}
 use Rattle.std.proofs.lemmas.List.Concat.{flat_map-append}
 use Rattle.pals_model.specs.RoundTexts.{line_end, text_of}
-use Rattle.pals_runs.specs.declared.events.Event.{Event}
+use Rattle.pals_runs.specs.declared.events_and_faults.Event.{Event}
 use Rattle.pals_bus.specs.BusValues.{BusValue}
 use Rattle.loose_world.specs.LooseRuns.{InTurn, told_by}
 

@@ -2,8 +2,8 @@
 use Rattle.std.proofs.Common.{◌≡◌, ◌∙◌, ℕ, List, [], ◌∷◌, ◌++◌, take, false, refl, sym, ap, subst, append_assoc}
 use Rattle.std.proofs.lemmas.List.{append-nil}
 use Rattle.step_code.specs.declared.instr.CodeParts.{CodeParts}
-use Rattle.pals_runs.specs.declared.events.Event.{Event}
-use Rattle.pals_runs.specs.declared.events.EventFault.{EventFault}
+use Rattle.pals_runs.specs.declared.events_and_faults.Event.{Event}
+use Rattle.pals_runs.specs.declared.events_and_faults.EventFault.{EventFault}
 use Rattle.pals_runs.specs.declared.journal.JournalEntry.{JournalEntry}
 use Rattle.pals_runs.specs.declared.journal.Stop.{Stop}
 use Rattle.bus_machine.specs.States.{Run, opening}

@@ -1,9 +1,9 @@
 -- The journal of a list of loose events leads to where the bus stands.
 use Rattle.std.proofs.Common.{ℕ, List, take, false}
 use Rattle.step_code.specs.declared.instr.CodeParts.{CodeParts}
-use Rattle.pals_runs.specs.declared.events.Event.{Event}
+use Rattle.pals_runs.specs.declared.events_and_faults.Event.{Event}
 use Rattle.bus_machine.specs.States.{Run}
-use Rattle.bus_machine.specs.proof.MachineLaws.{IsRunOf}
+use Rattle.bus_machine.specs.proof.AgreementLaws.{IsRunOf}
 use Rattle.pals_bus.specs.BusValues.{BusValue}
 use Rattle.pals_bus.specs.proof.NodeAndCodeValues.{opening_bus}
 use Rattle.loose_world.specs.declared.loose_run.LooseEnd.{LooseEnd}

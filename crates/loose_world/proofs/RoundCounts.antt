@@ -16,22 +16,22 @@ use Rattle.pals_model.specs.DesignRules.{IsComponent}
 use Rattle.pals_model.proofs.FirstMatches.{at_element}
 use Rattle.pals_runs.specs.declared.journal.Phase.{Phase}
 use Rattle.pals_runs.specs.declared.journal.Phase.TheVariants.{Waiting, Running, Between, Holding, Done}
-use Rattle.pals_runs.specs.declared.events.Event.{Event}
-use Rattle.pals_runs.specs.declared.events.Event.TheVariants as event
+use Rattle.pals_runs.specs.declared.events_and_faults.Event.{Event}
+use Rattle.pals_runs.specs.declared.events_and_faults.Event.TheVariants as event
 use Rattle.bus_machine.specs.Plans.{component_at, plan_of, no_component}
 use Rattle.bus_machine.specs.Nodes.{NodeState, opening_node}
 use Rattle.bus_machine.specs.States.{Run, opening, BusState, node_at, no_node}
 use Rattle.bus_machine.specs.MissedStarts.{sent_rounds}
 use Rattle.bus_machine.specs.Machine.{BusEvent, IsStep}
 use Rattle.bus_machine.specs.Agreement.{PhaseAgrees}
-use Rattle.bus_machine.specs.proof.MachineLaws.{IsRunOf}
+use Rattle.bus_machine.specs.proof.AgreementLaws.{IsRunOf}
 use Rattle.bus_machine.specs.WorldTexts.{is_finish, sender, sends_of, finished_by}
 use Rattle.pals_bus.specs.BusValues.{BusValue, Happens}
 use Rattle.pals_bus.specs.proof.NodeAndCodeValues.{opening_bus}
 use Rattle.loose_world.specs.proof.StepAndSendCounts.{steps_in_hand, steps_finished, is_send, IsCounted}
 use Rattle.loose_world.specs.LooseRuns.{InTurn}
 use Rattle.loose_world.specs.proof.UndergoneEvents.{Undergoes, IsLeftBy, IsReplayed}
-use Rattle.loose_world.specs.proof.EventSenders.{with_sender, senders}
+use Rattle.loose_world.specs.proof.SendersAndSentCopies.{with_sender, senders}
 use Rattle.loose_world.proofs.SentLines.{and_sender}
 use Rattle.loose_world.proofs.StepAndSendCounts.{step_counts}
 use Rattle.loose_world.proofs.UndergoneEvents.{stays_replayed, opens_replayed, events_replay}

@@ -16,8 +16,8 @@ use Rattle.pals_model.specs.Composition.{msg}
 use Rattle.pals_model.specs.Delays.{delay_of}
 use Rattle.pals_model.specs.Flights.{is_of, oldest}
 use Rattle.pals_model.specs.ComponentInputs.{links_from}
-use Rattle.pals_runs.specs.declared.events.Event.{Event}
-use Rattle.pals_runs.specs.declared.events.Event.TheVariants as event
+use Rattle.pals_runs.specs.declared.events_and_faults.Event.{Event}
+use Rattle.pals_runs.specs.declared.events_and_faults.Event.TheVariants as event
 use Rattle.bus_machine.specs.Plans.{component_at, plan_of}
 use Rattle.bus_machine.specs.Nodes.{NodeState, round_of}
 use Rattle.bus_machine.specs.NodeEvents.{sent_from, message_from}
@@ -26,11 +26,11 @@ use Rattle.bus_machine.specs.States.{Run, BusState, node_at, flight_at}
 use Rattle.bus_machine.specs.MissedStarts.{sent_rounds, rounds_sent_on}
 use Rattle.bus_machine.specs.Machine.{Send, IsStep, flight_after_send, after_send}
 use Rattle.bus_machine.specs.Agreement.{IsCopy, Agrees}
-use Rattle.bus_machine.specs.proof.MachineLaws.{IsRunOf}
+use Rattle.bus_machine.specs.proof.AgreementLaws.{IsRunOf}
 use Rattle.bus_machine.specs.WorldTexts.{sender, sends_of, sent_line, sent_lines}
-use Rattle.bus_machine.proofs.RunAgreement.{step_keeps_agreement}
-use Rattle.bus_machine.proofs.ListsAndFlights.{numbered_at, oldest_is_one}
-use Rattle.bus_machine.proofs.NodeAgreement.{MaySend}
+use Rattle.bus_machine.proofs.MessageAndRunAgreement.{step_keeps_agreement}
+use Rattle.bus_machine.proofs.ListsAndOldestCopies.{numbered_at, oldest_is_one}
+use Rattle.bus_machine.proofs.LoneNodeAgreement.{MaySend}
 use Rattle.bus_machine.proofs.AgreementChanges.{node_set}
 use Rattle.pals_report.specs.SentLines.{sent_line as line}
 use Rattle.pals_bus.specs.BusValues.{BusValue, Happens}
@@ -38,7 +38,7 @@ use Rattle.pals_bus.specs.proof.NodeAndCodeValues.{opening_bus}
 use Rattle.loose_world.specs.SentLines.{message_lines, copy_lines, sent_lines as shown_lines}
 use Rattle.loose_world.specs.LooseRuns.{InTurn, told_by}
 use Rattle.loose_world.specs.proof.UndergoneEvents.{Undergoes, IsLeftBy, IsReplayed}
-use Rattle.loose_world.specs.proof.EventSenders.{senders, HasSent}
+use Rattle.loose_world.specs.proof.SendersAndSentCopies.{senders, HasSent}
 use Rattle.loose_world.proofs.RoundCounts.{sent_more, nothing_sent, rounds_are_sent}
 use Rattle.loose_world.proofs.SentLines.{round_lines, event_lines, and_sender, one_event}
 use Rattle.loose_world.proofs.StepAndSendCounts.{sender_before, sender_is_there}

@@ -3,16 +3,16 @@
 use Rattle.std.specs.Prelude.{◌≡◌, ℕ, List, [], ◌∷◌, ◌++◌, take, Some, slice_get}
 use Rattle.pals_model.specs.declared.design.DesignParts.{DesignParts}
 use Rattle.pals_model.specs.RoundTexts.{text_of}
-use Rattle.pals_runs.specs.declared.events.Event.{Event}
-use Rattle.pals_runs.specs.declared.events.EventFault.{EventFault}
+use Rattle.pals_runs.specs.declared.events_and_faults.Event.{Event}
+use Rattle.pals_runs.specs.declared.events_and_faults.EventFault.{EventFault}
 use Rattle.pals_runs.specs.declared.journal.Stop.{Stop}
 use Rattle.bus_machine.specs.Machine.{BusEvent}
 use Rattle.pals_bus.specs.BusValues.{BusValue}
 use Rattle.pals_bus.specs.LooseEvents.{loose_event, IsNamedIn, node_of, message_of, HappensLoose, GoesOn, IsRefused}
 use Rattle.loose_world.specs.SentLines.{sent_lines}
 use Rattle.loose_world.specs.declared.loose_run.LooseEnd.{LooseEnd}
-use Rattle.pals_runs.specs.declared.events.Event.TheVariants as event
-use Rattle.pals_runs.specs.declared.events.EventFault.TheVariants as fault
+use Rattle.pals_runs.specs.declared.events_and_faults.Event.TheVariants as event
+use Rattle.pals_runs.specs.declared.events_and_faults.EventFault.TheVariants as fault
 use Rattle.loose_world.specs.declared.loose_run.LooseEnd.TheVariants as end
 
 -- an event of a loose world of a design: no passing of time, and of a node or a link that is there

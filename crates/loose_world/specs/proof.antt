@@ -2,7 +2,7 @@
 pub mod FinishedRows
 pub mod StepAndSendCounts
 pub mod UndergoneEvents
-pub mod EventSenders
+pub mod SendersAndSentCopies
 pub mod JournalReplays
 pub mod ReportedWorlds
 pub mod WorldLaws

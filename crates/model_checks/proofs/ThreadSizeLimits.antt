@@ -21,7 +21,7 @@ use Rattle.aadl_instance.specs.FlattenedDesign.{Parts, IsFlat}
 use Rattle.aadl_instance.specs.Instances.{IsInstance}
 use Rattle.component_checks.specs.PropertyLookup.{sub_of, innermost}
 use Rattle.model_violations.specs.ChainEnds.{component_of}
-use Rattle.model_violations.proofs.SmallThreads.{is_small}
+use Rattle.model_violations.proofs.ThreadsWithinLimits.{is_small}
 use Rattle.model_checks.specs.proof.ThreadSizeLimits.{IsWithinLimits}
 
 -- ---- the innermost subcomponent of a path

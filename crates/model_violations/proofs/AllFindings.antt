@@ -3,8 +3,8 @@ use Rattle.std.proofs.Common.{◌≡◌, ◌∙◌, ℕ, Bool, List, [], ◌++�
 use Rattle.std.specs.Prelude.{flat_map}
 use Rattle.aadl_tree.specs.Declarations.{PackageTree}
 use Rattle.annex_resolve.specs.declared.violation.Violation.{Violation}
-use Rattle.component_checks.specs.Roots.{root_findings}
-use Rattle.component_checks.specs.Threads.{greatest_rate, thread_findings}
+use Rattle.component_checks.specs.RootFindings.{root_findings}
+use Rattle.component_checks.specs.ThreadRatesAndFindings.{greatest_rate, thread_findings}
 use Rattle.model_violations.specs.ConnectionsAndCarriers.{carries}
 use Rattle.model_violations.specs.UsedDeclarations.{has, type_used}
 use Rattle.model_violations.specs.DeclarationFindings.{declarations_findings}

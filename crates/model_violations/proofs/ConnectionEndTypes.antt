@@ -8,7 +8,7 @@ use Rattle.aadl_tree.specs.Declarations.{Subcomponent, Connection, Implementatio
 use Rattle.aadl_names.specs.declared.port_place.PortPlace.TheVariants.{Own, Inner}
 use Rattle.aadl_names.specs.ReferenceResolution.{features_of, implementation_at, subcomponents_of, referred, target_of}
 use Rattle.aadl_names.specs.ReferenceResolution.{type_number, type_numbered}
-use Rattle.aadl_uses.specs.declared.connections.Wire.{Wire}
+use Rattle.aadl_uses.specs.declared.connections_by_target.Wire.{Wire}
 use Rattle.aadl_uses.specs.Uses.{below}
 use Rattle.aadl_uses.specs.Wiring.{wire_of, wires_of, wires_at}
 use Rattle.aadl_uses.specs.proof.ImplementationTypes.{type_number_at}

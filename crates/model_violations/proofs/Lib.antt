@@ -1,8 +1,8 @@
-pub mod FilteringLoops
-pub mod BehaviourSettings
+pub mod FilteredAndFirstItems
+pub mod PortAndVariableLists
 pub mod SpellingTables
 pub mod NumberSets
-pub mod SmallThreads
+pub mod ThreadsWithinLimits
 pub mod RateBounds
 pub mod ChainCarriers
 pub mod FindingOrder

@@ -9,9 +9,9 @@ use Rattle.aadl_uses.specs.declared.thread_locations.ThreadAt.{ThreadAt}
 use Rattle.aadl_instance.specs.declared.chain.ChainEnd.{ChainEnd}
 use Rattle.aadl_instance.specs.declared.chain.ChainEnd.TheVariants.{Thread, Root}
 use Rattle.aadl_instance.specs.Instances.{port_name}
-use Rattle.annex_resolve.specs.ExpressionTypes.{kind_in}
+use Rattle.annex_resolve.specs.ExpressionTypesAndFindings.{kind_in}
 use Rattle.component_checks.specs.PropertyLookup.{innermost}
-use Rattle.component_checks.specs.Types.{is_in}
+use Rattle.component_checks.specs.TypeFindings.{is_in}
 
 -- ---- the ports of a thread, in ports and out ports apart
 abbrev pub component_of : PackageTree ℕ → ThreadAt → Option (Implementation ℕ)

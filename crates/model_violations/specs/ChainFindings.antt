@@ -9,7 +9,7 @@ use Rattle.aadl_instance.specs.declared.chain.Chain.{Chain}
 use Rattle.annex_resolve.specs.declared.violation.Violation.{Violation}
 use Rattle.annex_resolve.specs.NamesAndFindings.{found_if}
 use Rattle.annex_resolve.specs.declared.violation.TheConstants.{NOT_DELAYED, STRAY_ADAPTOR}
-use Rattle.component_checks.specs.RateFindings.{adaptor_named, pair_findings}
+use Rattle.component_checks.specs.PeriodAndAdaptorFindings.{adaptor_named, pair_findings}
 use Rattle.model_violations.specs.ChainEnds.{end_name, end_kind, end_rate}
 use Rattle.model_violations.specs.ConnectionsAndCarriers.{connection_of, is_delayed, adaptor_text}
 

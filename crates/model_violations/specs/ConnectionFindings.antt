@@ -12,7 +12,7 @@ use Rattle.aadl_names.specs.ReferenceResolution.{port_named, ports_of, inner_por
 use Rattle.annex_resolve.specs.declared.violation.Violation.{Violation}
 use Rattle.annex_resolve.specs.declared.violation.TheConstants.{DELAYED_ROOT, STRAY_ADAPTOR}
 use Rattle.annex_resolve.specs.NamesAndFindings.{found_if}
-use Rattle.annex_resolve.specs.ExpressionTypes.{kind_in, misfit}
+use Rattle.annex_resolve.specs.ExpressionTypesAndFindings.{kind_in, misfit}
 use Rattle.model_violations.specs.ConnectionsAndCarriers.{is_delayed, adaptor_text}
 
 -- ---- the type of a port, by its number and by its name

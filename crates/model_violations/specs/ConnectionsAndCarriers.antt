@@ -7,7 +7,7 @@ use Rattle.aadl_names.specs.declared.recognised_properties.PropertyName.TheVaria
 use Rattle.aadl_names.specs.RecognisedProperties.{association_named, association_value, name_of, text_of}
 use Rattle.aadl_names.specs.ReferenceResolution.{implementation_at, connections_of}
 use Rattle.aadl_instance.specs.declared.chain.ConnAt.{ConnAt}
-use Rattle.component_checks.specs.Threads.{says}
+use Rattle.component_checks.specs.ThreadRatesAndFindings.{says}
 
 abbrev pub connection_of : PackageTree ℕ → ConnAt → Option (Connection ℕ)
 connection_of tree c = slice_get (connections_of (implementation_at tree c.declaration)) c.connection

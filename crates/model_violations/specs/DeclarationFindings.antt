@@ -6,7 +6,7 @@ use Rattle.aadl_tree.specs.Declarations.{implementation, PackageTree}
 use Rattle.aadl_names.specs.ReferenceResolution.{is_thread, implementation_at}
 use Rattle.annex_resolve.specs.declared.violation.Violation.{Violation}
 use Rattle.component_checks.specs.Times.{list_big}
-use Rattle.component_checks.specs.Types.{port_findings}
+use Rattle.component_checks.specs.TypeFindings.{port_findings}
 use Rattle.model_violations.specs.ConnectionFindings.{connections_findings}
 use Rattle.model_violations.specs.IgnoredProperties.{is_root_type}
 use Rattle.aadl_names.specs.declared.recognised_properties.PropertyHolder.TheVariants as holders

@@ -16,12 +16,12 @@ use Rattle.aadl_tree.specs.Annexes.{VariableDeclaration, AnnexTree}
 use Rattle.aadl_names.specs.declared.recognised_properties.PropertyName.TheVariants.{Initial}
 use Rattle.aadl_names.specs.RecognisedProperties.{association_named, association_value, name_of, only_text}
 use Rattle.aadl_names.specs.ReferenceResolution.{ports_of}
-use Rattle.component_checks.specs.Types.{is_in}
+use Rattle.component_checks.specs.TypeFindings.{is_in}
 use Rattle.annex_resolve.specs.declared.ports_and_variables.DeclaredValues.{DeclaredValues}
 use Rattle.annex_resolve.specs.declared.scope.Scope.{Scope}
 use Rattle.annex_resolve.specs.declared.scope.DeclaredName.{DeclaredName}
 use Rattle.annex_resolve.specs.declared.scope.Meaning.TheVariants.{InPort, OutPort, Variable as VariableNumber}
-use Rattle.annex_resolve.specs.ExpressionTypes.{kind_named, kind_in}
+use Rattle.annex_resolve.specs.ExpressionTypesAndFindings.{kind_named, kind_in}
 use Rattle.model_violations.specs.declared.declared_ports.Declared.{Declared}
 
 -- ---- what is declared, with its type, if that is Integer or Boolean, and its first value

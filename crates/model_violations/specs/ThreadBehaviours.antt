@@ -10,7 +10,7 @@ use Rattle.annex_resolve.specs.declared.violation.Violation.{Violation}
 use Rattle.annex_resolve.specs.declared.violation.TheConstants.{NO_INITIAL}
 use Rattle.annex_resolve.specs.NamesAndFindings.{finding}
 use Rattle.annex_resolve.specs.BehavioursAndFindings.{behaviour_of, annex_findings}
-use Rattle.component_checks.specs.Types.{variables_findings}
+use Rattle.component_checks.specs.TypeFindings.{variables_findings}
 use Rattle.model_violations.specs.PortsAndVariables.{variables_of, values_of, scope_of}
 
 -- the first behaviour annex, with its place

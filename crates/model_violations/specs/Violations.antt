@@ -8,8 +8,8 @@ use Rattle.aadl_instance.specs.FlattenedDesign.{Parts}
 use Rattle.aadl_instance.specs.Instances.{chain_at}
 use Rattle.aadl_uses.specs.ThreadLocations.{thread_at}
 use Rattle.annex_resolve.specs.declared.violation.Violation.{Violation}
-use Rattle.component_checks.specs.Threads.{thread_rate, greatest_rate, thread_findings}
-use Rattle.component_checks.specs.Roots.{root_findings}
+use Rattle.component_checks.specs.ThreadRatesAndFindings.{thread_rate, greatest_rate, thread_findings}
+use Rattle.component_checks.specs.RootFindings.{root_findings}
 use Rattle.model_violations.specs.ConnectionsAndCarriers.{carries}
 use Rattle.model_violations.specs.ChainFindings.{link_findings, feed_findings, tap_findings}
 use Rattle.model_violations.specs.UsedDeclarations.{IsUse, type_used}

@@ -1,7 +1,7 @@
 //! The list of all that is wrong with an instance.
 ghost use Rattle.std.specs.Prelude.{◌≡◌, ◌++◌, ◌||◌, ℕ, IfOk, OnOk, map, flat_map};
 ghost use Rattle.aadl_tree.specs.proof.PackageViews.{placed};
-ghost use Rattle.component_checks.specs.Threads as threads_spec;
+ghost use Rattle.component_checks.specs.ThreadRatesAndFindings as threads_spec;
 ghost use Rattle.model_violations.specs.ConnectionsAndCarriers.{carries};
 ghost use Rattle.model_violations.specs.ChainFindings.{link_findings, feed_findings, tap_findings};
 ghost use Rattle.model_violations.specs.Violations as spec;

@@ -5,7 +5,7 @@ ghost use Rattle.aadl_tree.specs.proof.DeclarationViews.{connection_view, declar
 ghost use Rattle.aadl_tree.specs.proof.DeclarationViews.{implementation_view, subcomponent_view, type_view};
 ghost use Rattle.model_violations.specs.IgnoredProperties as spec;
 
-use crate::ignored_properties::{add_annexes, add_list};
+use crate::ignored_in_list::{add_annexes, add_list};
 use aadl_names::PropertyHolder;
 use aadl_tree::{Connection, Declaration, Feature, Implementation, Subcomponent, TypeDeclaration};
 use pals_base::{Items, NoMemory, Text};

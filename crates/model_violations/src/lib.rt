@@ -3,7 +3,7 @@
 #![tactic(auto)]
 
 pub mod all_violations;
-pub mod behaviour_setting;
+pub mod behaviour_values_and_scope;
 pub mod carriers;
 pub mod chain_ends;
 pub mod chain_findings;
@@ -13,7 +13,7 @@ pub mod declared_ports;
 pub mod distinct_spellings;
 pub mod ignored_in_declaration;
 pub mod ignored_in_package;
-pub mod ignored_properties;
+pub mod ignored_in_list;
 pub mod sorted_findings;
 pub mod thread_behaviour;
 pub mod used_declarations;

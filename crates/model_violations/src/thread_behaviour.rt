@@ -11,7 +11,7 @@ ghost use Rattle.aadl_names.specs.ReferenceResolution.{implementation_at, ports_
 ghost use Rattle.model_violations.specs.ThreadBehaviours as spec;
 ghost use Rattle.model_violations.specs.PortsAndVariables.{variables_of, values_of, scope_of};
 
-use crate::behaviour_setting::setting_by;
+use crate::behaviour_values_and_scope::setting_by;
 use crate::declared_ports::{ins_in, outs_in};
 use crate::variables::variables_of;
 use aadl_tree::{Annex, AnnexContent, AnnexTree, Implementation};

@@ -14,14 +14,14 @@ use aadl_names::PropertyName;
 use aadl_tree::{AnnexTree, Identifier, Value, VariableDeclaration};
 use annex_resolve::type_names::kind_named;
 use component_checks::property_lookup::property_in;
-use component_checks::quotes::unquoted;
+use component_checks::unquoted_strings::unquoted;
 use pals_base::{Items, Kind, NoMemory, Text};
 use std::alloc::Global;
 
 const MOST: u64 = 9_223_372_036_854_775_807;
 
 // The number that the digits say, where it is a whole number of the language.
-#[tactic(auto, using(aadl_lex::proofs::ScanLengths::decimal_step))]
+#[tactic(auto, using(aadl_lex::proofs::ByteScanLoops::decimal_step))]
 fn number_of(digits: &[u8]) -> Option<i64>
     ensures { result ≡ (if nat_le (decimal digits.now) most then Some (pos (decimal digits.now)) else None) }
 {

@@ -1,6 +1,6 @@
 pub mod ValueShapes
 pub mod PropertyEntries
-pub mod SingleProperties
+pub mod SinglePropertyLists
 pub mod StructViews
 pub mod RoleTables
 pub mod PortEntries

@@ -2,7 +2,7 @@
 use Rattle.std.proofs.Common.{◌≡◌, ℕ, Bool, List, ap, ◌∙◌}
 use Rattle.std.specs.List.{flat_map}
 use Rattle.aadl_tree.specs.Annexes.{Transition}
-use Rattle.aadl_names.specs.AnnexNames.{Known}
+use Rattle.aadl_names.specs.NameUsesInAnnexes.{Known}
 use Rattle.aadl_names.specs.PackageFaults.{in_order, transition_uses}
 
 -- what is the same for all names is the same

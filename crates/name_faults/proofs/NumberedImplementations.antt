@@ -13,7 +13,7 @@ use Rattle.aadl_names.specs.ReferenceResolution.{type_numbered, referred, target
 use Rattle.aadl_names.specs.ReferenceResolution.{direction_of, with_direction}
 use Rattle.aadl_names.specs.proof.FirstFaultSoFar.{found}
 use Rattle.aadl_names.specs.PackageFaults.{root_type, sited, joined_faults, connection_faults}
-use Rattle.aadl_uses.specs.declared.connections.Wire.{Wire}
+use Rattle.aadl_uses.specs.declared.connections_by_target.Wire.{Wire}
 use Rattle.aadl_uses.specs.Uses.{below}
 use Rattle.aadl_uses.specs.Wiring.{wire_of, wires_of, wires_at}
 use Rattle.aadl_uses.specs.proof.ImplementationTypes.{type_number_by, type_number_at}

@@ -6,7 +6,7 @@ use Rattle.std.specs.Option.{option_or}
 use Rattle.list_lemmas.proofs.ListOperations.{drop-next}
 use Rattle.list_lemmas.proofs.Options.{option_or_assoc, option_or-none}
 use Rattle.aadl_names.proofs.FirstFaultSoFar.{none_left}
-use Rattle.name_faults.specs.proof.OptionalValues.{value_if, is_marked}
+use Rattle.name_faults.specs.proof.ConditionalValues.{value_if, is_marked}
 
 -- One turn of a loop adds what the first of the things that are left stands for.
 pub next_role : {A V : Type 0} (parts : List A → Option V) (here : A → Option V)

@@ -1,6 +1,6 @@
 -- What the theorem of the program does not rest on: definitions of contracts below it, of laws, and of proofs.
 pub mod BehaviourScopes
-pub mod OptionalValues
+pub mod ConditionalValues
 pub mod TypePortNames
 pub mod ExpectedBehaviours
 pub mod NumberedImplementations

@@ -14,7 +14,7 @@ ghost use Rattle.name_faults.specs.proof.BehaviourScopes.{known_by};
 ghost use Rattle.name_faults.specs.proof.TypePortNames.{HasRolesOf};
 ghost use Rattle.name_faults.specs.proof.ExpectedBehaviours.{annex_uses, still_expected};
 
-use crate::annex_sections::transitions_in;
+use crate::behaviour_sections::transitions_in;
 use crate::thread_category::is_thread;
 use crate::{BehaviourScope, check_transitions, state_names, variable_roles};
 use aadl_names::declarations_by_number::type_numbered;

@@ -12,7 +12,7 @@ ghost use Rattle.name_faults.specs.proof.NumberedImplementations.{StandsAt};
 
 use crate::check_properties;
 use crate::connections::check_connections;
-use crate::subcomponents::{check_subcomponents, same_category};
+use crate::subcomponents_and_ports::{check_subcomponents, same_category};
 use crate::types_and_annexes::check_variables;
 use aadl_names::declarations_by_number::type_numbered;
 use aadl_names::name_texts::spelled_implementation;

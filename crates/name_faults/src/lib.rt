@@ -3,31 +3,31 @@
 #![tactic(auto)]
 
 pub mod actions_and_expressions;
-pub mod annex_sections;
-pub mod behaviour_names;
+pub mod behaviour_sections;
+pub mod variable_and_state_names;
 pub mod behaviour_scope;
 mod behaviours;
 mod connections;
 mod declarations;
 pub mod duplicates_by_space;
 mod implementations;
-mod package;
+mod first_fault;
 mod port_duplicates;
 pub mod port_names;
 pub mod properties;
 pub mod shapes;
 pub mod space_entries;
-mod spelled_numbers;
-mod subcomponents;
+mod spelled_whole_numbers;
+mod subcomponents_and_ports;
 pub mod thread_category;
 pub mod transitions;
 pub mod type_ports;
 mod types_and_annexes;
 
-pub use behaviour_names::{state_names, variable_roles};
+pub use variable_and_state_names::{state_names, variable_roles};
 pub use behaviour_scope::BehaviourScope;
 pub use duplicates_by_space::{check_spaces, first_behaviour};
-pub use package::first_name_fault;
+pub use first_fault::first_name_fault;
 pub use port_names::{AllPortNames, PortNames};
 pub use properties::check_properties;
 pub use transitions::check_transitions;

@@ -10,7 +10,7 @@ ghost use Rattle.aadl_names.specs.proof.PortDuplicates as spec;
 ghost use Rattle.name_faults.specs.proof.TypePortNames.{AreNamesOf};
 
 use crate::port_names::PortNames;
-use aadl_names::earliest_places::{earliest_of, is_before};
+use aadl_names::earliest_by_name::{earliest_of, is_before};
 use aadl_names::{Finder, NumberedPlace, SpelledName};
 use aadl_tree::Feature;
 use std::alloc::AllocError;

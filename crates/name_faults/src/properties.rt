@@ -89,7 +89,7 @@ fn property_entries(alloc: Global, list: &[Association]) -> Result<Items<Spelled
 }
 
 // Finds the properties that are given twice in one list.
-#[tactic(auto, using(crate::proofs::SingleProperties::none_twice))]
+#[tactic(auto, using(crate::proofs::SinglePropertyLists::none_twice))]
 fn check_repeated(finder: &mut Finder, list: &[Association]) -> Result<(), AllocError>
     ensures { OnOk result (finder.new ≡ found finder.old (twice (property_entries (associations_view kept_place list.now)))) }
 {

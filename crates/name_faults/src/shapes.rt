@@ -7,7 +7,7 @@ ghost use Rattle.aadl_tree.specs.Values.{list};
 ghost use Rattle.aadl_tree.specs.proof.PlaceMaps.{kept_place};
 ghost use Rattle.aadl_names.specs.RecognisedProperties as spec;
 
-use crate::spelled_numbers::is_number;
+use crate::spelled_whole_numbers::is_number;
 use aadl_names::PropertyName;
 use aadl_names::time_units::unit_of;
 use aadl_tree::{Identifier, Quantity, Sign, UnsignedNumber, Value};

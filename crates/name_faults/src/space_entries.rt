@@ -10,7 +10,7 @@ ghost use Rattle.aadl_tree.specs.proof.PlaceMaps.{kept_place};
 ghost use Rattle.aadl_names.specs.Spelling.{entry_of};
 ghost use Rattle.aadl_names.specs.DuplicatesByNamespace as spec;
 
-use crate::annex_sections::{states_in, variables_in};
+use crate::behaviour_sections::{states_in, variables_in};
 use aadl_names::SpelledName;
 use aadl_names::name_texts::{entry_of, spelled_implementation};
 use aadl_tree::{

@@ -17,7 +17,7 @@ use crate::port_names::{AllPortNames, PortNames};
 use crate::space_entries::port_entries;
 use aadl_names::declarations_by_number::type_numbered;
 use aadl_names::duplicate_names::check_twice;
-use aadl_names::earliest_places::earliest_of;
+use aadl_names::earliest_by_name::earliest_of;
 use aadl_names::{Finder, NameTable, PackageFault, Role, SpelledName};
 use aadl_tree::{Declaration, Direction, Feature, PackageTree};
 use pals_base::Items;

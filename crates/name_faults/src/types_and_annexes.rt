@@ -9,8 +9,8 @@ ghost use Rattle.aadl_names.specs.BehaviourAnnexes.{variables_in};
 ghost use Rattle.aadl_names.specs.PackageFaults as spec;
 
 use crate::check_properties;
-use crate::subcomponents::check_ports;
-use aadl_names::names::same_word;
+use crate::subcomponents_and_ports::check_ports;
+use aadl_names::package_names::same_word;
 use aadl_names::{Finder, PropertyHolder};
 use aadl_tree::{Annex, AnnexContent, TypeDeclaration, VariableDeclaration};
 use std::alloc::AllocError;

@@ -11,9 +11,9 @@ use Rattle.bus_machine.specs.States.{flight_at}
 use Rattle.bus_machine.specs.Machine.{BusEvent, Arrive}
 use Rattle.pals_bus.specs.BusValues.{BusValue, Happens}
 use Rattle.pals_bus.specs.proof.DueMessages.{IsDueTo, TakesDue, takes_none, takes_next}
-use Rattle.run_laws.specs.proof.LockedSteps.{IsToStart, IsDueAt}
+use Rattle.run_laws.specs.proof.StepsUnderLock.{IsToStart, IsDueAt}
 use Rattle.run_laws.specs.Runs.{NoneDue, IsAwaited}
-use Rattle.run_laws.proofs.DueArrivals.{due_arrives}
+use Rattle.run_laws.proofs.DueArrivalsAndListPicks.{due_arrives}
 use Rattle.node_threads.specs.declared.node_end.NodeNote.{NodeNote}
 use Rattle.node_threads.specs.proof.SharedCourses.{CourseValue, course_of, clocks_of, IsToStartIn}
 use Rattle.node_threads.proofs.ChangesUnderLock.{Goes, stays_on, event_goes}

@@ -15,11 +15,11 @@ use Rattle.bus_machine.specs.declared.node_action.NodeAction.{NodeAction}
 use Rattle.bus_machine.specs.Plans.{plan_of}
 use Rattle.bus_machine.specs.States.{node_at}
 use Rattle.bus_machine.specs.Machine.{BusEvent, IsStep}
-use Rattle.bus_machine.specs.Targets.{target}
+use Rattle.bus_machine.specs.ActionsAndTargets.{target}
 use Rattle.pals_bus.specs.BusValues.{BusValue, Happens}
 use Rattle.run_laws.specs.NodeActions.{upcoming}
 use Rattle.run_laws.specs.Runs.{clock_at, no_clock, left_for, KeepsTo, Runs, picks_for, goes_on}
-use Rattle.run_laws.proofs.EndedLists.{stays_ended, waits_for}
+use Rattle.run_laws.proofs.EndedListClocks.{stays_ended, waits_for}
 use Rattle.node_threads.specs.declared.node_end.NodeNote.{NodeNote}
 use Rattle.node_threads.specs.declared.node_end.NodeNote.TheVariants as note
 use Rattle.node_threads.specs.proof.SharedCourses.{CourseValue, course_of, clocks_of, note_at, EndsAt, IsCourse, Stays}

@@ -1,5 +1,5 @@
 mod ChangesUnderLock
-mod NextActions
+mod NextTargetsAndStarts
 mod ArrivalsBeforeStart
 mod BusCalls
 mod NextReadings

@@ -21,7 +21,7 @@ use Rattle.bus_machine.specs.declared.node_action.Next.{Next}
 use Rattle.bus_machine.specs.Nodes.{NodeState}
 use Rattle.bus_machine.specs.Plans.{plan_of}
 use Rattle.bus_machine.specs.States.{node_at}
-use Rattle.bus_machine.specs.Targets.{target, action_in, next_in}
+use Rattle.bus_machine.specs.ActionsAndTargets.{target, action_in, next_in}
 use Rattle.pals_bus.specs.BusValues.{BusValue}
 use Rattle.pals_bus.specs.proof.Meeting.{target_in, HasEnded as HasStopped, GoesAt}
 use Rattle.run_laws.specs.NodeActions.{upcoming}
@@ -30,7 +30,7 @@ use Rattle.run_laws.proofs.NodePicks.{runs_agree}
 use Rattle.node_threads.specs.declared.node_end.NodeNote.{NodeNote}
 use Rattle.node_threads.specs.proof.SharedCourses.{CourseValue, clocks_of, course_of, EndsAt, IsCourse, IsOpen, IsNext}
 use Rattle.node_threads.specs.proof.SharedCourses.{IsReady}
-use Rattle.node_threads.proofs.NextActions.{target_fits}
+use Rattle.node_threads.proofs.NextTargetsAndStarts.{target_fits}
 use Rattle.node_threads.proofs.ChangesUnderLock.{Goes, pick_goes}
 
 -- ---- what is next

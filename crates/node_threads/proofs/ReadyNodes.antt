@@ -8,7 +8,7 @@ use Rattle.bus_machine.specs.Machine.{Step, Send}
 use Rattle.run_laws.specs.Runs.{Does}
 use Rattle.run_laws.proofs.NodePicks.{runs_agree}
 use Rattle.node_threads.specs.proof.SharedCourses.{CourseValue, IsCourse, IsReady, IsToStartIn, Allows}
-use Rattle.node_threads.proofs.NextActions.{start_waits}
+use Rattle.node_threads.proofs.NextTargetsAndStarts.{start_waits}
 
 starts : (c : CourseValue) (node : NodeNo) (round reading : ℕ) → IsCourse c
     → IsReady c node (action.Start round) reading → IsToStartIn c node reading

@@ -6,7 +6,7 @@ use Rattle.pals_base.specs.declared.limits.TheConstants.{COMPONENTS}
 use Rattle.pals_clock.specs.ClockStates.{ClockState}
 use Rattle.pals_clock.specs.declared.clock.Clocks.{Clocks}
 use Rattle.pals_clock.specs.declared.clock.Clocks.TheVariants.{Meet, Lists}
-use Rattle.bus_machine.specs.proof.MachineLaws.{IsRunOf}
+use Rattle.bus_machine.specs.proof.AgreementLaws.{IsRunOf}
 use Rattle.pals_bus.specs.BusValues.{BusValue}
 use Rattle.pals_bus.specs.proof.NodeAndCodeValues.{opening_bus}
 use Rattle.run_laws.specs.Runs.{lists_in, Runs}
@@ -15,7 +15,7 @@ use Rattle.node_threads.specs.declared.node_end.NodeEnd.TheVariants as ended
 use Rattle.node_threads.specs.declared.node_end.NodeNote.{NodeNote}
 use Rattle.node_threads.specs.proof.SharedCourses.{CourseValue, AreClocksOf, clocks_of, course_of, IsOf, Stays}
 use Rattle.node_threads.specs.declared.threads.RunEnd.{RunEnd}
-use Rattle.node_threads.specs.proof.NodeEnds.{EndsFit, IsOutcome}
+use Rattle.node_threads.specs.proof.NodeEndsAndOutcomes.{EndsFit, IsOutcome}
 use Rattle.node_threads.proofs.CourseOpenings.{Begins}
 
 -- ---- two courses of one run

@@ -19,9 +19,9 @@ use Rattle.pals_base.proofs.values.PortValue.TheSendSync.{the_field_send as port
 use Rattle.pals_runs.proofs.journal.Phase.TheSendSync.{the_field_send as phase_send}
 use Rattle.pals_runs.proofs.journal.JournalEntry.TheSendSync.{the_field_send as entry_send}
 use Rattle.pals_runs.proofs.journal.Stop.TheSendSync.{the_field_send as stop_send}
-use Rattle.pals_model.proofs.inputs_and_parts.Part.TheSendSync.{the_field_send as part_send}
-use Rattle.pals_model.proofs.inputs_and_parts.Env.TheSendSync.{the_field_send as env_send}
-use Rattle.pals_model.proofs.inputs_and_parts.Delays.TheSendSync.{the_field_send as delays_send}
+use Rattle.pals_model.proofs.inputs_parts_and_delays.Part.TheSendSync.{the_field_send as part_send}
+use Rattle.pals_model.proofs.inputs_parts_and_delays.Env.TheSendSync.{the_field_send as env_send}
+use Rattle.pals_model.proofs.inputs_parts_and_delays.Delays.TheSendSync.{the_field_send as delays_send}
 use Rattle.pals_base.proofs.behaviour.Op.TheSendSync.{the_field_send as op_send, the_field_sync as op_sync}
 use Rattle.pals_base.proofs.behaviour.PortDecl.TheSendSync.{the_field_send as named_send, the_field_sync as named_sync}
 use Rattle.pals_base.proofs.behaviour.VarDecl.TheSendSync.{the_field_send as variable_send}
@@ -49,10 +49,10 @@ use Rattle.pals_node.specs.contracts.node_fields.NodeFields.{the_field as node_f
 use Rattle.pals_node.specs.contracts.node.Node.{the_field as node}
 use Rattle.pals_bus.specs.contracts.node_list.NodeList.{the_field as node_list}
 use Rattle.pals_bus.specs.contracts.node_list.NodeList.TheInside.{the_type as node_list_inside}
-use Rattle.pals_bus.specs.contracts.fields.BusFields.{the_field as bus_fields}
+use Rattle.pals_bus.specs.contracts.bus_fields.BusFields.{the_field as bus_fields}
 use Rattle.pals_bus.specs.contracts.bus.Bus.{the_field as bus}
 use Rattle.node_threads.specs.contracts.course.SharedRun.{the_field as course}
-use Rattle.node_threads.specs.contracts.locked.Locked.{the_field as locked}
+use Rattle.node_threads.specs.contracts.locked_state.Locked.{the_field as locked}
 use Rattle.node_threads.specs.contracts.sleepers.ThreadSlot.{the_field as seat}
 use Rattle.node_threads.specs.contracts.sleepers.Sleepers.{the_field as sleepers}
 use Rattle.node_threads.specs.contracts.wake_list.WakeList.{the_field as wakes}

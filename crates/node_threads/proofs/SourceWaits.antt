@@ -12,7 +12,7 @@ use Rattle.bus_machine.specs.States.{node_at, link_at}
 use Rattle.bus_machine.specs.MissedStarts.{sent_rounds}
 use Rattle.pals_bus.specs.BusValues.{BusValue}
 use Rattle.run_laws.specs.Runs.{IsAwaited}
-use Rattle.run_laws.proofs.MeetingStops.{link_is}
+use Rattle.run_laws.proofs.MeetingStopsAndBounds.{link_is}
 use Rattle.node_threads.specs.declared.node_end.NodeNote.{NodeNote}
 use Rattle.node_threads.specs.declared.node_end.NodeNote.TheVariants as note
 use Rattle.node_threads.specs.proof.SharedCourses.{CourseValue, clocks_of, course_of, note_at, EndsAt, IsCourse}

@@ -1,12 +1,12 @@
 //! The course of a run: the bus, the lists of its nodes' clocks, and what is noted of each node.
 ghost use Rattle.std.specs.Prelude.{◌≡◌, ◌<◌, ◌≤◌, length, false, None, IsTrue, IfOk};
 ghost use Rattle.pals_base.specs.declared.limits.TheConstants.{COMPONENTS};
-ghost use Rattle.bus_machine.specs.proof.MachineLaws.{IsRunOf};
+ghost use Rattle.bus_machine.specs.proof.AgreementLaws.{IsRunOf};
 ghost use Rattle.pals_bus.specs.proof.Meeting.{HasEnded};
 ghost use Rattle.pals_bus.specs.proof.NodeAndCodeValues.{opening_bus};
 ghost use Rattle.run_laws.specs.Runs.{target_of, Begin, Runs};
 ghost use Rattle.node_threads.specs.proof.SharedCourses.{clocks_of, IsCourse, Stays, IsOpen, IsDone, next_in, is_send};
-ghost use Rattle.node_threads.specs.proof.NodeEnds.{AllEnded, EndsFit, end_in, phase_end, closed_end};
+ghost use Rattle.node_threads.specs.proof.NodeEndsAndOutcomes.{AllEnded, EndsFit, end_in, phase_end, closed_end};
 
 use crate::clocks::same_lists;
 use crate::node_end::{NodeEnd, NodeNote};

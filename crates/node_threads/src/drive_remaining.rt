@@ -2,13 +2,13 @@
 //! thread came back without its job, are driven to their ends with no other thread.
 ghost use Rattle.std.specs.Prelude.{IfOk};
 ghost use Rattle.node_threads.specs.proof.SharedCourses.{Stays};
-ghost use Rattle.node_threads.specs.proof.NodeEnds.{EndsFit, IsOutcome};
+ghost use Rattle.node_threads.specs.proof.NodeEndsAndOutcomes.{EndsFit, IsOutcome};
 
 use crate::course::SharedRun;
-use crate::job_observers::{Gate, done_by};
+use crate::job_gate::{Gate, done_by};
 use crate::node_end::NodeEnd;
 use crate::threads::RunEnd;
-use crate::under_lock::NextMove;
+use crate::moves_under_lock::NextMove;
 use pals_base::{Items, NoMemory, NodeNo};
 use std::alloc::Global;
 use std::mem::swap;

@@ -3,14 +3,14 @@ ghost use Rattle.std.specs.Prelude.{◌≡◌, ◌≢◌, ◌≤◌, ℕ, length
 ghost use Rattle.pals_base.specs.declared.limits.TheConstants.{COMPONENTS};
 ghost use Rattle.pals_bus.specs.proof.NodeAndCodeValues.{opening_bus};
 ghost use Rattle.node_threads.specs.proof.SharedCourses.{AreClocksOf};
-ghost use Rattle.node_threads.specs.proof.NodeEnds.{IsOutcome};
+ghost use Rattle.node_threads.specs.proof.NodeEndsAndOutcomes.{IsOutcome};
 ghost use Rattle.node_threads.specs.declared.node_end.NodeEnd.TheVariants as ended;
 
 use crate::course::SharedRun;
 use crate::drive_remaining::drive_with_spare;
 use crate::host::Host;
-use crate::job_observers::Gate;
-use crate::locked::Locked;
+use crate::job_gate::Gate;
+use crate::locked_state::Locked;
 use crate::node_end::NodeEnd;
 use crate::opening_course::open_with_spare;
 use crate::sleepers::Sleepers;

@@ -2,7 +2,7 @@
 //! and who is woken is seen by other threads alone, so no clause speaks of it.
 ghost use Rattle.std.specs.Prelude.{◌≡◌, IfOk, vec_len};
 
-use crate::locked::Locked;
+use crate::locked_state::Locked;
 use crate::sleeping_thread::Sleeper;
 use pals_base::{NoMemory, NodeNo};
 use std::alloc::Global;

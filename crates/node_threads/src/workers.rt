@@ -1,9 +1,9 @@
 //! What threads do to the course under the lock: each has one node, and the calling thread has the nodes
 //! that have no thread. Only the type of a course tells what comes out, so there are no clauses here.
-use crate::job_observers::{Gate, done_by};
-use crate::locked::Locked;
+use crate::job_gate::{Gate, done_by};
+use crate::locked_state::Locked;
 use crate::thread_admission::Starter;
-use crate::under_lock::NextMove;
+use crate::moves_under_lock::NextMove;
 use crate::wake_signals::WakeSignals;
 use pals_base::NodeNo;
 use pals_node::Done;

@@ -2,7 +2,7 @@ pub mod PairwiseRelations
 pub mod TreeViews
 pub mod StepSequences
 pub mod LoopNumbers
-pub mod Division
+pub mod RemainderSigns
 pub mod ClockPicks
 pub mod SameTreeLengths
 pub mod UpwardNumbers

@@ -7,7 +7,7 @@ pub mod arithmetic;
 pub mod behaviour;
 pub mod behaviour_rules;
 pub mod expression_kinds;
-pub mod initial_frame;
+pub mod frames;
 pub mod items;
 pub mod laws;
 pub mod limits;

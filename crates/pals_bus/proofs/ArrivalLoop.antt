@@ -14,14 +14,14 @@ use Rattle.bus_machine.specs.LinkEvents.{is_in_flight}
 use Rattle.bus_machine.specs.States.{BusState, flight_at, link_at}
 use Rattle.bus_machine.specs.Machine.{Arrive, arrival, early_stop}
 use Rattle.bus_machine.specs.Replay.{entries, stop_entry}
-use Rattle.pals_bus.specs.declared.fields.BusFields.{BusFields}
+use Rattle.pals_bus.specs.declared.bus_fields.BusFields.{BusFields}
 use Rattle.pals_bus.specs.BusValues.{BusValue, Happens}
 use Rattle.pals_bus.specs.proof.BusInvariant.{Keeps, owed, run_of, state_of, value_of}
 use Rattle.pals_bus.specs.proof.DueQueues.{is_copy_of}
 use Rattle.pals_bus.specs.proof.DueMessages.{TakesDue, takes_next, AreLeft}
-use Rattle.pals_bus.proofs.CopiesDueTogether.{SameDue, same_dues}
-use Rattle.pals_bus.proofs.DueEntries.{if_some, copy_there, link_there}
-use Rattle.pals_bus.proofs.DueArrivals.{first_flies, first_in_flight, is_next, left_after}
+use Rattle.pals_bus.proofs.EqualDueReadings.{SameDue, same_dues}
+use Rattle.pals_bus.proofs.DueEntriesAndCopies.{if_some, copy_there, link_there}
+use Rattle.pals_bus.proofs.FirstDueArrival.{first_flies, first_in_flight, is_next, left_after}
 
 -- the first messages have arrived, and the others are left
 pub record Arriving (first now : BusFields) (node reading at : ℕ) (due : List DueEntry) : Type 0 where

@@ -10,7 +10,7 @@ use Rattle.pals_model.specs.declared.design.Link.{Link}
 use Rattle.link_buffers.specs.proof.Flights.{FlightState}
 use Rattle.pals_node.specs.proof.NodeValues.{NodeValue}
 use Rattle.pals_bus.specs.proof.BusInvariant.{HasRooms, copies_in}
-use Rattle.pals_bus.specs.proof.Placeholders.{no_flight, no_node_value}
+use Rattle.pals_bus.specs.proof.OutOfRangeDefaults.{no_flight, no_node_value}
 use Rattle.pals_bus.specs.proof.RoundMessages.{HasRoomFor, NoLessRoom}
 
 -- ---- copies

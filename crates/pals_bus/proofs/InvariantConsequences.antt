@@ -13,9 +13,9 @@ use Rattle.bus_machine.specs.Plans.{component_at, no_component}
 use Rattle.bus_machine.specs.Nodes.{NodeState}
 use Rattle.bus_machine.specs.States.{Run, node_at}
 use Rattle.bus_machine.specs.Agreement.{PhaseAgrees, Agrees}
-use Rattle.bus_machine.proofs.RunAgreement.{replay_agrees}
+use Rattle.bus_machine.proofs.MessageAndRunAgreement.{replay_agrees}
 use Rattle.pals_node.specs.proof.NodeValues.{NodeValue}
-use Rattle.pals_bus.specs.declared.fields.BusFields.{BusFields}
+use Rattle.pals_bus.specs.declared.bus_fields.BusFields.{BusFields}
 use Rattle.pals_bus.specs.proof.BusInvariant.{Keeps, run_of, state_of}
 use Rattle.pals_bus.proofs.NodeChanges.{node_here}
 

@@ -15,13 +15,13 @@ use Rattle.pals_model.specs.declared.design.Link.{Link}
 use Rattle.pals_model.specs.declared.design.DesignParts.{DesignParts}
 use Rattle.pals_model.specs.DesignRules.{IsDesign}
 use Rattle.link_buffers.specs.proof.Flights.{FlightState}
-use Rattle.link_buffers.specs.proof.Queues.{QueueState}
+use Rattle.link_buffers.specs.proof.DueQueues.{QueueState}
 use Rattle.bus_machine.specs.States.{no_link}
-use Rattle.pals_bus.specs.proof.Placeholders.{no_flight, no_queue}
+use Rattle.pals_bus.specs.proof.OutOfRangeDefaults.{no_flight, no_queue}
 use Rattle.pals_bus.specs.proof.RoundMessages.{is_from, HasRoomFor, HasRoomOn}
 use Rattle.pals_bus.specs.proof.DueQueues.{HasQueueRoomFor, HasQueueRoomOn}
 use Rattle.pals_bus.specs.proof.LinksFrom.{AreOutgoing, links_from, no_numbers, number_of}
-use Rattle.pals_bus.proofs.QueueSends.{all_the_same}
+use Rattle.pals_bus.proofs.QueueOpeningsAndSends.{all_the_same}
 
 -- those of the links from a node, where the first has this number
 abbrev pub numbers_from : ℕ → ℕ → List Link → List LinkNo

@@ -11,8 +11,8 @@ use Rattle.bus_machine.specs.States.{BusState, node_at, flight_at}
 use Rattle.bus_machine.specs.Machine.{BusEvent, Start, Step, Finish, Send, Drop, Repeat, is_allowed, on_step}
 use Rattle.pals_node.specs.proof.NodeValues.{JobValue}
 use Rattle.pals_node.specs.proof.Answers.{is_busy}
-use Rattle.pals_runs.specs.declared.events.Event.{Event}
-use Rattle.pals_runs.specs.declared.events.Event.TheVariants as event
+use Rattle.pals_runs.specs.declared.events_and_faults.Event.{Event}
+use Rattle.pals_runs.specs.declared.events_and_faults.Event.TheVariants as event
 use Rattle.bus_machine.specs.LinkEvents.{is_in_flight}
 use Rattle.pals_node.specs.declared.answers.StartEnd.{StartEnd}
 use Rattle.pals_node.specs.declared.answers.StartEnd.TheVariants as start
@@ -27,7 +27,7 @@ use Rattle.pals_bus.specs.declared.bus_error.MessageError.{MessageError}
 use Rattle.pals_bus.specs.declared.bus_error.MessageError.TheVariants as message
 use Rattle.pals_bus.specs.BusValues.{BusValue, Happens}
 use Rattle.pals_bus.specs.LooseEvents.{IsRefused, loose_event, message_of}
-use Rattle.pals_bus.specs.proof.LooseFaults.{LooseEnds, start_fault, step_fault, finish_fault, send_fault, link_fault}
+use Rattle.pals_bus.specs.proof.LooseStopsAndFaults.{LooseEnds, start_fault, step_fault, finish_fault, send_fault, link_fault}
 use Rattle.pals_bus.specs.proof.Answers.{StartsRound, BusStartEnds, BusStepEnds, BusFinishEnds, BusSendEnds, LinkEnds}
 use Rattle.pals_bus.proofs.EventEffects.{start_after}
 

@@ -15,7 +15,7 @@ use Rattle.bus_machine.specs.LinkEvents.{is_in_flight}
 use Rattle.bus_machine.specs.States.{no_link, node_at}
 use Rattle.bus_machine.specs.MissedStarts.{cause_of, rounds_sent_on, sent_rounds}
 use Rattle.pals_node.specs.proof.NodeValues.{NodeValue}
-use Rattle.pals_bus.specs.declared.fields.BusFields.{BusFields}
+use Rattle.pals_bus.specs.declared.bus_fields.BusFields.{BusFields}
 use Rattle.pals_bus.specs.proof.BusInvariant.{Keeps, copies_in, copies_in_option, run_of, state_of}
 use Rattle.pals_bus.proofs.NodeChanges.{node_here}
 

@@ -21,12 +21,12 @@ use Rattle.bus_machine.specs.NodeEvents.{running_step, finished, fired, after_se
 use Rattle.bus_machine.specs.NodeEvents.{sent_from}
 use Rattle.bus_machine.specs.Plans.{component_at}
 use Rattle.bus_machine.specs.States.{no_node}
-use Rattle.bus_machine.proofs.NodeAgreement.{finish_keeps}
+use Rattle.bus_machine.proofs.LoneNodeAgreement.{finish_keeps}
 use Rattle.pals_node.specs.proof.NodeValues.{Program, NodeValue, with_state}
-use Rattle.pals_bus.specs.declared.fields.BusFields.{BusFields}
+use Rattle.pals_bus.specs.declared.bus_fields.BusFields.{BusFields}
 use Rattle.pals_bus.specs.proof.NodeAndCodeValues.{AreCodes, codes_in, no_code, code_at, node_value}
 use Rattle.pals_bus.specs.proof.BusInvariant.{IsNodeOf, AreNodes, Keeps, owed, value_of}
-use Rattle.pals_bus.specs.proof.Placeholders.{no_node_value}
+use Rattle.pals_bus.specs.proof.OutOfRangeDefaults.{no_node_value}
 
 abbrev pub states : List NodeValue → List NodeState
 states nodes = map (λ (n : NodeValue). n.state) nodes

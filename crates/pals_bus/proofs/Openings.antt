@@ -13,8 +13,8 @@ use Rattle.pals_base.specs.StepSequences.{upwards}
 use Rattle.pals_model.specs.declared.design.DesignParts.{DesignParts}
 use Rattle.pals_model.specs.declared.design.Link.{Link}
 use Rattle.pals_model.specs.declared.flight_copy.FlightCopy.{FlightCopy}
-use Rattle.pals_model.specs.declared.inputs_and_parts.Env.{Env}
-use Rattle.pals_model.specs.declared.inputs_and_parts.Delays.{Delays}
+use Rattle.pals_model.specs.declared.inputs_parts_and_delays.Env.{Env}
+use Rattle.pals_model.specs.declared.inputs_parts_and_delays.Delays.{Delays}
 use Rattle.pals_model.specs.Delays.{AreDelays}
 use Rattle.pals_model.specs.DesignRules.{IsDesign}
 use Rattle.pals_runs.specs.declared.journal.JournalEntry.{JournalEntry}
@@ -22,22 +22,22 @@ use Rattle.pals_runs.specs.declared.journal.Stop.{Stop}
 use Rattle.step_code.specs.declared.instr.CodeParts.{CodeParts}
 use Rattle.step_code.specs.proof.CodeMeaning.{Means}
 use Rattle.link_buffers.specs.proof.Flights.{FlightState}
-use Rattle.link_buffers.specs.proof.Queues.{QueueState}
+use Rattle.link_buffers.specs.proof.DueQueues.{QueueState}
 use Rattle.bus_machine.specs.Plans.{component_at, plan_of}
 use Rattle.bus_machine.specs.Nodes.{NodeState, opening_node}
 use Rattle.bus_machine.specs.States.{Run, BusState, opening, no_node}
 use Rattle.bus_machine.specs.Replay.{Replays, opens}
 use Rattle.bus_machine.specs.declared.plan.Plan.{Plan}
 use Rattle.pals_node.specs.proof.NodeValues.{NodeValue, Program, program_of, opening_value}
-use Rattle.pals_bus.specs.declared.fields.BusFields.{BusFields}
+use Rattle.pals_bus.specs.declared.bus_fields.BusFields.{BusFields}
 use Rattle.pals_bus.specs.proof.NodeAndCodeValues.{AreCodes, codes_in, code_at, no_code, opening_bus}
 use Rattle.pals_bus.specs.proof.BusInvariant.{AreNodes, HasRooms, Keeps, copies_in, owed, run_of, state_of, value_of}
 use Rattle.pals_bus.specs.proof.LinksFrom.{AreOutgoing}
 use Rattle.pals_bus.specs.proof.DueQueues.{AreQueues}
-use Rattle.pals_bus.specs.proof.Placeholders.{no_flight, no_queue, no_node_value}
-use Rattle.pals_bus.specs.proof.Openings.{AreOpening}
+use Rattle.pals_bus.specs.proof.OutOfRangeDefaults.{no_flight, no_queue, no_node_value}
+use Rattle.pals_bus.specs.proof.OpeningNodes.{AreOpening}
 use Rattle.pals_bus.proofs.NodeChanges.{states}
-use Rattle.pals_bus.proofs.QueueSends.{queues_open}
+use Rattle.pals_bus.proofs.QueueOpeningsAndSends.{queues_open}
 
 upwards_at : (from n k : ℕ) → k < n → slice_index_or (upwards from n) k 0 ≡ from + k
 upwards_at from zero k lt = absurd (omega (arith, lt))

@@ -17,10 +17,10 @@ use Rattle.pals_model.specs.declared.design.Link.{Link}
 use Rattle.pals_model.specs.PortKinds.{ins_in}
 use Rattle.pals_model.specs.DesignRules.{IsComponent, IsDesign, port_place}
 use Rattle.link_buffers.specs.proof.Flights.{FlightState}
-use Rattle.link_buffers.specs.proof.Queues.{QueueState, is_entry}
+use Rattle.link_buffers.specs.proof.DueQueues.{QueueState, is_entry}
 use Rattle.bus_machine.specs.States.{no_link}
 use Rattle.pals_node.specs.proof.NodeValues.{NodeValue}
-use Rattle.pals_bus.specs.proof.Placeholders.{no_node_value, no_queue, no_link_no}
+use Rattle.pals_bus.specs.proof.OutOfRangeDefaults.{no_node_value, no_queue, no_link_no}
 use Rattle.pals_bus.specs.proof.BusInvariant.{copies_in}
 use Rattle.pals_bus.specs.proof.DueQueues.{AreQueues, AreQueuesAmid, HasQueueRoomFor, NoLessQueueRoom, entries_in}
 use Rattle.pals_bus.specs.proof.DueQueues.{is_awaited, is_copy_of, is_between}

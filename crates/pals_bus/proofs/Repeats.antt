@@ -13,25 +13,25 @@ use Rattle.pals_model.specs.declared.flight_copy.FlightCopy.{FlightCopy}
 use Rattle.pals_model.specs.Flights.{oldest}
 use Rattle.pals_runs.specs.declared.journal.JournalEntry.TheVariants as entry
 use Rattle.link_buffers.specs.proof.Flights.{FlightState}
-use Rattle.link_buffers.specs.proof.Queues.{QueueState}
+use Rattle.link_buffers.specs.proof.DueQueues.{QueueState}
 use Rattle.bus_machine.specs.LinkEvents.{once_more, repeated}
 use Rattle.bus_machine.specs.States.{no_link, flight_at}
 use Rattle.bus_machine.specs.Machine.{Repeat}
 use Rattle.bus_machine.specs.Replay.{Replays, goes_on}
 use Rattle.pals_node.specs.proof.NodeValues.{NodeValue}
-use Rattle.pals_bus.specs.declared.fields.BusFields.{BusFields}
+use Rattle.pals_bus.specs.declared.bus_fields.BusFields.{BusFields}
 use Rattle.pals_bus.specs.BusValues.{Happens}
 use Rattle.pals_bus.specs.proof.BusInvariant.{HasRooms, Keeps, owed, run_of, state_of, value_of, copies_in}
 use Rattle.pals_bus.specs.proof.RoundMessages.{with_copy}
 use Rattle.pals_bus.specs.proof.DueQueues.{AreQueues, is_awaited, with_due}
-use Rattle.pals_bus.specs.proof.Placeholders.{no_flight, no_queue}
+use Rattle.pals_bus.specs.proof.OutOfRangeDefaults.{no_flight, no_queue}
 use Rattle.pals_bus.proofs.FlightRooms.{copies-set, flight_is, flight_here}
 use Rattle.pals_bus.proofs.QueueChanges.{IsFewInto, count-less, few_into}
 use Rattle.pals_bus.proofs.QueueFlightAgreement.{copy_added}
-use Rattle.pals_bus.proofs.QueueSends.{with_due_spare}
+use Rattle.pals_bus.proofs.QueueOpeningsAndSends.{with_due_spare}
 use Rattle.pals_bus.proofs.EventInvariants.{flights_happen}
-use Rattle.pals_bus.proofs.NodeEvents.{longer}
-use Rattle.pals_bus.proofs.TakenMessages.{target_within}
+use Rattle.pals_bus.proofs.StartsStepsAndFinishes.{longer}
+use Rattle.pals_bus.proofs.CopyRemovalAndLoss.{target_within}
 
 -- ---- room
 -- a link keeps room for its source's message, where it had room for two

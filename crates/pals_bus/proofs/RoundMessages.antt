@@ -16,7 +16,7 @@ use Rattle.pals_base.specs.declared.values.PortValue.{PortValue}
 use Rattle.pals_base.specs.declared.values.LinkNo.{LinkNo}
 use Rattle.pals_base.specs.declared.values.NodeNo.{NodeNo}
 use Rattle.pals_model.specs.declared.design.Link.{Link}
-use Rattle.pals_model.specs.declared.inputs_and_parts.Delays.{Delays}
+use Rattle.pals_model.specs.declared.inputs_parts_and_delays.Delays.{Delays}
 use Rattle.pals_model.specs.declared.flight_copy.FlightCopy.{FlightCopy}
 use Rattle.pals_model.specs.Delays.{delay_of}
 use Rattle.link_buffers.specs.proof.Flights.{FlightState}
@@ -27,9 +27,9 @@ use Rattle.bus_machine.specs.NodeEvents.{message_from, messages_from}
 use Rattle.bus_machine.specs.LinkEvents.{sent_copy}
 use Rattle.bus_machine.specs.States.{Run, BusState, node_at, flight_at, no_link}
 use Rattle.bus_machine.specs.Machine.{flight_after_send}
-use Rattle.bus_machine.proofs.ListsAndFlights.{numbered_at}
+use Rattle.bus_machine.proofs.ListsAndOldestCopies.{numbered_at}
 use Rattle.pals_bus.specs.proof.BusInvariant.{copies_in}
-use Rattle.pals_bus.specs.proof.Placeholders.{no_flight, no_link_no}
+use Rattle.pals_bus.specs.proof.OutOfRangeDefaults.{no_flight, no_link_no}
 use Rattle.pals_bus.specs.proof.RoundMessages.{is_from, place_of, NoLessRoom, with_copy, sent_flight, AreSent}
 use Rattle.pals_bus.proofs.FlightRooms.{flight_is, no_less-set, NoLessElsewhere}
 

@@ -12,19 +12,19 @@ use Rattle.pals_model.specs.declared.flight_copy.FlightCopy.{FlightCopy}
 use Rattle.pals_model.specs.Delays.{AreDelays, delay_of}
 use Rattle.pals_model.specs.DesignRules.{IsDesign}
 use Rattle.link_buffers.specs.proof.Flights.{FlightState}
-use Rattle.link_buffers.specs.proof.Queues.{QueueState}
+use Rattle.link_buffers.specs.proof.DueQueues.{QueueState}
 use Rattle.bus_machine.specs.LinkEvents.{sent_copy}
 use Rattle.bus_machine.specs.States.{link_at, no_link}
-use Rattle.pals_bus.specs.declared.fields.BusFields.{BusFields}
+use Rattle.pals_bus.specs.declared.bus_fields.BusFields.{BusFields}
 use Rattle.pals_bus.specs.proof.RoundMessages.{is_from, place_of, HasRoomFor, with_copy, AreSent}
 use Rattle.pals_bus.specs.proof.DueQueues.{AreQueuesAmid, with_due}
 use Rattle.pals_bus.specs.proof.LinksFrom.{no_numbers}
-use Rattle.pals_bus.specs.proof.Placeholders.{no_flight, no_queue, no_link_no}
+use Rattle.pals_bus.specs.proof.OutOfRangeDefaults.{no_flight, no_queue, no_link_no}
 use Rattle.pals_bus.proofs.NextLinks.{IsAt, Reaches, reaches_all, reaches_next}
 use Rattle.pals_bus.proofs.QueueChanges.{amid_other, amid_room}
-use Rattle.pals_bus.proofs.QueueSends.{amid_one}
+use Rattle.pals_bus.proofs.QueueOpeningsAndSends.{amid_one}
 use Rattle.pals_bus.proofs.RoundMessages.{place_next, place_within, sent_other, sent_one}
-use Rattle.pals_bus.proofs.TakenMessages.{target_within}
+use Rattle.pals_bus.proofs.CopyRemovalAndLoss.{target_within}
 
 -- the first links have their messages, and the others are left
 pub record Sending (first now : BusFields) (node round : ℕ) (reading : Option ℕ) (messages left : List (List PortValue))

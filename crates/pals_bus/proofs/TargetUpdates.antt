@@ -12,9 +12,9 @@ use Rattle.pals_runs.specs.declared.journal.Phase.TheVariants.{Waiting, Running,
 use Rattle.bus_machine.specs.declared.plan.Plan.{Plan}
 use Rattle.bus_machine.specs.Nodes.{NodeState}
 use Rattle.bus_machine.specs.NodeEvents.{with_message, arrived, received}
-use Rattle.bus_machine.specs.Targets.{target, action_in}
+use Rattle.bus_machine.specs.ActionsAndTargets.{target, action_in}
 use Rattle.pals_node.specs.proof.NodeValues.{NodeValue, with_state}
-use Rattle.pals_bus.specs.proof.Placeholders.{no_node_value}
+use Rattle.pals_bus.specs.proof.OutOfRangeDefaults.{no_node_value}
 use Rattle.pals_bus.specs.proof.NodeLists.{node_of, target_of_node}
 
 -- the targets are those of the nodes, once that of the changed node is put in

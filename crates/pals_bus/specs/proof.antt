@@ -1,6 +1,6 @@
 -- What the theorem of the program does not rest on: definitions of contracts below it, of laws, and of proofs.
 pub mod NodeAndCodeValues
-pub mod Placeholders
+pub mod OutOfRangeDefaults
 pub mod NodeLists
 pub mod BusInvariant
 pub mod RefusedEvents
@@ -12,6 +12,6 @@ pub mod FlightMessages
 pub mod LinksFrom
 pub mod Codes
 pub mod Meeting
-pub mod LooseFaults
-pub mod Openings
+pub mod LooseStopsAndFaults
+pub mod OpeningNodes
 pub mod LeastTargets

@@ -9,7 +9,7 @@ ghost use Rattle.bus_machine.specs.States.{no_link, flight_at};
 ghost use Rattle.pals_bus.specs.BusValues.{Happens};
 ghost use Rattle.pals_bus.specs.proof.BusInvariant.{Keeps, owed, run_of, state_of, value_of};
 
-use crate::fields::BusFields;
+use crate::bus_fields::BusFields;
 use pals_base::{LinkNo, Nanos};
 use pals_model::Link;
 use pals_runs::{Arrived, JournalEntry, Stop};

@@ -7,12 +7,12 @@ ghost use Rattle.bus_machine.specs.Agreement.{Agrees};
 ghost use Rattle.bus_machine.specs.Replay.{Replays};
 ghost use Rattle.bus_machine.specs.Plans.{plan_of};
 ghost use Rattle.bus_machine.specs.States.{node_at, flight_at};
-ghost use Rattle.bus_machine.specs.Targets.{next_of};
+ghost use Rattle.bus_machine.specs.ActionsAndTargets.{next_of};
 ghost use Rattle.pals_model.specs.Flights.{oldest};
 ghost use Rattle.pals_bus.specs.proof.NodeAndCodeValues.{opening_bus, codes_in, AreCodes};
-ghost use Rattle.pals_bus.specs.proof.Openings.{AreOpening};
+ghost use Rattle.pals_bus.specs.proof.OpeningNodes.{AreOpening};
 
-use crate::fields::BusFields;
+use crate::bus_fields::BusFields;
 use crate::node_list::NodeList;
 use crate::opening::{empty_flights, empty_queues, fresh_nodes, opening_nodes, room_for_values};
 use crate::outgoing_links::Outgoing;

@@ -14,7 +14,7 @@ ghost use Rattle.pals_bus.specs.proof.FlightMessages.{IsRoundSent, flight_on, ta
 ghost use Rattle.pals_bus.specs.proof.FlightMessages.{copies_without};
 ghost use Rattle.pals_bus.specs.proof.LinksFrom.{AreOutgoing};
 
-use crate::fields::BusFields;
+use crate::bus_fields::BusFields;
 use link_buffers::{DueEntry, DueQueue, Flight};
 use pals_base::limits::PORTS;
 use pals_base::{Items, LinkNo, Nanos, NoMemory, NodeNo, Tuple};

@@ -6,12 +6,12 @@
 mod arrival;
 mod bus;
 mod bus_error;
-mod due_messages;
+mod all_due_arrivals;
 mod events_of_messages;
 mod events_of_nodes;
-mod fields;
+mod bus_fields;
 mod flights;
-mod loose;
+mod loose_world_events;
 mod loose_faults;
 mod meet_and_loose_fault;
 mod meeting;
@@ -26,8 +26,8 @@ pub use bus::Bus;
 pub use bus_error::{
     BusError, BusFinishEnd, BusSendEnd, BusStartEnd, BusStepEnd, DueEnd, LinkEnd, MessageError,
 };
-pub use fields::BusFields;
-pub use loose::apply_loose;
+pub use bus_fields::BusFields;
+pub use loose_world_events::apply_loose;
 pub use meet_and_loose_fault::{LooseFault, Meet};
 pub use node_list::NodeList;
 pub use outgoing_links::Outgoing;

@@ -2,7 +2,7 @@
 ghost use Rattle.std.specs.Prelude.{◌≡◌, ◌≢◌, ◌<◌, ◌↔◌, None, length, true};
 ghost use Rattle.bus_machine.specs.Plans.{plan_of};
 ghost use Rattle.bus_machine.specs.States.{node_at};
-ghost use Rattle.bus_machine.specs.Targets.{next_of};
+ghost use Rattle.bus_machine.specs.ActionsAndTargets.{next_of};
 ghost use Rattle.pals_bus.specs.proof.Meeting.{target_in, HasEnded, Meets};
 
 use crate::bus::Bus;

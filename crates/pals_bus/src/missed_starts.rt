@@ -11,7 +11,7 @@ ghost use Rattle.bus_machine.specs.States.{no_link};
 ghost use Rattle.bus_machine.specs.MissedStarts.{link_into, cause_of, sent_rounds};
 ghost use Rattle.pals_bus.specs.proof.BusInvariant.{Keeps, run_of, state_of, copies_in_option};
 
-use crate::fields::BusFields;
+use crate::bus_fields::BusFields;
 use link_buffers::Flight;
 use pals_base::{LinkNo, Nanos, NodeNo};
 use pals_model::Link;

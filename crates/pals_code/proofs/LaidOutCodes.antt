@@ -9,7 +9,7 @@ use Rattle.pals_model.specs.declared.design.Component.{Component}
 use Rattle.pals_model.specs.declared.design.DesignParts.{DesignParts}
 use Rattle.pals_model.specs.DesignRules.{IsDesign}
 use Rattle.step_code.specs.declared.instr.CodeParts.{CodeParts}
-use Rattle.step_compiler.specs.BlockLayout.{start_of, entry_of}
+use Rattle.step_compiler.specs.BlockInstructions.{start_of, entry_of}
 use Rattle.step_compiler.specs.LaidOutCode.{states_of, IsLaidOut, AreLaidOut}
 use Rattle.design_codes.specs.DesignBehaviours.{behaviours}
 use Rattle.code_listing.specs.NumberRanges.{AllFit}

@@ -5,7 +5,7 @@ use Rattle.pals_base.specs.declared.limits.TheConstants.{BUNDLE_BYTES}
 use Rattle.pals_io.specs.SourcesAndSinks.{SourceView, GivesAll, GivesTooMany, FailsWithin}
 use Rattle.pals_code.specs.declared.status.TheConstants.{USAGE, READ_FAULT, TOO_LONG}
 use Rattle.pals_code.specs.BundleAnswers.{IsListingAnswer}
-use Rattle.pals_code.specs.FixedTexts.{usage_line, read_fault_line, too_long_line}
+use Rattle.pals_code.specs.FixedAnswerTexts.{usage_line, read_fault_line, too_long_line}
 
 -- no flag: it does not begin with `-`
 abbrev pub is_plain : List ℕ → Bool

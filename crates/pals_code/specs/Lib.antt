@@ -1,4 +1,4 @@
 pub mod Answers
-pub mod FixedTexts
+pub mod FixedAnswerTexts
 pub mod BundleAnswers
 pub mod proof

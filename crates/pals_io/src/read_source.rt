@@ -17,7 +17,7 @@ pub struct ReadSource<R> {
 }
 
 impl<R> Model for ReadSource<R> {
-    ghost use Rattle.pals_io.specs.proof.CountedFailures.{Counted};
+    ghost use Rattle.pals_io.specs.proof.CountedReadersAndWriters.{Counted};
 
     ghost Value = { Counted R };
 

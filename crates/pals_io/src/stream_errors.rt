@@ -37,7 +37,7 @@ impl fmt::Display for Failed {
 
 impl fmt::Display for ReadEnd {
     ghost use Rattle.std.specs.Prelude.{Some};
-    ghost use Rattle.pals_io.specs.proof.ErrorMessages.{message_of};
+    ghost use Rattle.pals_io.specs.proof.ReadEndMessages.{message_of};
 
     ghost output = { λ end'. Some (message_of end') };
 

@@ -18,7 +18,7 @@ pub struct WriteSink<W> {
 }
 
 impl<W> Model for WriteSink<W> {
-    ghost use Rattle.pals_io.specs.proof.CountedFailures.{Counted};
+    ghost use Rattle.pals_io.specs.proof.CountedReadersAndWriters.{Counted};
 
     ghost Value = { Counted W };
 

@@ -6,7 +6,7 @@ use Rattle.std.specs.Option.{option_map}
 use Rattle.std.proofs.lemmas.Slice.Eq.{bytes_eq-Decides}
 use Rattle.std.proofs.lemmas.Option.{slice_get_cases, slice_get-map}
 use Rattle.list_lemmas.proofs.ElementPositions.{slice_get-append_left}
-use Rattle.list_lemmas.proofs.ElementPairs.{same_place, AllPairs-slice_get}
+use Rattle.list_lemmas.proofs.PairwiseProperties.{same_place, AllPairs-slice_get}
 use Rattle.pals_base.specs.declared.behaviour.PortDecl.{PortDecl}
 use Rattle.pals_base.specs.declared.behaviour.VarDecl.{VarDecl}
 use Rattle.pals_base.specs.declared.behaviour.BehaviourParts.{BehaviourParts}

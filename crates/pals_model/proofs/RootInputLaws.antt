@@ -12,7 +12,7 @@ use Rattle.std.proofs.lemmas.List.Elements.{Contains-append_right}
 use Rattle.std.proofs.lemmas.List.Kept.{AllPairs-cons}
 use Rattle.std.proofs.lemmas.List.Folds.{list_any-append}
 use Rattle.std.proofs.lemmas.Option.{slice_get-map, slice_get_within, get_or_from_slice_get}
-use Rattle.list_lemmas.proofs.ElementPairs.{AllPairs-slice_get}
+use Rattle.list_lemmas.proofs.PairwiseProperties.{AllPairs-slice_get}
 use Rattle.pals_model.specs.declared.design.Feed.{Feed}
 use Rattle.pals_model.specs.ComponentInputs.{new_names, feed_names, root_inputs, place_of}
 use Rattle.pals_model.specs.PortKinds.{first_kind, feed_kind}

@@ -3,7 +3,7 @@ use Rattle.std.proofs.Common.{◌≡◌, ◌≢◌, ℕ, true, false, ◌&&◌, 
 use Rattle.std.proofs.Common.{ne_of_lt}
 use Rattle.std.specs.Prelude.{position}
 use Rattle.std.proofs.lemmas.Bool.{eq-eqb, eqb-true, and_parts, false_from_ne_true}
-use Rattle.list_lemmas.proofs.ElementPairs.{AllPairs-slice_get}
+use Rattle.list_lemmas.proofs.PairwiseProperties.{AllPairs-slice_get}
 use Rattle.pals_model.specs.ComponentInputs.{link_goes_to, feed_goes_to, from_link, from_feed}
 use Rattle.pals_model.specs.DesignRules.{port_place, LinkPrecedes, FeedPrecedes, IsApart}
 use Rattle.pals_model.specs.proof.CompositionLaws.Sources.{LinkIsSource, FeedIsSource, NothingIsSource}

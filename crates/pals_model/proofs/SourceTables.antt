@@ -13,8 +13,8 @@ use Rattle.pals_model.specs.declared.design.Component.{Component}
 use Rattle.pals_model.specs.declared.design.Link.{Link}
 use Rattle.pals_model.specs.declared.design.Feed.{Feed}
 use Rattle.pals_model.specs.declared.design.DesignParts.{DesignParts}
-use Rattle.pals_model.specs.declared.sources.PortSource.{PortSource}
-use Rattle.pals_model.specs.declared.sources.PortSource.TheVariants as source
+use Rattle.pals_model.specs.declared.port_sources.PortSource.{PortSource}
+use Rattle.pals_model.specs.declared.port_sources.PortSource.TheVariants as source
 use Rattle.pals_model.specs.ComponentInputs.{from_feed, from_link, link_goes_to, feed_goes_to, place_of, root_inputs}
 use Rattle.pals_model.specs.ComponentInputs.{root_of, all_sources}
 use Rattle.pals_model.specs.proof.SourceTables.{table_of, nothing, fed_from, linked_from, with_source}

@@ -5,14 +5,14 @@
 pub mod design;
 mod design_clones;
 pub mod flight_copy;
-pub mod inputs_and_parts;
+pub mod inputs_parts_and_delays;
 pub mod laws;
 pub mod outgoing_links;
 pub mod rates_and_kinds;
-mod same;
-pub mod sources;
+mod design_equality;
+pub mod port_sources;
 
 pub use design::{Component, Design, DesignParts, Feed, Link, Tap};
 pub use flight_copy::FlightCopy;
-pub use inputs_and_parts::{Delays, Env, Part};
-pub use sources::PortSource;
+pub use inputs_parts_and_delays::{Delays, Env, Part};
+pub use port_sources::PortSource;

@@ -1,4 +1,4 @@
-pub mod TupleWrites
+pub mod TuplesAndSlots
 pub mod ProgramResults
 pub mod StepEnds
 pub mod Plans

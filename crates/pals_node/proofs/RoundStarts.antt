@@ -11,7 +11,7 @@ use Rattle.pals_base.specs.declared.values.PortValue.TheVariants.{Absent}
 use Rattle.pals_base.specs.declared.values.Frame.{Frame}
 use Rattle.pals_base.specs.SingleStep.{initial}
 use Rattle.pals_base.proofs.StepSequences.{length-columns, length-each_column}
-use Rattle.pals_model.specs.declared.inputs_and_parts.Part.{Part}
+use Rattle.pals_model.specs.declared.inputs_parts_and_delays.Part.{Part}
 use Rattle.pals_runs.specs.declared.journal.Phase.TheVariants.{Running}
 use Rattle.bus_machine.specs.declared.plan.Input.{Input}
 use Rattle.bus_machine.specs.declared.plan.Plan.{Plan}
@@ -20,7 +20,7 @@ use Rattle.bus_machine.specs.NodeEvents.{started}
 use Rattle.pals_node.specs.declared.node_fields.NodeFields.{NodeFields}
 use Rattle.pals_node.specs.proof.NodeValues.{NodeValue, with_state, job_value}
 use Rattle.pals_node.specs.proof.NodeInvariants.{IsPlan, AreTuples, IsPartRoom, state_of, value_of}
-use Rattle.pals_node.proofs.TupleWrites.{no_message}
+use Rattle.pals_node.proofs.TuplesAndSlots.{no_message}
 
 -- ---- sizes
 pub absent_are : (count places : ℕ) → AreTuples count places (replicate count (replicate places Absent))

@@ -21,7 +21,7 @@ use Rattle.pals_node.specs.proof.JobMemories.{HasMemory}
 use Rattle.pals_base.specs.declared.limits.TheConstants.{ROUNDS}
 use Rattle.step_code.specs.proof.CodeRuns.{exec, Leaves}
 use Rattle.step_vm.specs.proof.RoomCapacity.{IsRoomOf}
-use Rattle.pals_node.proofs.TupleWrites.{length-with_places, places-with_places}
+use Rattle.pals_node.proofs.TuplesAndSlots.{length-with_places, places-with_places}
 use Rattle.pals_node.proofs.ProgramResults.{fires, leaves_shape, leaves_outs}
 
 -- outputs with one more place have the sizes that they had

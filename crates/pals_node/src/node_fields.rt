@@ -16,7 +16,7 @@ ghost use Rattle.pals_node.specs.proof.NodeInvariants.{Keeps, IsProgram, PhaseKe
 ghost use Rattle.pals_node.specs.proof.NodeInvariants.{AreTuples, IsStepMade, value_of, state_of, finished_value};
 ghost use Rattle.pals_node.specs.proof.NodeInvariants.{ended_at};
 
-use crate::inputs::{empty_all, empty_slots, round_vectors};
+use crate::slots_and_input_vectors::{empty_all, empty_slots, round_vectors};
 use crate::job::{Done, Job, StepStart};
 use crate::job_memory::Memory;
 use crate::plan::NodePlan;

@@ -1,8 +1,8 @@
 pub mod TextPrefixes
 pub mod ItemLines
-mod Columns
-mod JoinedLines
-pub mod TapCounts
+mod ColumnsWithinText
+mod ConcatenatedTexts
+pub mod TapPlacesAndCounts
 pub mod RowLines
 pub mod ListTexts
 pub mod SpacedWords

@@ -1,12 +1,12 @@
 -- The line of a refused event: `event`, its index among the events, the fault, and what the fault is about.
 use Rattle.std.specs.Prelude.{ℕ, codes, decimal, List, [], ◌∷◌, ◌++◌}
 use Rattle.pals_model.specs.declared.design.DesignParts.{DesignParts}
-use Rattle.pals_runs.specs.declared.events.EventFault.{EventFault}
-use Rattle.pals_runs.specs.declared.events.EventFault.TheVariants.{BadName, LossOrRepeat, TimeBack, ClockBack}
-use Rattle.pals_runs.specs.declared.events.EventFault.TheVariants.{ClockApart, PastDeadline, WrongPhase, NoSuchMessage}
-use Rattle.pals_runs.specs.declared.events.EventFault.TheVariants.{NotDue, TooSoon, Memory}
-use Rattle.pals_runs.specs.declared.events.EventSubject.{EventSubject}
-use Rattle.pals_runs.specs.declared.events.EventSubject.TheVariants.{Node, Message}
+use Rattle.pals_runs.specs.declared.events_and_faults.EventFault.{EventFault}
+use Rattle.pals_runs.specs.declared.events_and_faults.EventFault.TheVariants.{BadName, LossOrRepeat, TimeBack, ClockBack}
+use Rattle.pals_runs.specs.declared.events_and_faults.EventFault.TheVariants.{ClockApart, PastDeadline, WrongPhase, NoSuchMessage}
+use Rattle.pals_runs.specs.declared.events_and_faults.EventFault.TheVariants.{NotDue, TooSoon, Memory}
+use Rattle.pals_runs.specs.declared.events_and_faults.EventSubject.{EventSubject}
+use Rattle.pals_runs.specs.declared.events_and_faults.EventSubject.TheVariants.{Node, Message}
 use Rattle.pals_runs.specs.JournalLines.{node_word, link_word, spaced}
 
 -- a node by its path, a message by its link and its round

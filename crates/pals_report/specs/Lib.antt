@@ -4,7 +4,7 @@ pub mod PackageFaultLines
 pub mod ViolationLines
 pub mod TextFaultLines
 pub mod EventFaultLines
-pub mod ClocksAndVerdicts
+pub mod ClockEndsAndVerdicts
 pub mod ScenarioFaultLines
 pub mod SentLines
 pub mod proof

@@ -1,7 +1,7 @@
 //! The line of a run whose clock ends, and that of a verdict on a trace.
 ghost use Rattle.std.specs.Prelude.{◌≡◌, ◌++◌, OnOk, OnErr};
 ghost use Rattle.pals_model.specs.RoundTexts.{line_end};
-ghost use Rattle.pals_report.specs.ClocksAndVerdicts.{clock_end_line, rule_word, verdict_line};
+ghost use Rattle.pals_report.specs.ClockEndsAndVerdicts.{clock_end_line, rule_word, verdict_line};
 
 use crate::line_word::{LineWord, add_line, link_word, node_word};
 use pals_base::{Nanos, NoMemory, NodeNo};

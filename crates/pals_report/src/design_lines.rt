@@ -4,7 +4,7 @@ ghost use Rattle.pals_model.specs.RoundTexts.{text_of, line_end};
 ghost use Rattle.pals_report.specs.proof.PartialWrites.{BeginsWith};
 ghost use Rattle.pals_report.specs.CheckReports.{component_line, link_line, feed_line, tap_line, ignored_line};
 
-use crate::port_names::{add_adaptor, add_source, add_target};
+use crate::port_and_adaptor_names::{add_adaptor, add_source, add_target};
 use itoa::Buffer;
 use pals_base::{NoMemory, Text};
 use pals_model::{Component, DesignParts, Feed, Link, Tap};

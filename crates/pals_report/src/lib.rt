@@ -4,7 +4,7 @@
 
 mod clock_ends_and_verdicts;
 mod code_fault;
-mod component;
+mod component_state;
 mod cursor;
 mod design_lines;
 mod design_report;
@@ -13,13 +13,13 @@ mod journal_entries;
 mod line_word;
 mod package_faults;
 mod periods;
-mod port_names;
+mod port_and_adaptor_names;
 mod round_lines;
 mod round_parts;
 mod row;
 mod scenario_faults;
 mod sent_messages;
-mod tap;
+mod tap_line;
 mod tap_places;
 mod text_faults;
 mod value;

@@ -2,16 +2,16 @@
 //! none of it.
 ghost use Rattle.std.specs.Prelude.{◌≡◌, ◌<◌, ◌++◌, Some, length, slice_get, OnOk, OnErr};
 ghost use Rattle.pals_model.specs.declared.design.Tap.{Tap};
-ghost use Rattle.pals_model.specs.declared.inputs_and_parts.Env.{Env};
+ghost use Rattle.pals_model.specs.declared.inputs_parts_and_delays.Env.{Env};
 ghost use Rattle.pals_model.specs.RoundTexts.{text_of, line_end, round_line, component_line, part_lines, tap_line};
 ghost use Rattle.pals_model.specs.RoundTexts.{tap_lines, row_lines, row};
 ghost use Rattle.pals_report.specs.proof.TapPlaces.{tap_places};
 ghost use Rattle.pals_report.specs.proof.RowLines.{ArePartsOf};
 
-use crate::component::{add_component_line, add_part_line};
+use crate::component_state::{add_component_line, add_part_line};
 use crate::round_parts::RoundParts;
 use crate::row::{add_lines, add_round_line};
-use crate::tap::{add_line_at_place, add_tap_line, place_of_tap};
+use crate::tap_line::{add_line_at_place, add_tap_line, place_of_tap};
 use crate::tap_places::TapPlaces;
 use crate::whole_or_none;
 use pals_base::{BehaviourParts, Frame, Kind, NoMemory, PortValue, Text};

@@ -7,9 +7,9 @@ ghost use Rattle.pals_report.specs.proof.PartialWrites.{BeginsWith};
 ghost use Rattle.pals_report.specs.proof.TapPlaces.{tap_places};
 ghost use Rattle.pals_report.specs.proof.RowLines.{components_from, taps_from};
 
-use crate::component::add_part_line;
+use crate::component_state::add_part_line;
 use crate::round_parts::RoundParts;
-use crate::tap::add_line_at_place;
+use crate::tap_line::add_line_at_place;
 use crate::tap_places::TapPlaces;
 use itoa::Buffer;
 use pals_base::{NoMemory, NodeNo};

@@ -4,14 +4,14 @@
 #![tactic(auto)]
 
 mod commands;
-mod events;
+mod events_and_faults;
 mod forms;
 mod journal;
 mod verdicts;
 mod vote_faults_and_pairs;
 
 pub use commands::Command;
-pub use events::{Event, EventFault, EventSubject};
+pub use events_and_faults::{Event, EventFault, EventSubject};
 pub use forms::{Compare, Form};
 pub use journal::{Arrived, Cause, JournalEntry, Phase, Stop};
 pub use verdicts::{TraceRule, Verdict};

@@ -5,17 +5,17 @@ use Rattle.step_code.specs.declared.instr.CodeParts.{CodeParts}
 use Rattle.pals_model.specs.declared.design.DesignParts.{DesignParts}
 use Rattle.pals_model.specs.DesignRules.{IsDesign}
 use Rattle.pals_model.specs.RoundTexts.{line_end, text_of as lines_text, report}
-use Rattle.pals_runs.specs.declared.events.Event.{Event}
-use Rattle.pals_runs.specs.declared.events.EventFault.{EventFault}
+use Rattle.pals_runs.specs.declared.events_and_faults.Event.{Event}
+use Rattle.pals_runs.specs.declared.events_and_faults.EventFault.{EventFault}
 use Rattle.pals_runs.specs.declared.journal.Stop.{Stop}
 use Rattle.pals_runs.specs.JournalLines.{entry_line}
-use Rattle.bus_machine.specs.proof.MachineLaws.{IsRunOf}
+use Rattle.bus_machine.specs.proof.AgreementLaws.{IsRunOf}
 use Rattle.bus_machine.specs.States.{Run, finished_by_all}
 use Rattle.pals_bus.specs.BusValues.{BusValue, Happens}
 use Rattle.pals_bus.specs.proof.NodeAndCodeValues.{opening_bus}
 use Rattle.pals_bus.specs.LooseEvents.{HappensLoose}
 use Rattle.scenario_json.specs.declared.scenario.Scenario.{Scenario}
-use Rattle.scenario_json.specs.proof.ScenarioFacts.{IsScenarioOf}
+use Rattle.scenario_json.specs.proof.ScenarioValidity.{IsScenarioOf}
 use Rattle.loose_world.specs.declared.loose_run.LooseEnd.{LooseEnd}
 use Rattle.loose_world.specs.declared.loose_run.LooseEnd.TheVariants as end
 use Rattle.loose_world.specs.LooseRuns.{AllHappen, StopsAt, IsRefusedAt, Tells}

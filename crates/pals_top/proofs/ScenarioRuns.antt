@@ -13,12 +13,12 @@ use Rattle.step_code.specs.declared.instr.CodeParts.{CodeParts}
 use Rattle.pals_bus.specs.BusValues.{BusValue}
 use Rattle.pals_bus.specs.proof.NodeAndCodeValues.{opening_bus}
 use Rattle.scenario_json.specs.declared.scenario.Scenario.{Scenario}
-use Rattle.scenario_json.specs.proof.RunFields.{AreClocksOf, AreClocksFor}
-use Rattle.scenario_json.specs.proof.ScenarioFacts.{IsScenarioOf}
+use Rattle.scenario_json.specs.proof.InputsDelaysAndClocks.{AreClocksOf, AreClocksFor}
+use Rattle.scenario_json.specs.proof.ScenarioValidity.{IsScenarioOf}
 use Rattle.run_laws.specs.Runs.{no_clock, clock_at}
 use Rattle.run_laws.specs.proof.RunTraces.{AreReadings}
 use Rattle.node_threads.specs.declared.node_end.NodeEnd.{NodeEnd}
-use Rattle.node_threads.specs.proof.NodeEnds.{IsOutcome}
+use Rattle.node_threads.specs.proof.NodeEndsAndOutcomes.{IsOutcome}
 use Rattle.run_texts.specs.declared.run_report.RunReport.{RunReport}
 use Rattle.run_texts.specs.RunTexts.{TellsRun}
 use Rattle.pals_top.specs.LooseWorlds.{run_of}

@@ -5,12 +5,12 @@ use Rattle.step_code.specs.declared.instr.CodeParts.{CodeParts}
 use Rattle.pals_model.specs.declared.design.DesignParts.{DesignParts}
 use Rattle.pals_model.specs.DesignRules.{IsDesign}
 use Rattle.analysis_fields.specs.declared.processors.Processor.{Processor}
-use Rattle.analysis_fields.specs.proof.AnalysisFacts.{IsProcessorOf}
+use Rattle.analysis_fields.specs.proof.FaultAndProcessorFacts.{IsProcessorOf}
 use Rattle.analysis_texts.specs.BudgetedProcessors.{processor_of}
 use Rattle.scenario_json.specs.declared.scenario.Scenario.{Scenario}
-use Rattle.scenario_json.specs.proof.ScenarioFacts.{IsScenarioOf}
+use Rattle.scenario_json.specs.proof.ScenarioValidity.{IsScenarioOf}
 use Rattle.round_budget.proofs.ProcessorMembers.{nodes_are_members}
-use Rattle.round_budget.proofs.FittingBudgets.{budgeted_by, respond_in_time}
+use Rattle.round_budget.proofs.TimetablePromises.{budgeted_by, respond_in_time}
 use Rattle.pals_top.specs.Budget.{FitsInTime, processors_of}
 
 served_in_time : (design : DesignParts) (programs : List CodeParts) (p : Processor) → IsDesign design

@@ -8,7 +8,7 @@ use Rattle.pals_top.specs.ProgramInput.{Reading, HasRead, IsReadFault}
 use Rattle.pals_top.specs.CommonAnswerTexts.{usage_line}
 use Rattle.pals_top.specs.Print.{IsPrintAnswer}
 use Rattle.pals_top.specs.Check.{IsCheckAnswer}
-use Rattle.pals_top.specs.RingAnswer.{IsRingAnswer}
+use Rattle.pals_top.specs.SelfRingAnswer.{IsRingAnswer}
 use Rattle.pals_top.specs.AnalysisAnswers.{IsAnalysisAnswer}
 use Rattle.pals_top.specs.ExecutionAnswers.{IsExecutionAnswer}
 use Rattle.pals_top.specs.AnalysisCommands as analysis

@@ -2,12 +2,12 @@
 use Rattle.std.specs.Prelude.{◌≡◌, ◌↔◌, ℕ, Bool, true, false, List, ◌++◌, Option, if◌then◌else◌}
 use Rattle.pals_model.specs.declared.design.DesignParts.{DesignParts}
 use Rattle.pals_model.specs.RoundTexts.{line_end}
-use Rattle.pals_report.specs.ClocksAndVerdicts.{verdict_line}
+use Rattle.pals_report.specs.ClockEndsAndVerdicts.{verdict_line}
 use Rattle.pals_runs.specs.declared.journal.Stop.{Stop}
 use Rattle.pals_runs.specs.declared.verdicts.Verdict.{Verdict}
 use Rattle.pals_runs.specs.declared.verdicts.Verdict.TheVariants.{Sound, Wrong}
 use Rattle.scenario_json.specs.declared.scenario.Scenario.{Scenario}
-use Rattle.run_laws.specs.Histories.{IsTraceOf}
+use Rattle.run_laws.specs.HistoriesAndTraces.{IsTraceOf}
 use Rattle.run_laws.specs.TraceVerdicts.{verdict}
 use Rattle.pals_top.specs.declared.status.TheConstants.{DONE, NOT_SO}
 use Rattle.pals_top.specs.LooseWorlds.{run_of}

@@ -3,7 +3,7 @@ use Rattle.std.specs.Prelude.{◌≡◌, ℕ, List, []}
 use Rattle.pals_model.specs.declared.design.DesignParts.{DesignParts}
 use Rattle.pals_model.specs.RoundTexts.{report as sync_report}
 use Rattle.scenario_json.specs.declared.scenario.Scenario.{Scenario}
-use Rattle.plant_fuse.specs.FusedText.{IsFusedReport}
+use Rattle.plant_fuse.specs.FusedReport.{IsFusedReport}
 use Rattle.pals_top.specs.declared.status.TheConstants.{DONE}
 
 -- the rows of the composition in which each plant answers its controller within the step

@@ -9,7 +9,7 @@ pub mod LooseWorlds
 pub mod ProgramInput
 pub mod Print
 pub mod RefusalAnswers
-pub mod RingAnswer
+pub mod SelfRingAnswer
 pub mod BundleScenarios
 pub mod CommonAnswerTexts
 pub mod Watch

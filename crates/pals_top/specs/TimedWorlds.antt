@@ -2,8 +2,8 @@
 use Rattle.std.specs.Prelude.{◌≡◌, ℕ, List, ◌++◌, ◌⊎◌}
 use Rattle.pals_model.specs.declared.design.DesignParts.{DesignParts}
 use Rattle.pals_model.specs.RoundTexts.{line_end}
-use Rattle.pals_runs.specs.declared.events.Event.{Event}
-use Rattle.pals_runs.specs.declared.events.EventFault.{EventFault}
+use Rattle.pals_runs.specs.declared.events_and_faults.Event.{Event}
+use Rattle.pals_runs.specs.declared.events_and_faults.EventFault.{EventFault}
 use Rattle.scenario_json.specs.declared.scenario.Scenario.{Scenario}
 use Rattle.bus_machine.specs.States.{Run}
 use Rattle.run_laws.specs.Worlds.{world_run}

@@ -1,6 +1,6 @@
 //! The commands that need a design and a scenario.
 ghost use Rattle.std.specs.Prelude.{◌≡◌, IfOk};
-ghost use Rattle.scenario_json.specs.proof.ScenarioFacts.{IsScenarioOf};
+ghost use Rattle.scenario_json.specs.proof.ScenarioValidity.{IsScenarioOf};
 ghost use Rattle.plant_fuse.specs.FusedComposition.{ArePairs};
 ghost use Rattle.pals_top.specs.AnalysisCommands.{Analysis};
 ghost use Rattle.pals_top.specs.AnalysisAnswers.{command_of, Makes, IsAnalysisAnswer};

@@ -2,7 +2,7 @@
 ghost use Rattle.std.specs.Prelude.{IfOk};
 ghost use Rattle.pals_bus.specs.proof.NodeAndCodeValues.{AreCodes};
 ghost use Rattle.step_compiler.specs.LaidOutCode.{AreLaidOut};
-ghost use Rattle.scenario_json.specs.proof.ScenarioFacts.{IsScenarioOf};
+ghost use Rattle.scenario_json.specs.proof.ScenarioValidity.{IsScenarioOf};
 ghost use Rattle.design_codes.specs.DesignBehaviours.{behaviours};
 ghost use Rattle.pals_top.specs.ExecutionCommands.{Budget};
 ghost use Rattle.pals_top.specs.Budget.{IsBudgeted};

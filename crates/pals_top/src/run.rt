@@ -3,7 +3,7 @@ ghost use Rattle.std.specs.Prelude.{IfOk, OnErr};
 ghost use Rattle.pals_bus.specs.proof.NodeAndCodeValues.{AreCodes};
 ghost use Rattle.pals_io.specs.SourcesAndSinks.{GivesWithin};
 ghost use Rattle.pals_runs.specs.declared.commands.Command.TheVariants as command;
-ghost use Rattle.scenario_json.specs.proof.ScenarioFacts.{IsScenarioOf};
+ghost use Rattle.scenario_json.specs.proof.ScenarioValidity.{IsScenarioOf};
 ghost use Rattle.pals_top.specs.ExecutionCommands.{Run};
 ghost use Rattle.pals_top.specs.Answers.{IsSourceAnswer};
 ghost use Rattle.pals_top.specs.ProgramInput.{reading};

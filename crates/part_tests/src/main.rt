@@ -5,7 +5,7 @@
 
 mod adaptors;
 mod alarms;
-mod bounds;
+mod least_periods;
 mod buffers;
 mod clocks;
 mod code_fixtures;
@@ -61,18 +61,18 @@ fn tell_numbers(rt: &HostRuntime) -> io::Result<()> {
     tell(rt, "alarms", Ok(alarms::are_alarms()))?;
     tell(rt, "alarms of steps", Ok(alarms::are_step_alarms()))?;
     tell(rt, "releases", Ok(alarms::are_releases()))?;
-    tell(rt, "usual periods", Ok(bounds::are_usual_periods()))?;
-    tell(rt, "slow periods", Ok(bounds::are_slow_periods()))?;
-    tell(rt, "least multiples", Ok(bounds::are_least_multiples()))?;
+    tell(rt, "usual periods", Ok(least_periods::are_usual_periods()))?;
+    tell(rt, "slow periods", Ok(least_periods::are_slow_periods()))?;
+    tell(rt, "least multiples", Ok(least_periods::are_least_multiples()))?;
     tell(
         rt,
         "least multiples at the ends",
-        Ok(bounds::are_least_multiples_at_the_ends()),
+        Ok(least_periods::are_least_multiples_at_the_ends()),
     )?;
     tell(
         rt,
         "rates without a common period",
-        Ok(bounds::have_no_common_period()),
+        Ok(least_periods::have_no_common_period()),
     )
 }
 

@@ -3,8 +3,8 @@ pub mod FunctionTables
 pub mod StepRanks
 pub mod PairLinks
 pub mod StepDependencies
-pub mod Solutions
-pub mod WithoutPairs
+pub mod ExactlyOneSolution
+pub mod EquationsWithoutPairs
 pub mod SolutionPrefixes
 pub mod SolutionSteps
 pub mod NextRoundSolutions
@@ -15,9 +15,9 @@ pub mod NextPairSteps
 pub mod PartnerListLength
 pub mod TakenElements
 pub mod PairRoom
-pub mod PairWork
+pub mod PairAndLoneWork
 pub mod ComponentPairs
-pub mod SolvingReads
+pub mod ReadsAsSolution
 pub mod ProductAdvance
 pub mod SolutionParts
 pub mod StateSolutions

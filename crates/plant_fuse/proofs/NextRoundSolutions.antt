@@ -19,9 +19,9 @@ use Rattle.pals_base.proofs.StepSequences.{frame_after-append, outputs-append}
 use Rattle.pals_model.specs.declared.design.Component.{Component}
 use Rattle.pals_model.specs.declared.design.Link.{Link}
 use Rattle.pals_model.specs.declared.design.DesignParts.{DesignParts}
-use Rattle.pals_model.specs.declared.inputs_and_parts.Env.{Env}
-use Rattle.pals_model.specs.declared.sources.PortSource.{PortSource}
-use Rattle.pals_model.specs.declared.sources.PortSource.TheVariants as source
+use Rattle.pals_model.specs.declared.inputs_parts_and_delays.Env.{Env}
+use Rattle.pals_model.specs.declared.port_sources.PortSource.{PortSource}
+use Rattle.pals_model.specs.declared.port_sources.PortSource.TheVariants as source
 use Rattle.pals_model.specs.ComponentInputs.{rate_of, rate_in, source_of, reading, values_at}
 use Rattle.pals_model.specs.Composition.{Configuration, no_frame}
 use Rattle.pals_model.specs.DesignRules.{IsDesign}
@@ -40,7 +40,7 @@ use Rattle.plant_fuse.proofs.StepRanks.{IsSmall, small_rate}
 use Rattle.plant_fuse.proofs.PairLinks.{back_rates, forth_is, read_from_target}
 use Rattle.plant_fuse.proofs.StepDependencies.{read_at, same_messages}
 use Rattle.plant_fuse.proofs.SolutionPrefixes.{begun, agree}
-use Rattle.plant_fuse.proofs.WithoutPairs.{shifted, behind}
+use Rattle.plant_fuse.proofs.EquationsWithoutPairs.{shifted, behind}
 
 -- ---- lists
 drop_upwards : {X : Type 0} (f : ℕ → X) (from n m place : ℕ) → place ≡ from + n

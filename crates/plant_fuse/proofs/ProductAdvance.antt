@@ -20,14 +20,14 @@ use Rattle.pals_model.specs.declared.design.Component.{Component}
 use Rattle.pals_model.specs.declared.design.Link.{Link}
 use Rattle.pals_model.specs.declared.design.Tap.{Tap}
 use Rattle.pals_model.specs.declared.design.DesignParts.{DesignParts}
-use Rattle.pals_model.specs.declared.inputs_and_parts.Part.{Part}
+use Rattle.pals_model.specs.declared.inputs_parts_and_delays.Part.{Part}
 use Rattle.pals_model.specs.ComponentInputs.{rate_of, rate_in}
 use Rattle.pals_model.specs.Composition.{Configuration, taps_of}
 use Rattle.pals_model.specs.DesignRules.{IsDesign, IsLink}
 use Rattle.pals_model.proofs.ShapeLaws.{component_at, length-outputs}
 use Rattle.pals_runs.specs.declared.vote_faults_and_pairs.Pair.{Pair}
 use Rattle.sync_product.specs.declared.round_inputs.RoundInputs.{RoundInputs}
-use Rattle.sync_product.specs.declared.stage.Stage.{Stage}
+use Rattle.sync_product.specs.declared.component_stage.Stage.{Stage}
 use Rattle.sync_product.specs.proof.ProductSizes.{StageSize, stage_size, stage_size_of, stage_sizes}
 use Rattle.sync_product.specs.proof.Rounds.{frames_of}
 use Rattle.sync_product.proofs.PortColumns.{cut_whole, length-column}
@@ -40,11 +40,11 @@ use Rattle.plant_fuse.specs.proof.RoundEquations.{after_round}
 use Rattle.plant_fuse.specs.proof.RoundWork.{rows_of, AreRun}
 use Rattle.plant_fuse.specs.proof.FuseState.{FuseState, part_after, parts_after, IsAdvanced}
 use Rattle.plant_fuse.proofs.FunctionTables.{map_map, length_map_upwards}
-use Rattle.plant_fuse.proofs.WithoutPairs.{by_place}
+use Rattle.plant_fuse.proofs.EquationsWithoutPairs.{by_place}
 use Rattle.sync_product.proofs.StepRoom.{count_of_stages}
 use Rattle.plant_fuse.proofs.ComponentPairs.{inside_goes, outside_back, outside_forth}
-use Rattle.plant_fuse.proofs.SolvingReads.{before, all_read, inputs_at, reads_round, rows_at_node, left_at_node}
-use Rattle.plant_fuse.proofs.SolvingReads.{part_at_node}
+use Rattle.plant_fuse.proofs.ReadsAsSolution.{before, all_read, inputs_at, reads_round, rows_at_node, left_at_node}
+use Rattle.plant_fuse.proofs.ReadsAsSolution.{part_at_node}
 
 either_same : (t u : List PortValue) (b f : Bool) → (b ≡ true) ⊎ (f ≡ true) → (if b then t else if f then t else u) ≡ t
 either_same t u true f either = refl

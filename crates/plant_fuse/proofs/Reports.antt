@@ -6,16 +6,16 @@ use Rattle.std.proofs.lemmas.Grind.{flat_map-append}
 use Rattle.pals_base.specs.StepSequences.{upwards}
 use Rattle.pals_base.proofs.UpwardNumbers.{upwards-more}
 use Rattle.pals_model.specs.declared.design.DesignParts.{DesignParts}
-use Rattle.pals_model.specs.declared.inputs_and_parts.Env.{Env}
-use Rattle.pals_model.specs.declared.inputs_and_parts.Part.{Part}
+use Rattle.pals_model.specs.declared.inputs_parts_and_delays.Env.{Env}
+use Rattle.pals_model.specs.declared.inputs_parts_and_delays.Part.{Part}
 use Rattle.pals_model.specs.RoundTexts.{line_end, text_of, row_lines}
 use Rattle.pals_model.specs.DesignRules.{IsDesign}
 use Rattle.pals_runs.specs.declared.vote_faults_and_pairs.Pair.{Pair}
 use Rattle.plant_fuse.specs.FusedComposition.{ArePairs, Inputs, IsFused}
 use Rattle.plant_fuse.specs.proof.FusedRounds.{first_rounds}
-use Rattle.plant_fuse.specs.FusedText.{fused_parts, fused_lines, freport}
+use Rattle.plant_fuse.specs.FusedReport.{fused_parts, fused_lines, freport}
 use Rattle.plant_fuse.specs.proof.FusedLaws.{ReportExists, ReportIsOne}
-use Rattle.plant_fuse.proofs.Solutions.{solution_exists, solution_is_one}
+use Rattle.plant_fuse.proofs.ExactlyOneSolution.{solution_exists, solution_is_one}
 use Rattle.plant_fuse.proofs.SolutionPrefixes.{solution_goes_on}
 use Rattle.plant_fuse.proofs.SolutionParts.{earlier_parts}
 

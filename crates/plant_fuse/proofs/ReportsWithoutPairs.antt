@@ -16,8 +16,8 @@ use Rattle.pals_base.proofs.StepSequences.{slice_get-columns}
 use Rattle.pals_model.specs.declared.design.Component.{Component}
 use Rattle.pals_model.specs.declared.design.Tap.{Tap}
 use Rattle.pals_model.specs.declared.design.DesignParts.{DesignParts}
-use Rattle.pals_model.specs.declared.inputs_and_parts.Env.{Env}
-use Rattle.pals_model.specs.declared.inputs_and_parts.Part.{Part}
+use Rattle.pals_model.specs.declared.inputs_parts_and_delays.Env.{Env}
+use Rattle.pals_model.specs.declared.inputs_parts_and_delays.Part.{Part}
 use Rattle.pals_model.specs.Composition.{comp, state, part, steps_of_round, tuple_in, tuple_of}
 use Rattle.pals_model.specs.proof.CompositionLaws.{own_steps}
 use Rattle.pals_model.specs.PortKinds.{outs_in}
@@ -27,10 +27,10 @@ use Rattle.pals_model.proofs.CompositionLaws.{steps_of_round-at}
 use Rattle.pals_model.proofs.ShapeLaws.{component_at}
 use Rattle.sync_product.proofs.ComponentLists.{numbered-at}
 use Rattle.plant_fuse.specs.FusedComposition.{Inputs, round_tuple, frame_before, IsFused}
-use Rattle.plant_fuse.specs.FusedText.{fused_part, fused_parts, fused_lines}
+use Rattle.plant_fuse.specs.FusedReport.{fused_part, fused_parts, fused_lines}
 use Rattle.plant_fuse.specs.proof.FusedLaws.{ReportWithoutPairs}
 use Rattle.plant_fuse.proofs.SolutionPrefixes.{take_upwards}
-use Rattle.plant_fuse.proofs.WithoutPairs as alone
+use Rattle.plant_fuse.proofs.EquationsWithoutPairs as alone
 use Rattle.plant_fuse.proofs.Reports.{rows_same}
 
 -- ---- rows from the same parts

@@ -13,15 +13,15 @@ use Rattle.pals_base.proofs.StepSequences.{frame_after-append}
 use Rattle.pals_model.specs.declared.design.Component.{Component}
 use Rattle.pals_model.specs.declared.design.Tap.{Tap}
 use Rattle.pals_model.specs.declared.design.DesignParts.{DesignParts}
-use Rattle.pals_model.specs.declared.inputs_and_parts.Env.{Env}
-use Rattle.pals_model.specs.declared.inputs_and_parts.Part.{Part}
+use Rattle.pals_model.specs.declared.inputs_parts_and_delays.Env.{Env}
+use Rattle.pals_model.specs.declared.inputs_parts_and_delays.Part.{Part}
 use Rattle.pals_model.specs.Composition.{taps_of}
 use Rattle.pals_model.specs.DesignRules.{IsDesign}
 use Rattle.pals_runs.specs.declared.vote_faults_and_pairs.Pair.{Pair}
 use Rattle.plant_fuse.specs.FusedComposition.{ArePairs, Inputs, inputs_to, round_tuple, frame_before, IsFused}
 use Rattle.plant_fuse.specs.proof.RoundEquations.{tuple_from}
 use Rattle.plant_fuse.specs.proof.FuseState.{part_after, parts_after}
-use Rattle.plant_fuse.specs.FusedText.{fused_part, fused_parts}
+use Rattle.plant_fuse.specs.FusedReport.{fused_part, fused_parts}
 use Rattle.plant_fuse.proofs.FunctionTables.{table_at, table_same}
 use Rattle.plant_fuse.proofs.StepDependencies.{same_tuple}
 use Rattle.plant_fuse.proofs.SolutionPrefixes.{begun, agree}

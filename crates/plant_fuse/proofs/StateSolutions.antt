@@ -2,7 +2,7 @@
 use Rattle.std.proofs.Common.{◌≡◌, ◌∙◌, inl, inr, ℕ, zero, suc, ◌<◌, List, sym, ap, ap₂, subst, arith}
 use Rattle.std.proofs.lemmas.Bool.{cases_lt}
 use Rattle.pals_model.specs.declared.design.DesignParts.{DesignParts}
-use Rattle.pals_model.specs.declared.inputs_and_parts.Env.{Env}
+use Rattle.pals_model.specs.declared.inputs_parts_and_delays.Env.{Env}
 use Rattle.pals_model.specs.ComponentInputs.{values_at}
 use Rattle.pals_model.specs.Composition.{Configuration}
 use Rattle.pals_model.specs.DesignRules.{IsDesign}
@@ -11,9 +11,9 @@ use Rattle.plant_fuse.specs.FusedComposition.{ArePairs, Inputs, IsFused}
 use Rattle.plant_fuse.specs.proof.FusedRounds.{first_rounds, fused}
 use Rattle.plant_fuse.specs.proof.RoundEquations.{IsFusedRound, after_round, last_round}
 use Rattle.plant_fuse.specs.proof.FuseState.{FuseState, begun, parts_after, IsAdvanced, AreStates}
-use Rattle.plant_fuse.specs.FusedText.{fused_parts}
+use Rattle.plant_fuse.specs.FusedReport.{fused_parts}
 use Rattle.plant_fuse.specs.proof.FusedLaws.{StatesFollow}
-use Rattle.plant_fuse.proofs.Solutions.{solution_is_one}
+use Rattle.plant_fuse.proofs.ExactlyOneSolution.{solution_is_one}
 use Rattle.plant_fuse.proofs.SolutionPrefixes.{solution_goes_on}
 use Rattle.plant_fuse.proofs.NextRoundSolutions.{rounds_go_on}
 use Rattle.plant_fuse.proofs.RoundUniqueness.{round_is_one}

@@ -15,9 +15,9 @@ use Rattle.pals_base.specs.StepSequences.{outputs, cut, upwards}
 use Rattle.pals_model.specs.declared.design.Component.{Component}
 use Rattle.pals_model.specs.declared.design.Link.{Link}
 use Rattle.pals_model.specs.declared.design.DesignParts.{DesignParts}
-use Rattle.pals_model.specs.declared.inputs_and_parts.Env.{Env}
-use Rattle.pals_model.specs.declared.sources.PortSource.{PortSource}
-use Rattle.pals_model.specs.declared.sources.PortSource.TheVariants as source
+use Rattle.pals_model.specs.declared.inputs_parts_and_delays.Env.{Env}
+use Rattle.pals_model.specs.declared.port_sources.PortSource.{PortSource}
+use Rattle.pals_model.specs.declared.port_sources.PortSource.TheVariants as source
 use Rattle.pals_model.specs.ComponentInputs.{rate_of, rate_in, source_of, reading, values_at}
 use Rattle.pals_model.specs.DesignRules.{IsDesign}
 use Rattle.pals_runs.specs.declared.vote_faults_and_pairs.Pair.{Pair}

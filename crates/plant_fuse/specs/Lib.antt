@@ -1,3 +1,3 @@
 pub mod FusedComposition
-pub mod FusedText
+pub mod FusedReport
 pub mod proof

@@ -2,15 +2,15 @@
 //! round hand in hand. Its definition and its laws stand in `specs`.
 #![tactic(auto)]
 
-mod fuse_end;
+mod fuse_failure;
 mod fusibility;
 pub mod laws;
 mod messages;
 mod pair_steps;
 mod product;
 mod round;
-mod tables;
-mod taken_stages;
+mod design_tables;
+mod taken_stages_and_parts;
 
-pub use fuse_end::FuseEnd;
+pub use fuse_failure::FuseEnd;
 pub use product::FuseProduct;

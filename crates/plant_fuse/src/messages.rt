@@ -6,10 +6,10 @@ ghost use Rattle.plant_fuse.specs.proof.Partners.{is_inside};
 ghost use Rattle.plant_fuse.specs.proof.Messages.{sent_count, sent_on};
 ghost use Rattle.plant_fuse.specs.proof.DesignTables.{AreTables};
 
-use crate::tables::Tables;
+use crate::design_tables::Tables;
 use pals_base::{Items, NodeNo, Tuple};
 use pals_model::{Design, Link};
-use sync_product::stage::Stage;
+use sync_product::component_stage::Stage;
 use sync_product::tuple_columns::write_column;
 
 /// Writes the message of each link, from the rows of its source: whole inside a pair, and else cut.

@@ -1,14 +1,14 @@
 //! What the whole program answers to words and bytes, over sources and sinks in memory that fail where they are told.
 #![tactic(auto)]
 
-mod answer_groups;
+mod alike_answers;
 mod audited_runs;
-mod case_series;
+mod case_variations;
 mod program_answer;
 mod ring_check;
 
 use case_files::{asked, check_answer, text_of, word};
-use case_series::answer_series;
+use case_variations::answer_series;
 use program_answer::{Transfer, ask};
 use ring_check::check_ring;
 use std::sync::Wait;

@@ -9,5 +9,5 @@ pub mod SortedUniqueness
 pub mod ProcessorMembers
 pub mod TimetableLines
 pub mod ServableReleases
-pub mod FittingBudgets
-pub mod UniqueBudgetTexts
+pub mod TimetablePromises
+pub mod UniqueTextsAndVerdicts

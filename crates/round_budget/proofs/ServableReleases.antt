@@ -19,7 +19,7 @@ use Rattle.round_budget.proofs.ReleaseOrders.{every_in_order}
 use Rattle.round_budget.proofs.FilteredSums.{one_le}
 use Rattle.round_budget.proofs.ReleaseTimes.{IsRelease, releases_are}
 use Rattle.round_budget.specs.declared.releases.Release.{Release}
-use Rattle.round_budget.specs.proof.ReleaseValues.{release_value, CanServe}
+use Rattle.round_budget.specs.proof.ReleaseAndLineValues.{release_value, CanServe}
 
 -- it comes at the round's alarm or later
 record ComesLate (design : DesignParts) (x : budgets.Release) : Type 0 where

@@ -12,7 +12,7 @@ use Rattle.round_budget.specs.Budgets.{Release, Served, precedes, put, in_order,
 use Rattle.round_budget.proofs.ListQuantifiers.{Pairs, Member}
 use Rattle.round_budget.proofs.ReleaseOrders.{NotAfter}
 use Rattle.round_budget.specs.declared.releases.Release as steps
-use Rattle.round_budget.specs.proof.ReleaseValues.{release_value}
+use Rattle.round_budget.specs.proof.ReleaseAndLineValues.{release_value}
 
 -- ---- the same elements, as often
 abbrev pub AreSame : List Release → List Release → Type 0

@@ -3,5 +3,5 @@ pub mod RoundTimetableLine
 pub mod BudgetLaws
 pub mod TurnController
 pub mod TurnControllerBudget
-pub mod ReleaseValues
+pub mod ReleaseAndLineValues
 pub mod TimetablePromises

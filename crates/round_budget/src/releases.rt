@@ -3,7 +3,7 @@ ghost use Rattle.std.specs.Prelude.{◌<◌, ◌++◌, IfOk, OnOk, length, map};
 ghost use Rattle.round_budget.specs.Budgets.{releases, releases_in, releases_of, in_order, numbers};
 ghost use Rattle.round_budget.specs.proof.BudgetLaws.{AreMembers};
 ghost use Rattle.pals_model.specs.DesignRules.{IsDesign};
-ghost use Rattle.round_budget.specs.proof.ReleaseValues.{release_value, AreReleases};
+ghost use Rattle.round_budget.specs.proof.ReleaseAndLineValues.{release_value, AreReleases};
 
 use pals_base::period_bound::step_period;
 use pals_base::{Nanos, NoMemory, NodeNo};

@@ -4,7 +4,7 @@ ghost use Rattle.pals_base.specs.declared.limits.TheConstants.{HOUR};
 ghost use Rattle.round_budget.specs.Budgets.{timetable, total, fits, numbers};
 ghost use Rattle.round_budget.specs.proof.BudgetLaws.{AreMembers};
 ghost use Rattle.round_budget.specs.Responses.{RespondInTime};
-ghost use Rattle.round_budget.specs.proof.ReleaseValues.{AreLines};
+ghost use Rattle.round_budget.specs.proof.ReleaseAndLineValues.{AreLines};
 ghost use Rattle.round_budget.specs.proof.TimetablePromises.{IsEnd, TimetableIsEach};
 
 use crate::releases::ordered_releases;

@@ -7,7 +7,7 @@ use Rattle.std.proofs.lemmas.Bool.{false≢true}
 use Rattle.std.proofs.lemmas.Grind.{get_or-set_at}
 use Rattle.std.proofs.lemmas.List.{get_or-set_other}
 use Rattle.list_lemmas.proofs.Elements.{find-passes}
-use Rattle.list_lemmas.proofs.ElementPairs.{AllPairs-slice_get}
+use Rattle.list_lemmas.proofs.PairwiseProperties.{AllPairs-slice_get}
 use Rattle.pals_base.specs.declared.values.LinkNo.{LinkNo}
 use Rattle.pals_base.specs.declared.values.PortValue.{PortValue}
 use Rattle.pals_model.specs.declared.design.Link.{Link}
@@ -15,7 +15,7 @@ use Rattle.pals_model.specs.declared.flight_copy.FlightCopy.{FlightCopy}
 use Rattle.pals_model.specs.Flights.{is_of, oldest, without_oldest}
 use Rattle.pals_model.specs.PortKinds.{ins_in}
 use Rattle.pals_model.specs.DesignRules.{LinkPrecedes, port_place}
-use Rattle.pals_runs.specs.declared.events.Event.TheVariants as event
+use Rattle.pals_runs.specs.declared.events_and_faults.Event.TheVariants as event
 use Rattle.pals_runs.specs.declared.journal.Arrived.{Arrived}
 use Rattle.pals_runs.specs.declared.journal.Arrived.TheVariants.{Kept}
 use Rattle.bus_machine.specs.Plans.{plan_of, component_at}
@@ -26,17 +26,17 @@ use Rattle.bus_machine.specs.States.{Run, BusState, node_at, flight_at, link_at,
 use Rattle.bus_machine.specs.MissedStarts.{sent_rounds}
 use Rattle.bus_machine.specs.Machine.{Arrive, arrival, early_stop, after}
 use Rattle.bus_machine.specs.Agreement.{Agrees}
-use Rattle.bus_machine.specs.proof.MachineLaws.{IsRunOf}
+use Rattle.bus_machine.specs.proof.AgreementLaws.{IsRunOf}
 use Rattle.run_laws.specs.Worlds.{World, reading_at, since_at, ready_at, sendings, world_after}
-use Rattle.bus_machine.proofs.RunAgreement.{step_keeps_agreement}
+use Rattle.bus_machine.proofs.MessageAndRunAgreement.{step_keeps_agreement}
 use Rattle.bus_machine.proofs.AgreementChanges.{node_set, node_stays}
 use Rattle.run_laws.specs.proof.WorldInvariant.{IsOnce, copies, waits, taken, one_if, KeepsLink, KeepsTime}
 use Rattle.run_laws.proofs.Lists.{count_without}
-use Rattle.run_laws.proofs.WorldNodes.{Stands, stands_at, component_is}
-use Rattle.run_laws.proofs.WorldLinks.{comes_in_time, ComesInTime, is_kept, link_is, rule_of, one_of_true, one_of_false}
-use Rattle.run_laws.proofs.WorldLinks.{in_flight_counts, counts_in_flight}
+use Rattle.run_laws.proofs.WorldNodeTiming.{Stands, stands_at, component_is}
+use Rattle.run_laws.proofs.WorldLinkTiming.{comes_in_time, ComesInTime, is_kept, link_is, rule_of, one_of_true, one_of_false}
+use Rattle.run_laws.proofs.WorldLinkTiming.{in_flight_counts, counts_in_flight}
 use Rattle.run_laws.proofs.LocalWorldChanges.{same_at, changed, stands_put, keeps_again}
-use Rattle.run_laws.proofs.FaultlessEvents.{ArrivesInTime}
+use Rattle.run_laws.proofs.FaultlessEventConditions.{ArrivesInTime}
 
 -- ---- a round of the link
 -- a copy leaves the flight, and its message waits in the slot

@@ -12,7 +12,7 @@ use Rattle.pals_base.specs.declared.limits.TheConstants.{ROUNDS, READING}
 use Rattle.pals_model.proofs.WordBytes.{same_bytes, other_bytes}
 use Rattle.pals_runs.specs.JournalLines.{reading_word}
 use Rattle.run_laws.specs.LineForms.{is, is_there, spelled, number_up_to, round_in, reading_in}
-use Rattle.run_laws.specs.Entries.{IsReading}
+use Rattle.run_laws.specs.EntriesOfDesigns.{IsReading}
 use Rattle.run_laws.proofs.PlainWords.{is_inner, is_plain, inner, there_cons}
 
 -- ---- what digits spell

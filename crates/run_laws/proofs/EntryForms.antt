@@ -20,7 +20,7 @@ use Rattle.run_laws.specs.LineForms.{Form, ArriveLine, StartLine, StepLine, Fini
 use Rattle.run_laws.specs.LineForms.{EarlyLine, MissedLine, is_there, form_of_words, form_of, named, read, at_end}
 use Rattle.run_laws.specs.LineForms.{with_result, with_cause, with_step}
 use Rattle.run_laws.specs.proof.EntryLines.{stop_form, entry_form, LinesHaveForms, EntriesHaveLines}
-use Rattle.run_laws.specs.Entries.{IsReading, IsOfNode, IsOfLink, IsStopIn, IsEntryIn}
+use Rattle.run_laws.specs.EntriesOfDesigns.{IsReading, IsOfNode, IsOfLink, IsStopIn, IsEntryIn}
 use Rattle.run_laws.proofs.PlainWords.{is_plain, ArePlain, end, before, words_are, all_there, is_one_line}
 use Rattle.run_laws.proofs.DecimalNumbers.{round_is, reading_is, round_plain, reading_plain}
 use Rattle.run_laws.proofs.PlainNames.{node_plain, link_plain}

@@ -13,7 +13,7 @@ use Rattle.pals_runs.specs.declared.journal.JournalEntry.TheVariants as entry
 use Rattle.pals_runs.specs.JournalLines.{node_word, link_word}
 use Rattle.run_laws.specs.EntriesInLines.{of_node, of_link, entry_of, told}
 use Rattle.run_laws.specs.proof.EntryLines.{stop_form, entry_form, LinesTellEntries, LinesDiffer}
-use Rattle.run_laws.specs.Entries.{IsOfNode, IsOfLink, IsStopIn, IsEntryIn}
+use Rattle.run_laws.specs.EntriesOfDesigns.{IsOfNode, IsOfLink, IsStopIn, IsEntryIn}
 use Rattle.run_laws.proofs.PlainNames.{node_found, link_found}
 use Rattle.run_laws.proofs.EntryForms.{lines_have_forms}
 

@@ -30,12 +30,12 @@ use Rattle.bus_machine.specs.MissedStarts.{missing_link, rounds_sent_on}
 use Rattle.bus_machine.specs.Machine.{BusEvent, Start, Step, Finish, Send, Arrive, Drop, Repeat, arrival, early_stop}
 use Rattle.bus_machine.specs.Replay.{entries, start_entry, stop_entry}
 use Rattle.bus_machine.specs.Agreement.{PhaseAgrees, IsCopy, Agrees}
-use Rattle.bus_machine.specs.proof.MachineLaws.{IsRunOf}
+use Rattle.bus_machine.specs.proof.AgreementLaws.{IsRunOf}
 use Rattle.bus_machine.specs.declared.node_action.NodeAction.{NodeAction}
 use Rattle.bus_machine.specs.declared.node_action.NodeAction.TheVariants as action
-use Rattle.bus_machine.specs.Targets.{Progress, target, targets, send_is_next, next_action, next_in}
-use Rattle.bus_machine.proofs.ListsAndFlights.{oldest_is_one}
-use Rattle.run_laws.specs.Entries.{IsReading, IsOfLink, IsEntryIn}
+use Rattle.bus_machine.specs.ActionsAndTargets.{Progress, target, targets, send_is_next, next_action, next_in}
+use Rattle.bus_machine.proofs.ListsAndOldestCopies.{oldest_is_one}
+use Rattle.run_laws.specs.EntriesOfDesigns.{IsReading, IsOfLink, IsEntryIn}
 use Rattle.pals_clock.specs.declared.clock.Clocks.{Clocks}
 use Rattle.pals_clock.specs.declared.clock.Clocks.TheVariants.{Meet, Lists}
 use Rattle.run_laws.specs.Runs.{clock_at, Does, Takes, KeepsTo, Runs, opens, picks_for, goes_on}
@@ -43,7 +43,7 @@ use Rattle.run_laws.proofs.NodePicks.{runs_agree, many_clocks, nodes_pick, node_
 use Rattle.run_laws.proofs.MissedLinks.{missed_link}
 use Rattle.run_laws.proofs.RisingTargets.{IsTimedPlan, step_below, next_alarm}
 use Rattle.run_laws.proofs.MeetingReadings.{times_of}
-use Rattle.run_laws.proofs.JournalPicks.{same_lists}
+use Rattle.run_laws.proofs.StartSendAndStopPicks.{same_lists}
 use Rattle.run_laws.specs.proof.RunTraces.{AreReadings}
 
 -- ---- readings of lists

@@ -27,7 +27,7 @@ use Rattle.bus_machine.specs.MissedStarts.{missing_link}
 use Rattle.bus_machine.specs.Machine.{BusEvent, Start, Step, Finish, Send, Arrive, Drop, Repeat, arrival, early_stop}
 use Rattle.bus_machine.specs.Replay.{entries, start_entry, stop_entry}
 use Rattle.bus_machine.specs.declared.node_action.NodeAction.{NodeAction}
-use Rattle.bus_machine.specs.Targets.{target}
+use Rattle.bus_machine.specs.ActionsAndTargets.{target}
 use Rattle.run_laws.specs.EntriesInLines.{timed}
 use Rattle.run_laws.specs.JournalReadings.{last_of, latest}
 use Rattle.run_laws.specs.NodeActions.{upcoming}

@@ -9,7 +9,7 @@ use Rattle.std.proofs.lemmas.Option.{same_Some, none-some}
 use Rattle.pals_base.specs.declared.values.Gamma.{Gamma}
 use Rattle.pals_base.specs.declared.values.NodeNo.{NodeNo}
 use Rattle.pals_base.specs.PeriodBound.{alarm}
-use Rattle.pals_runs.specs.declared.events.Event.TheVariants as event
+use Rattle.pals_runs.specs.declared.events_and_faults.Event.TheVariants as event
 use Rattle.pals_runs.specs.declared.journal.Phase.{Phase}
 use Rattle.pals_runs.specs.declared.journal.Phase.TheVariants.{Waiting, Running, Between, Holding, Done}
 use Rattle.bus_machine.specs.declared.plan.Plan.{Plan}
@@ -20,20 +20,20 @@ use Rattle.bus_machine.specs.EarliestReadings.{start_alarm, step_alarm, release_
 use Rattle.bus_machine.specs.States.{Run, node_at, with_node}
 use Rattle.bus_machine.specs.MissedStarts.{sent_rounds}
 use Rattle.bus_machine.specs.Machine.{on_step}
-use Rattle.bus_machine.specs.proof.MachineLaws.{IsRunOf}
+use Rattle.bus_machine.specs.proof.AgreementLaws.{IsRunOf}
 use Rattle.bus_machine.specs.Agreement.{Agrees, PhaseAgrees, IsInRound}
 use Rattle.run_laws.specs.Deadlines.{last_before, lesser}
 use Rattle.run_laws.specs.Worlds.{World, reading_at, since_at, ready_at, sendings, moved, is_last_sent, world_after}
-use Rattle.bus_machine.proofs.NodeAgreement.{finish_keeps}
+use Rattle.bus_machine.proofs.LoneNodeAgreement.{finish_keeps}
 use Rattle.bus_machine.proofs.AgreementChanges.{node_set, node_stays}
 use Rattle.bus_machine.proofs.NodeEventAgreement.{finish_keeps_all}
 use Rattle.run_laws.specs.proof.WorldInvariant.{IsInTime, IsReadySince, KeepsTime}
 use Rattle.run_laws.proofs.TimeArithmetic.{finish_between, late_running}
-use Rattle.run_laws.proofs.WorldNodes.{fits_at, may_be, may_is, Stands, stands_at, left_in_time, both_in_time}
-use Rattle.run_laws.proofs.WorldNodes.{send_in_time, sends_in_time, phase_last, send_last, phase_agrees, next_alarm}
+use Rattle.run_laws.proofs.WorldNodeTiming.{fits_at, may_be, may_is, Stands, stands_at, left_in_time, both_in_time}
+use Rattle.run_laws.proofs.WorldNodeTiming.{send_in_time, sends_in_time, phase_last, send_last, phase_agrees, next_alarm}
 use Rattle.run_laws.proofs.LocalWorldChanges.{changed, same_links, stands_put, keeps_again, moved_here, moved_length}
 use Rattle.run_laws.proofs.LocalWorldChanges.{moved_other}
-use Rattle.run_laws.proofs.FaultlessEvents.{FinishesInTime}
+use Rattle.run_laws.proofs.FaultlessEventConditions.{FinishesInTime}
 
 -- ---- what a node is after a step
 -- more steps are to come, the round is held, or it is at an end

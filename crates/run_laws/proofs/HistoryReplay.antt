@@ -28,7 +28,7 @@ use Rattle.run_laws.specs.JournalReadings.{last_of, latest}
 use Rattle.run_laws.specs.EntriesInLines.{Timed, timed}
 use Rattle.run_laws.specs.proof.RisingReadings.{LinesRise}
 use Rattle.run_laws.proofs.MissedLinks.{missed_link}
-use Rattle.run_laws.specs.Histories.{IsRead, IsInTime, History, opens, goes_on}
+use Rattle.run_laws.specs.HistoriesAndTraces.{IsRead, IsInTime, History, opens, goes_on}
 use Rattle.run_laws.specs.proof.SoundTraces.{ShowsFrom, ShowsTime, HistoriesReplay}
 use Rattle.run_laws.proofs.SoundTraces.{latest_one}
 

@@ -37,7 +37,7 @@ use Rattle.bus_machine.specs.MissedStarts.{missing_link}
 use Rattle.bus_machine.specs.Machine.{BusEvent, Start, Step, Finish, Send, Arrive, Drop, Repeat, is_allowed, after}
 use Rattle.bus_machine.specs.Machine.{arrival, early_stop}
 use Rattle.bus_machine.specs.Replay.{entries, start_entry, stop_entry}
-use Rattle.bus_machine.proofs.RunAgreement.{replay_agrees}
+use Rattle.bus_machine.proofs.MessageAndRunAgreement.{replay_agrees}
 use Rattle.run_laws.specs.JournalReadings.{latest}
 use Rattle.run_laws.specs.EntriesInLines.{timed, has_reading, event_of}
 use Rattle.run_laws.specs.TraceRules.{same_result, is_in_order, falls, is_before, too_early, is_due, waits, is_line_of}
@@ -45,9 +45,9 @@ use Rattle.run_laws.specs.TraceRules.{first_entry, tells_stop, broken}
 use Rattle.run_laws.specs.TraceVerdicts.{Audit, opening_audit, noted, second_entry, audit_event, audit_after}
 use Rattle.run_laws.specs.TraceVerdicts.{line_broken, is_done, wrong_or, verdict}
 use Rattle.run_laws.specs.Meetings.{AllDone}
-use Rattle.run_laws.specs.Entries.{IsEntryIn}
-use Rattle.run_laws.specs.Histories.{IsStoppedOrDone, IsRead, StepsInTime, StartsInTime, ArrivesInTime, IsInTime}
-use Rattle.run_laws.specs.Histories.{History, opens, goes_on}
+use Rattle.run_laws.specs.EntriesOfDesigns.{IsEntryIn}
+use Rattle.run_laws.specs.HistoriesAndTraces.{IsStoppedOrDone, IsRead, StepsInTime, StartsInTime, ArrivesInTime, IsInTime}
+use Rattle.run_laws.specs.HistoriesAndTraces.{History, opens, goes_on}
 use Rattle.run_laws.proofs.EntryLines.{lines_tell_entries}
 use Rattle.run_laws.proofs.EntryForms.{lines_have_forms}
 use Rattle.run_laws.proofs.MissedLinks.{missed_link}

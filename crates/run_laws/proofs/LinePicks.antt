@@ -24,9 +24,9 @@ use Rattle.bus_machine.specs.Machine.{BusEvent, Start, Step, Finish, Send, Arriv
 use Rattle.bus_machine.specs.Replay.{entries, start_entry, stop_entry}
 use Rattle.bus_machine.specs.declared.node_action.NodeAction.{NodeAction}
 use Rattle.bus_machine.specs.declared.node_action.NodeAction.TheVariants as action
-use Rattle.bus_machine.specs.Targets.{actions, target, targets}
+use Rattle.bus_machine.specs.ActionsAndTargets.{actions, target, targets}
 use Rattle.run_laws.specs.EntriesInLines.{Timed, timed}
-use Rattle.bus_machine.specs.proof.MachineLaws.{IsRunOf}
+use Rattle.bus_machine.specs.proof.AgreementLaws.{IsRunOf}
 use Rattle.run_laws.specs.JournalReadings.{start_in, starts, act_in, acts}
 use Rattle.pals_clock.specs.declared.clock.Clocks.{Clocks}
 use Rattle.pals_clock.specs.declared.clock.Clocks.TheVariants.{Meet, Lists}
@@ -35,11 +35,11 @@ use Rattle.run_laws.specs.ListPicks.{picks_of, coming_start, action_shown, Shows
 use Rattle.run_laws.specs.proof.ListPicks.{LinesArePicks}
 use Rattle.run_laws.proofs.NodePicks.{many_clocks}
 use Rattle.run_laws.proofs.MissedLinks.{missed_link}
-use Rattle.run_laws.proofs.MeetingStops.{link_is}
-use Rattle.run_laws.proofs.JournalPicks.{next_pick, same_lists}
-use Rattle.run_laws.proofs.ShownActions.{rounds_are_shown}
+use Rattle.run_laws.proofs.MeetingStopsAndBounds.{link_is}
+use Rattle.run_laws.proofs.StartSendAndStopPicks.{next_pick, same_lists}
+use Rattle.run_laws.proofs.JournalStartsAndSends.{rounds_are_shown}
 use Rattle.run_laws.proofs.MeetingLines.{step_now}
-use Rattle.run_laws.proofs.ActionReadings.{send_round}
+use Rattle.run_laws.proofs.StartAndSendReadings.{send_round}
 
 -- a line that is of a node's action, at this reading
 abbrev LineIs : Run → List ClockState → List JournalEntry → JournalEntry → Type 0

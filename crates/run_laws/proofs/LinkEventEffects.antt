@@ -17,7 +17,7 @@ use Rattle.pals_model.specs.Flights.{is_of, oldest, without_oldest}
 use Rattle.pals_runs.specs.declared.journal.Arrived.{Arrived}
 use Rattle.pals_runs.specs.declared.journal.Arrived.TheVariants.{Kept, Ignored, Early}
 use Rattle.run_laws.specs.TraceRules.{is_due}
-use Rattle.bus_machine.proofs.ListsAndFlights.{All-without_oldest, oldest_is_one}
+use Rattle.bus_machine.proofs.ListsAndOldestCopies.{All-without_oldest, oldest_is_one}
 use Rattle.run_laws.specs.proof.LinkTiming.{LinkView, due_of, one_if, copies, Whereabouts, in_flight, in_slot}
 use Rattle.run_laws.specs.proof.LinkTiming.{was_taken, came_early, IsDueCopy, SlotWasDue, IsTimed}
 

@@ -8,7 +8,7 @@ use Rattle.std.proofs.lemmas.Bool.{cases_eq, cases_order, false≢true, eq-eqb, 
 use Rattle.std.proofs.lemmas.Grind.{get_or-set_at}
 use Rattle.std.proofs.lemmas.List.{get_or-set_other, append-nil}
 use Rattle.std.proofs.lemmas.Option.{slice_get-get_or}
-use Rattle.list_lemmas.proofs.ElementPairs.{AllPairs-slice_get}
+use Rattle.list_lemmas.proofs.PairwiseProperties.{AllPairs-slice_get}
 use Rattle.pals_base.specs.declared.values.NodeNo.{NodeNo}
 use Rattle.pals_base.specs.declared.values.LinkNo.{LinkNo}
 use Rattle.pals_base.specs.declared.values.PortValue.{PortValue}
@@ -41,9 +41,9 @@ use Rattle.bus_machine.specs.declared.plan.Input.{Input}
 use Rattle.run_laws.specs.TraceRules.{is_due}
 use Rattle.bus_machine.specs.Replay.{entries, start_entry, stop_entry}
 use Rattle.bus_machine.specs.Agreement.{Agrees}
-use Rattle.bus_machine.specs.proof.MachineLaws.{IsRunOf}
-use Rattle.bus_machine.proofs.ListsAndFlights.{numbered_at}
-use Rattle.bus_machine.proofs.NodeAgreement.{finish_keeps}
+use Rattle.bus_machine.specs.proof.AgreementLaws.{IsRunOf}
+use Rattle.bus_machine.proofs.ListsAndOldestCopies.{numbered_at}
+use Rattle.bus_machine.proofs.LoneNodeAgreement.{finish_keeps}
 use Rattle.bus_machine.proofs.AgreementChanges.{node_stays}
 use Rattle.run_laws.specs.JournalReadings.{if_at, start_in, send_in, starts, sends, latest}
 use Rattle.pals_clock.specs.declared.clock.Clocks.{Clocks}
@@ -51,7 +51,7 @@ use Rattle.pals_clock.specs.declared.clock.Clocks.TheVariants.{Lists}
 use Rattle.run_laws.specs.Runs.{Takes, KeepsTo, Runs, opens, picks_for, goes_on}
 use Rattle.run_laws.specs.proof.LinkTiming.{early_on, view, LinksAreTimed}
 use Rattle.run_laws.proofs.NodePicks.{runs_agree, node_opens}
-use Rattle.run_laws.proofs.ShownActions.{rounds_are_shown, sender_before}
+use Rattle.run_laws.proofs.JournalStartsAndSends.{rounds_are_shown, sender_before}
 use Rattle.run_laws.proofs.LinkEventEffects.{goes_start, goes_send, goes_arrive, slot_after, taken_after, arrived_at}
 use Rattle.run_laws.proofs.MissedLinks.{full_slot}
 use Rattle.run_laws.proofs.MeetingReadings.{no_fall}

@@ -6,7 +6,7 @@ use Rattle.std.specs.List.{enumerate_from, before_first, after_first, position_o
 use Rattle.std.proofs.lemmas.List.Sums.{sum_by-cons, sum_by-append, sum_by_push, split_at_first}
 use Rattle.std.proofs.lemmas.List.Folds.{find_at}
 use Rattle.pals_base.specs.StepSequences.{upwards}
-use Rattle.pals_runs.specs.declared.events.EventFault.{EventFault}
+use Rattle.pals_runs.specs.declared.events_and_faults.EventFault.{EventFault}
 use Rattle.run_laws.specs.EventFaults.{or_else, first_of}
 use Rattle.std.proofs.lemmas.Option.{slice_get_within, get_or_from_slice_get}
 use Rattle.list_lemmas.proofs.Elements.{find-passes}

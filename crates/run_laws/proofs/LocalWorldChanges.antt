@@ -14,7 +14,7 @@ use Rattle.bus_machine.specs.Agreement.{Agrees}
 use Rattle.run_laws.specs.Worlds.{World, reading_at, since_at, ready_at, sendings, moved}
 use Rattle.bus_machine.proofs.AgreementChanges.{node_set, node_stays}
 use Rattle.run_laws.specs.proof.WorldInvariant.{IsInTime, IsOnce, HasMoments, KeepsLink, KeepsTime}
-use Rattle.run_laws.proofs.WorldNodes.{Stands, StandsAt, stands_at, deadline_is}
+use Rattle.run_laws.proofs.WorldNodeTiming.{Stands, StandsAt, stands_at, deadline_is}
 
 -- ---- nodes
 -- what the new state of a node keeps of the old one is kept at every node

@@ -25,8 +25,8 @@ use Rattle.bus_machine.specs.Machine.{BusEvent, Start, Step, Finish, Send, Arriv
 use Rattle.bus_machine.specs.Replay.{entries, start_entry, stop_entry}
 use Rattle.bus_machine.specs.declared.node_action.NodeAction.{NodeAction}
 use Rattle.bus_machine.specs.declared.node_action.NodeAction.TheVariants as action
-use Rattle.bus_machine.specs.Targets.{Progress, target, send_is_next, next_in}
-use Rattle.bus_machine.specs.proof.MachineLaws.{IsRunOf}
+use Rattle.bus_machine.specs.ActionsAndTargets.{Progress, target, send_is_next, next_in}
+use Rattle.bus_machine.specs.proof.AgreementLaws.{IsRunOf}
 use Rattle.run_laws.specs.JournalReadings.{start_in, starts}
 use Rattle.pals_clock.specs.declared.clock.Clocks.{Clocks}
 use Rattle.pals_clock.specs.declared.clock.Clocks.TheVariants.{Meet, Lists}
@@ -34,9 +34,9 @@ use Rattle.run_laws.specs.Runs.{Does, KeepsTo, Runs, opens, picks_for, goes_on}
 use Rattle.run_laws.specs.Meetings.{AtNext, ShowTargets}
 use Rattle.run_laws.specs.proof.MeetingLaws.{MeetingsShowTargets}
 use Rattle.run_laws.proofs.MissedLinks.{missed_link}
-use Rattle.run_laws.proofs.ShownActions.{rounds_are_shown}
-use Rattle.run_laws.proofs.ActionReadings.{send_round}
-use Rattle.run_laws.proofs.MeetingStops.{link_is}
+use Rattle.run_laws.proofs.JournalStartsAndSends.{rounds_are_shown}
+use Rattle.run_laws.proofs.StartAndSendReadings.{send_round}
+use Rattle.run_laws.proofs.MeetingStopsAndBounds.{link_is}
 
 at_target : (run : Run) (s : BusState) (node : NodeNo) (reading : Option ℕ) (action : NodeAction)
     (d : Does run Meet s node reading action) → reading ≡ Some (target (plan_of run.design node.0) action)

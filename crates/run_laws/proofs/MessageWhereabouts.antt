@@ -10,7 +10,7 @@ use Rattle.bus_machine.specs.MissedStarts.{rounds_sent_on}
 use Rattle.run_laws.specs.proof.WorldInvariant.{IsOnce, copies, waits, taken, one_if, Flies, IsInSlot, IsTaken}
 use Rattle.run_laws.specs.proof.WorldInvariant.{IsNowhere}
 use Rattle.run_laws.specs.proof.WorldLaws.{MessagesStandOnce}
-use Rattle.run_laws.proofs.WorldLinks.{one_of_true, one_of_false}
+use Rattle.run_laws.proofs.WorldLinkTiming.{one_of_true, one_of_false}
 
 not_past : (count round : ℕ) → taken count round ≡ false → count ≤ round + 1
 not_past count round is =

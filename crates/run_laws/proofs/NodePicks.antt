@@ -36,12 +36,12 @@ use Rattle.bus_machine.specs.Machine.{after, after_start, after_send, after_arri
 use Rattle.bus_machine.specs.Replay.{Replays, entries, start_entry, stop_entry, opens as replay_opens}
 use Rattle.bus_machine.specs.Replay.{goes_on as replay_goes_on}
 use Rattle.bus_machine.specs.Agreement.{NodeAgrees, PhaseAgrees, Agrees}
-use Rattle.bus_machine.specs.proof.MachineLaws.{IsRunOf}
+use Rattle.bus_machine.specs.proof.AgreementLaws.{IsRunOf}
 use Rattle.bus_machine.specs.declared.node_action.NodeAction.{NodeAction}
 use Rattle.bus_machine.specs.declared.node_action.NodeAction.TheVariants as action
-use Rattle.bus_machine.specs.Targets.{target, targets, next_in}
+use Rattle.bus_machine.specs.ActionsAndTargets.{target, targets, next_in}
 use Rattle.bus_machine.proofs.AgreementChanges.{node_stays}
-use Rattle.bus_machine.proofs.RunAgreement.{replay_agrees}
+use Rattle.bus_machine.proofs.MessageAndRunAgreement.{replay_agrees}
 use Rattle.run_laws.specs.JournalReadings.{listed, if_at, act_in, acts}
 use Rattle.run_laws.specs.NodeActions.{upcoming, Follows}
 use Rattle.pals_clock.specs.declared.clock.Clocks.{Clocks}
@@ -52,8 +52,8 @@ use Rattle.run_laws.specs.proof.ListPicks.{IsPicked}
 use Rattle.run_laws.specs.ListPicks.{picks_of, IsPrefix}
 use Rattle.run_laws.proofs.NodeActions.{IsPlan, length-targets}
 use Rattle.run_laws.proofs.TargetPicks.{does_next, picks_next, goes_otherwise, is_prefix}
-use Rattle.run_laws.proofs.ActionEffects.{acting, is_at_most, next_is, target_is, starts_follow, steps_follow}
-use Rattle.run_laws.proofs.ActionEffects.{sends_follow, finish_follows, received_follows}
+use Rattle.run_laws.proofs.ProgressByEvent.{acting, is_at_most, next_is, target_is, starts_follow, steps_follow}
+use Rattle.run_laws.proofs.ProgressByEvent.{sends_follow, finish_follows, received_follows}
 
 -- ---- a run replays, and agrees
 pub runs_replay : (run : Run) (clocks : Clocks) (journal : List JournalEntry) (s : BusState) → Runs run clocks journal s

@@ -18,15 +18,15 @@ use Rattle.bus_machine.specs.NodeEvents.{slot_at}
 use Rattle.bus_machine.specs.EarliestReadings.{start_alarm}
 use Rattle.bus_machine.specs.States.{Run, opening, node_at, no_node, flight_at, link_at}
 use Rattle.bus_machine.specs.MissedStarts.{rounds_sent_on, sent_rounds}
-use Rattle.bus_machine.specs.proof.MachineLaws.{IsRunOf}
+use Rattle.bus_machine.specs.proof.AgreementLaws.{IsRunOf}
 use Rattle.run_laws.specs.Deadlines.{last_before}
 use Rattle.run_laws.specs.Worlds.{opening_world, reading_at, since_at, ready_at}
-use Rattle.bus_machine.proofs.RunAgreement.{opening_agrees}
+use Rattle.bus_machine.proofs.MessageAndRunAgreement.{opening_agrees}
 use Rattle.run_laws.specs.proof.WorldInvariant.{IsInTime, IsOnce, copies, waits, taken, one_if, KeepsLink}
 use Rattle.run_laws.specs.proof.WorldLaws.{OpeningKeepsTime}
 use Rattle.run_laws.proofs.Lists.{upwards_at}
-use Rattle.run_laws.proofs.WorldNodes.{Stands, StandsAt, deadline_is, both_in_time, send_last}
-use Rattle.run_laws.proofs.WorldLinks.{rule_of, one_of_false}
+use Rattle.run_laws.proofs.WorldNodeTiming.{Stands, StandsAt, deadline_is, both_in_time, send_last}
+use Rattle.run_laws.proofs.WorldLinkTiming.{rule_of, one_of_false}
 
 -- ---- what stands where
 abbrev pub no_time : ℕ

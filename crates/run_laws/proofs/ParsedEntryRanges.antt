@@ -26,7 +26,7 @@ use Rattle.run_laws.specs.LineForms.{arrive_line, start_line, step_line, finish_
 use Rattle.run_laws.specs.LineForms.{early_line, missed_line, stop_line, form_of_words, words_of, form_of}
 use Rattle.run_laws.specs.EntriesInLines.{of_node, of_link, entry_of, told}
 use Rattle.run_laws.specs.proof.EntryLines.{ToldAreIn}
-use Rattle.run_laws.specs.Entries.{IsReading, IsEntryIn}
+use Rattle.run_laws.specs.EntriesOfDesigns.{IsReading, IsEntryIn}
 
 -- ---- numbers
 number_by : (same less : Bool) (most n m : ℕ) → nat_le n most ≡ less

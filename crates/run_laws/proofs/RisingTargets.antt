@@ -19,11 +19,11 @@ use Rattle.bus_machine.specs.Plans.{plan_of, component_at}
 use Rattle.bus_machine.specs.Nodes.{NodeState, round_of, at_rest}
 use Rattle.bus_machine.specs.NodeEvents.{started, stepped, finished, sent_from, after_send, after_round}
 use Rattle.bus_machine.specs.States.{Run}
-use Rattle.bus_machine.specs.proof.MachineLaws.{IsRunOf}
+use Rattle.bus_machine.specs.proof.AgreementLaws.{IsRunOf}
 use Rattle.bus_machine.specs.declared.node_action.NodeAction.TheVariants as action
-use Rattle.bus_machine.specs.Targets.{Progress, target, send_is_next, next_action, progress_after, action_in, next_in}
+use Rattle.bus_machine.specs.ActionsAndTargets.{Progress, target, send_is_next, next_action, progress_after, action_in, next_in}
 use Rattle.run_laws.specs.NodeActions.{turn, progress_in, upcoming, Follows}
-use Rattle.run_laws.proofs.ActionEffects.{turn_acts, turn_brings}
+use Rattle.run_laws.proofs.ProgressByEvent.{turn_acts, turn_brings}
 
 -- ---- what is known of a plan's times
 pub record IsTimedPlan (plan : Plan) : Type 0 where

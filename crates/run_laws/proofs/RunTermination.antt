@@ -23,9 +23,9 @@ use Rattle.bus_machine.specs.States.{Run, BusState, opening, node_at}
 use Rattle.bus_machine.specs.MissedStarts.{sent_rounds}
 use Rattle.bus_machine.specs.Machine.{after}
 use Rattle.bus_machine.specs.Replay.{entries}
-use Rattle.bus_machine.specs.Targets.{target, action_in, next_in}
+use Rattle.bus_machine.specs.ActionsAndTargets.{target, action_in, next_in}
 use Rattle.bus_machine.specs.Agreement.{PhaseAgrees, Agrees}
-use Rattle.bus_machine.specs.proof.MachineLaws.{IsRunOf}
+use Rattle.bus_machine.specs.proof.AgreementLaws.{IsRunOf}
 use Rattle.pals_clock.specs.declared.clock.Clocks.{Clocks}
 use Rattle.pals_clock.specs.declared.clock.Clocks.TheVariants.{Meet, Lists}
 use Rattle.run_laws.specs.NodeActions.{upcoming}
@@ -35,11 +35,11 @@ use Rattle.run_laws.specs.Meetings.{AllDone}
 use Rattle.run_laws.specs.TimelyRounds.{IsOver, AllOver, AllAtEnd}
 use Rattle.run_laws.specs.proof.RunTermination.{HasCome, IsEnding, EachRunEnds, EachGoesOn, JournalsEnd, EndsAreNamed}
 use Rattle.run_laws.proofs.NodePicks.{runs_agree, node_agrees, many_clocks}
-use Rattle.run_laws.proofs.MeetingSends.{sent_true}
+use Rattle.run_laws.proofs.SentBeforeStart.{sent_true}
 use Rattle.run_laws.proofs.StopCauses.{ended_still}
 use Rattle.run_laws.proofs.BoundedSearch.{first_or_none, least_or_none}
 use Rattle.run_laws.proofs.RemainingWork.{work_left, event_lessens, stop_lines, some_lines, most_left}
-use Rattle.run_laws.proofs.NodeProgress.{CanGo, acts, finishes}
+use Rattle.run_laws.proofs.PossibleActions.{CanGo, acts, finishes}
 
 -- ---- with a meeting
 -- a node runs a step, or its next action is the one that its target is for

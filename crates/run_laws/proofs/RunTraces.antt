@@ -9,8 +9,8 @@ use Rattle.pals_model.proofs.LineLaws.{report_has_lines}
 use Rattle.pals_runs.specs.declared.journal.JournalEntry.{JournalEntry}
 use Rattle.pals_runs.specs.JournalLines.{entry_line}
 use Rattle.bus_machine.specs.States.{finished_by_all}
-use Rattle.run_laws.specs.Entries.{IsEntryIn}
-use Rattle.run_laws.specs.Histories.{trace_of}
+use Rattle.run_laws.specs.EntriesOfDesigns.{IsEntryIn}
+use Rattle.run_laws.specs.HistoriesAndTraces.{trace_of}
 use Rattle.run_laws.specs.proof.RunTraces.{RunsAreSound, TracesAreTexts}
 use Rattle.run_laws.specs.proof.SoundTraces.{RunsAreTraces}
 use Rattle.run_laws.proofs.EntryForms.{entries_have_lines}

@@ -16,7 +16,7 @@ use Rattle.pals_model.specs.declared.design.Link.{Link}
 use Rattle.pals_model.specs.declared.flight_copy.FlightCopy.{FlightCopy}
 use Rattle.pals_model.specs.Delays.{delay_of}
 use Rattle.pals_model.specs.Flights.{is_of}
-use Rattle.pals_runs.specs.declared.events.Event.TheVariants as event
+use Rattle.pals_runs.specs.declared.events_and_faults.Event.TheVariants as event
 use Rattle.pals_runs.specs.declared.journal.Phase.{Phase}
 use Rattle.pals_runs.specs.declared.journal.Phase.TheVariants.{Waiting, Running, Between, Holding, Done}
 use Rattle.bus_machine.specs.declared.plan.Plan.{Plan}
@@ -29,24 +29,24 @@ use Rattle.bus_machine.specs.States.{Run, BusState, node_at, flight_at, link_at}
 use Rattle.bus_machine.specs.MissedStarts.{sent_rounds}
 use Rattle.bus_machine.specs.Machine.{flight_after_send}
 use Rattle.bus_machine.specs.Machine as machine
-use Rattle.bus_machine.specs.proof.MachineLaws.{IsRunOf}
+use Rattle.bus_machine.specs.proof.AgreementLaws.{IsRunOf}
 use Rattle.run_laws.specs.Deadlines.{last_before, lesser}
 use Rattle.run_laws.specs.Worlds.{World, reading_at, since_at, ready_at, sendings, moved, is_held, world_after}
-use Rattle.bus_machine.proofs.ListsAndFlights.{numbered_at}
-use Rattle.bus_machine.proofs.NodeAgreement.{MaySend, may_send_of}
+use Rattle.bus_machine.proofs.ListsAndOldestCopies.{numbered_at}
+use Rattle.bus_machine.proofs.LoneNodeAgreement.{MaySend, may_send_of}
 use Rattle.bus_machine.proofs.AgreementChanges.{node_set, node_stays}
 use Rattle.bus_machine.proofs.NodeEventAgreement.{send_keeps}
 use Rattle.run_laws.specs.proof.WorldInvariant.{IsInTime, RunsSince, IsSentAt, IsOnce, copies, waits, taken, one_if}
 use Rattle.run_laws.specs.proof.WorldInvariant.{KeepsLink, KeepsTime}
 use Rattle.run_laws.proofs.TimeArithmetic.{sent_prompt}
 use Rattle.run_laws.proofs.Lists.{count_more}
-use Rattle.run_laws.proofs.WorldNodes.{fits_at, component_is, MayBe, may_is, Stands, stands_at, left_in_time}
-use Rattle.run_laws.proofs.WorldNodes.{both_in_time, send_in_time, phase_last, send_last, late}
-use Rattle.run_laws.proofs.WorldLinks.{link_is, one_of_true, one_of_false, in_flight_counts, counts_in_flight}
-use Rattle.run_laws.proofs.WorldLinks.{under_way}
+use Rattle.run_laws.proofs.WorldNodeTiming.{fits_at, component_is, MayBe, may_is, Stands, stands_at, left_in_time}
+use Rattle.run_laws.proofs.WorldNodeTiming.{both_in_time, send_in_time, phase_last, send_last, late}
+use Rattle.run_laws.proofs.WorldLinkTiming.{link_is, one_of_true, one_of_false, in_flight_counts, counts_in_flight}
+use Rattle.run_laws.proofs.WorldLinkTiming.{under_way}
 use Rattle.run_laws.proofs.LocalWorldChanges.{same_at, changed, stands_put, keeps_again, moved_here, moved_length}
 use Rattle.run_laws.proofs.LocalWorldChanges.{moved_other}
-use Rattle.run_laws.proofs.FaultlessEvents.{SendsInTime}
+use Rattle.run_laws.proofs.FaultlessEventConditions.{SendsInTime}
 
 -- ---- a round of a link from the node
 -- the message of the round after those that are sent goes into flight

@@ -38,10 +38,10 @@ use Rattle.run_laws.specs.JournalReadings.{latest}
 use Rattle.run_laws.specs.EntriesInLines.{timed, has_reading, event_of}
 use Rattle.run_laws.specs.TraceRules.{same_result, fits, is_in_order, falls, is_before, too_early, is_due, waits}
 use Rattle.run_laws.specs.TraceRules.{is_line_of, first_entry, tells_stop, broken}
-use Rattle.run_laws.specs.Entries.{IsEntryIn}
+use Rattle.run_laws.specs.EntriesOfDesigns.{IsEntryIn}
 use Rattle.run_laws.proofs.EntryLines.{lines_differ}
 use Rattle.run_laws.proofs.MissedLinks.{missed_link}
-use Rattle.run_laws.specs.Histories.{IsRead, IsInTime}
+use Rattle.run_laws.specs.HistoriesAndTraces.{IsRead, IsInTime}
 use Rattle.run_laws.proofs.PassedRuleTests.{none_broken, if_none, none_is_due}
 
 -- ---- what comes next

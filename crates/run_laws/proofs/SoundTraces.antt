@@ -37,8 +37,8 @@ use Rattle.run_laws.specs.TraceRules.{is_line_of, reading_of, broken}
 use Rattle.run_laws.specs.TraceVerdicts.{report_size, row_size, wrong_row, Audit, opening_audit, noted, second_entry}
 use Rattle.run_laws.specs.TraceVerdicts.{audit_event, audit_after, line_broken, is_done, end_broken, wrong_or, entry_or}
 use Rattle.run_laws.specs.TraceVerdicts.{journal_verdict, trace_verdict}
-use Rattle.run_laws.specs.Entries.{IsEntryIn}
-use Rattle.run_laws.specs.Histories.{IsStoppedOrDone, History, opens, goes_on, IsTraceOf}
+use Rattle.run_laws.specs.EntriesOfDesigns.{IsEntryIn}
+use Rattle.run_laws.specs.HistoriesAndTraces.{IsStoppedOrDone, History, opens, goes_on, IsTraceOf}
 use Rattle.run_laws.proofs.EntryLines.{lines_differ}
 use Rattle.run_laws.proofs.ParsedEntryRanges.{told_are_in}
 use Rattle.run_laws.specs.proof.SoundTraces.{SoundAreTraces}

@@ -19,11 +19,11 @@ use Rattle.pals_model.specs.declared.design.Link.{Link}
 use Rattle.pals_model.specs.declared.design.Feed.{Feed}
 use Rattle.pals_model.specs.declared.design.DesignParts.{DesignParts}
 use Rattle.pals_model.specs.declared.flight_copy.FlightCopy.{FlightCopy}
-use Rattle.pals_model.specs.declared.sources.PortSource.{PortSource}
-use Rattle.pals_model.specs.declared.sources.PortSource.TheVariants as source
+use Rattle.pals_model.specs.declared.port_sources.PortSource.{PortSource}
+use Rattle.pals_model.specs.declared.port_sources.PortSource.TheVariants as source
 use Rattle.pals_model.specs.ComponentInputs.{source_of, sources_of, values_at}
 use Rattle.pals_model.proofs.FirstMatches.{none_passes}
-use Rattle.pals_runs.specs.declared.events.Event.TheVariants as event
+use Rattle.pals_runs.specs.declared.events_and_faults.Event.TheVariants as event
 use Rattle.pals_runs.specs.declared.journal.Phase.{Phase}
 use Rattle.pals_runs.specs.declared.journal.Phase.TheVariants.{Waiting, Running, Between, Holding, Done}
 use Rattle.bus_machine.specs.declared.plan.Input.{Input}
@@ -35,7 +35,7 @@ use Rattle.bus_machine.specs.EarliestReadings.{step_alarm}
 use Rattle.bus_machine.specs.States.{Run, BusState, node_at, flight_at, link_at, with_node}
 use Rattle.bus_machine.specs.MissedStarts.{missing_link, link_into, sent_rounds}
 use Rattle.bus_machine.specs.Machine.{after_start}
-use Rattle.bus_machine.specs.proof.MachineLaws.{IsRunOf}
+use Rattle.bus_machine.specs.proof.AgreementLaws.{IsRunOf}
 use Rattle.run_laws.specs.Worlds.{World, reading_at, ready_at, sendings, moved, world_after}
 use Rattle.bus_machine.specs.Agreement.{PhaseAgrees, SlotAgrees}
 use Rattle.bus_machine.proofs.InputAgreement.{reads_link, length_sources}
@@ -43,11 +43,11 @@ use Rattle.bus_machine.proofs.AgreementChanges.{node_set, node_stays}
 use Rattle.bus_machine.proofs.NodeEventAgreement.{start_keeps}
 use Rattle.run_laws.specs.proof.WorldInvariant.{IsOnce, copies, waits, taken, one_if, RunsSince, KeepsLink, KeepsTime}
 use Rattle.run_laws.proofs.Lists.{upwards_at, zipped_at}
-use Rattle.run_laws.proofs.WorldNodes.{FitsAt, fits_at, may_is, Stands, stands_at, both_in_time, sends_in_time, late}
-use Rattle.run_laws.proofs.WorldNodes.{phase_agrees}
-use Rattle.run_laws.proofs.WorldLinks.{has_come, link_is, one_of_true, one_of_false}
+use Rattle.run_laws.proofs.WorldNodeTiming.{FitsAt, fits_at, may_is, Stands, stands_at, both_in_time, sends_in_time, late}
+use Rattle.run_laws.proofs.WorldNodeTiming.{phase_agrees}
+use Rattle.run_laws.proofs.WorldLinkTiming.{has_come, link_is, one_of_true, one_of_false}
 use Rattle.run_laws.proofs.LocalWorldChanges.{same_at, changed, stands_put, keeps_again}
-use Rattle.run_laws.proofs.FaultlessEvents.{StartsInTime}
+use Rattle.run_laws.proofs.FaultlessEventConditions.{StartsInTime}
 
 -- ---- no in port lacks its message
 some_not_none : (slot : Option (List PortValue)) → is_some slot ≡ true → is_none slot ≡ false

@@ -6,7 +6,7 @@ use Rattle.std.proofs.lemmas.Bool.{false≢true}
 use Rattle.std.proofs.lemmas.Grind.{get_or-set_at}
 use Rattle.std.proofs.lemmas.List.{length-set, get_or-set_other}
 use Rattle.pals_base.specs.declared.values.NodeNo.{NodeNo}
-use Rattle.pals_runs.specs.declared.events.Event.TheVariants as event
+use Rattle.pals_runs.specs.declared.events_and_faults.Event.TheVariants as event
 use Rattle.pals_runs.specs.declared.journal.Phase.{Phase}
 use Rattle.pals_runs.specs.declared.journal.Phase.TheVariants.{Waiting, Running, Between, Holding, Done}
 use Rattle.bus_machine.specs.Plans.{plan_of}
@@ -15,17 +15,17 @@ use Rattle.bus_machine.specs.NodeEvents.{next_step, stepped, may_send}
 use Rattle.bus_machine.specs.EarliestReadings.{step_alarm}
 use Rattle.bus_machine.specs.States.{Run, node_at, with_node}
 use Rattle.bus_machine.specs.Machine.{on_step}
-use Rattle.bus_machine.specs.proof.MachineLaws.{IsRunOf}
+use Rattle.bus_machine.specs.proof.AgreementLaws.{IsRunOf}
 use Rattle.bus_machine.specs.Agreement.{Agrees}
 use Rattle.run_laws.specs.Deadlines.{last_before, lesser}
 use Rattle.run_laws.specs.Worlds.{World, reading_at, since_at, ready_at, sendings, world_after}
 use Rattle.bus_machine.proofs.AgreementChanges.{node_set, node_stays}
 use Rattle.bus_machine.proofs.NodeEventAgreement.{step_keeps}
 use Rattle.run_laws.specs.proof.WorldInvariant.{IsInTime, RunsSince, KeepsTime}
-use Rattle.run_laws.proofs.WorldNodes.{fits_at, may_be, may_is, Stands, stands_at, left_in_time, both_in_time}
-use Rattle.run_laws.proofs.WorldNodes.{send_in_time, sends_in_time, phase_last, send_last}
+use Rattle.run_laws.proofs.WorldNodeTiming.{fits_at, may_be, may_is, Stands, stands_at, left_in_time, both_in_time}
+use Rattle.run_laws.proofs.WorldNodeTiming.{send_in_time, sends_in_time, phase_last, send_last}
 use Rattle.run_laws.proofs.LocalWorldChanges.{changed, same_links, stands_put, keeps_again}
-use Rattle.run_laws.proofs.FaultlessEvents.{StepsInTime}
+use Rattle.run_laws.proofs.FaultlessEventConditions.{StepsInTime}
 
 module _ (run : Run) (w : World) (rules : IsRunOf run) (keeps : KeepsTime run w) (node : NodeNo)
     (fine : StepsInTime run w node) where

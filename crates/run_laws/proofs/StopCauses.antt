@@ -42,11 +42,11 @@ use Rattle.bus_machine.specs.Machine.{BusEvent, Start, Step, Finish, Send, Arriv
 use Rattle.bus_machine.specs.Machine.{after_start, after_arrive, on_step, arrival, early_stop, missed_stop}
 use Rattle.bus_machine.specs.Replay.{entries, start_entry, stop_entry}
 use Rattle.bus_machine.specs.Agreement.{PhaseAgrees, Agrees}
-use Rattle.bus_machine.specs.proof.MachineLaws.{IsRunOf}
+use Rattle.bus_machine.specs.proof.AgreementLaws.{IsRunOf}
 use Rattle.bus_machine.specs.declared.node_action.NodeAction.TheVariants as action
-use Rattle.bus_machine.specs.Targets.{target}
+use Rattle.bus_machine.specs.ActionsAndTargets.{target}
 use Rattle.run_laws.specs.TraceRules.{is_due}
-use Rattle.bus_machine.proofs.ListsAndFlights.{oldest_is_one}
+use Rattle.bus_machine.proofs.ListsAndOldestCopies.{oldest_is_one}
 use Rattle.run_laws.specs.JournalReadings.{send_in, sends}
 use Rattle.run_laws.specs.NodeActions.{upcoming}
 use Rattle.pals_clock.specs.declared.clock.Clocks.{Clocks}
@@ -57,14 +57,14 @@ use Rattle.run_laws.specs.proof.LinkTiming.{view, early_on, due_of, one_if, copi
 use Rattle.run_laws.specs.proof.LinkTiming.{was_taken, came_early, IsDueCopy}
 use Rattle.run_laws.specs.proof.ReadingsAndStops.{IsFor, StopsAt, NeverSent, CauseFits, StopFits, StopsFit}
 use Rattle.run_laws.proofs.NodePicks.{runs_agree, node_agrees, many_clocks}
-use Rattle.run_laws.proofs.ShownActions.{rounds_are_shown, is_waiting_phase}
+use Rattle.run_laws.proofs.JournalStartsAndSends.{rounds_are_shown, is_waiting_phase}
 use Rattle.run_laws.proofs.LinkEventEffects.{arriving_tells, due_if_sent}
 use Rattle.run_laws.proofs.MissedLinks.{missed_link}
 use Rattle.run_laws.proofs.LinkViews.{TimedIn, keeps_at}
 use Rattle.run_laws.proofs.LinkTiming.{links_timed, with_message_count}
 use Rattle.run_laws.proofs.TargetPicks.{reached_again}
-use Rattle.run_laws.proofs.ActionReadings.{shown_for}
-use Rattle.run_laws.proofs.MeetingSends.{meeting_sent}
+use Rattle.run_laws.proofs.StartAndSendReadings.{shown_for}
+use Rattle.run_laws.proofs.SentBeforeStart.{meeting_sent}
 
 -- ---- the cause of a missed start
 none_flying_by : (round : ℕ) (c : FlightCopy) (cs : List FlightCopy) (b : Bool) → is_of round c ≡ b

@@ -10,7 +10,7 @@ use Rattle.pals_clock.specs.ClockStates.{ClockState, standing_at, left_after}
 use Rattle.pals_clock.proofs.ReachedReadings.{picks_append}
 use Rattle.bus_machine.specs.declared.plan.Plan.{Plan}
 use Rattle.bus_machine.specs.Nodes.{NodeState}
-use Rattle.bus_machine.specs.Targets.{targets}
+use Rattle.bus_machine.specs.ActionsAndTargets.{targets}
 use Rattle.run_laws.specs.NodeActions.{Follows}
 use Rattle.run_laws.specs.proof.ListPicks.{IsPicked}
 

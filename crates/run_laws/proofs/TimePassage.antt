@@ -10,10 +10,10 @@ use Rattle.list_lemmas.proofs.Elements.{find-passes}
 use Rattle.pals_base.specs.StepSequences.{upwards}
 use Rattle.pals_model.specs.declared.flight_copy.FlightCopy.{FlightCopy}
 use Rattle.pals_model.specs.Flights.{is_of, oldest}
-use Rattle.pals_runs.specs.declared.events.Event.TheVariants as event
-use Rattle.pals_runs.specs.declared.events.EventFault.TheVariants as fault
-use Rattle.pals_runs.specs.declared.events.EventSubject.{EventSubject}
-use Rattle.pals_runs.specs.declared.events.EventSubject.TheVariants as which
+use Rattle.pals_runs.specs.declared.events_and_faults.Event.TheVariants as event
+use Rattle.pals_runs.specs.declared.events_and_faults.EventFault.TheVariants as fault
+use Rattle.pals_runs.specs.declared.events_and_faults.EventSubject.{EventSubject}
+use Rattle.pals_runs.specs.declared.events_and_faults.EventSubject.TheVariants as which
 use Rattle.bound_checker.specs.proof.MessageTimes.{IsNear}
 use Rattle.bus_machine.specs.Plans.{plan_of}
 use Rattle.bus_machine.specs.LinkEvents.{is_in_flight}
@@ -24,8 +24,8 @@ use Rattle.run_laws.specs.EventFaults.{fault_of, found_if, first_of, apart, cloc
 use Rattle.run_laws.specs.EventFaults.{copy_past, link_past}
 use Rattle.run_laws.specs.proof.WorldInvariant.{IsInTime, KeepsNode, KeepsSends, KeepsTime}
 use Rattle.run_laws.proofs.Lists.{both_none, none_first, upwards_at, enumerated_at}
-use Rattle.run_laws.proofs.WorldNodes.{deadline_is}
-use Rattle.run_laws.proofs.FaultlessEvents.{named, none_if}
+use Rattle.run_laws.proofs.WorldNodeTiming.{deadline_is}
+use Rattle.run_laws.proofs.FaultlessEventConditions.{named, none_if}
 
 -- ---- what the fault says
 none_past : (time : ℕ) (which : EventSubject) (last : Option ℕ) → past time which last ≡ None → IsInTime time last

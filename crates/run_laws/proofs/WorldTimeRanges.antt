@@ -5,7 +5,7 @@ use Rattle.std.proofs.Common.{refl, sym, ◌∙◌, arith}
 use Rattle.std.specs.Prelude.{max, min, if◌then◌else◌}
 use Rattle.std.proofs.lemmas.Nat.{mul-le}
 use Rattle.std.proofs.lemmas.Option.{same_Some, none-some}
-use Rattle.bus_machine.proofs.NodeQuantities.{sent_most}
+use Rattle.bus_machine.proofs.QuantitiesAndSentRounds.{sent_most}
 use Rattle.pals_base.specs.declared.limits.TheConstants.{READING, ROUNDS, HOUR}
 use Rattle.pals_base.specs.PeriodBound.{alarm}
 use Rattle.pals_runs.specs.declared.journal.Phase.{Phase}
@@ -17,15 +17,15 @@ use Rattle.bus_machine.specs.EarliestReadings.{start_alarm, step_alarm, release_
 use Rattle.bus_machine.specs.States.{Run, node_at, link_at}
 use Rattle.bus_machine.specs.MissedStarts.{sent_rounds, rounds_sent_on}
 use Rattle.bus_machine.specs.Agreement.{PhaseAgrees}
-use Rattle.bus_machine.specs.proof.MachineLaws.{IsRunOf}
+use Rattle.bus_machine.specs.proof.AgreementLaws.{IsRunOf}
 use Rattle.run_laws.specs.Worlds.{World, reading_at, since_at, ready_at}
 use Rattle.run_laws.specs.Deadlines.{last_before, lesser, message_deadline}
 use Rattle.run_laws.specs.proof.WorldInvariant.{KeepsTime}
 use Rattle.run_laws.specs.proof.WorldLaws.{TimesAreReadings}
 use Rattle.run_laws.proofs.TimeArithmetic.{alarm_more}
-use Rattle.run_laws.proofs.WorldNodes.{fits_at, phase_last, send_last, deadline_is, next_alarm, phase_agrees}
-use Rattle.run_laws.proofs.WorldNodes.{rounds_at_most, late}
-use Rattle.run_laws.proofs.WorldLinks.{rule_of}
+use Rattle.run_laws.proofs.WorldNodeTiming.{fits_at, phase_last, send_last, deadline_is, next_alarm, phase_agrees}
+use Rattle.run_laws.proofs.WorldNodeTiming.{rounds_at_most, late}
+use Rattle.run_laws.proofs.WorldLinkTiming.{rule_of}
 
 -- ---- products
 small : (t rounds count : ℕ) → t ≤ HOUR → rounds ≤ ROUNDS → count ≤ rounds → (count + 1) * t + 4 * HOUR ≤ READING

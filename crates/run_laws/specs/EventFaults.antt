@@ -7,9 +7,9 @@ use Rattle.pals_base.specs.declared.values.NodeNo.{NodeNo}
 use Rattle.pals_base.specs.declared.values.LinkNo.{LinkNo}
 use Rattle.pals_base.specs.StepSequences.{upwards}
 use Rattle.pals_model.specs.declared.flight_copy.FlightCopy.{FlightCopy}
-use Rattle.pals_runs.specs.declared.events.Event.{Event}
-use Rattle.pals_runs.specs.declared.events.EventFault.{EventFault}
-use Rattle.pals_runs.specs.declared.events.EventSubject.{EventSubject}
+use Rattle.pals_runs.specs.declared.events_and_faults.Event.{Event}
+use Rattle.pals_runs.specs.declared.events_and_faults.EventFault.{EventFault}
+use Rattle.pals_runs.specs.declared.events_and_faults.EventSubject.{EventSubject}
 use Rattle.bus_machine.specs.Plans.{plan_of}
 use Rattle.bus_machine.specs.NodeEvents.{next_step}
 use Rattle.bus_machine.specs.EarliestReadings.{start_alarm, step_alarm, release_alarm}
@@ -17,9 +17,9 @@ use Rattle.bus_machine.specs.States.{Run, node_at, flight_at}
 use Rattle.bus_machine.specs.Machine.{BusEvent, Start, Step, Finish, Send, Arrive, is_allowed}
 use Rattle.run_laws.specs.Worlds.{World, reading_at, since_at, flight_since, world_after}
 use Rattle.run_laws.specs.Deadlines.{node_deadline, message_deadline}
-use Rattle.pals_runs.specs.declared.events.Event.TheVariants as event
-use Rattle.pals_runs.specs.declared.events.EventFault.TheVariants as fault
-use Rattle.pals_runs.specs.declared.events.EventSubject.TheVariants as which
+use Rattle.pals_runs.specs.declared.events_and_faults.Event.TheVariants as event
+use Rattle.pals_runs.specs.declared.events_and_faults.EventFault.TheVariants as fault
+use Rattle.pals_runs.specs.declared.events_and_faults.EventSubject.TheVariants as which
 
 -- ---- the first that fits
 abbrev pub found_if : Bool → EventFault → Option EventFault

@@ -2,12 +2,12 @@
 use Rattle.std.specs.Prelude.{◌≡◌, ℕ, suc, ◌<◌, ◌≤◌, List, [], ◌∷◌, ◌++◌, length, None}
 use Rattle.pals_base.specs.declared.values.LinkNo.{LinkNo}
 use Rattle.pals_runs.specs.declared.journal.Arrived.TheVariants.{Kept}
-use Rattle.pals_runs.specs.declared.events.Event.{Event}
+use Rattle.pals_runs.specs.declared.events_and_faults.Event.{Event}
 use Rattle.bus_machine.specs.States.{Run, node_at}
 use Rattle.bus_machine.specs.Machine.{arrival}
 use Rattle.bus_machine.specs.Agreement.{Agrees}
 use Rattle.run_laws.specs.Worlds.{World, opening_world, world_after}
-use Rattle.pals_runs.specs.declared.events.Event.TheVariants as event
+use Rattle.pals_runs.specs.declared.events_and_faults.Event.TheVariants as event
 
 abbrev pub world_left : Run → World → List Event → World
 world_left run w [] = w

@@ -12,8 +12,8 @@ pub mod LineForms
 pub mod EntriesInLines
 pub mod TraceRules
 pub mod TraceVerdicts
-pub mod Entries
-pub mod Histories
+pub mod EntriesOfDesigns
+pub mod HistoriesAndTraces
 pub mod TextLines
 pub mod Worlds
 pub mod Deadlines

@@ -5,7 +5,7 @@ use Rattle.pals_runs.specs.declared.journal.Phase.TheVariants.{Waiting, Running,
 use Rattle.bus_machine.specs.declared.plan.Plan.{Plan}
 use Rattle.bus_machine.specs.Nodes.{NodeState, round_of}
 use Rattle.bus_machine.specs.declared.node_action.NodeAction.{NodeAction}
-use Rattle.bus_machine.specs.Targets.{Progress, next_action, progress_after, next_in}
+use Rattle.bus_machine.specs.ActionsAndTargets.{Progress, next_action, progress_after, next_in}
 use Rattle.bus_machine.specs.declared.node_action.NodeAction.TheVariants as action
 
 -- how far a node has come, and what it does next

@@ -9,7 +9,7 @@ use Rattle.bus_machine.specs.Agreement.{Agrees}
 use Rattle.bus_machine.specs.Plans.{plan_of}
 use Rattle.bus_machine.specs.Replay.{Replays}
 use Rattle.bus_machine.specs.States.{Run, BusState, node_at}
-use Rattle.bus_machine.specs.Targets.{target}
+use Rattle.bus_machine.specs.ActionsAndTargets.{target}
 use Rattle.run_laws.specs.Runs.{HasEnded}
 use Rattle.run_laws.specs.JournalReadings.{acts}
 use Rattle.run_laws.specs.NodeLinkQuantifiers.{EachNode, EachLink}

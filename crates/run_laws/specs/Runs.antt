@@ -20,7 +20,7 @@ use Rattle.bus_machine.specs.MissedStarts.{sent_rounds}
 use Rattle.bus_machine.specs.Machine.{BusEvent, Start, Step, Finish, Send, Arrive, Drop, Repeat, IsStep}
 use Rattle.bus_machine.specs.Replay.{entries}
 use Rattle.bus_machine.specs.declared.node_action.NodeAction.{NodeAction}
-use Rattle.bus_machine.specs.Targets.{target, action_of}
+use Rattle.bus_machine.specs.ActionsAndTargets.{target, action_of}
 use Rattle.run_laws.specs.TraceRules.{is_due}
 use Rattle.run_laws.specs.NodeActions.{upcoming}
 use Rattle.bus_machine.specs.declared.node_action.NodeAction.TheVariants as action

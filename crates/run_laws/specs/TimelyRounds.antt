@@ -8,7 +8,7 @@ use Rattle.pals_runs.specs.declared.journal.Cause.TheVariants.{NotSent, Lost}
 use Rattle.pals_runs.specs.declared.journal.Stop.{Stop}
 use Rattle.bus_machine.specs.Plans.{plan_of}
 use Rattle.bus_machine.specs.States.{Run, BusState, node_at, link_at}
-use Rattle.bus_machine.specs.Targets.{targets}
+use Rattle.bus_machine.specs.ActionsAndTargets.{targets}
 use Rattle.run_laws.specs.Runs.{HasEnded}
 use Rattle.run_laws.specs.ListPicks.{picks_of, IsPickFor}
 use Rattle.run_laws.specs.NodeLinkQuantifiers.{EachNode}

@@ -4,8 +4,8 @@
 //! arrives is kept, and no node is two rounds ahead of another. Definitions and their laws alone.
 #![tactic(auto)]
 
-pub mod history_laws;
+pub mod history_and_trace_laws;
 pub mod laws;
 pub mod replay_laws;
-pub mod trace_laws;
+pub mod line_laws;
 pub mod world_laws;

@@ -1,7 +1,7 @@
 //! What a world within the bounds keeps. Each law is the contract of a function that does nothing.
 ghost use Rattle.run_laws.specs.proof.WorldLaws.{OpeningKeepsTime, EventKeepsTime, ArrivalsAreKept, CountsAreClose};
 ghost use Rattle.run_laws.specs.proof.WorldLaws.{MessagesStandOnce, TimesAreReadings, ListsGoRight};
-ghost use Rattle.run_laws.specs.proof.CounterWorlds.{EventsAreRefused, ArrivesTooSoon, EarliestSender, LatestSender};
+ghost use Rattle.run_laws.specs.proof.TwoCounterWorlds.{EventsAreRefused, ArrivesTooSoon, EarliestSender, LatestSender};
 
 /// No clock is off by the skew, nothing is past its last allowed time, and each message that was sent
 /// is in one place: so it is at the opening, and each event within the bounds keeps it.

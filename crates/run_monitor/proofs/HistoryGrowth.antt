@@ -6,7 +6,7 @@ use Rattle.pals_base.proofs.UpwardNumbers.{map_upwards_more}
 use Rattle.pals_model.specs.Composition.{comp}
 use Rattle.run_monitor.specs.FormulaSemantics.{holds}
 use Rattle.run_monitor.specs.FalseProperties.{history}
-use Rattle.run_monitor.specs.proof.FormulaLaws.{HistoryHasRounds, HistoryGoesOn, SaidAtOnce}
+use Rattle.run_monitor.specs.proof.FormulaAndHistoryLaws.{HistoryHasRounds, HistoryGoesOn, SaidAtOnce}
 use Rattle.run_monitor.proofs.FormulaLaws.{past_stays}
 
 pub history_goes_on : HistoryGoesOn

@@ -12,7 +12,7 @@ use Rattle.pals_runs.specs.Formula.{Formula}
 use Rattle.run_monitor.specs.FormulaSemantics.{holds}
 use Rattle.run_monitor.specs.FalseProperties.{history}
 use Rattle.run_monitor.specs.WatchText.{verdict_line, watched_lines}
-use Rattle.run_monitor.specs.proof.FormulaLaws.{RowsGoOn}
+use Rattle.run_monitor.specs.proof.FormulaAndHistoryLaws.{RowsGoOn}
 use Rattle.run_monitor.proofs.FormulaLaws.{past_stays}
 use Rattle.run_monitor.proofs.HistoryGrowth.{history_goes_on, history_has_rounds}
 

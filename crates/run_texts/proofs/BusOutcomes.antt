@@ -16,7 +16,7 @@ use Rattle.loose_world.proofs.FinishedRows.{common_rows}
 use Rattle.node_threads.specs.proof.SharedCourses.{EndsAt as EndsAtOn}
 use Rattle.node_threads.specs.declared.node_end.NodeEnd.{NodeEnd}
 use Rattle.node_threads.specs.declared.node_end.NodeEnd.TheVariants as end
-use Rattle.node_threads.specs.proof.NodeEnds.{EndFits, EndsFit, IsOutcome}
+use Rattle.node_threads.specs.proof.NodeEndsAndOutcomes.{EndFits, EndsFit, IsOutcome}
 use Rattle.run_laws.specs.TimelyRounds.{IsOver, AllAtEnd}
 use Rattle.run_laws.specs.proof.RunTraces.{AreReadings}
 use Rattle.run_laws.proofs.NodePicks.{runs_agree}

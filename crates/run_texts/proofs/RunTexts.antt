@@ -9,7 +9,7 @@ use Rattle.pals_runs.specs.declared.journal.JournalEntry.{JournalEntry}
 use Rattle.pals_runs.specs.declared.journal.Stop.{Stop}
 use Rattle.pals_runs.specs.declared.verdicts.Verdict.TheVariants.{Sound}
 use Rattle.pals_runs.specs.JournalLines.{entry_line}
-use Rattle.bus_machine.specs.proof.MachineLaws.{IsRunOf}
+use Rattle.bus_machine.specs.proof.AgreementLaws.{IsRunOf}
 use Rattle.bus_machine.specs.States.{Run, BusState, finished_by_all}
 use Rattle.loose_world.proofs.EventsAndLines.{text_more}
 use Rattle.run_laws.specs.TextLines.{lines_of}
@@ -17,8 +17,8 @@ use Rattle.run_laws.specs.TraceVerdicts.{verdict}
 use Rattle.run_laws.specs.Meetings.{AllDone}
 use Rattle.run_laws.specs.Runs.{Runs, lists_in}
 use Rattle.run_laws.specs.proof.RunTraces.{AreReadings}
-use Rattle.run_laws.specs.Histories.{trace_of}
-use Rattle.run_laws.proofs.TimelyRuns.{readings_same}
+use Rattle.run_laws.specs.HistoriesAndTraces.{trace_of}
+use Rattle.run_laws.proofs.TimelyRunsAndEnds.{readings_same}
 use Rattle.run_laws.proofs.RunGuarantees.{clauses_are_kept}
 use Rattle.run_laws.proofs.RunTraces.{runs_are_sound, traces_are_texts}
 use Rattle.run_texts.specs.RunTexts.{RunOutcome, journal_text, IsCompletedRun, IsStoppedRun}

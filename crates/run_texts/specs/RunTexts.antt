@@ -3,7 +3,7 @@ use Rattle.std.specs.Prelude.{◌≡◌, ℕ, ◌<◌, Bool, true, if◌then◌e
 use Rattle.pals_clock.specs.declared.clock.Clocks.{Clocks}
 use Rattle.pals_clock.specs.declared.clock.Clocks.TheVariants.{Meet, Lists}
 use Rattle.pals_model.specs.RoundTexts.{line_end, text_of, report}
-use Rattle.pals_report.specs.ClocksAndVerdicts.{clock_end_line}
+use Rattle.pals_report.specs.ClockEndsAndVerdicts.{clock_end_line}
 use Rattle.pals_runs.specs.declared.journal.JournalEntry.{JournalEntry}
 use Rattle.pals_runs.specs.declared.journal.Phase.TheVariants.{Done}
 use Rattle.pals_runs.specs.declared.journal.Stop.{Stop}
@@ -11,7 +11,7 @@ use Rattle.pals_runs.specs.declared.verdicts.Verdict.TheVariants.{Sound}
 use Rattle.pals_runs.specs.JournalLines.{entry_line}
 use Rattle.bus_machine.specs.Plans.{plan_of}
 use Rattle.bus_machine.specs.States.{Run, BusState, node_at, finished_by_all}
-use Rattle.bus_machine.specs.Targets.{target}
+use Rattle.bus_machine.specs.ActionsAndTargets.{target}
 use Rattle.run_laws.specs.TextLines.{lines_of}
 use Rattle.run_laws.specs.TraceVerdicts.{verdict}
 use Rattle.run_laws.specs.RunGuarantees.{KeepsClauses}

@@ -2,10 +2,10 @@
 ghost use Rattle.std.specs.Prelude.{◌≡◌, ◌++◌, [], if◌then◌else◌, IfOk};
 ghost use Rattle.pals_model.specs.RoundTexts.{line_end, text_of};
 ghost use Rattle.pals_clock.specs.declared.clock.Clocks.{Clocks};
-ghost use Rattle.pals_report.specs.ClocksAndVerdicts.{clock_end_line};
+ghost use Rattle.pals_report.specs.ClockEndsAndVerdicts.{clock_end_line};
 ghost use Rattle.pals_bus.specs.BusValues.{BusValue};
 ghost use Rattle.loose_world.specs.proof.FinishedRows.{common_lines};
-ghost use Rattle.node_threads.specs.proof.NodeEnds.{IsOutcome};
+ghost use Rattle.node_threads.specs.proof.NodeEndsAndOutcomes.{IsOutcome};
 ghost use Rattle.run_laws.specs.proof.RunTraces.{AreReadings};
 ghost use Rattle.run_texts.specs.RunTexts.{TellsRun};
 ghost use Rattle.run_texts.specs.proof.NodeEnds.{journal_lines};

@@ -1,3 +1,3 @@
-pub mod ScenarioFields
-pub mod RisingReadings
-pub mod RunFields
+pub mod ScenarioValidity
+pub mod NonDecreasingReadings
+pub mod InputsDelaysAndClocks

@@ -10,7 +10,7 @@ use Rattle.pals_base.specs.declared.limits.TheConstants.{READING, ROUNDS, LIST_I
 use Rattle.pals_model.specs.declared.design.DesignParts.{DesignParts}
 use Rattle.pals_runs.specs.declared.commands.Command.{Command}
 use Rattle.pals_runs.specs.declared.commands.Command.TheVariants.{World}
-use Rattle.pals_runs.specs.declared.events.Event.{Event}
+use Rattle.pals_runs.specs.declared.events_and_faults.Event.{Event}
 use Rattle.scenario_values.specs.declared.fault.ScenarioFault.{ScenarioFault}
 use Rattle.scenario_values.specs.declared.fault.ScenarioFault.TheVariants.{WrongKind, OutOfRange}
 use Rattle.scenario_json.specs.declared.events.EventWord.{EventWord}
@@ -20,7 +20,7 @@ use Rattle.scenario_values.specs.ResultCombinators.{◌>>=◌, given, only_if, t
 use Rattle.scenario_values.specs.FaultPlaces.{inside}
 use Rattle.scenario_values.specs.FieldValues.{elements, short_list, text, whole, is_whole}
 use Rattle.scenario_values.specs.NameLookup.{node_no, link_no, node_at, link_at}
-use Rattle.pals_runs.specs.declared.events.Event.TheVariants as event
+use Rattle.pals_runs.specs.declared.events_and_faults.Event.TheVariants as event
 
 -- ---- words
 -- the kind of event that a word is

@@ -1,5 +1,5 @@
 pub mod Scenarios
-pub mod RunCells
+pub mod RunCellCount
 pub mod Clocks
 pub mod Events
 pub mod InputsAndDelays

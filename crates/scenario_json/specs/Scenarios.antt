@@ -15,14 +15,14 @@ use Rattle.pals_model.specs.declared.design.DesignParts.{DesignParts}
 use Rattle.pals_model.specs.ComponentInputs.{root_inputs}
 use Rattle.pals_runs.specs.declared.commands.Command.{Command}
 use Rattle.pals_runs.specs.declared.commands.Command.TheVariants.{World, Audit, Watch, Budget}
-use Rattle.pals_runs.specs.declared.events.Event.{Event}
+use Rattle.pals_runs.specs.declared.events_and_faults.Event.{Event}
 use Rattle.pals_runs.specs.declared.vote_faults_and_pairs.Pair.{Pair}
 use Rattle.scenario_values.specs.declared.fault.ScenarioFault.{ScenarioFault}
 use Rattle.scenario_values.specs.declared.fault.ScenarioFault.TheVariants.{NotJson, Field, Unknown, TooBig, Memory}
 use Rattle.scenario_json.specs.declared.scenario.Scenario.{Scenario}
 use Rattle.scenario_values.specs.ResultCombinators.{◌>>=◌, only_if}
 use Rattle.scenario_values.specs.FieldValues.{entries, whole}
-use Rattle.scenario_json.specs.RunCells.{cells_of}
+use Rattle.scenario_json.specs.RunCellCount.{cells_of}
 use Rattle.scenario_json.specs.InputsAndDelays.{inputs_in, delays_in}
 use Rattle.scenario_json.specs.Traces.{trace_in}
 use Rattle.scenario_json.specs.Clocks.{clocks_in}

@@ -10,8 +10,8 @@ ghost use Rattle.scenario_json.specs.Clocks.{reading_list, with_clock, clock_lis
 use pals_base::limits::{LIST_ITEMS, READING};
 use pals_base::{Items, Nanos, NoMemory};
 use pals_clock::{Clocks, ListClock};
-use scenario_values::json::{entries, short_list, whole};
-use scenario_values::place::Place;
+use scenario_values::json_values::{entries, short_list, whole};
+use scenario_values::placed_faults::Place;
 use scenario_values::{DesignNames, ScenarioFault};
 use serde_json::Value;
 use std::alloc::Global;

@@ -12,8 +12,8 @@ ghost use Rattle.scenario_json.specs.Events.{pass_parts, event_of, event_in, eve
 use pals_base::limits::{LIST_ITEMS, READING, ROUNDS};
 use pals_base::{Items, LinkNo, Nanos, NodeNo};
 use pals_runs::{Command, Event};
-use scenario_values::json::{elements, is_whole, short_list, text, whole};
-use scenario_values::place::{Place, out_of_range, wrong_kind};
+use scenario_values::json_values::{elements, is_whole, short_list, text, whole};
+use scenario_values::placed_faults::{Place, out_of_range, wrong_kind};
 use scenario_values::{DesignNames, ScenarioFault};
 use serde_json::Value;
 use std::alloc::Global;

@@ -9,8 +9,8 @@ ghost use Rattle.scenario_json.specs.InputsAndDelays.{delays_in};
 
 use pals_base::limits::HOUR;
 use pals_base::{Items, Kind, Nanos, NoMemory, Tuple};
-use scenario_values::json::{elements, entries, port_value, whole};
-use scenario_values::place::{Place, out_of_range};
+use scenario_values::json_values::{elements, entries, port_value, whole};
+use scenario_values::placed_faults::{Place, out_of_range};
 use scenario_values::{DesignNames, ScenarioFault};
 use serde_json::Value;
 use std::alloc::Global;

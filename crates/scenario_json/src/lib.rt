@@ -6,7 +6,7 @@
 mod clocks;
 mod events;
 mod inputs_and_delays;
-mod run_cells;
+mod run_cell_count;
 mod scenario;
 mod scenario_reader;
 mod traces;
@@ -15,7 +15,7 @@ pub use analysis_fields::{Processor, Property, RoundFault};
 pub use clocks::read_clocks;
 pub use events::read_events;
 pub use inputs_and_delays::{least_delays, no_inputs, read_delays, read_inputs};
-pub use run_cells::cells_of;
+pub use run_cell_count::cells_of;
 pub use scenario::Scenario;
 pub use scenario_reader::read_scenario;
 pub use scenario_values::ScenarioFault;

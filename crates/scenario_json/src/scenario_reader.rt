@@ -12,7 +12,7 @@ ghost use Rattle.analysis_fields.specs.Properties.{properties_in};
 ghost use Rattle.analysis_fields.specs.ReplicasAndFaults.{replicas_in, faults_in};
 ghost use Rattle.analysis_fields.specs.Plants.{plants_in};
 ghost use Rattle.analysis_fields.specs.Processors.{processors_in};
-ghost use Rattle.scenario_json.specs.proof.ScenarioFacts.{IsScenarioOf};
+ghost use Rattle.scenario_json.specs.proof.ScenarioValidity.{IsScenarioOf};
 ghost use Rattle.scenario_json.specs.Scenarios.{is_field, needs_events, needs_trace, needs_properties};
 ghost use Rattle.scenario_json.specs.Scenarios.{needs_processors, rounds_in, inputs_field, events_field, clocks_field};
 ghost use Rattle.scenario_json.specs.Scenarios.{delays_field, trace_field, properties_field, replicas_field};
@@ -20,10 +20,7 @@ ghost use Rattle.scenario_json.specs.Scenarios.{faults_field, plants_field, proc
 ghost use Rattle.scenario_json.specs.Scenarios.{IsAnswer};
 
 use crate::scenario::Scenario;
-use crate::{
-    cells_of, least_delays, no_inputs, read_clocks, read_delays, read_events, read_inputs,
-    read_trace,
-};
+use crate::{cells_of, least_delays, no_inputs, read_clocks, read_delays, read_events, read_inputs, read_trace, };
 use analysis_fields::{
     Processor, Property, RoundFault, read_faults, read_plants, read_processors, read_properties,
     read_replicas,
@@ -33,8 +30,8 @@ use pals_base::{Items, Nanos, NodeNo, Text, Tuple};
 use pals_clock::Clocks;
 use pals_model::{Delays, Design, Env};
 use pals_runs::{Command, Event, Pair};
-use scenario_values::json::{entries, whole};
-use scenario_values::place::{Place, missing, unknown};
+use scenario_values::json_values::{entries, whole};
+use scenario_values::placed_faults::{Place, missing, unknown};
 use scenario_values::{DesignNames, ScenarioFault};
 use serde_json::{Category, Map, Value};
 use std::alloc::Global;

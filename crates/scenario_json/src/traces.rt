@@ -6,8 +6,8 @@ ghost use Rattle.scenario_json.specs.Traces.{trace_in};
 use pals_base::limits::LIST_ITEMS;
 use pals_base::{Items, Text};
 use scenario_values::ScenarioFault;
-use scenario_values::json::{owned, short_list, text};
-use scenario_values::place::Place;
+use scenario_values::json_values::{owned, short_list, text};
+use scenario_values::placed_faults::Place;
 use serde_json::Value;
 use std::alloc::Global;
 

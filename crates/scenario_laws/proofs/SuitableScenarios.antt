@@ -11,9 +11,9 @@ use Rattle.scenario_json.specs.Events.{events_in}
 use Rattle.scenario_json.specs.Traces.{trace_in}
 use Rattle.analysis_fields.specs.Plants.{plants_in}
 use Rattle.scenario_json.specs.declared.scenario.Scenario.{Scenario}
-use Rattle.scenario_json.specs.proof.ScenarioFacts.{IsScenarioOf}
+use Rattle.scenario_json.specs.proof.ScenarioValidity.{IsScenarioOf}
 use Rattle.scenario_json.specs.Scenarios.{needs_events, needs_trace, Means}
-use Rattle.scenario_json.proofs.ScenarioFields.{answer_keeps}
+use Rattle.scenario_json.proofs.ScenarioValidity.{answer_keeps}
 use Rattle.plant_fuse.specs.FusedComposition.{ArePairs}
 use Rattle.scenario_laws.specs.proof.EventsAndTraces.{loosely, AreLooseEvents}
 use Rattle.scenario_laws.proofs.SuccessfulFields.{field_keeps, means_fields, means_read}

@@ -2,11 +2,11 @@
 //! refused scenarios.
 #![tactic(auto)]
 
-mod commands;
+mod commands_from_words;
 mod designs;
 mod journal_and_fault_lines;
 mod scenario_predicates;
-mod scenarios;
+mod scenario_answers;
 
 use case_files::check;
 use std::io;
@@ -24,6 +24,6 @@ const TABLES: [&str; 9] = [
 ];
 
 fn main(rt: HostRuntime) -> io::Result<()> {
-    check(&rt, &scenarios::Scenarios, &TABLES)?;
+    check(&rt, &scenario_answers::Scenarios, &TABLES)?;
     check(&rt, &journal_and_fault_lines::Lines, &["lines"])
 }

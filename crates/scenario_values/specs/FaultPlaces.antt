@@ -1,7 +1,7 @@
 -- How a fault names the place where it stands: the field, and a name or an index inside it.
 use Rattle.std.specs.Prelude.{ℕ, codes, decimal, List, ◌++◌}
-use Rattle.scenario_values.specs.declared.place.Place.{Place}
-use Rattle.scenario_values.specs.declared.place.Place.TheVariants.{Field, Name, Index, NameIndex}
+use Rattle.scenario_values.specs.declared.placed_faults.Place.{Place}
+use Rattle.scenario_values.specs.declared.placed_faults.Place.TheVariants.{Field, Name, Index, NameIndex}
 
 abbrev pub inside : List ℕ → List ℕ → List ℕ
 inside outer inner = outer ++ codes "/" ++ inner

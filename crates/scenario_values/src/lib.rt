@@ -3,9 +3,9 @@
 #![tactic(auto)]
 
 mod fault;
-pub mod json;
-mod names;
-pub mod place;
+pub mod json_values;
+mod design_names;
+pub mod placed_faults;
 
 pub use fault::ScenarioFault;
-pub use names::DesignNames;
+pub use design_names::DesignNames;

@@ -1,9 +1,9 @@
 pub mod NestedCode
-pub mod CleanPlaces
+pub mod CleanJumpsAndLoops
 pub mod CleanNesting
 pub mod InnermostLoops
 pub mod WeightBounds
-pub mod ProgressPremises
+pub mod LevelAndFedCode
 pub mod StuckFreedom
 pub mod FuelMonotonicity
 pub mod LoopCrossings

@@ -18,7 +18,7 @@ use Rattle.step_code.specs.InstructionsPerStep.{silent, senses, slots_of}
 use Rattle.step_code.specs.proof.StackHeights.{Member}
 use Rattle.step_code.specs.proof.VerifierRules.{IsVerified}
 use Rattle.step_code.proofs.NestedCode.{IsOver}
-use Rattle.step_code.proofs.ProgressPremises.{IsFed, GoesOn}
+use Rattle.step_code.proofs.LevelAndFedCode.{IsFed, GoesOn}
 use Rattle.step_code.proofs.WeightBounds.{ends_within}
 use Rattle.step_code.proofs.StuckFreedom.{Begun, never_stuck}
 use Rattle.step_code.proofs.VerifiedPlaces.{verified_entry}

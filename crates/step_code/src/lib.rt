@@ -8,7 +8,7 @@ mod heights;
 pub mod instr;
 pub mod laws;
 mod loops;
-mod rules;
+mod instruction_rules;
 mod verifier;
 mod weights;
 

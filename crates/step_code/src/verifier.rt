@@ -10,7 +10,7 @@ use crate::fault::CodeFault;
 use crate::heights::{entry_heights, pass_on};
 use crate::instr::CodeParts;
 use crate::loops::{LoopSpan, innermost};
-use crate::rules::{jumps_back, jumps_badly, misses_slot};
+use crate::instruction_rules::{jumps_back, jumps_badly, misses_slot};
 use crate::weights::most_weight;
 use pals_base::limits::INSTRUCTIONS;
 use std::alloc::Global;

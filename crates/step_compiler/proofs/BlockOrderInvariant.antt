@@ -14,8 +14,8 @@ use Rattle.step_code.specs.CodeLengths.{length_edge, length_edges}
 use Rattle.step_code.specs.proof.StackHeights.{Member}
 use Rattle.step_compiler.specs.proof.BlockOrder.{is_placed}
 use Rattle.step_compiler.specs.LaidOutCode.{complete_states}
-use Rattle.step_compiler.specs.proof.BlockLengths.{leaving_among, order_length}
-use Rattle.step_compiler.specs.BlockLayout.{block_length, start_of}
+use Rattle.step_compiler.specs.proof.BlockLengthsAndStarts.{leaving_among, order_length}
+use Rattle.step_compiler.specs.BlockInstructions.{block_length, start_of}
 use Rattle.step_compiler.proofs.NumbersFromZero.{filter_more}
 
 -- ---- one more block

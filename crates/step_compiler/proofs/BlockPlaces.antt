@@ -11,9 +11,9 @@ use Rattle.step_code.specs.declared.instr.Instr.{Instr}
 use Rattle.step_code.specs.CodeLengths.{length_trigger, length_edge}
 use Rattle.step_compiler.specs.TreeInstructions.{code_acts}
 use Rattle.step_compiler.specs.proof.BlockOrder.{is_placed, block_order}
-use Rattle.step_compiler.specs.BlockLayout.{trigger_code, last_instr, past, edge_code, block_code, block_length}
-use Rattle.step_compiler.specs.BlockLayout.{start_of, blocks_code, dispatch_offset}
-use Rattle.step_compiler.specs.proof.BlockLengths.{in_list, block_starts}
+use Rattle.step_compiler.specs.BlockInstructions.{trigger_code, last_instr, past, edge_code, block_code, block_length}
+use Rattle.step_compiler.specs.BlockInstructions.{start_of, blocks_code, dispatch_offset}
+use Rattle.step_compiler.specs.proof.BlockLengthsAndStarts.{in_list, block_starts}
 use Rattle.step_compiler.proofs.NumbersFromZero.{listed}
 use Rattle.step_compiler.proofs.PlacedCodeLengths.{HasAt, has_front, has_back, edge-length, block-length}
 use Rattle.step_compiler.proofs.BlockOrderCompleteness.{order_full}

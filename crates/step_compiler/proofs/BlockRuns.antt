@@ -22,10 +22,10 @@ use Rattle.step_compiler.specs.TreeInstructions.{code_of, code_acts}
 use Rattle.step_compiler.proofs.PlacedCodeLengths.{HasAt, has_front, has_back, code-length, acts-length, trigger-length}
 use Rattle.step_compiler.proofs.PlacedCodeLengths.{edge-length}
 use Rattle.step_compiler.proofs.AccessBounds.{Sizes, SeesTrigger, IsGood, AreGood}
-use Rattle.step_compiler.specs.BlockLayout.{trigger_code, last_instr, edge_code, block_code}
+use Rattle.step_compiler.specs.BlockInstructions.{trigger_code, last_instr, edge_code, block_code}
 use Rattle.step_compiler.proofs.ExpressionRuns.{At, at, runs, Leads, Traps', Gives, leads_on, leads_trap, goes, jumps}
 use Rattle.step_compiler.proofs.ExpressionRuns.{passes}
-use Rattle.step_compiler.proofs.LoopEffects.{Fits, Comes}
+use Rattle.step_compiler.proofs.ActionAndLoopEffects.{Fits, Comes}
 use Rattle.step_compiler.proofs.ActionRuns.{value_runs, acts_run}
 
 -- the variables, out of the slots

@@ -6,8 +6,8 @@ use Rattle.std.proofs.lemmas.List.Elements.{All-tail}
 use Rattle.pals_base.specs.declared.behaviour.BehaviourParts.{BehaviourParts}
 use Rattle.step_code.specs.CappedWeights.{capped}
 use Rattle.step_compiler.specs.LaidOutCode.{states_of}
-use Rattle.step_compiler.specs.BlockLayout.{block_length, start_of}
-use Rattle.step_compiler.specs.proof.BlockLengths.{capped_length, start_in}
+use Rattle.step_compiler.specs.BlockInstructions.{block_length, start_of}
+use Rattle.step_compiler.specs.proof.BlockLengthsAndStarts.{capped_length, start_in}
 use Rattle.step_compiler.proofs.NumbersFromZero.{listed}
 
 capped_sum : (a b x y : ℕ) → a ≡ capped b → capped x ≡ capped y → capped (a + x) ≡ capped (b + y)

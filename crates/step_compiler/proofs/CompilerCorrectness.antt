@@ -42,17 +42,17 @@ use Rattle.step_code.proofs.StepResults.{length-holding, member_at, run_over}
 use Rattle.step_compiler.specs.LoopDepths.{depth_acts, depth_edges}
 use Rattle.step_compiler.specs.LaidOutCode.{states_of}
 use Rattle.step_compiler.specs.proof.BlockOrder.{block_order}
-use Rattle.step_compiler.specs.BlockLayout.{block_code, blocks_code, dispatch_offset, entry_of}
-use Rattle.step_compiler.specs.proof.BlockLengths.{block_starts, in_list, compiled}
+use Rattle.step_compiler.specs.BlockInstructions.{block_code, blocks_code, dispatch_offset, entry_of}
+use Rattle.step_compiler.specs.proof.BlockLengthsAndStarts.{block_starts, in_list, compiled}
 use Rattle.step_compiler.proofs.AccessBounds.{Sizes, IsGood, AreGood}
 use Rattle.step_compiler.proofs.SoundAccesses.{Fitting, acts_seen, trigger_seen}
 use Rattle.step_compiler.proofs.PlacedCodeLengths.{HasAt, blocks-length}
-use Rattle.step_compiler.proofs.BlockOrderMarks.{edge_has}
+use Rattle.step_compiler.proofs.OutsideTransitionMarks.{edge_has}
 use Rattle.step_compiler.proofs.BlockOrderCompleteness.{all_member, order_sum}
 use Rattle.step_compiler.proofs.NumbersFromZero.{got, length-upwards}
 use Rattle.step_compiler.proofs.BlockPlaces.{whole_block, dispatch_at}
 use Rattle.step_compiler.proofs.ExpressionRuns.{At, at, runs}
-use Rattle.step_compiler.proofs.LoopEffects.{Fits}
+use Rattle.step_compiler.proofs.ActionAndLoopEffects.{Fits}
 use Rattle.step_compiler.proofs.BlockRuns.{Finishes, taken, blocks_run}
 
 -- ---- what transitions that leave a state have

@@ -16,10 +16,10 @@ use Rattle.step_code.specs.CodeLengths.{length_edge, length_trigger}
 use Rattle.step_compiler.specs.LaidOutCode.{states_of, IsLaidOut, AreLaidOut}
 use Rattle.step_compiler.specs.proof.BlockOrder.{block_order}
 use Rattle.step_compiler.specs.TreeInstructions.{code_acts}
-use Rattle.step_compiler.specs.BlockLayout.{trigger_code, past, last_instr, edge_code, block_code, block_length}
-use Rattle.step_compiler.specs.BlockLayout.{blocks_code, start_of, entry_of}
-use Rattle.step_compiler.specs.proof.BlockLengths.{block_starts, in_list, compiled}
-use Rattle.step_compiler.proofs.BlockOrderMarks.{edge_has}
+use Rattle.step_compiler.specs.BlockInstructions.{trigger_code, past, last_instr, edge_code, block_code, block_length}
+use Rattle.step_compiler.specs.BlockInstructions.{blocks_code, start_of, entry_of}
+use Rattle.step_compiler.specs.proof.BlockLengthsAndStarts.{block_starts, in_list, compiled}
+use Rattle.step_compiler.proofs.OutsideTransitionMarks.{edge_has}
 use Rattle.step_compiler.proofs.BlockPlaces.{start_is}
 use Rattle.step_compiler.specs.proof.LayoutLaws.{HasLayout, LaidOutCodeIsOne, LaidOutCodesAreOne}
 use Rattle.step_compiler.proofs.UniqueBlockOrder.{blocks_are_ordered, order_is_one}

@@ -7,8 +7,8 @@ use Rattle.pals_base.specs.PlainTrees.{Expression, Actions, Branches, NoBranch, 
 use Rattle.step_code.specs.declared.instr.Instr.TheVariants as code
 use Rattle.step_code.specs.CodeLengths.{length_of, length_acts, length_branches, length_edge, length_edges}
 use Rattle.step_compiler.specs.TreeInstructions.{code_of, code_acts, code_branches}
-use Rattle.step_compiler.specs.BlockLayout.{edge_code, block_code}
-use Rattle.step_compiler.specs.proof.BlockLengths.{leaving_among}
+use Rattle.step_compiler.specs.BlockInstructions.{edge_code, block_code}
+use Rattle.step_compiler.specs.proof.BlockLengthsAndStarts.{leaving_among}
 
 -- a branch and those behind it
 pub branches_split : (g : Expression) (as' : Actions) (later : Branches) (n end p : ℕ)

@@ -1,7 +1,7 @@
 pub mod PlacedCodeLengths
 pub mod AccessBounds
 pub mod ExpressionRuns
-pub mod LoopEffects
+pub mod ActionAndLoopEffects
 pub mod ActionRuns
 pub mod BlockRuns
 pub mod JumpsWithinLoops
@@ -10,7 +10,7 @@ pub mod LayoutSplits
 pub mod BlockOrderExtension
 pub mod NumbersFromZero
 pub mod CappedBlockStarts
-pub mod BlockOrderMarks
+pub mod OutsideTransitionMarks
 pub mod BlockOrderInvariant
 pub mod BlockOrderCompleteness
 pub mod SoundAccesses

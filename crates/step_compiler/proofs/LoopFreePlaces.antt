@@ -15,9 +15,9 @@ use Rattle.step_code.specs.CodeLengths.{length_of, length_acts, length_trigger, 
 use Rattle.step_compiler.specs.TreeInstructions.{code_of, code_acts}
 use Rattle.step_compiler.specs.LoopDepths.{depth_acts, depth_edges}
 use Rattle.step_compiler.specs.proof.BlockOrder.{is_placed}
-use Rattle.step_compiler.specs.BlockLayout.{trigger_code, last_instr, past, edge_code, block_code, block_length}
-use Rattle.step_compiler.specs.BlockLayout.{start_of, blocks_code}
-use Rattle.step_compiler.specs.proof.BlockLengths.{order_length}
+use Rattle.step_compiler.specs.BlockInstructions.{trigger_code, last_instr, past, edge_code, block_code, block_length}
+use Rattle.step_compiler.specs.BlockInstructions.{start_of, blocks_code}
+use Rattle.step_compiler.specs.proof.BlockLengthsAndStarts.{order_length}
 use Rattle.step_compiler.proofs.PlacedCodeLengths.{HasAt, has_front, has_back, code-length, acts-length, trigger-length}
 use Rattle.step_compiler.proofs.PlacedCodeLengths.{edge-length, block-length}
 use Rattle.step_compiler.proofs.BlockOrderInvariant.{AreOnce}

@@ -15,9 +15,9 @@ use Rattle.step_code.specs.CodeLengths.{operand_length, length_of, length_rest, 
 use Rattle.step_code.specs.CodeLengths.{length_branches, length_trigger, length_edge, length_edges}
 use Rattle.step_compiler.specs.TreeInstructions.{operator, operand_code, code_of, code_rest, code_act, code_acts}
 use Rattle.step_compiler.specs.TreeInstructions.{code_branches}
-use Rattle.step_compiler.specs.BlockLayout.{trigger_code, last_instr, past, edge_code, block_code, block_length}
-use Rattle.step_compiler.specs.BlockLayout.{blocks_code}
-use Rattle.step_compiler.specs.proof.BlockLengths.{order_length}
+use Rattle.step_compiler.specs.BlockInstructions.{trigger_code, last_instr, past, edge_code, block_code, block_length}
+use Rattle.step_compiler.specs.BlockInstructions.{blocks_code}
+use Rattle.step_compiler.specs.proof.BlockLengthsAndStarts.{order_length}
 
 -- ---- code at a place
 abbrev pub HasAt : List Instr → ℕ → List Instr → Type 0

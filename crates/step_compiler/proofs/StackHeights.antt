@@ -16,7 +16,7 @@ use Rattle.step_code.specs.CodeLengths.{operand_length, length_of, length_rest, 
 use Rattle.step_code.specs.CodeLengths.{length_branches, length_trigger, length_edge, length_edges}
 use Rattle.step_compiler.specs.TreeInstructions.{operator, operand_code, code_of, code_rest, code_act, code_acts}
 use Rattle.step_compiler.specs.TreeInstructions.{code_branches}
-use Rattle.step_compiler.specs.BlockLayout.{trigger_code, last_instr, past, edge_code, block_code}
+use Rattle.step_compiler.specs.BlockInstructions.{trigger_code, last_instr, past, edge_code, block_code}
 use Rattle.step_compiler.proofs.PlacedCodeLengths.{HasAt, has_front, has_back, code-length, operand-length, act-length}
 use Rattle.step_compiler.proofs.PlacedCodeLengths.{acts-length, branches-length, trigger-length, edge-length}
 

@@ -30,14 +30,14 @@ use Rattle.step_code.specs.CodeLengths.{length_of, length_acts, length_trigger, 
 use Rattle.step_compiler.specs.TreeInstructions.{code_of, code_acts}
 use Rattle.step_compiler.specs.proof.BlockOrder.{block_order}
 use Rattle.step_compiler.specs.LaidOutCode.{states_of}
-use Rattle.step_compiler.specs.BlockLayout.{trigger_code, last_instr, past, edge_code, block_code, block_length}
-use Rattle.step_compiler.specs.BlockLayout.{start_of, blocks_code, dispatch_offset, entry_of}
-use Rattle.step_compiler.specs.proof.BlockLengths.{order_length, in_list, block_starts, compiled}
+use Rattle.step_compiler.specs.BlockInstructions.{trigger_code, last_instr, past, edge_code, block_code, block_length}
+use Rattle.step_compiler.specs.BlockInstructions.{start_of, blocks_code, dispatch_offset, entry_of}
+use Rattle.step_compiler.specs.proof.BlockLengthsAndStarts.{order_length, in_list, block_starts, compiled}
 use Rattle.step_compiler.proofs.AccessBounds.{SeesTrigger}
 use Rattle.step_compiler.proofs.SoundAccesses.{acts_seen, trigger_seen}
 use Rattle.step_compiler.proofs.PlacedCodeLengths.{HasAt, has_front, has_back, code-length, acts-length, trigger-length}
 use Rattle.step_compiler.proofs.PlacedCodeLengths.{edge-length, blocks-length}
-use Rattle.step_compiler.proofs.BlockOrderMarks.{edge_has}
+use Rattle.step_compiler.proofs.OutsideTransitionMarks.{edge_has}
 use Rattle.step_compiler.proofs.BlockOrderInvariant.{start_below}
 use Rattle.step_compiler.proofs.BlockOrderCompleteness.{all_member, some_member, order_full}
 use Rattle.step_compiler.proofs.NumbersFromZero.{got}

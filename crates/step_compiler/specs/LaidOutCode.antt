@@ -6,7 +6,7 @@ use Rattle.pals_base.specs.declared.behaviour.BehaviourParts.{BehaviourParts}
 use Rattle.pals_base.specs.PlainTrees.{Edge}
 use Rattle.step_code.specs.declared.instr.CodeParts.{CodeParts}
 use Rattle.step_compiler.specs.LoopDepths.{depth_edges}
-use Rattle.step_compiler.specs.BlockLayout.{blocks_code, start_of, entry_of}
+use Rattle.step_compiler.specs.BlockInstructions.{blocks_code, start_of, entry_of}
 use Rattle.pals_base.specs.SingleStep.{is_complete}
 use Rattle.pals_base.specs.StepSequences.{upwards}
 

@@ -1,5 +1,5 @@
 pub mod TreeInstructions
 pub mod LoopDepths
-pub mod BlockLayout
+pub mod BlockInstructions
 pub mod LaidOutCode
 pub mod proof

@@ -1,6 +1,6 @@
 -- What the theorem of the program does not rest on: definitions of contracts below it, of laws, and of proofs.
 pub mod BlockOrder
-pub mod BlockLengths
+pub mod BlockLengthsAndStarts
 pub mod AppendedCode
 pub mod CompileRefusals
 pub mod LayoutLaws

@@ -7,11 +7,11 @@ mod blocks;
 mod checked_numbers;
 mod compiler;
 mod expressions;
-mod fault;
+mod compile_fault;
 pub mod laws;
 mod lengths;
 mod loop_depths;
 mod transitions;
 
 pub use compiler::compile;
-pub use fault::CompileFault;
+pub use compile_fault::CompileFault;

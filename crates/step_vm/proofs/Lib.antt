@@ -1,5 +1,5 @@
 pub mod StackCells
-pub mod HeldInputs
+pub mod HeldInputsAndVariables
 pub mod MachineInvariant
 pub mod StepOutcomes
 pub mod FittingFrames

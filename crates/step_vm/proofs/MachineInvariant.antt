@@ -17,7 +17,7 @@ use Rattle.step_code.specs.InstructionsPerStep.{count, senses}
 use Rattle.step_code.specs.proof.StackHeights.{takes, Fed, Member}
 use Rattle.step_code.specs.proof.VerifierRules.{IsVerified}
 use Rattle.step_code.proofs.NestedCode.{IsOver}
-use Rattle.step_code.proofs.ProgressPremises.{IsFed}
+use Rattle.step_code.proofs.LevelAndFedCode.{IsFed}
 use Rattle.step_code.proofs.StuckFreedom.{Begun, Fine, Stands, stands_on}
 use Rattle.step_code.proofs.FuelMonotonicity.{Moves, moves}
 use Rattle.step_code.proofs.WeightBounds.{ends_within}

@@ -7,12 +7,12 @@ use Rattle.pals_base.specs.declared.values.PortValue.{PortValue}
 use Rattle.pals_base.specs.declared.values.Frame.{Frame}
 use Rattle.pals_base.specs.StepSequences.{frame_after, outputs, column}
 use Rattle.pals_model.specs.declared.design.Component.{Component}
-use Rattle.pals_model.specs.declared.inputs_and_parts.Part.{Part}
-use Rattle.pals_model.specs.declared.sources.PortSource.{PortSource}
+use Rattle.pals_model.specs.declared.inputs_parts_and_delays.Part.{Part}
+use Rattle.pals_model.specs.declared.port_sources.PortSource.{PortSource}
 use Rattle.pals_model.specs.ComponentInputs.{sources_of}
 use Rattle.pals_model.specs.Composition.{no_frame}
 use Rattle.sync_product.specs.declared.round_inputs.RoundInputs.{RoundInputs}
-use Rattle.sync_product.specs.declared.stage.Stage.{Stage}
+use Rattle.sync_product.specs.declared.component_stage.Stage.{Stage}
 use Rattle.sync_product.specs.proof.ProductSizes.{tap_ports}
 use Rattle.sync_product.specs.proof.Rounds.{IsStepped, frames_of, own_part, own_rows, own_vectors, vectors}
 use Rattle.sync_product.proofs.ComponentLists.{slice_get-set_same, slice_get-set_other}

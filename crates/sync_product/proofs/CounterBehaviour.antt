@@ -5,7 +5,7 @@ use Rattle.std.specs.Prelude.{codes}
 use Rattle.std.proofs.lemmas.Bool.{ne_eqb, true≢false}
 use Rattle.std.proofs.lemmas.List.Elements.{All-nil, All-cons}
 use Rattle.std.proofs.lemmas.List.Kept.{AllPairs-cons}
-use Rattle.list_lemmas.proofs.ElementPairs.{AllPairs-one, AllPairs-three, bytes_ne_by_test}
+use Rattle.list_lemmas.proofs.PairwiseProperties.{AllPairs-one, AllPairs-three, bytes_ne_by_test}
 use Rattle.pals_base.specs.declared.behaviour.BehaviourParts.{BehaviourParts}
 use Rattle.pals_base.specs.declared.behaviour.StateDecl.{StateDecl}
 use Rattle.pals_base.specs.BehaviourRules.{IsBehaviour, IsAcyclic}

@@ -2,7 +2,7 @@
 use Rattle.std.proofs.Common.{◌≢◌, ◌≤◌, ℕ, List, [], ◌∷◌, length, All, IsTrue, refl, arith}
 use Rattle.std.specs.Prelude.{codes}
 use Rattle.std.proofs.lemmas.List.Elements.{All-nil}
-use Rattle.list_lemmas.proofs.ElementPairs.{AllPairs-nil, bytes_ne_by_test}
+use Rattle.list_lemmas.proofs.PairwiseProperties.{AllPairs-nil, bytes_ne_by_test}
 use Rattle.pals_base.specs.declared.limits.TheConstants.{PATH_BYTES}
 use Rattle.pals_base.specs.Names.{is_word, is_path}
 use Rattle.pals_model.specs.declared.design.Component.{Component}

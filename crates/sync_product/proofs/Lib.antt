@@ -3,7 +3,7 @@ pub mod PortColumns
 pub mod TupleLengths
 pub mod ProductLaws
 pub mod ComponentLists
-pub mod TapPorts
+pub mod TapPortTable
 pub mod StepRoom
 pub mod ComponentSteps
 pub mod LinkMessages

@@ -17,13 +17,13 @@ use Rattle.pals_model.specs.declared.design.Component.{Component}
 use Rattle.pals_model.specs.declared.design.Link.{Link}
 use Rattle.pals_model.specs.declared.design.Tap.{Tap}
 use Rattle.pals_model.specs.declared.design.DesignParts.{DesignParts}
-use Rattle.pals_model.specs.declared.inputs_and_parts.Part.{Part}
+use Rattle.pals_model.specs.declared.inputs_parts_and_delays.Part.{Part}
 use Rattle.pals_model.specs.ComponentInputs.{inputs_of, rate_in}
 use Rattle.pals_model.specs.PortKinds.{outs_in}
 use Rattle.pals_model.specs.DesignRules.{IsDesign, IsLink, IsTap}
 use Rattle.pals_model.specs.Composition.{steps_from, no_frame, part_of, taps_of, tuple_in, message_of}
 use Rattle.sync_product.specs.declared.round_inputs.RoundInputs.{RoundInputs}
-use Rattle.sync_product.specs.declared.stage.Stage.{Stage}
+use Rattle.sync_product.specs.declared.component_stage.Stage.{Stage}
 use Rattle.sync_product.specs.proof.ProductSizes.{StageSize, stage_size, stage_size_of, stage_sizes, tap_ports}
 use Rattle.sync_product.specs.proof.Rounds.{AreStepped, frames_of, own_part, own_rows, sent_by, sent_from}
 use Rattle.sync_product.specs.proof.ProductStates.{ProductState, advanced, parts_of}

@@ -7,9 +7,9 @@ use Rattle.pals_base.specs.PeriodBound.{sent_steps}
 use Rattle.pals_base.specs.StepSequences.{upwards}
 use Rattle.pals_model.specs.declared.design.Component.{Component}
 use Rattle.pals_model.specs.declared.design.DesignParts.{DesignParts}
-use Rattle.pals_model.specs.declared.inputs_and_parts.Part.{Part}
+use Rattle.pals_model.specs.declared.inputs_parts_and_delays.Part.{Part}
 use Rattle.pals_model.specs.ComponentInputs.{source_of}
-use Rattle.sync_product.specs.declared.stage.Stage.{Stage}
+use Rattle.sync_product.specs.declared.component_stage.Stage.{Stage}
 use Rattle.sync_product.specs.declared.wiring.WiredComponent.{WiredComponent}
 use Rattle.sync_product.specs.proof.ProductSizes.{PartSize, StageSize, frame_size, frame_size_of, part_size}
 use Rattle.sync_product.specs.proof.ProductSizes.{part_size_of, part_sizes, stage_size, stage_size_of, stage_sizes}

@@ -8,7 +8,7 @@ mod product;
 pub mod renumbering_laws;
 mod round;
 pub mod round_inputs;
-pub mod stage;
+pub mod component_stage;
 mod taps;
 pub mod tuple_columns;
 pub mod wiring;

@@ -4,7 +4,7 @@ ghost use Rattle.pals_model.specs.DesignRules.{IsDesign};
 ghost use Rattle.sync_product.specs.proof.ProductSizes.{stage_size, stage_sizes, message_sizes};
 ghost use Rattle.sync_product.specs.proof.Rounds.{sent_by};
 
-use crate::stage::Stage;
+use crate::component_stage::Stage;
 use crate::tuple_columns::write_column;
 use pals_base::{Items, Tuple};
 use pals_model::Design;

@@ -5,7 +5,7 @@ ghost use Rattle.pals_model.specs.ComponentInputs.{rate_of};
 ghost use Rattle.sync_product.specs.proof.ProductStates.{opening_parts};
 ghost use Rattle.sync_product.specs.proof.ProductSizes.{all_taps, stage_size, stage_sizes};
 
-use crate::stage::Stage;
+use crate::component_stage::Stage;
 use pals_base::tuples::absent;
 use pals_base::{Frame, Items, NoMemory, Tuple};
 use pals_model::{Design, Part};

@@ -7,7 +7,7 @@ use crate::messages::send_all;
 use crate::opening::{opening_messages, opening_parts, stages};
 use crate::round::run_all;
 use crate::round_inputs::RoundInputs;
-use crate::stage::Stage;
+use crate::component_stage::Stage;
 use crate::wiring::Wiring;
 use pals_base::{Items, LinkNo, NoMemory, NodeNo, PortValue, Tuple};
 use pals_model::{Design, Part};

@@ -5,7 +5,7 @@ ghost use Rattle.sync_product.specs.proof.ComponentWiring.{IsWiring};
 ghost use Rattle.sync_product.specs.proof.Rounds.{AreStepped, frames_of};
 
 use crate::round_inputs::RoundInputs;
-use crate::stage::Stage;
+use crate::component_stage::Stage;
 use crate::wiring::Wiring;
 use pals_base::{Items, NoMemory};
 use pals_model::Part;

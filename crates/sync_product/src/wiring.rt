@@ -3,7 +3,7 @@ ghost use Rattle.std.specs.Prelude.{◌<◌, IfOk, length};
 
 use crate::taps::all_taps;
 use pals_base::{Items, NoMemory};
-use pals_model::sources::all_sources;
+use pals_model::port_sources::all_sources;
 use pals_model::{Component, Design, PortSource};
 use std::alloc::Global;
 

@@ -3,7 +3,7 @@
 #![tactic(auto)]
 
 #[cfg(test)]
-mod buses;
+mod bus_runs;
 #[cfg(test)]
 mod designs;
 #[cfg(test)]

@@ -3,7 +3,7 @@ ghost use Rattle.std.specs.Prelude.{IfOk};
 ghost use Rattle.std.specs.List.Sorted.{IsNonDecreasing};
 ghost use Rattle.pals_clock.specs.ClockStates.{AreReadings};
 
-use crate::buses::{bus_of, tells};
+use crate::bus_runs::{bus_of, tells};
 use case_files::example_designs::TWO_COUNTERS;
 use node_threads::{Host, NoGate, ThreadStarter};
 use pals_base::{Items, Nanos, NoMemory};

@@ -1,5 +1,5 @@
 //! Nodes that meet.
-use crate::buses::{bus_of, tells};
+use crate::bus_runs::{bus_of, tells};
 use crate::gates::{Meets, Yields};
 use case_files::example_designs::TURN;
 use node_threads::{FakeStarter, Host, NoGate, ThreadStarter};

@@ -6,7 +6,7 @@ use Rattle.std.proofs.lemmas.Option.{none-some}
 use Rattle.pals_base.specs.declared.limits.TheConstants.{READING}
 use Rattle.pals_base.specs.declared.values.NodeNo.{NodeNo}
 use Rattle.pals_base.specs.declared.values.LinkNo.{LinkNo}
-use Rattle.pals_runs.specs.declared.events.Event.TheVariants as event
+use Rattle.pals_runs.specs.declared.events_and_faults.Event.TheVariants as event
 use Rattle.pals_runs.specs.declared.journal.Phase.{Phase}
 use Rattle.pals_runs.specs.declared.journal.Phase.TheVariants.{Done}
 use Rattle.bus_machine.specs.Plans.{plan_of}
@@ -27,12 +27,12 @@ use Rattle.pals_bus.specs.BusValues.{BusValue}
 use Rattle.pals_bus.specs.proof.Answers.{BusStartEnds, BusStepEnds, LinkEnds}
 use Rattle.pals_bus.proofs.LooseEvents.{busy_waits_not, no_next_step}
 use Rattle.run_laws.specs.Worlds.{reading_at}
-use Rattle.run_laws.proofs.FaultlessEvents.{starts_in_time, steps_in_time, sends_in_time, arrives_in_time}
-use Rattle.run_laws.proofs.WorldNodes.{may_is}
+use Rattle.run_laws.proofs.FaultlessEventConditions.{starts_in_time, steps_in_time, sends_in_time, arrives_in_time}
+use Rattle.run_laws.proofs.WorldNodeTiming.{may_is}
 use Rattle.run_laws.proofs.WorldTimeRanges.{times_are_readings}
-use Rattle.run_laws.proofs.TimelyWorlds.{event_keeps_time}
+use Rattle.run_laws.proofs.KeptWorldInvariant.{event_keeps_time}
 use Rattle.timed_world.specs.proof.WorldValues.{WorldValue, world_of, KeepsWorld}
-use Rattle.timed_world.proofs.FaultlessEvents.{IsFine, Reads}
+use Rattle.timed_world.proofs.EventEffects.{IsFine, Reads}
 
 -- no stop stands after a start
 start_goes : (old : WorldValue) (node : NodeNo) (new : BusState) → KeepsWorld old → IsFine old (event.Start node)

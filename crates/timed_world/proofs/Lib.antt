@@ -1,7 +1,7 @@
 pub mod OpeningWorlds
 pub mod NodeStandings
 pub mod FaultSearch
-pub mod SingleFlights
-pub mod FaultlessEvents
+pub mod SingleCopiesInFlight
+pub mod EventEffects
 pub mod BusRefusals
 pub mod EventLists

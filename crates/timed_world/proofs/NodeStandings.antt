@@ -12,16 +12,16 @@ use Rattle.bus_machine.specs.declared.plan.Plan.{Plan}
 use Rattle.bus_machine.specs.Plans.{plan_of, component_at}
 use Rattle.bus_machine.specs.States.{Run, node_at}
 use Rattle.bus_machine.specs.Agreement.{PhaseAgrees}
-use Rattle.bus_machine.specs.proof.MachineLaws.{IsRunOf}
+use Rattle.bus_machine.specs.proof.AgreementLaws.{IsRunOf}
 use Rattle.run_laws.specs.Worlds.{World, since_at, ready_at}
 use Rattle.run_laws.specs.Deadlines.{node_deadline, phase_deadline, lesser}
 use Rattle.run_laws.specs.proof.WorldInvariant.{IsInTime, KeepsTime}
-use Rattle.run_laws.proofs.WorldNodes.{deadline_is, phase_agrees, rounds_at_most, send_last as of_send}
-use Rattle.run_laws.proofs.WorldNodes.{phase_last as of_phase}
+use Rattle.run_laws.proofs.WorldNodeTiming.{deadline_is, phase_agrees, rounds_at_most, send_last as of_send}
+use Rattle.run_laws.proofs.WorldNodeTiming.{phase_last as of_phase}
 use Rattle.run_laws.proofs.WorldTimeRanges.{times_are_readings}
 use Rattle.timed_world.specs.declared.standing.NodeStanding.{NodeStanding}
 use Rattle.timed_world.specs.proof.WorldValues.{WorldValue, KeepsWorld, world_of}
-use Rattle.timed_world.specs.proof.NodeStandings.{IsSound, standing_of, phase_last, send_last, last_time}
+use Rattle.timed_world.specs.proof.NodeFaults.{IsSound, standing_of, phase_last, send_last, last_time}
 
 -- ---- a moment is at most the time, if there is a last time
 some_lesser : (a : ℕ) (b : Option ℕ) → is_some (lesser (Some a) b) ≡ true

@@ -8,12 +8,12 @@ use Rattle.pals_base.specs.declared.values.Gamma.{Gamma}
 use Rattle.pals_model.specs.declared.design.DesignParts.{DesignParts}
 use Rattle.pals_model.specs.declared.design.Link.{Link}
 use Rattle.pals_model.specs.declared.design.Component.{Component}
-use Rattle.pals_model.specs.declared.inputs_and_parts.Delays.{Delays}
-use Rattle.pals_model.specs.declared.inputs_and_parts.Env.{Env}
+use Rattle.pals_model.specs.declared.inputs_parts_and_delays.Delays.{Delays}
+use Rattle.pals_model.specs.declared.inputs_parts_and_delays.Env.{Env}
 use Rattle.pals_model.specs.Delays.{AreDelays, IsDelayList}
 use Rattle.pals_model.specs.DesignRules.{IsDesign, IsGamma}
 use Rattle.step_code.specs.declared.instr.CodeParts.{CodeParts}
-use Rattle.bus_machine.specs.proof.MachineLaws.{IsRunOf}
+use Rattle.bus_machine.specs.proof.AgreementLaws.{IsRunOf}
 use Rattle.pals_bus.specs.BusValues.{BusValue}
 use Rattle.run_laws.specs.Worlds.{world_run}
 use Rattle.run_laws.proofs.OpeningWorlds.{opening_keeps_time}

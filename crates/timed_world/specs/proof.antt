@@ -1,5 +1,5 @@
 -- What the theorem of the program does not rest on: definitions of contracts below it, of laws, and of proofs.
-pub mod NodeStandings
+pub mod NodeFaults
 pub mod WorldValues
 pub mod Codes
 pub mod FlightFaults

@@ -1,8 +1,8 @@
 //! The events of a world.
 ghost use Rattle.std.specs.Prelude.{◌≡◌, ◌⊎◌, ◌<◌, ◌++◌, [], ◌∷◌, length, Some, None, IfErr, OnOk, OnErr};
 ghost use Rattle.std.specs.Prelude.{slice_index_or, slice_set};
-ghost use Rattle.pals_runs.specs.declared.events.Event.TheVariants as event;
-ghost use Rattle.pals_runs.specs.declared.events.EventFault.TheVariants as fault;
+ghost use Rattle.pals_runs.specs.declared.events_and_faults.Event.TheVariants as event;
+ghost use Rattle.pals_runs.specs.declared.events_and_faults.EventFault.TheVariants as fault;
 ghost use Rattle.pals_node.specs.declared.answers.StartEnd.TheVariants as start;
 ghost use Rattle.pals_node.specs.declared.answers.StepEnd.TheVariants as step;
 ghost use Rattle.pals_bus.specs.declared.bus_error.BusError.TheVariants.{Refused};

@@ -1,7 +1,7 @@
 //! Where a node stands, which events that forbids, and the last time that it allows.
 ghost use Rattle.std.specs.Prelude.{◌≡◌, ◌<◌, ◌≤◌, nat_lt};
 ghost use Rattle.pals_base.specs.declared.limits.TheConstants.{HOUR};
-ghost use Rattle.pals_runs.specs.declared.events.EventFault.TheVariants as fault;
+ghost use Rattle.pals_runs.specs.declared.events_and_faults.EventFault.TheVariants as fault;
 ghost use Rattle.pals_node.specs.proof.NodeInvariants.{IsPlan};
 ghost use Rattle.bus_machine.specs.NodeEvents.{running_step};
 ghost use Rattle.run_laws.specs.Deadlines.{last_before, lesser};
@@ -28,9 +28,9 @@ pub struct NodeStanding {
 }
 
 impl NodeStanding {
-    ghost use Rattle.timed_world.specs.proof.NodeStandings.{IsSound, alarm_of_step, release_of, start_fault};
-    ghost use Rattle.timed_world.specs.proof.NodeStandings.{step_fault, finish_fault, send_fault, may_go, phase_last};
-    ghost use Rattle.timed_world.specs.proof.NodeStandings.{send_last, last_time};
+    ghost use Rattle.timed_world.specs.proof.NodeFaults.{IsSound, alarm_of_step, release_of, start_fault};
+    ghost use Rattle.timed_world.specs.proof.NodeFaults.{step_fault, finish_fault, send_fault, may_go, phase_last};
+    ghost use Rattle.timed_world.specs.proof.NodeFaults.{send_last, last_time};
 
     /// Why it may not start its next round, if so.
     pub fn start_fault(&self, plan: &Plan) -> Option<EventFault>

@@ -2,13 +2,13 @@
 ghost use Rattle.std.specs.Prelude.{◌≡◌, ◌<◌, ◌≤◌, length, slice_index_or, IfOk};
 ghost use Rattle.std.specs.Arc.{arc_value};
 ghost use Rattle.pals_base.specs.declared.limits.TheConstants.{COMPONENTS, LINKS, ROUNDS};
-ghost use Rattle.bus_machine.specs.proof.MachineLaws.{IsRunOf};
+ghost use Rattle.bus_machine.specs.proof.AgreementLaws.{IsRunOf};
 ghost use Rattle.bus_machine.specs.Plans.{plan_of};
 ghost use Rattle.pals_node.specs.proof.NodeInvariants.{IsPlan};
 ghost use Rattle.pals_bus.specs.proof.NodeAndCodeValues.{AreCodes};
 ghost use Rattle.run_laws.specs.proof.WorldInvariant.{KeepsTime};
 ghost use Rattle.run_laws.specs.Worlds.{flight_since};
-ghost use Rattle.timed_world.specs.proof.NodeStandings.{IsSound, standing_of};
+ghost use Rattle.timed_world.specs.proof.NodeFaults.{IsSound, standing_of};
 ghost use Rattle.timed_world.specs.proof.WorldValues.{opening_value, world_of};
 
 use crate::opening::{least_delays, no_moments, no_times};

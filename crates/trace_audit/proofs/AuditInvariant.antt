@@ -12,12 +12,12 @@ use Rattle.pals_runs.specs.declared.verdicts.TraceRule.TheVariants as rule
 use Rattle.bus_machine.specs.Nodes.{NodeState}
 use Rattle.bus_machine.specs.States.{Run, BusState, opening}
 use Rattle.bus_machine.specs.Machine.{BusEvent, after}
-use Rattle.run_laws.specs.Entries.{IsEntryIn}
+use Rattle.run_laws.specs.EntriesOfDesigns.{IsEntryIn}
 use Rattle.run_laws.specs.EntriesInLines.{Timed, event_of, has_reading, timed}
 use Rattle.run_laws.specs.TraceRules.{broken, is_line_of}
 use Rattle.run_laws.specs.TraceVerdicts.{Audit, audit_after, audit_event, line_broken, noted}
 use Rattle.trace_audit.specs.proof.OwedStops.{owed_by}
-use Rattle.trace_audit.proofs.OrderRule.{owed_behind}
+use Rattle.trace_audit.proofs.OrderAndOwedStops.{owed_behind}
 
 pub given : (o : Option ℕ) → is_some o ≡ true → Some (unwrap_or o 0) ≡ o
 given None is = absurd (cc)

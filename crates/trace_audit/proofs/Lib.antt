@@ -1,8 +1,8 @@
 pub mod BrokenRules
 pub mod StartLines
-pub mod OrderRule
+pub mod OrderAndOwedStops
 pub mod DueMessages
-pub mod DoneNodes
+pub mod DoneNodesAndRounds
 pub mod StartRules
 pub mod AuditInvariant
 pub mod TextLines

@@ -24,7 +24,7 @@ use Rattle.bus_machine.specs.States.{Run, BusState, node_at}
 use Rattle.bus_machine.specs.MissedStarts.{link_into, missing_link}
 use Rattle.bus_machine.specs.Machine.{Start, missed_stop}
 use Rattle.bus_machine.specs.Replay.{start_entry}
-use Rattle.run_laws.specs.Entries.{IsEntryIn, IsReading}
+use Rattle.run_laws.specs.EntriesOfDesigns.{IsEntryIn, IsReading}
 use Rattle.run_laws.specs.EntriesInLines.{event_of}
 use Rattle.run_laws.specs.TraceRules.{is_line_of}
 use Rattle.run_laws.proofs.EntryLines.{lines_differ}

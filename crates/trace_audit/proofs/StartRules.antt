@@ -12,7 +12,7 @@ use Rattle.bus_machine.specs.States.{node_at}
 use Rattle.bus_machine.specs.MissedStarts.{missing_link}
 use Rattle.bus_machine.specs.Machine.{Start}
 use Rattle.bus_machine.specs.Replay.{start_entry}
-use Rattle.run_laws.specs.Entries.{IsEntryIn}
+use Rattle.run_laws.specs.EntriesOfDesigns.{IsEntryIn}
 use Rattle.run_laws.specs.TraceRules.{alarm_at, broken, falls}
 use Rattle.pals_node.specs.proof.Answers.{is_early}
 use Rattle.pals_bus.specs.proof.Answers.{MissesMessage, StoppedAtStart}

@@ -4,7 +4,7 @@ pub mod FirstBrokenRule
 pub mod ToldEvents
 pub mod OwedStops
 pub mod AuditReplays
-pub mod RemainingLines
+pub mod RemainingRowLines
 pub mod ReportRows
 pub mod ReportEnds
 pub mod RemainingWords

@@ -4,7 +4,7 @@ ghost use Rattle.std.specs.Arc.{arc_value};
 ghost use Rattle.pals_model.specs.RoundTexts.{composed_lines};
 ghost use Rattle.pals_model.specs.DesignRules.{IsDesign};
 ghost use Rattle.run_laws.specs.TraceVerdicts.{line_at, row_size};
-ghost use Rattle.trace_audit.specs.proof.RemainingLines.{HasLeft};
+ghost use Rattle.trace_audit.specs.proof.RemainingRowLines.{HasLeft};
 ghost use Rattle.trace_audit.specs.proof.ReportRows.{AreRows, IsAtLine, left_at};
 
 use crate::row_text::{RowText, row_size};

@@ -4,7 +4,7 @@ ghost use Rattle.run_laws.specs.EntriesInLines.{timed, has_reading};
 ghost use Rattle.run_laws.specs.TraceRules.{falls};
 ghost use Rattle.run_laws.specs.TraceVerdicts.{noted};
 ghost use Rattle.bus_machine.specs.States.{link_at};
-ghost use Rattle.run_laws.specs.Entries.{IsEntryIn};
+ghost use Rattle.run_laws.specs.EntriesOfDesigns.{IsEntryIn};
 ghost use Rattle.trace_audit.specs.proof.EntryClocks.{timed_of, read_at};
 
 use pals_base::{LinkNo, Nanos, NodeNo};

@@ -3,7 +3,7 @@ ghost use Rattle.std.specs.Prelude.{◌≡◌, ◌++◌, ◌∷◌, ◌↔◌, [
 ghost use Rattle.std.specs.Prelude.{option_copied};
 ghost use Rattle.std.specs.Option.{option_map_or};
 ghost use Rattle.pals_runs.specs.declared.journal.JournalEntry.{JournalEntry};
-ghost use Rattle.run_laws.specs.Entries.{IsEntryIn};
+ghost use Rattle.run_laws.specs.EntriesOfDesigns.{IsEntryIn};
 ghost use Rattle.run_laws.specs.TraceRules.{is_due, is_line_of};
 ghost use Rattle.trace_audit.specs.proof.FirstBrokenRule.{first_rule};
 

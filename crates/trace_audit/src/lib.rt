@@ -14,9 +14,9 @@ mod replay;
 mod report;
 mod row_text;
 mod told_entries;
-mod traces;
+mod trace_verdict;
 mod words;
 
 pub use journal_lines::has_form;
 pub use told_entries::told;
-pub use traces::audit;
+pub use trace_verdict::audit;

@@ -8,7 +8,7 @@ ghost use Rattle.pals_runs.specs.declared.journal.JournalEntry.TheVariants as en
 ghost use Rattle.bus_machine.specs.Nodes.{round_of};
 ghost use Rattle.bus_machine.specs.NodeEvents.{next_step};
 ghost use Rattle.bus_machine.specs.States.{node_at};
-ghost use Rattle.run_laws.specs.Entries.{IsEntryIn};
+ghost use Rattle.run_laws.specs.EntriesOfDesigns.{IsEntryIn};
 ghost use Rattle.run_laws.specs.TraceRules.{broken};
 ghost use Rattle.trace_audit.specs.proof.ToldEvents.{IsReady, SaysStart, IsRedone};
 

@@ -1,7 +1,7 @@
 //! A run that is done again, line by line.
 ghost use Rattle.std.specs.Prelude.{◌≡◌, ◌<◌, Option, Some, None, Ok, false, IfOk, IfSome};
 ghost use Rattle.bus_machine.specs.States.{opening};
-ghost use Rattle.run_laws.specs.Entries.{IsEntryIn};
+ghost use Rattle.run_laws.specs.EntriesOfDesigns.{IsEntryIn};
 ghost use Rattle.run_laws.specs.EntriesInLines.{has_reading};
 ghost use Rattle.run_laws.specs.TraceVerdicts.{opening_audit, line_broken};
 ghost use Rattle.trace_audit.specs.proof.OwedStops.{owed_by};

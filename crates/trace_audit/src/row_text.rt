@@ -4,7 +4,7 @@ ghost use Rattle.pals_model.specs.proof.CompositionLaws.Lines.{IsLine};
 ghost use Rattle.pals_model.specs.RoundTexts.{is_line_feed};
 ghost use Rattle.pals_model.specs.DesignRules.{IsDesign};
 ghost use Rattle.run_laws.specs.TraceVerdicts.{row_size};
-ghost use Rattle.trace_audit.specs.proof.RemainingLines.{HasLeft};
+ghost use Rattle.trace_audit.specs.proof.RemainingRowLines.{HasLeft};
 
 use pals_model::Design;
 

@@ -2,7 +2,7 @@
 ghost use Rattle.std.specs.Prelude.{◌≡◌, ℕ, List, Some, IfSome};
 ghost use Rattle.pals_model.specs.declared.design.DesignParts.{DesignParts};
 ghost use Rattle.pals_model.specs.NamesInTexts.{node_named, link_named};
-ghost use Rattle.run_laws.specs.Entries.{IsEntryIn};
+ghost use Rattle.run_laws.specs.EntriesOfDesigns.{IsEntryIn};
 ghost use Rattle.run_laws.specs.EntriesInLines.{entry_of, told};
 ghost use Rattle.trace_audit.specs.proof.LineForms.{node_form, link_form, shown};
 

@@ -8,11 +8,11 @@ use Rattle.pals_base.specs.PeriodBound.{sent_steps}
 use Rattle.pals_base.specs.StepSequences.{column, cut}
 use Rattle.pals_model.specs.declared.design.Component.{Component}
 use Rattle.pals_model.specs.declared.design.DesignParts.{DesignParts}
-use Rattle.sync_product.specs.declared.stage.Stage.{Stage}
+use Rattle.sync_product.specs.declared.component_stage.Stage.{Stage}
 use Rattle.sync_product.specs.proof.ProductSizes.{StageSize, stage_size, stage_size_of, stage_sizes}
 use Rattle.sync_product.specs.proof.Rounds.{frames_of, sent_from}
 use Rattle.sync_product.proofs.ComponentLists.{sized_at}
-use Rattle.triple_vote.specs.declared.layer.Layer.{Layer}
+use Rattle.triple_vote.specs.declared.replica_lane.Layer.{Layer}
 use Rattle.triple_vote.specs.proof.ReplicaLayers.{whole_from, is_there, rows_made, AreRun, AreSent, AreWhole, IsMade}
 
 module _ (design : DesignParts) (values : List PortValue) (heard : List (List PortValue)) (layer : Layer)

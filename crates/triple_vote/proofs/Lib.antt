@@ -1,14 +1,14 @@
 pub mod MajorityVotes
-pub mod TabulatedLists
+pub mod ListTablesAndSearches
 pub mod ReplicaInputs
-pub mod SingleFaults
+pub mod VotesDespiteOneFault
 pub mod ReplicaRounds
 pub mod OutvotedFaults
-pub mod VotedReports
+pub mod OutvotedFaultReports
 pub mod VotedStates
 pub mod CounterVotes
 pub mod TupleVotes
-pub mod TupleWrites
+pub mod SelectiveListWrites
 pub mod LayerSteps
 pub mod LayerTuples
 pub mod VotedRounds
@@ -16,6 +16,6 @@ pub mod LayerUpdates
 pub mod TupleLengths
 pub mod StageMessages
 pub mod FaultTables
-pub mod VotedMessages
+pub mod VotedMessagesAndTaps
 pub mod OpeningReplicas
-pub mod AdvancedStates
+pub mod OpeningAndNextStates

@@ -10,7 +10,7 @@ use Rattle.pals_base.specs.declared.values.Frame.{Frame}
 use Rattle.pals_base.specs.StepSequences.{upwards}
 use Rattle.pals_model.specs.declared.design.Link.{Link}
 use Rattle.pals_model.specs.declared.design.DesignParts.{DesignParts}
-use Rattle.pals_model.specs.declared.inputs_and_parts.Env.{Env}
+use Rattle.pals_model.specs.declared.inputs_parts_and_delays.Env.{Env}
 use Rattle.pals_model.specs.ComponentInputs.{values_at}
 use Rattle.pals_model.specs.Composition.{no_frame, comp, state, msg}
 use Rattle.pals_model.proofs.CompositionLaws.{one_frame_each, one_message_each}
@@ -19,8 +19,8 @@ use Rattle.triple_vote.specs.Replicas.{is_replicated, copies_of, receivers_in, V
 use Rattle.triple_vote.specs.Replicas.{first_frame, first_tuple, replica_steps, receives_on, vcomp}
 use Rattle.triple_vote.specs.proof.VoteLaws.{ReplicasAreStates, ReceivedAreMessages, TapsShowTuples, alone}
 use Rattle.triple_vote.specs.proof.VoteLaws.{NoReplicasAreComposition}
-use Rattle.triple_vote.proofs.TabulatedLists.{table-is}
-use Rattle.triple_vote.proofs.SingleFaults.{vote_is}
+use Rattle.triple_vote.proofs.ListTablesAndSearches.{table-is}
+use Rattle.triple_vote.proofs.VotesDespiteOneFault.{vote_is}
 use Rattle.triple_vote.proofs.ReplicaRounds.{replica_at, receiver_at, Agrees, AreOverruled, agrees_after, shows_after}
 
 -- ---- with at most one at fault

@@ -12,7 +12,7 @@ use Rattle.pals_model.specs.declared.design.Component.{Component}
 use Rattle.pals_model.specs.declared.design.Link.{Link}
 use Rattle.pals_model.specs.declared.design.Tap.{Tap}
 use Rattle.pals_model.specs.declared.design.DesignParts.{DesignParts}
-use Rattle.pals_model.specs.declared.inputs_and_parts.Env.{Env}
+use Rattle.pals_model.specs.declared.inputs_parts_and_delays.Env.{Env}
 use Rattle.pals_model.specs.ComponentInputs.{rate_of, rate_in, values_at, feed, inputs_in}
 use Rattle.pals_model.specs.Composition.{no_frame, comp, state, msg, steps_of_round, tuple_in, tuple_of}
 use Rattle.pals_model.specs.DesignRules.{IsDesign, IsLink, IsTap}
@@ -27,7 +27,7 @@ use Rattle.triple_vote.specs.Replicas.{for_replicas, for_receivers, first_frame,
 use Rattle.triple_vote.specs.Replicas.{replica_steps, tuple_at, is_fault, fault_or, own_message, sent_to, vote_of}
 use Rattle.triple_vote.specs.Replicas.{receives_on, vnext, vcomp, vshown_by, vshown}
 use Rattle.triple_vote.proofs.MajorityVotes.{votes-first_two}
-use Rattle.triple_vote.proofs.TabulatedLists.{table-at}
+use Rattle.triple_vote.proofs.ListTablesAndSearches.{table-at}
 use Rattle.triple_vote.proofs.ReplicaInputs.{same_inputs}
 
 -- ---- the places of the lists

@@ -11,13 +11,13 @@ use Rattle.pals_model.specs.declared.design.DesignParts.{DesignParts}
 use Rattle.pals_model.specs.ComponentInputs.{rate_of}
 use Rattle.pals_model.specs.DesignRules.{IsDesign, IsLink, IsTap}
 use Rattle.pals_model.proofs.FirstMatches.{at_element}
-use Rattle.sync_product.specs.declared.stage.Stage.{Stage}
+use Rattle.sync_product.specs.declared.component_stage.Stage.{Stage}
 use Rattle.sync_product.specs.proof.ProductSizes.{stage_size, stage_sizes, message_sizes}
 use Rattle.sync_product.specs.proof.Rounds.{sent_by, sent_from}
 use Rattle.sync_product.proofs.PortColumns.{cut_whole, length-column}
 use Rattle.sync_product.proofs.ComponentLists.{item_at}
 use Rattle.triple_vote.specs.proof.ReplicaLayers.{lengths, tap_sizes, is_there, whole_from}
-use Rattle.triple_vote.proofs.TupleWrites.{Filled, filled_put}
+use Rattle.triple_vote.proofs.SelectiveListWrites.{Filled, filled_put}
 use Rattle.triple_vote.proofs.TupleLengths.{stage_within, stage_rows, tuple_within, tuple_size, sizes_stay}
 use Rattle.triple_vote.proofs.TupleLengths.{length-written}
 

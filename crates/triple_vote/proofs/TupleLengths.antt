@@ -11,7 +11,7 @@ use Rattle.pals_base.specs.StepSequences.{column, cut}
 use Rattle.pals_model.specs.declared.design.Component.{Component}
 use Rattle.pals_model.specs.declared.design.DesignParts.{DesignParts}
 use Rattle.pals_model.specs.ComponentInputs.{rate_of, rate_in}
-use Rattle.sync_product.specs.declared.stage.Stage.{Stage}
+use Rattle.sync_product.specs.declared.component_stage.Stage.{Stage}
 use Rattle.sync_product.specs.proof.ProductSizes.{StageSize, stage_size, stage_size_of, stage_sizes}
 use Rattle.sync_product.proofs.PortColumns.{length-cut, length-column}
 use Rattle.sync_product.proofs.SizePreservation.{same_sizes}

@@ -2,9 +2,9 @@
 //! fault, all that is received, and each replica's state, is that of the composition without replicas.
 #![tactic(auto)]
 
-mod first_faults;
+mod fault_table;
 pub mod laws;
-mod layer;
+mod replica_lane;
 mod layer_rounds;
 mod layers;
 mod opening;

@@ -8,8 +8,8 @@ ghost use Rattle.triple_vote.specs.proof.VoteLaws.{IsFault};
 ghost use Rattle.triple_vote.specs.proof.ThreeLayers.{AreThree, sent_in, tuple_of, received_of, AreReceived, AreOfSize};
 ghost use Rattle.triple_vote.specs.proof.ThreeLayers.{FaultsFit};
 
-use crate::first_faults::{FaultTable, place};
-use crate::layer::Layer;
+use crate::fault_table::{FaultTable, place};
+use crate::replica_lane::Layer;
 use crate::layer_rounds::{is_there, tuple_at};
 use crate::votes::vote_into;
 use pals_base::{Items, PortValue, Tuple};

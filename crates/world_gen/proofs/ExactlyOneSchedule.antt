@@ -8,17 +8,17 @@ use Rattle.std.proofs.lemmas.Nat.{mul-le}
 use Rattle.pals_base.specs.PeriodBound.{alarm}
 use Rattle.pals_base.specs.StepSequences.{upwards}
 use Rattle.pals_model.specs.declared.design.DesignParts.{DesignParts}
-use Rattle.pals_runs.specs.declared.events.Event.{Event}
-use Rattle.pals_runs.specs.declared.events.Event.TheVariants as event
+use Rattle.pals_runs.specs.declared.events_and_faults.Event.{Event}
+use Rattle.pals_runs.specs.declared.events_and_faults.Event.TheVariants as event
 use Rattle.bus_machine.specs.Plans.{plan_of}
 use Rattle.bus_machine.specs.States.{Run, link_at}
-use Rattle.bus_machine.specs.proof.MachineLaws.{IsRunOf}
+use Rattle.bus_machine.specs.proof.AgreementLaws.{IsRunOf}
 use Rattle.world_gen.specs.proof.ScheduleLaws.{MomentsExist, MomentsAreOne}
 use Rattle.world_gen.specs.proof.Schedules.{step_time, finish_time, send_time, arrive_time, which, event_of, all_of}
 use Rattle.world_gen.specs.proof.Schedules.{step_count, begins, starts_at, finishes_at, sends_at, arrivals_at, finishes}
 use Rattle.world_gen.specs.proof.Schedules.{earlier_finishes, present_finishes, events_at, AreMoments}
 use Rattle.run_laws.proofs.TimeArithmetic.{alarm_more}
-use Rattle.run_laws.proofs.WorldLinks.{rule_of}
+use Rattle.run_laws.proofs.WorldLinkTiming.{rule_of}
 use Rattle.world_gen.proofs.ScheduleTimes.{fit, whole, which_is, step_at, least_step}
 
 -- ---- behind the last round nothing comes

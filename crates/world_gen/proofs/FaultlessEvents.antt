@@ -9,12 +9,12 @@ use Rattle.pals_base.specs.declared.values.NodeNo.{NodeNo}
 use Rattle.pals_base.specs.declared.values.LinkNo.{LinkNo}
 use Rattle.pals_base.specs.StepSequences.{upwards}
 use Rattle.pals_model.specs.declared.flight_copy.FlightCopy.{FlightCopy}
-use Rattle.pals_runs.specs.declared.events.Event.{Event}
-use Rattle.pals_runs.specs.declared.events.Event.TheVariants as event
-use Rattle.pals_runs.specs.declared.events.EventFault.{EventFault}
-use Rattle.pals_runs.specs.declared.events.EventFault.TheVariants as fault
-use Rattle.pals_runs.specs.declared.events.EventSubject.{EventSubject}
-use Rattle.pals_runs.specs.declared.events.EventSubject.TheVariants as which
+use Rattle.pals_runs.specs.declared.events_and_faults.Event.{Event}
+use Rattle.pals_runs.specs.declared.events_and_faults.Event.TheVariants as event
+use Rattle.pals_runs.specs.declared.events_and_faults.EventFault.{EventFault}
+use Rattle.pals_runs.specs.declared.events_and_faults.EventFault.TheVariants as fault
+use Rattle.pals_runs.specs.declared.events_and_faults.EventSubject.{EventSubject}
+use Rattle.pals_runs.specs.declared.events_and_faults.EventSubject.TheVariants as which
 use Rattle.bus_machine.specs.Plans.{plan_of}
 use Rattle.bus_machine.specs.NodeEvents.{is_waiting, next_step, running_step, may_send}
 use Rattle.bus_machine.specs.LinkEvents.{is_in_flight}

@@ -2,7 +2,7 @@ pub mod CounterSchedules
 pub mod ScheduleTimes
 pub mod WorldsOnSchedule
 pub mod FaultlessEvents
-pub mod StartsAndSteps
+pub mod ScheduleStartsAndSteps
 pub mod ScheduleFinishes
 pub mod ScheduleSends
 pub mod ScheduleArrivals
@@ -11,10 +11,10 @@ pub mod ScheduleDeadlines
 pub mod WholeSchedules
 pub mod ExactlyOneSchedule
 pub mod TabulatedLists
-pub mod RingBehaviours
-pub mod RingDesigns
-pub mod SeriesNumbers
+pub mod RingBehaviourRules
+pub mod RingDesignsAndSums
+pub mod NextSeriesEvents
 pub mod NextMoment
 pub mod DesignSeries
-pub mod GrowingSchedules
+pub mod PartialSchedules
 pub mod RingNumbers

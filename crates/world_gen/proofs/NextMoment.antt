@@ -6,13 +6,13 @@ use Rattle.std.proofs.lemmas.List.Elements.{All-head, All-tail}
 use Rattle.std.proofs.lemmas.Bool.{cases_lt}
 use Rattle.std.proofs.lemmas.Nat.{mul-le}
 use Rattle.pals_base.specs.declared.limits.TheConstants.{READING}
-use Rattle.pals_runs.specs.declared.events.Event.{Event}
+use Rattle.pals_runs.specs.declared.events_and_faults.Event.{Event}
 use Rattle.run_laws.specs.Deadlines.{lesser}
 use Rattle.world_gen.specs.declared.event_series.EventSeries.{EventSeries}
 use Rattle.world_gen.specs.proof.Schedules.{which, event_of}
 use Rattle.world_gen.specs.proof.EventSeries.{IsEventSeries, time_of, next_of, deed_event, course_events, events_of}
 use Rattle.world_gen.specs.proof.EventSeries.{next_moment}
-use Rattle.world_gen.proofs.SeriesNumbers.{is_next, quiet_until, quiet_after, next_comes}
+use Rattle.world_gen.proofs.NextSeriesEvents.{is_next, quiet_until, quiet_after, next_comes}
 use Rattle.world_gen.proofs.ExactlyOneSchedule.{nothing_of, nil_both}
 
 abbrev next_time : ℕ → EventSeries → Option ℕ

@@ -3,16 +3,16 @@ use Rattle.std.proofs.Common.{◌≡◌, ◌≢◌, inl, inr, ℕ, zero, suc, �
 use Rattle.std.proofs.Common.{◌++◌, length, Option, Some, None, refl, sym, subst, arith}
 use Rattle.std.specs.Prelude.{flat_map, if◌then◌else◌}
 use Rattle.std.proofs.lemmas.Bool.{cases_eq}
-use Rattle.bus_machine.proofs.NodeQuantities.{sent_most}
+use Rattle.bus_machine.proofs.QuantitiesAndSentRounds.{sent_most}
 use Rattle.pals_base.specs.StepSequences.{upwards}
 use Rattle.pals_model.specs.declared.design.DesignParts.{DesignParts}
-use Rattle.pals_runs.specs.declared.events.Event.{Event}
-use Rattle.pals_runs.specs.declared.events.Event.TheVariants as event
+use Rattle.pals_runs.specs.declared.events_and_faults.Event.{Event}
+use Rattle.pals_runs.specs.declared.events_and_faults.Event.TheVariants as event
 use Rattle.bus_machine.specs.Plans.{plan_of}
 use Rattle.bus_machine.specs.NodeEvents.{slot_at}
 use Rattle.bus_machine.specs.States.{Run, node_at, flight_at, link_at}
 use Rattle.bus_machine.specs.MissedStarts.{rounds_sent_on, sent_rounds}
-use Rattle.bus_machine.specs.proof.MachineLaws.{IsRunOf}
+use Rattle.bus_machine.specs.proof.AgreementLaws.{IsRunOf}
 use Rattle.run_laws.specs.Worlds.{World, since_at, ready_at, sendings}
 use Rattle.world_gen.specs.proof.Schedules.{step_time, finish_time, send_time, arrive_time, which, event_of, all_of}
 use Rattle.world_gen.specs.proof.Schedules.{step_count, begins, starts_at, finishes_at, sends_at, arrivals_at, finishes}
@@ -20,8 +20,8 @@ use Rattle.world_gen.specs.proof.Schedules.{earlier_finishes, present_finishes, 
 use Rattle.world_gen.proofs.ScheduleTimes.{Made, which_none, made_none}
 use Rattle.pals_model.specs.declared.flight_copy.FlightCopy.{FlightCopy}
 use Rattle.run_laws.specs.proof.WorldInvariant.{copies}
-use Rattle.run_laws.proofs.WorldNodes.{rounds_at_most}
-use Rattle.run_laws.proofs.WorldLinks.{rule_of, under_way}
+use Rattle.run_laws.proofs.WorldNodeTiming.{rounds_at_most}
+use Rattle.run_laws.proofs.WorldLinkTiming.{rule_of, under_way}
 use Rattle.world_gen.proofs.WorldsOnSchedule.{begun_by, ended_by, NodeFollows, LinkFollows, Follows, bump, bump_done}
 use Rattle.world_gen.proofs.WorldsOnSchedule.{bump_left, bump_other}
 

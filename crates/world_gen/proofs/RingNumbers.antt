@@ -18,7 +18,7 @@ use Rattle.pals_base.specs.PlainTrees.{Edge, Emit, Variable, Do, Nothing, Action
 use Rattle.pals_base.specs.SingleStep.{Fired, holding, is_present, silence, is_dispatch, is_complete, along, settled}
 use Rattle.pals_base.specs.SingleStep.{dispatched, reaction, unless_halted, fire, initial}
 use Rattle.pals_base.specs.StepSequences.{Stepped, frame_after, steps, upwards}
-use Rattle.pals_base.proofs.Division.{modulus_of-is}
+use Rattle.pals_base.proofs.RemainderSigns.{modulus_of-is}
 use Rattle.pals_model.specs.declared.design.Component.{Component}
 use Rattle.pals_model.specs.declared.design.DesignParts.{DesignParts}
 use Rattle.pals_model.specs.ComponentInputs.{no_env, inputs_of, values_at}
@@ -34,7 +34,7 @@ use Rattle.world_gen.specs.Rings.{number_sum, next_number, ring_actions, ring_ed
 use Rattle.world_gen.specs.Rings.{ring_component, ring_link, ring, ring_number}
 use Rattle.world_gen.specs.proof.RingLaws.{RingNumbersAreSmall, ring_run, number_at, IsRingDone, DoneRingsAddUp}
 use Rattle.world_gen.proofs.TabulatedLists.{numbered_get, numbered_at, numbered_all}
-use Rattle.world_gen.proofs.RingDesigns.{before_below}
+use Rattle.world_gen.proofs.RingDesignsAndSums.{before_below}
 
 -- ---- what is left modulo 1000
 abbrev IsSmall : ℤ → Type 0

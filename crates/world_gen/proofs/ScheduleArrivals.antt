@@ -8,21 +8,21 @@ use Rattle.list_lemmas.proofs.Elements.{find-passes}
 use Rattle.pals_base.specs.declared.values.LinkNo.{LinkNo}
 use Rattle.pals_model.specs.declared.flight_copy.FlightCopy.{FlightCopy}
 use Rattle.pals_model.specs.Flights.{is_of, oldest, without_oldest}
-use Rattle.pals_runs.specs.declared.events.Event.{Event}
-use Rattle.pals_runs.specs.declared.events.Event.TheVariants as event
+use Rattle.pals_runs.specs.declared.events_and_faults.Event.{Event}
+use Rattle.pals_runs.specs.declared.events_and_faults.Event.TheVariants as event
 use Rattle.pals_runs.specs.declared.journal.Arrived.TheVariants.{Kept}
 use Rattle.bus_machine.specs.NodeEvents.{slot_at}
 use Rattle.bus_machine.specs.States.{Run, BusState, node_at, flight_at, link_at}
 use Rattle.bus_machine.specs.MissedStarts.{rounds_sent_on}
-use Rattle.bus_machine.specs.proof.MachineLaws.{IsRunOf}
+use Rattle.bus_machine.specs.proof.AgreementLaws.{IsRunOf}
 use Rattle.run_laws.specs.Worlds.{World, since_at, ready_at, sendings, flight_since, world_after}
 use Rattle.run_laws.specs.EventFaults.{fault_of}
 use Rattle.bus_machine.proofs.AgreementChanges.{node_set, node_stays}
 use Rattle.run_laws.specs.proof.WorldInvariant.{copies, one_if}
 use Rattle.world_gen.specs.proof.Schedules.{send_time, arrive_time, which}
 use Rattle.run_laws.proofs.Lists.{count_without}
-use Rattle.run_laws.proofs.WorldLinks.{rule_of, under_way, counts_in_flight, one_of_true, one_of_false}
-use Rattle.run_laws.proofs.FaultlessEvents.{ArrivesInTime, arrives_in_time}
+use Rattle.run_laws.proofs.WorldLinkTiming.{rule_of, under_way, counts_in_flight, one_of_true, one_of_false}
+use Rattle.run_laws.proofs.FaultlessEventConditions.{ArrivesInTime, arrives_in_time}
 use Rattle.world_gen.proofs.FaultlessEvents.{arrival_is_fine}
 use Rattle.run_laws.proofs.ArrivalTiming.{the_oldest}
 use Rattle.run_laws.proofs.ArrivalTiming as arrive

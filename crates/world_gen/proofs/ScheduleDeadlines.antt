@@ -8,11 +8,11 @@ use Rattle.std.proofs.lemmas.List.{get_or_past}
 use Rattle.std.proofs.lemmas.List.Sums.{get_or-le-sum_by}
 use Rattle.std.proofs.lemmas.Nat.{mul-le}
 use Rattle.std.proofs.lemmas.Option.{slice_get_within, get_or_from_slice_get}
-use Rattle.bus_machine.proofs.NodeQuantities.{sent_most}
+use Rattle.bus_machine.proofs.QuantitiesAndSentRounds.{sent_most}
 use Rattle.pals_base.specs.PeriodBound.{alarm}
 use Rattle.pals_model.specs.declared.flight_copy.FlightCopy.{FlightCopy}
 use Rattle.pals_model.specs.Flights.{is_of}
-use Rattle.pals_runs.specs.declared.events.Event.TheVariants as event
+use Rattle.pals_runs.specs.declared.events_and_faults.Event.TheVariants as event
 use Rattle.pals_runs.specs.declared.journal.Phase.{Phase}
 use Rattle.pals_runs.specs.declared.journal.Phase.TheVariants.{Waiting, Running, Between, Holding, Done}
 use Rattle.bus_machine.specs.Plans.{plan_of, component_at}
@@ -22,16 +22,16 @@ use Rattle.bus_machine.specs.EarliestReadings.{start_alarm, step_alarm, release_
 use Rattle.bus_machine.specs.States.{Run, node_at, flight_at, link_at}
 use Rattle.bus_machine.specs.MissedStarts.{sent_rounds, rounds_sent_on}
 use Rattle.bus_machine.specs.Agreement.{PhaseAgrees}
-use Rattle.bus_machine.specs.proof.MachineLaws.{IsRunOf}
+use Rattle.bus_machine.specs.proof.AgreementLaws.{IsRunOf}
 use Rattle.run_laws.specs.Deadlines.{last_before, node_deadline, message_deadline}
 use Rattle.run_laws.specs.Worlds.{World, reading_at, since_at, ready_at, sendings, world_after}
 use Rattle.run_laws.specs.EventFaults.{fault_of}
-use Rattle.bus_machine.proofs.NodeAgreement.{MaySend, may_send_of}
+use Rattle.bus_machine.proofs.LoneNodeAgreement.{MaySend, may_send_of}
 use Rattle.run_laws.specs.proof.WorldInvariant.{IsInTime, copies}
 use Rattle.world_gen.specs.proof.Schedules.{step_time, finish_time, send_time, arrive_time, step_count, events_at}
-use Rattle.run_laws.proofs.WorldNodes.{may_is, component_is, phase_agrees, rounds_at_most, both_in_time, sends_in_time}
-use Rattle.run_laws.proofs.WorldNodes.{phase_last, send_last, deadline_is}
-use Rattle.run_laws.proofs.WorldLinks.{rule_of, one_of_true, under_way}
+use Rattle.run_laws.proofs.WorldNodeTiming.{may_is, component_is, phase_agrees, rounds_at_most, both_in_time, sends_in_time}
+use Rattle.run_laws.proofs.WorldNodeTiming.{phase_last, send_last, deadline_is}
+use Rattle.run_laws.proofs.WorldLinkTiming.{rule_of, one_of_true, under_way}
 use Rattle.world_gen.proofs.FaultlessEvents.{pass_is_fine, replicate_at}
 use Rattle.run_laws.proofs.TimePassage.{passes_in_time, pass_keeps_time}
 use Rattle.world_gen.proofs.ScheduleTimes.{Made, made_later, which_none, step_is, some_rate}

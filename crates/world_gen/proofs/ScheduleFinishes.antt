@@ -7,8 +7,8 @@ use Rattle.std.proofs.lemmas.Grind.{get_or-set_at}
 use Rattle.std.proofs.lemmas.List.{get_or-set_other}
 use Rattle.pals_base.specs.declared.values.NodeNo.{NodeNo}
 use Rattle.pals_base.specs.PeriodBound.{alarm}
-use Rattle.pals_runs.specs.declared.events.Event.{Event}
-use Rattle.pals_runs.specs.declared.events.Event.TheVariants as event
+use Rattle.pals_runs.specs.declared.events_and_faults.Event.{Event}
+use Rattle.pals_runs.specs.declared.events_and_faults.Event.TheVariants as event
 use Rattle.pals_runs.specs.declared.journal.Phase.{Phase}
 use Rattle.pals_runs.specs.declared.journal.Phase.TheVariants.{Waiting, Running, Between, Holding, Done}
 use Rattle.bus_machine.specs.declared.plan.Plan.{Plan}
@@ -16,12 +16,12 @@ use Rattle.bus_machine.specs.Plans.{plan_of}
 use Rattle.bus_machine.specs.Nodes.{NodeState, round_of}
 use Rattle.bus_machine.specs.NodeEvents.{running_step, may_send}
 use Rattle.bus_machine.specs.States.{Run, node_at, with_node}
-use Rattle.bus_machine.specs.proof.MachineLaws.{IsRunOf}
+use Rattle.bus_machine.specs.proof.AgreementLaws.{IsRunOf}
 use Rattle.run_laws.specs.Worlds.{World, since_at, ready_at, sendings, moved, world_after}
 use Rattle.run_laws.specs.EventFaults.{fault_of}
 use Rattle.bus_machine.proofs.AgreementChanges.{node_set, node_stays}
 use Rattle.world_gen.specs.proof.Schedules.{step_time, finish_time, send_time, which, step_count}
-use Rattle.run_laws.proofs.FaultlessEvents.{FinishesInTime, finishes_in_time}
+use Rattle.run_laws.proofs.FaultlessEventConditions.{FinishesInTime, finishes_in_time}
 use Rattle.world_gen.proofs.FaultlessEvents.{finish_is_fine}
 use Rattle.run_laws.proofs.LocalWorldChanges.{moved_here, moved_other}
 use Rattle.run_laws.proofs.FinishTiming.{Ends, goes_on, holds, waits_next, is_done, not_running}

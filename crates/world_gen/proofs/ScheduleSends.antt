@@ -10,8 +10,8 @@ use Rattle.pals_base.specs.declared.values.NodeNo.{NodeNo}
 use Rattle.pals_base.specs.PeriodBound.{alarm}
 use Rattle.pals_model.specs.declared.flight_copy.FlightCopy.{FlightCopy}
 use Rattle.pals_model.specs.Flights.{is_of}
-use Rattle.pals_runs.specs.declared.events.Event.{Event}
-use Rattle.pals_runs.specs.declared.events.Event.TheVariants as event
+use Rattle.pals_runs.specs.declared.events_and_faults.Event.{Event}
+use Rattle.pals_runs.specs.declared.events_and_faults.Event.TheVariants as event
 use Rattle.pals_runs.specs.declared.journal.Phase.{Phase}
 use Rattle.pals_runs.specs.declared.journal.Phase.TheVariants.{Waiting, Running, Between, Holding, Done}
 use Rattle.bus_machine.specs.Plans.{plan_of, component_at}
@@ -20,16 +20,16 @@ use Rattle.bus_machine.specs.NodeEvents.{after_send, may_send}
 use Rattle.bus_machine.specs.States.{Run, node_at, flight_at, link_at}
 use Rattle.bus_machine.specs.MissedStarts.{sent_rounds, rounds_sent_on}
 use Rattle.bus_machine.specs.Agreement.{PhaseAgrees}
-use Rattle.bus_machine.specs.proof.MachineLaws.{IsRunOf}
+use Rattle.bus_machine.specs.proof.AgreementLaws.{IsRunOf}
 use Rattle.run_laws.specs.Worlds.{World, since_at, ready_at, sendings, moved, is_held, world_after}
 use Rattle.run_laws.specs.EventFaults.{fault_of}
 use Rattle.bus_machine.proofs.AgreementChanges.{node_set, node_stays}
 use Rattle.run_laws.specs.proof.WorldInvariant.{copies, one_if}
 use Rattle.world_gen.specs.proof.Schedules.{step_time, finish_time, send_time, arrive_time, which, step_count}
 use Rattle.run_laws.proofs.Lists.{count_more}
-use Rattle.run_laws.proofs.WorldNodes.{fits_at, may_be, phase_agrees, rounds_at_most}
-use Rattle.run_laws.proofs.WorldLinks.{one_of_true}
-use Rattle.run_laws.proofs.FaultlessEvents.{SendsInTime, sends_in_time}
+use Rattle.run_laws.proofs.WorldNodeTiming.{fits_at, may_be, phase_agrees, rounds_at_most}
+use Rattle.run_laws.proofs.WorldLinkTiming.{one_of_true}
+use Rattle.run_laws.proofs.FaultlessEventConditions.{SendsInTime, sends_in_time}
 use Rattle.world_gen.proofs.FaultlessEvents.{send_is_fine}
 use Rattle.run_laws.proofs.LocalWorldChanges.{moved_here, moved_other}
 use Rattle.run_laws.proofs.SendTiming.{runs_before, one_is}

@@ -9,11 +9,11 @@ use Rattle.pals_model.specs.DesignRules.{IsComponent}
 use Rattle.pals_model.proofs.FirstMatches.{at_element, found_at}
 use Rattle.bus_machine.specs.Plans.{plan_of, component_at}
 use Rattle.bus_machine.specs.States.{Run}
-use Rattle.bus_machine.specs.proof.MachineLaws.{IsRunOf}
-use Rattle.bus_machine.proofs.ListsAndFlights.{none_found}
+use Rattle.bus_machine.specs.proof.AgreementLaws.{IsRunOf}
+use Rattle.bus_machine.proofs.ListsAndOldestCopies.{none_found}
 use Rattle.world_gen.specs.proof.Schedules.{step_time, finish_time, send_time, which}
 use Rattle.run_laws.proofs.Lists.{upwards_at}
-use Rattle.run_laws.proofs.WorldNodes.{FitsAt, fits_at, component_is}
+use Rattle.run_laws.proofs.WorldNodeTiming.{FitsAt, fits_at, component_is}
 
 -- ---- which one
 pub upwards_is : (from n k x : ℕ) → slice_get (upwards from n) k ≡ Some x → (x ≡ from + k) × (k < n)

@@ -4,8 +4,8 @@ use Rattle.std.proofs.Common.{length, refl, sym, ap, ◌∙◌, subst, arith}
 use Rattle.std.specs.Prelude.{replicate, if◌then◌else◌}
 use Rattle.std.proofs.lemmas.Bool.{eqb-true, eqb-false, false≢true}
 use Rattle.std.proofs.lemmas.Nat.{mul-le}
-use Rattle.pals_runs.specs.declared.events.Event.{Event}
-use Rattle.pals_runs.specs.declared.events.Event.TheVariants as event
+use Rattle.pals_runs.specs.declared.events_and_faults.Event.{Event}
+use Rattle.pals_runs.specs.declared.events_and_faults.Event.TheVariants as event
 use Rattle.pals_runs.specs.declared.journal.Phase.{Phase}
 use Rattle.pals_runs.specs.declared.journal.Phase.TheVariants.{Waiting, Running, Between, Holding, Done}
 use Rattle.bus_machine.specs.Plans.{plan_of, component_at}
@@ -13,22 +13,22 @@ use Rattle.bus_machine.specs.Nodes.{NodeState, opening_node}
 use Rattle.bus_machine.specs.States.{Run, node_at, flight_at, link_at}
 use Rattle.bus_machine.specs.MissedStarts.{sent_rounds, rounds_sent_on}
 use Rattle.bus_machine.specs.Agreement.{PhaseAgrees}
-use Rattle.bus_machine.specs.proof.MachineLaws.{IsRunOf}
+use Rattle.bus_machine.specs.proof.AgreementLaws.{IsRunOf}
 use Rattle.run_laws.specs.Worlds.{World, opening_world, since_at, ready_at, sendings, world_after}
 use Rattle.run_laws.specs.EventLists.{world_left}
 use Rattle.world_gen.specs.proof.ScheduleLaws.{SchedulesAreWhole}
 use Rattle.world_gen.specs.proof.Schedules.{step_time, finish_time, send_time, arrive_time, which, all_of, step_count}
 use Rattle.world_gen.specs.proof.Schedules.{begins, starts_at, finishes_at, sends_at, arrivals_at, finishes, events_at}
 use Rattle.world_gen.specs.proof.Schedules.{AreMoments, schedule_at}
-use Rattle.run_laws.proofs.WorldNodes.{phase_agrees, rounds_at_most}
-use Rattle.run_laws.proofs.WorldLinks.{rule_of}
+use Rattle.run_laws.proofs.WorldNodeTiming.{phase_agrees, rounds_at_most}
+use Rattle.run_laws.proofs.WorldLinkTiming.{rule_of}
 use Rattle.run_laws.proofs.OpeningWorlds.{opening_keeps_time, opens_at, zero_at, nothing_sent, nothing_flies}
 use Rattle.run_laws.proofs.OpeningWorlds.{not_running}
 use Rattle.world_gen.proofs.ScheduleTimes.{Made, which_none, some_rate, some_step, least_step}
 use Rattle.world_gen.proofs.WorldsOnSchedule.{begun_by, ended_by, NodeFollows, Follows, Runs, runs_none, runs_on}
 use Rattle.world_gen.proofs.WorldsOnSchedule.{runs_all, runs_event, bump, bump_done, bump_left, bump_other}
 use Rattle.world_gen.proofs.QuietTimes.{is_quiet, follows_same, none_starts, none_ends, none_sends, none_arrives}
-use Rattle.world_gen.proofs.StartsAndSteps.{start_comes}
+use Rattle.world_gen.proofs.ScheduleStartsAndSteps.{start_comes}
 use Rattle.world_gen.proofs.ScheduleFinishes.{finish_comes}
 use Rattle.world_gen.proofs.ScheduleSends.{send_comes}
 use Rattle.world_gen.proofs.ScheduleArrivals.{arrival_comes}

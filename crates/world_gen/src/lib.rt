@@ -7,7 +7,7 @@ pub mod laws;
 mod ring_behaviours;
 mod rings;
 mod schedules;
-mod timetables;
+mod node_and_link_series;
 
 pub use rings::ring;
 pub use schedules::schedule;

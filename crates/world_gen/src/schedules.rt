@@ -2,14 +2,14 @@
 //! least time, and each message goes out as soon as it may and takes the least time.
 ghost use Rattle.std.specs.Prelude.{◌≡◌, ◌≤◌, ◌++◌, All, IfOk, OnOk, replicate};
 ghost use Rattle.pals_base.specs.declared.limits.TheConstants.{ROUNDS};
-ghost use Rattle.pals_model.specs.declared.inputs_and_parts.Env.{Env};
+ghost use Rattle.pals_model.specs.declared.inputs_parts_and_delays.Env.{Env};
 ghost use Rattle.run_laws.specs.Worlds.{world_run};
 ghost use Rattle.world_gen.specs.proof.Schedules.{IsScheduleOf};
 ghost use Rattle.world_gen.specs.proof.ScheduleLaws.{IsWhole};
 ghost use Rattle.world_gen.specs.proof.EventSeries.{IsEventSeries, moment_events};
 
 use crate::event_series::EventSeries;
-use crate::timetables::{add_events, next_moment, timetable};
+use crate::node_and_link_series::{add_events, next_moment, timetable};
 use pals_base::{Items, Nanos, NoMemory};
 use pals_model::Design;
 use pals_runs::Event;

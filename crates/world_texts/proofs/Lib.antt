@@ -1,3 +1,3 @@
 pub mod OnlyMemoryFaults
 pub mod WorldTexts
-pub mod RingSums
+pub mod RingSumsAndCodes

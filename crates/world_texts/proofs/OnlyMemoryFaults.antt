@@ -4,9 +4,9 @@ use Rattle.std.proofs.Common.{sym, ap, ap₂, subst, arith}
 use Rattle.std.specs.Prelude.{slice_index_or}
 use Rattle.std.proofs.lemmas.List.{take_more}
 use Rattle.std.proofs.lemmas.Option.{none-some}
-use Rattle.pals_runs.specs.declared.events.Event.{Event}
-use Rattle.pals_runs.specs.declared.events.EventFault.{EventFault}
-use Rattle.pals_runs.specs.declared.events.EventFault.TheVariants as fault
+use Rattle.pals_runs.specs.declared.events_and_faults.Event.{Event}
+use Rattle.pals_runs.specs.declared.events_and_faults.EventFault.{EventFault}
+use Rattle.pals_runs.specs.declared.events_and_faults.EventFault.TheVariants as fault
 use Rattle.bus_machine.specs.States.{Run}
 use Rattle.pals_bus.specs.BusValues.{BusValue}
 use Rattle.run_laws.specs.Worlds.{World, world_after}

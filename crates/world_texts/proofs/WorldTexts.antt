@@ -7,21 +7,21 @@ use Rattle.std.proofs.lemmas.Bool.{ltb-true}
 use Rattle.std.proofs.lemmas.Option.{none-some}
 use Rattle.step_code.specs.declared.instr.CodeParts.{CodeParts}
 use Rattle.pals_model.specs.declared.design.DesignParts.{DesignParts}
-use Rattle.pals_model.specs.declared.inputs_and_parts.Env.{Env}
+use Rattle.pals_model.specs.declared.inputs_parts_and_delays.Env.{Env}
 use Rattle.pals_model.specs.RoundTexts.{text_of}
-use Rattle.pals_runs.specs.declared.events.Event.{Event}
-use Rattle.pals_runs.specs.declared.events.Event.TheVariants as event
-use Rattle.pals_runs.specs.declared.events.EventFault.{EventFault}
-use Rattle.pals_runs.specs.declared.events.EventFault.TheVariants.{BadName}
+use Rattle.pals_runs.specs.declared.events_and_faults.Event.{Event}
+use Rattle.pals_runs.specs.declared.events_and_faults.Event.TheVariants as event
+use Rattle.pals_runs.specs.declared.events_and_faults.EventFault.{EventFault}
+use Rattle.pals_runs.specs.declared.events_and_faults.EventFault.TheVariants.{BadName}
 use Rattle.bus_machine.specs.States.{Run}
 use Rattle.bus_machine.specs.Machine.{Start, Step, Finish, Send, Arrive, Drop, Repeat}
-use Rattle.bus_machine.specs.proof.MachineLaws.{IsRunOf}
+use Rattle.bus_machine.specs.proof.AgreementLaws.{IsRunOf}
 use Rattle.pals_bus.specs.BusValues.{BusValue}
 use Rattle.pals_bus.specs.LooseEvents.{IsNamedIn}
 use Rattle.run_laws.specs.Worlds.{World, reading_at}
 use Rattle.run_laws.specs.EventFaults.{fault_of, event_fault, is_named, IsWithin}
 use Rattle.run_laws.specs.EventLists.{world_left}
-use Rattle.run_laws.proofs.TimelyWorlds.{lists_go_right}
+use Rattle.run_laws.proofs.KeptWorldInvariant.{lists_go_right}
 use Rattle.loose_world.specs.proof.FinishedRows.{finished_lines}
 use Rattle.loose_world.specs.LooseRuns.{InTurn, told_by}
 use Rattle.loose_world.specs.proof.UndergoneEvents.{Undergoes}

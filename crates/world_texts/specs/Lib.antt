@@ -1,3 +1,3 @@
 pub mod WorldTexts
-pub mod RingTexts
+pub mod RingResultLines
 pub mod proof

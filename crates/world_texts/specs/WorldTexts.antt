@@ -1,7 +1,7 @@
 -- What is told of a list of timed events.
 use Rattle.std.specs.Prelude.{◌≡◌, ℕ, List, take, Some, slice_get}
-use Rattle.pals_runs.specs.declared.events.Event.{Event}
-use Rattle.pals_runs.specs.declared.events.EventFault.{EventFault}
+use Rattle.pals_runs.specs.declared.events_and_faults.Event.{Event}
+use Rattle.pals_runs.specs.declared.events_and_faults.EventFault.{EventFault}
 use Rattle.bus_machine.specs.States.{Run}
 use Rattle.bus_machine.specs.WorldTexts.{worldtext}
 use Rattle.run_laws.specs.Worlds.{opening_world}

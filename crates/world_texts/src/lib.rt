@@ -2,8 +2,8 @@
 //! event that the bounds do not allow; and one line of a ring that has gone through its schedule.
 #![tactic(auto)]
 
-mod ring_text;
+mod ring_result;
 mod world_text;
 
-pub use ring_text::tell_ring;
+pub use ring_result::tell_ring;
 pub use world_text::{WorldReport, tell_world};

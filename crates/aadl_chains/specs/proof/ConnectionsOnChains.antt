@@ -2,10 +2,10 @@
 use Rattle.std.specs.Prelude.{◌≡◌, ℕ, Some}
 use Rattle.aadl_tree.specs.Declarations.{PackageTree}
 use Rattle.aadl_names.specs.declared.port_place.PortPlace.{PortPlace}
-use Rattle.aadl_uses.specs.declared.connections.Wire.{Wire}
+use Rattle.aadl_uses.specs.declared.connections_by_target.Wire.{Wire}
 use Rattle.aadl_chains.specs.proof.PortsJoinedInside.{IsInside}
 use Rattle.aadl_chains.specs.proof.PortsJoinedOutside.{LeadsFrom, IsOutside}
-use Rattle.aadl_chains.specs.declared.joined_ports.JoinedPorts.{JoinedPorts}
+use Rattle.aadl_chains.specs.declared.chain_connections.JoinedPorts.{JoinedPorts}
 use Rattle.aadl_tree.specs.declared.declarations.Direction.TheVariants as directions
 
 pub record IsOnWay (tree : PackageTree ℕ) (root n : ℕ) (wire : Wire) : Type 0 where

@@ -7,9 +7,9 @@ use Rattle.std.specs.Option.{option_map_or}
 use Rattle.aadl_tree.specs.Declarations.{PackageTree}
 use Rattle.aadl_names.specs.declared.port_place.PortPlace.TheVariants.{Own, Inner}
 use Rattle.aadl_uses.specs.Uses.{below}
-use Rattle.aadl_uses.specs.declared.connections.Wire.{Wire}
+use Rattle.aadl_uses.specs.declared.connections_by_target.Wire.{Wire}
 use Rattle.aadl_uses.specs.Wiring.{wires_at}
-use Rattle.aadl_uses.specs.proof.DeclarationWires.{first_into_at}
+use Rattle.aadl_uses.specs.proof.IncomingConnections.{first_into_at}
 use Rattle.aadl_chains.specs.declared.port_set.PortAt.{PortAt}
 use Rattle.aadl_chains.specs.proof.PortSets.{same_port}
 use Rattle.aadl_chains.specs.proof.PortsJoinedInside.{is_thread_at, is_in_at, ReachesIn, port_at}

@@ -8,7 +8,7 @@ use Rattle.aadl_names.specs.ReferenceResolution.{implementation_at, ports_at, di
 use Rattle.aadl_names.specs.PackageFaults.{goes_in}
 use Rattle.aadl_uses.specs.Uses.{below}
 use Rattle.aadl_uses.specs.proof.ThreadCounts.{is_thread_in}
-use Rattle.aadl_uses.specs.declared.connections.Wire.{Wire}
+use Rattle.aadl_uses.specs.declared.connections_by_target.Wire.{Wire}
 use Rattle.aadl_uses.specs.Wiring.{wires_at}
 use Rattle.aadl_chains.specs.declared.port_set.PortAt.{PortAt}
 use Rattle.aadl_chains.specs.proof.PortSets.{has}

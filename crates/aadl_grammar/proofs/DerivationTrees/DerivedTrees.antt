@@ -2,17 +2,17 @@
 use Rattle.std.proofs.Common.{◌≡◌, Bool, true, false, sym, subst, refl, List, [], ◌∷◌, ◌++◌, inl, inr}
 use Rattle.aadl_tree.specs.Terminals.{Kind}
 use Rattle.aadl_tree.specs.SpellingParts.{Spells}
-use Rattle.aadl_grammar.specs.proof.Symbols.{Symbol, Row}
+use Rattle.aadl_grammar.specs.proof.GrammarSymbols.{Symbol, Row}
 use Rattle.aadl_grammar.specs.proof.ParseTable.{rows, can_omit}
 use Rattle.aadl_grammar.specs.proof.StackMachine.{Stack}
-use Rattle.aadl_grammar.proofs.DerivationTrees.Derivations.{Member, Derives, nothing, take, omit}
+use Rattle.aadl_grammar.proofs.DerivationTrees.DerivationsAndMachineSteps.{Member, Derives, nothing, take, omit}
 use Rattle.aadl_grammar.proofs.DerivationTrees.SymbolTrees.{kind_with, TreeOf, parts, Trees, parts_all}
 use Rattle.aadl_grammar.proofs.DerivationTrees.TreeBuilders.{follow_first, split_first, split_all, follow_all, front}
 use Rattle.aadl_grammar.proofs.DerivationTrees.TreeBuilders.{back, joined, Builder, Builders, Gives, AllGive, InRows}
-use Rattle.aadl_grammar.proofs.ProductionTrees.All.{builders, Empty, empty}
+use Rattle.aadl_grammar.proofs.ProductionTrees.AllSymbols.{builders, Empty, empty}
 use Rattle.aadl_grammar.proofs.DerivationTrees.TerminalContents.{said, fits_with}
-use Rattle.aadl_grammar.proofs.ProductionCompleteness.All.{Omitted, Opened, opens, all_give, Nothing}
-use Rattle.aadl_grammar.proofs.ProductionCompleteness.All as o
+use Rattle.aadl_grammar.proofs.ProductionCompleteness.AllSymbols.{Omitted, Opened, opens, all_give, Nothing}
+use Rattle.aadl_grammar.proofs.ProductionCompleteness.AllSymbols as o
 use Rattle.aadl_grammar.proofs.HeadsAndTails.{tails}
 
 abbrev Spelled : (wanted : Stack) → Trees wanted → List Kind → Type 0

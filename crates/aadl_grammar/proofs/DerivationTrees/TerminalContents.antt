@@ -5,7 +5,7 @@ use Rattle.std.proofs.lemmas.Bool.{eqb-true, ltb-true}
 use Rattle.aadl_tree.specs.declared.mark.Mark.{Mark}
 use Rattle.aadl_tree.specs.declared.mark.Mark.TheVariants as k
 use Rattle.aadl_tree.specs.Terminals.{Kind, word, whole, real, quoted, unread, mark, other}
-use Rattle.aadl_grammar.specs.proof.Symbols.{Class, a_word, a_whole, a_real, a_quoted, an_unread, the}
+use Rattle.aadl_grammar.specs.proof.GrammarSymbols.{Class, a_word, a_whole, a_real, a_quoted, an_unread, the}
 use Rattle.aadl_tree.specs.proof.MarkNumbers.{mark_number}
 use Rattle.aadl_tree.proofs.MarkNumbers.{same_number}
 use Rattle.aadl_grammar.specs.proof.StackMachine.{class_number, kind_number, fits}

@@ -3,8 +3,8 @@
 use Rattle.std.proofs.Common.{◌≡◌, ◌⊎◌, ◌∙◌, sym, ap, ap₂, subst, refl, List, [], ◌∷◌, ◌++◌, inl, inr}
 use Rattle.aadl_tree.specs.Terminals.{Kind}
 use Rattle.aadl_tree.specs.SpellingParts.{Part, Spells}
-use Rattle.aadl_tree.proofs.SpellingParts.{spells_append, spells_split}
-use Rattle.aadl_grammar.specs.proof.Symbols.{Symbol, Row}
+use Rattle.aadl_tree.proofs.ConcatenatedSpellings.{spells_append, spells_split}
+use Rattle.aadl_grammar.specs.proof.GrammarSymbols.{Symbol, Row}
 use Rattle.aadl_grammar.specs.proof.ParseTable.{behind, rows}
 use Rattle.aadl_grammar.proofs.DerivationTrees.SymbolTrees.{U, Content, kind_with, TreeOf, parts, Trees, parts_all}
 

@@ -3,18 +3,18 @@ use Rattle.std.proofs.Common.{◌≡◌, Bool, true, false, ◌∙◌, sym, ap, 
 use Rattle.std.proofs.Common.{not, ◌==◌, eq-eqb}
 use Rattle.aadl_tree.specs.Terminals.{Kind}
 use Rattle.aadl_tree.specs.SpellingParts.{Spells}
-use Rattle.aadl_grammar.specs.proof.Symbols.{Symbol, Row}
+use Rattle.aadl_grammar.specs.proof.GrammarSymbols.{Symbol, Row}
 use Rattle.aadl_grammar.specs.proof.ParseTable.{rows, can_omit}
 use Rattle.aadl_grammar.specs.proof.StackMachine.{Stack, class_number, kind_number}
 use Rattle.aadl_grammar.proofs.DerivationTrees.ForbiddenFollowers.{among, firsts, distinct, distinct_firsts}
-use Rattle.aadl_grammar.proofs.DerivationTrees.FollowerMembership.{Clear, firsts_in_tail}
-use Rattle.aadl_grammar.proofs.DerivationTrees.Derivations.{Member, begins, clear_taken}
+use Rattle.aadl_grammar.proofs.DerivationTrees.ForbiddenFollowerMembership.{Clear, firsts_in_tail}
+use Rattle.aadl_grammar.proofs.DerivationTrees.DerivationsAndMachineSteps.{Member, begins, clear_taken}
 use Rattle.aadl_grammar.proofs.DerivationTrees.SymbolTrees.{kind_with, TreeOf, Trees, parts_all}
 use Rattle.aadl_grammar.proofs.DerivationTrees.TreeBuilders.{split_first, follow_all, front, back, joined, front_joined}
 use Rattle.aadl_grammar.proofs.DerivationTrees.TreeBuilders.{back_joined, Builders, Uses, InRows}
-use Rattle.aadl_grammar.proofs.ProductionTrees.All.{builders, Empty, empty}
+use Rattle.aadl_grammar.proofs.ProductionTrees.AllSymbols.{builders, Empty, empty}
 use Rattle.aadl_grammar.proofs.DerivationTrees.TerminalContents.{number_of, same_content}
-use Rattle.aadl_grammar.proofs.ProductionCompleteness.All.{Omitted, Opened, opens}
+use Rattle.aadl_grammar.proofs.ProductionCompleteness.AllSymbols.{Omitted, Opened, opens}
 use Rattle.aadl_grammar.proofs.DerivationTrees.DerivedTrees.{never_nil, derives}
 use Rattle.std.proofs.lemmas.Bool.{or_left, or_right}
 use Rattle.std.specs.Cmp.{first_so, second_so}

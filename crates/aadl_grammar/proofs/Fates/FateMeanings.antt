@@ -7,15 +7,15 @@ use Rattle.std.proofs.lemmas.Bool.{true≢false}
 use Rattle.aadl_tree.specs.declared.nesting_limit.TheConstants.{GREATEST_NESTING}
 use Rattle.aadl_tree.specs.declared.mark.Mark.TheVariants as k
 use Rattle.aadl_tree.specs.Terminals.{Kind, word, whole, real, quoted, unread, mark, other, Spot, kinds_of}
-use Rattle.aadl_tree.specs.Grammar.{Begins, opened, is_end, nesting_from, nesting, IsShallow, IsStuck, FailsAt, DeepAt}
+use Rattle.aadl_tree.specs.LanguagesAndNesting.{Begins, opened, is_end, nesting_from, nesting, IsShallow, IsStuck, FailsAt, DeepAt}
 use Rattle.aadl_grammar.specs.proof.StackMachine.{Stack, depth, Fate, finished, syntax_at, deep_at, fate}
-use Rattle.aadl_grammar.proofs.DerivationTrees.FollowerMembership.{Clear}
-use Rattle.aadl_grammar.proofs.DerivationTrees.Derivations.{Derives, steps, derived_ends, ends_derived}
-use Rattle.aadl_grammar.proofs.DerivationTrees.StackTexts.{some_text}
+use Rattle.aadl_grammar.proofs.DerivationTrees.ForbiddenFollowerMembership.{Clear}
+use Rattle.aadl_grammar.proofs.DerivationTrees.DerivationsAndMachineSteps.{Derives, steps, derived_ends, ends_derived}
+use Rattle.aadl_grammar.proofs.DerivationTrees.ProductiveStacks.{some_text}
 use Rattle.aadl_grammar.proofs.Fates.StackNesting.{Good}
 use Rattle.aadl_grammar.proofs.Fates.MachineWalks.{walk, walk_front, walk_then, walk_derives, derived_left, walk_depth}
 use Rattle.aadl_grammar.proofs.Fates.MachineWalks.{Within}
-use Rattle.aadl_grammar.proofs.Fates.MachineStops.{StopsBy, Stops, Deepens, Finishes, Tells, tells}
+use Rattle.aadl_grammar.proofs.Fates.FateRuns.{StopsBy, Stops, Deepens, Finishes, Tells, tells}
 
 -- a language by the stack that its texts are derived from
 pub record Language (IsText : List Kind → Type 0) (outer : ℕ) : Type 0 where

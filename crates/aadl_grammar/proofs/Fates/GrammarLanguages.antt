@@ -6,11 +6,11 @@ use Rattle.aadl_tree.specs.Terminals.{Kind}
 use Rattle.aadl_tree.specs.SpellingParts.{Spells, kept}
 use Rattle.aadl_tree.specs.Annexes.{AnnexTree, annex_tree_parts}
 use Rattle.aadl_tree.specs.Declarations.{PackageTree, package_parts}
-use Rattle.aadl_tree.specs.Grammar.{IsPackage, IsBehaviour}
-use Rattle.aadl_grammar.specs.proof.Symbols as s
+use Rattle.aadl_tree.specs.LanguagesAndNesting.{IsPackage, IsBehaviour}
+use Rattle.aadl_grammar.specs.proof.GrammarSymbols as s
 use Rattle.aadl_grammar.specs.proof.StackMachine.{depth, whole_package, annex_body}
 use Rattle.aadl_grammar.proofs.DerivationTrees.ForbiddenFollowers.{first_of, tail}
-use Rattle.aadl_grammar.proofs.DerivationTrees.FollowerMembership.{Clear, apart_means}
+use Rattle.aadl_grammar.proofs.DerivationTrees.ForbiddenFollowerMembership.{Clear, apart_means}
 use Rattle.aadl_grammar.proofs.DerivationTrees.SymbolTrees.{Trees}
 use Rattle.aadl_grammar.proofs.DerivationTrees.DerivedTrees.{derives, Written, written}
 use Rattle.aadl_grammar.proofs.PlaceIndependence.AlikeParts.{alike_spells, alike_kept}

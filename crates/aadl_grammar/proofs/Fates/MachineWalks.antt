@@ -4,10 +4,10 @@ use Rattle.std.proofs.Common.{None, option_and_then, unwrap_or}
 use Rattle.std.proofs.lemmas.Option.{same_Some}
 use Rattle.aadl_tree.specs.declared.nesting_limit.TheConstants.{GREATEST_NESTING}
 use Rattle.aadl_tree.specs.Terminals.{Kind}
-use Rattle.aadl_tree.specs.Grammar.{is_end, nesting_from}
+use Rattle.aadl_tree.specs.LanguagesAndNesting.{is_end, nesting_from}
 use Rattle.aadl_grammar.specs.proof.StackMachine.{Stack, step, depth}
-use Rattle.aadl_grammar.proofs.DerivationTrees.FollowerMembership.{Clear}
-use Rattle.aadl_grammar.proofs.DerivationTrees.Derivations.{Derives, steps, step_derives}
+use Rattle.aadl_grammar.proofs.DerivationTrees.ForbiddenFollowerMembership.{Clear}
+use Rattle.aadl_grammar.proofs.DerivationTrees.DerivationsAndMachineSteps.{Derives, steps, step_derives}
 use Rattle.aadl_grammar.proofs.Fates.StackNesting.{Good, step_depth}
 use Rattle.aadl_grammar.proofs.HeadsAndTails.{heads, tails}
 

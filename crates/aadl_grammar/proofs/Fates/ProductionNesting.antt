@@ -4,9 +4,9 @@ use Rattle.std.proofs.Common.{◌≡◌, ℕ, ◌+◌, ◌-◌, Bool, true, fals
 use Rattle.aadl_tree.specs.declared.mark.Mark.{Mark}
 use Rattle.aadl_tree.specs.declared.mark.Mark.TheVariants as k
 use Rattle.aadl_tree.specs.Terminals.{Kind, word, whole, real, quoted, unread, mark, other}
-use Rattle.aadl_tree.specs.Grammar.{opened, is_end}
-use Rattle.aadl_grammar.specs.proof.Symbols.{Class, the, Symbol, Row}
-use Rattle.aadl_grammar.specs.proof.Symbols as s
+use Rattle.aadl_tree.specs.LanguagesAndNesting.{opened, is_end}
+use Rattle.aadl_grammar.specs.proof.GrammarSymbols.{Class, the, Symbol, Row}
+use Rattle.aadl_grammar.specs.proof.GrammarSymbols as s
 use Rattle.aadl_grammar.specs.proof.ParseTable.{rows, can_omit}
 use Rattle.aadl_tree.specs.proof.MarkNumbers.{mark_number}
 use Rattle.aadl_grammar.specs.proof.StackMachine.{class_number, kind_number, closes, depth}

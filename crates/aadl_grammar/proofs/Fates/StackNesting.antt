@@ -4,14 +4,14 @@ use Rattle.std.proofs.Common.{List, [], ◌∷◌, ◌++◌, Option, Some, inl, 
 use Rattle.std.proofs.lemmas.Bool.{eqb-true, and_from, false_from_ne_true, or_cases}
 use Rattle.aadl_tree.specs.declared.mark.Mark.TheVariants as k
 use Rattle.aadl_tree.specs.Terminals.{Kind, mark}
-use Rattle.aadl_tree.specs.Grammar.{opened, is_end}
-use Rattle.aadl_grammar.specs.proof.Symbols.{the, Symbol, Row}
-use Rattle.aadl_grammar.specs.proof.Symbols as s
+use Rattle.aadl_tree.specs.LanguagesAndNesting.{opened, is_end}
+use Rattle.aadl_grammar.specs.proof.GrammarSymbols.{the, Symbol, Row}
+use Rattle.aadl_grammar.specs.proof.GrammarSymbols as s
 use Rattle.aadl_grammar.specs.proof.ParseTable.{rows, can_omit}
 use Rattle.aadl_grammar.specs.proof.StackMachine.{Stack, Move, takes, omitted, refuses, class_number, kind_number, fits}
 use Rattle.aadl_grammar.specs.proof.StackMachine.{move, chosen, step, closes, depth}
 use Rattle.aadl_grammar.proofs.DerivationTrees.ForbiddenFollowers.{among, firsts}
-use Rattle.aadl_grammar.proofs.DerivationTrees.Derivations.{Member, Goes, goes, member_first}
+use Rattle.aadl_grammar.proofs.DerivationTrees.DerivationsAndMachineSteps.{Member, Goes, goes, member_first}
 use Rattle.aadl_grammar.proofs.DerivationTrees.TerminalContents.{Said, said}
 use Rattle.aadl_grammar.proofs.Fates.ProductionNesting.{openers, closers, shift, shift_is, end_is, opened_same, closing}
 use Rattle.aadl_grammar.proofs.Fates.ProductionNesting.{odd, plain, blunt, closing_first, good, changes, row_shifts}

@@ -8,7 +8,7 @@ use Rattle.aadl_tree.specs.Actions as a
 use Rattle.aadl_tree.specs.proof.PlaceMaps.{action_to, actions_to, block_to, elsifs_to, expression_to, mores_to}
 use Rattle.aadl_tree.specs.proof.PlaceMaps.{otherwise_to}
 use Rattle.aadl_grammar.proofs.PlaceIndependence.AlikeParts.{Alike, none, one, extra, both, marked}
-use Rattle.aadl_grammar.proofs.PlaceIndependence.Values.{reference_alike}
+use Rattle.aadl_grammar.proofs.PlaceIndependence.NamesAndValues.{reference_alike}
 use Rattle.aadl_grammar.proofs.PlaceIndependence.Expressions.{expression_alike}
 
 test_alike : {P Q : Type 0} (f : P → Q) (t : e.Expression P)

@@ -7,7 +7,7 @@ use Rattle.aadl_tree.specs.Annexes as x
 use Rattle.aadl_tree.specs.proof.PlaceMaps.{annex_to, annex_tree_to, block_to, content_to, guard_to, identifier_to}
 use Rattle.aadl_tree.specs.proof.PlaceMaps.{state_to, transition_to, variable_to}
 use Rattle.aadl_grammar.proofs.PlaceIndependence.AlikeParts.{Alike, none, one, both, each, perhaps, marked}
-use Rattle.aadl_grammar.proofs.PlaceIndependence.Values.{identifiers_alike, reference_alike, properties_alike}
+use Rattle.aadl_grammar.proofs.PlaceIndependence.NamesAndValues.{identifiers_alike, reference_alike, properties_alike}
 use Rattle.aadl_grammar.proofs.PlaceIndependence.Expressions.{expression_alike}
 use Rattle.aadl_grammar.proofs.PlaceIndependence.Actions.{block_alike}
 

@@ -11,8 +11,8 @@ use Rattle.aadl_tree.specs.proof.PlaceMaps.{annex_to, connection_to, declaration
 use Rattle.aadl_tree.specs.proof.PlaceMaps.{implementation_name_to, implementation_to, name_to, package_to}
 use Rattle.aadl_tree.specs.proof.PlaceMaps.{reference_to, subcomponent_to, type_to, with_to}
 use Rattle.aadl_grammar.proofs.PlaceIndependence.AlikeParts.{Alike, none, one, extra, both, each, chain, perhaps}
-use Rattle.aadl_grammar.proofs.PlaceIndependence.Values.{identifier_alike, name_alike, reference_alike}
-use Rattle.aadl_grammar.proofs.PlaceIndependence.Values.{associations_alike, properties_alike, dotted_alike}
+use Rattle.aadl_grammar.proofs.PlaceIndependence.NamesAndValues.{identifier_alike, name_alike, reference_alike}
+use Rattle.aadl_grammar.proofs.PlaceIndependence.NamesAndValues.{associations_alike, properties_alike, dotted_alike}
 use Rattle.aadl_grammar.proofs.PlaceIndependence.Annexes.{annex_alike}
 
 section_alike : {P Q : Type 0} {f : P → Q} {xs : List (Part P)} {ys : List (Part Q)} (section : Section) → Alike f xs ys

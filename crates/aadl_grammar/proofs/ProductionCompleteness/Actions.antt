@@ -6,7 +6,7 @@ use Rattle.aadl_tree.specs.Terminals.{Kind}
 use Rattle.aadl_tree.specs.SpellingParts.{may, last_semicolon, Spells}
 use Rattle.aadl_tree.specs.Names as n
 use Rattle.aadl_tree.specs.Actions as a
-use Rattle.aadl_grammar.specs.proof.Symbols as s
+use Rattle.aadl_grammar.specs.proof.GrammarSymbols as s
 use Rattle.aadl_grammar.specs.proof.ParseTable.{rows}
 use Rattle.aadl_grammar.proofs.DerivationTrees.SymbolTrees.{parts}
 use Rattle.aadl_grammar.proofs.DerivationTrees.TreeBuilders.{respell, InRows, behind_opens, uses, Opens, OpensOr}

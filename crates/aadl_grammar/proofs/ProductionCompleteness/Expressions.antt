@@ -11,7 +11,7 @@ use Rattle.aadl_tree.specs.declared.expressions.MultiplyOperator.TheVariants as 
 use Rattle.aadl_tree.specs.Terminals.{Kind}
 use Rattle.aadl_tree.specs.SpellingParts.{Spells}
 use Rattle.aadl_tree.specs.Expressions as e
-use Rattle.aadl_grammar.specs.proof.Symbols as s
+use Rattle.aadl_grammar.specs.proof.GrammarSymbols as s
 use Rattle.aadl_grammar.specs.proof.ParseTable.{rows}
 use Rattle.aadl_grammar.proofs.DerivationTrees.SymbolTrees.{U, parts}
 use Rattle.aadl_grammar.proofs.DerivationTrees.TreeBuilders.{respell, InRows, behind_opens, uses, Opens, OpensOr}

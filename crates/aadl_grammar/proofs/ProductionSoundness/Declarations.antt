@@ -12,12 +12,12 @@ use Rattle.aadl_tree.specs.SpellingParts as p
 use Rattle.aadl_tree.specs.Names as n
 use Rattle.aadl_tree.specs.Values as v
 use Rattle.aadl_tree.specs.Declarations as d
-use Rattle.aadl_grammar.specs.proof.Symbols as s
+use Rattle.aadl_grammar.specs.proof.GrammarSymbols as s
 use Rattle.aadl_grammar.specs.proof.ParseTable.{rows}
 use Rattle.aadl_grammar.proofs.DerivationTrees.SymbolTrees.{U, Rest, type_rest, implementation_rest, declaration_of}
 use Rattle.aadl_grammar.proofs.DerivationTrees.SymbolTrees.{rest_parts, section_rest}
 use Rattle.aadl_grammar.proofs.DerivationTrees.TreeBuilders.{respell, AllGive, behind_give}
-use Rattle.aadl_grammar.proofs.ProductionTrees.Values.{reference_builders, association_builders}
+use Rattle.aadl_grammar.proofs.ProductionTrees.NamesAndValues.{reference_builders, association_builders}
 use Rattle.aadl_grammar.proofs.ProductionTrees.Declarations.{direction_builders, category_builders, data_type_builders}
 use Rattle.aadl_grammar.proofs.ProductionTrees.Declarations.{data_type_joins, feature_builders, subcomponent_builders}
 use Rattle.aadl_grammar.proofs.ProductionTrees.Declarations.{connection_end_builders, connection_builders}
@@ -34,7 +34,7 @@ use Rattle.aadl_grammar.proofs.ProductionTrees.Declarations.{implementation_name
 use Rattle.aadl_grammar.proofs.ProductionTrees.Declarations.{implementation_end_builders, package_end_builders}
 use Rattle.aadl_grammar.proofs.ProductionTrees.Declarations.{after_category_builders, declarations_builders}
 use Rattle.aadl_grammar.proofs.ProductionTrees.Declarations.{more_names_builders, withs_builders, a_package_builders}
-use Rattle.aadl_grammar.proofs.ProductionSoundness.Values.{reference_give, association_give}
+use Rattle.aadl_grammar.proofs.ProductionSoundness.NamesAndValues.{reference_give, association_give}
 
 section_gives : (section : Section) (ps : List (Part U)) (ks rest : List Kind) → Spells (section_rest ps) ks rest
     → Spells (d.section_parts section ps) (mark (section_mark section) ∷ ks) rest

@@ -7,7 +7,7 @@ use Rattle.aadl_tree.specs.declared.expressions.RelationOperator.{RelationOperat
 use Rattle.aadl_tree.specs.Terminals.{Kind, mark}
 use Rattle.aadl_tree.specs.SpellingParts.{Spells}
 use Rattle.aadl_tree.specs.Expressions as e
-use Rattle.aadl_grammar.specs.proof.Symbols as s
+use Rattle.aadl_grammar.specs.proof.GrammarSymbols as s
 use Rattle.aadl_grammar.specs.proof.ParseTable.{rows}
 use Rattle.aadl_grammar.proofs.DerivationTrees.SymbolTrees.{U, compared_parts, relation_of, after_parts, and_join}
 use Rattle.aadl_grammar.proofs.DerivationTrees.SymbolTrees.{or_join}

@@ -4,11 +4,11 @@ use Rattle.std.proofs.Common.{[], ◌∷◌, Some}
 use Rattle.aadl_tree.specs.declared.declarations.Category.TheVariants as categories
 use Rattle.aadl_tree.specs.declared.declarations.Direction.TheVariants as directions
 use Rattle.aadl_tree.specs.Values as v
-use Rattle.aadl_grammar.specs.proof.Symbols as s
+use Rattle.aadl_grammar.specs.proof.GrammarSymbols as s
 use Rattle.aadl_grammar.specs.proof.ParseTable.{rows}
 use Rattle.aadl_grammar.proofs.DerivationTrees.SymbolTrees.{id, type_rest, implementation_rest, declaration_of}
 use Rattle.aadl_grammar.proofs.DerivationTrees.TreeBuilders.{Builders, Joins, behind_builders}
-use Rattle.aadl_grammar.proofs.ProductionTrees.Values.{reference_builders, association_builders}
+use Rattle.aadl_grammar.proofs.ProductionTrees.NamesAndValues.{reference_builders, association_builders}
 
 abbrev pub direction_builders : Builders s.direction (rows s.direction)
 direction_builders = ((λ w ts. directions.In), ((λ w ts. directions.Out), tt))

@@ -2,7 +2,7 @@
 use Rattle.std.specs.Prelude.{ℕ, ◌≡◌, List}
 use Rattle.aadl_tree.specs.Declarations.{PackageTree}
 use Rattle.aadl_tree.specs.proof.PlaceMaps.{package_to, no_place}
-use Rattle.aadl_tree.specs.GrammarTrees.{IsTreeOf}
+use Rattle.aadl_tree.specs.TextTreesAndFaults.{IsTreeOf}
 
 -- The text has a tree, within the greatest nesting, and this is the tree without its places.
 pub record HasTree (text : List ℕ) (meaning : PackageTree (Unit {0})) : Type 0 where

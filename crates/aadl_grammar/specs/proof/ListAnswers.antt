@@ -7,7 +7,7 @@ use Rattle.aadl_tree.specs.declared.mark.Mark.{Mark}
 use Rattle.aadl_tree.specs.Terminals.{Spot}
 use Rattle.aadl_tree.specs.SpellingParts.{Part, behind}
 use Rattle.aadl_tree.specs.declared.nesting_limit.TheConstants.{GREATEST_NESTING}
-use Rattle.aadl_grammar.specs.proof.Symbols.{a_word, the, Symbol}
+use Rattle.aadl_grammar.specs.proof.GrammarSymbols.{a_word, the, Symbol}
 use Rattle.aadl_grammar.specs.proof.ParseTable as table
 use Rattle.aadl_grammar.specs.proof.ParseTable.{on, rows, section_rows, can_omit}
 use Rattle.aadl_grammar.specs.proof.StackMachine.{Stack, closes, depth, fate}

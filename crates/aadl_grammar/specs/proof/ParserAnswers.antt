@@ -6,7 +6,7 @@ use Rattle.aadl_tree.specs.Terminals.{Kind, word, mark, Spot}
 use Rattle.aadl_tree.specs.SpellingParts.{Part, Written}
 use Rattle.aadl_tree.specs.Names.{Identifier}
 use Rattle.aadl_tree.specs.declared.nesting_limit.TheConstants.{GREATEST_NESTING}
-use Rattle.aadl_grammar.specs.proof.Symbols.{Class, the, Symbol, only, Row}
+use Rattle.aadl_grammar.specs.proof.GrammarSymbols.{Class, the, Symbol, only, Row}
 use Rattle.aadl_grammar.specs.proof.StackMachine.{Stack, fits, takes, move, depth, Fate, syntax_at, deep_at, fate}
 use Rattle.aadl_grammar.specs.declared.terminal.Terminal.{Terminal}
 use Rattle.aadl_grammar.specs.declared.reader.Reader.{Reader}

@@ -3,8 +3,8 @@ use Rattle.std.specs.Prelude.{◌≡◌, ◌≢◌, Bool, List, Contains}
 use Rattle.std.specs.Char.{is_ascii_lowercase}
 use Rattle.std.specs.List.{list_all}
 use Rattle.aadl_tree.specs.declared.mark.Mark.{Mark}
-use Rattle.aadl_tree.specs.Marks.{mark_text}
-use Rattle.aadl_grammar.specs.proof.Symbols.{the, Symbol, Row}
+use Rattle.aadl_tree.specs.KeywordsAndSymbols.{mark_text}
+use Rattle.aadl_grammar.specs.proof.GrammarSymbols.{the, Symbol, Row}
 use Rattle.aadl_grammar.specs.proof.ParseTable.{rows}
 use Rattle.aadl_tree.specs.declared.mark.Mark.TheVariants as k
 

@@ -5,7 +5,7 @@ use Rattle.aadl_lex.specs.declared.fault.LexFault.{LexFault}
 use Rattle.aadl_lex.specs.declared.fault.LexFault.TheVariants.{Memory}
 use Rattle.aadl_lex.specs.Tokens.{AreTokensOf, IsFaultOf}
 use Rattle.aadl_tree.specs.Declarations.{PackageTree}
-use Rattle.aadl_tree.specs.GrammarTrees.{IsTreeOf, StopsAt, NestsAt}
+use Rattle.aadl_tree.specs.TextTreesAndFaults.{IsTreeOf, StopsAt, NestsAt}
 
 -- it has tokens
 abbrev pub HasTokens : List ℕ → Type 0

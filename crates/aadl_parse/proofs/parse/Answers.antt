@@ -9,7 +9,7 @@ use Rattle.aadl_grammar.specs.proof.ParserAnswers.{here}
 use Rattle.aadl_grammar.specs.proof.TerminalSpots.{spots_of}
 use Rattle.aadl_grammar.proofs.TerminalSpots.{spots_past}
 use Rattle.aadl_parse.specs.ParseResults.{IsFaultOfText, of_parse}
-use Rattle.aadl_parse.specs.proof.DeclarationRests.{package_of}
+use Rattle.aadl_parse.specs.proof.DeclarationAndPackageParts.{package_of}
 use Rattle.aadl_parse.proofs.PackageFates.{at_fault, left_fault, at_tree, only_one, residual, some_left}
 use Rattle.aadl_parse.proofs.parse.Goals as goal
 

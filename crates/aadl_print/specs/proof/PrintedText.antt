@@ -3,7 +3,7 @@ use Rattle.std.specs.Prelude.{ℕ, codes, List, [], ◌∷◌, ◌++◌, if◌th
 use Rattle.aadl_tree.specs.Terminals.{Kind}
 use Rattle.aadl_tree.specs.declared.mark.Mark.{Mark}
 use Rattle.aadl_tree.specs.SpellingParts.{Part, token, may, plain}
-use Rattle.aadl_tree.specs.Canon.{kind_text, holds_left, holds_right, ends_line, line_end}
+use Rattle.aadl_tree.specs.CanonicalText.{kind_text, holds_left, holds_right, ends_line, line_end}
 use Rattle.aadl_print.specs.declared.spacing.Spacing.{Spacing}
 use Rattle.aadl_print.specs.declared.spacing.Spacing.TheVariants.{Nothing, Space, LineEnd}
 

@@ -3,7 +3,7 @@ use Rattle.std.specs.Prelude.{ℕ, Bool, ◌==◌, List, slice_index}
 use Rattle.std.specs.List.{filter}
 use Rattle.std.specs.Char.{to_ascii_lowercase}
 use Rattle.aadl_tree.specs.declared.mark.Mark.{Mark}
-use Rattle.aadl_tree.specs.Marks.{mark_text, keywords, symbols}
+use Rattle.aadl_tree.specs.KeywordsAndSymbols.{mark_text, keywords, symbols}
 
 -- the keywords that begin with this letter, in lower case, inside or outside
 unfoldable pub keywords_from : Bool → ℕ → List Mark

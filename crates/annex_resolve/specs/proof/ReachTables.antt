@@ -8,7 +8,7 @@ use Rattle.pals_base.specs.PlainTrees.{Edge}
 use Rattle.pals_base.specs.SingleStep.{is_complete}
 use Rattle.pals_base.specs.StepSequences.{upwards}
 use Rattle.annex_resolve.specs.declared.cycles.Reachability.{Reachability}
-use Rattle.annex_resolve.specs.CycleRules.{reaches}
+use Rattle.annex_resolve.specs.IncompleteStateCycles.{reaches}
 
 -- what a state reaches, with none but states below k in between
 abbrev pub row_of : ℕ → BehaviourParts → ℕ → List Bool

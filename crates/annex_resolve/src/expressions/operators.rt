@@ -1,6 +1,6 @@
 //! The operators of a text, as those of behaviours.
 ghost use Rattle.std.specs.Prelude.{◌≡◌};
-ghost use Rattle.annex_resolve.specs.ExpressionTypes.{is_equality};
+ghost use Rattle.annex_resolve.specs.ExpressionTypesAndFindings.{is_equality};
 ghost use Rattle.annex_resolve.specs.ResolvedTrees.{multiply_op, sign_op, relation_op, logic_op};
 
 use aadl_tree::{LogicOperator, MultiplyOperator, RelationOperator, Sign};

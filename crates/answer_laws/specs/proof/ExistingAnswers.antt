@@ -3,7 +3,7 @@ use Rattle.std.specs.Prelude.{◌≡◌, ℕ, false, List}
 use Rattle.pals_runs.specs.declared.commands.Command.{Command}
 use Rattle.pals_runs.specs.declared.commands.Command.TheVariants.{Ring}
 use Rattle.pals_top.specs.CommandWords.{HasForm}
-use Rattle.pals_top.specs.RingAnswer.{IsRingAnswer}
+use Rattle.pals_top.specs.SelfRingAnswer.{IsRingAnswer}
 use Rattle.pals_top.specs.Answers.{IsCommandAnswer}
 use Rattle.pals_top.specs.proof.PrivateFunctions.{is_run}
 

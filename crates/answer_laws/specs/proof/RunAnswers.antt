@@ -12,7 +12,7 @@ use Rattle.scenario_json.specs.declared.scenario.Scenario.{Scenario}
 use Rattle.bus_machine.specs.States.{Run}
 use Rattle.run_laws.specs.TextLines.{lines_of}
 use Rattle.run_laws.specs.TraceVerdicts.{verdict}
-use Rattle.run_laws.specs.proof.TimelyRuns.{InTime, AllPicked}
+use Rattle.run_laws.specs.proof.TimelyRunsAndEnds.{InTime, AllPicked}
 use Rattle.run_laws.specs.Meetings.{DelaysFit}
 use Rattle.run_texts.specs.RunTexts.{journal_text}
 use Rattle.pals_top.specs.declared.status.TheConstants.{DONE, STOPPED, CLOCK_ENDED}

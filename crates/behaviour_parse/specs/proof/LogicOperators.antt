@@ -2,7 +2,7 @@
 use Rattle.std.specs.Prelude.{List}
 use Rattle.aadl_tree.specs.declared.expressions.LogicOperator.{LogicOperator}
 use Rattle.aadl_tree.specs.Terminals.{Spot}
-use Rattle.aadl_grammar.specs.proof.Symbols.{the}
+use Rattle.aadl_grammar.specs.proof.GrammarSymbols.{the}
 use Rattle.aadl_grammar.specs.proof.ParserAnswers.{AtMark, Misses}
 use Rattle.aadl_tree.specs.declared.mark.Mark.TheVariants as k
 use Rattle.aadl_tree.specs.declared.expressions.LogicOperator.TheVariants as logic

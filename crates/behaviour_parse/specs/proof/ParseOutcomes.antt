@@ -2,8 +2,8 @@
 use Rattle.std.specs.Prelude.{ℕ, ◌≡◌, List}
 use Rattle.aadl_lex.specs.declared.token.Token.{Token}
 use Rattle.aadl_tree.specs.Annexes.{AnnexTree}
-use Rattle.aadl_tree.specs.GrammarTrees.{IsBehaviourOf}
-use Rattle.aadl_tree.specs.proof.GrammarTrees.{BehaviourStopsAt, BehaviourNestsAt}
+use Rattle.aadl_tree.specs.TextTreesAndFaults.{IsBehaviourOf}
+use Rattle.aadl_tree.specs.proof.BehaviourFaultPlaces.{BehaviourStopsAt, BehaviourNestsAt}
 use Rattle.aadl_grammar.specs.declared.parse_fault.ParseFault.{ParseFault}
 use Rattle.aadl_grammar.specs.declared.parse_fault.ParseFault.TheVariants.{Memory, Syntax, TooDeep}
 

@@ -3,7 +3,7 @@ use Rattle.std.specs.Prelude.{◌≡◌, [], ◌∷◌}
 use Rattle.pals_model.specs.proof.TwoCounters.{two_counters}
 use Rattle.bus_machine.specs.declared.plan.Plan.{Plan}
 use Rattle.bus_machine.specs.Plans.{plan_of}
-use Rattle.bus_machine.specs.Targets.{targets}
+use Rattle.bus_machine.specs.ActionsAndTargets.{targets}
 
 -- a node of four steps in a round of 20 ms, three of which are sent 10 ms after the alarm
 abbrev pub fast_plan : Plan

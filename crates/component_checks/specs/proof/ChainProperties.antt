@@ -7,8 +7,8 @@ use Rattle.aadl_tree.specs.Declarations.{Declaration}
 use Rattle.aadl_names.specs.RecognisedProperties.{association_named, association_value, name_of, text_of}
 use Rattle.aadl_names.specs.ReferenceResolution.{implementation_in, connections_of}
 use Rattle.component_checks.specs.declared.chain_properties.ChainProperties.{ChainProperties}
-use Rattle.component_checks.specs.RateFindings.{adaptor_named}
-use Rattle.component_checks.specs.Threads.{says}
+use Rattle.component_checks.specs.PeriodAndAdaptorFindings.{adaptor_named}
+use Rattle.component_checks.specs.ThreadRatesAndFindings.{says}
 use Rattle.aadl_names.specs.declared.recognised_properties.PropertyName.TheVariants as properties
 
 abbrev pub adaptor_of : Option (Association ℕ) → Option (Option Adaptor)

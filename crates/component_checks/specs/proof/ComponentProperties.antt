@@ -9,7 +9,7 @@ use Rattle.aadl_names.specs.RecognisedProperties.{association_value, reference_o
 use Rattle.aadl_names.specs.ReferenceResolution.{type_in, implementation_in, subcomponents_of}
 use Rattle.component_checks.specs.declared.component_properties.ComponentProperties.{ComponentProperties}
 use Rattle.component_checks.specs.BoundsAndRates.{within_hour}
-use Rattle.component_checks.specs.Threads.{is_word}
+use Rattle.component_checks.specs.ThreadRatesAndFindings.{is_word}
 use Rattle.component_checks.specs.PropertyLookup.{type_lists, own_lists, sub_lists, first_in}
 
 -- the period that is given; none above an hour

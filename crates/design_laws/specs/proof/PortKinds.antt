@@ -4,7 +4,7 @@ use Rattle.std.specs.Option.{option_and_then}
 use Rattle.pals_base.specs.declared.behaviour.Kind.{Kind}
 use Rattle.aadl_tree.specs.Declarations.{Feature, PackageTree}
 use Rattle.aadl_chains.specs.Chains.{Port, port_of}
-use Rattle.annex_resolve.specs.ExpressionTypes.{kind_in}
+use Rattle.annex_resolve.specs.ExpressionTypesAndFindings.{kind_in}
 
 -- none, where there is no such port, or its type is neither Integer nor Boolean
 abbrev pub port_kind : PackageTree ℕ → ℕ → Port → Option Kind

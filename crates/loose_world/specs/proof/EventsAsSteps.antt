@@ -1,7 +1,7 @@
 -- The law that loose events are steps of the machine, from the opening of a run to a state.
 use Rattle.std.specs.Prelude.{ℕ, false, List}
 use Rattle.step_code.specs.declared.instr.CodeParts.{CodeParts}
-use Rattle.pals_runs.specs.declared.events.Event.{Event}
+use Rattle.pals_runs.specs.declared.events_and_faults.Event.{Event}
 use Rattle.pals_runs.specs.declared.journal.JournalEntry.{JournalEntry}
 use Rattle.bus_machine.specs.States.{Run, BusState, opening}
 use Rattle.pals_bus.specs.BusValues.{BusValue}

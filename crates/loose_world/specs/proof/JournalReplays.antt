@@ -1,9 +1,9 @@
 -- What the journal of a loose world tells: a law at every run of a design.
 use Rattle.std.specs.Prelude.{ℕ, false, List}
 use Rattle.step_code.specs.declared.instr.CodeParts.{CodeParts}
-use Rattle.pals_runs.specs.declared.events.Event.{Event}
+use Rattle.pals_runs.specs.declared.events_and_faults.Event.{Event}
 use Rattle.bus_machine.specs.States.{Run}
-use Rattle.bus_machine.specs.proof.MachineLaws.{IsRunOf}
+use Rattle.bus_machine.specs.proof.AgreementLaws.{IsRunOf}
 use Rattle.pals_bus.specs.BusValues.{BusValue}
 use Rattle.pals_bus.specs.proof.NodeAndCodeValues.{opening_bus}
 use Rattle.loose_world.specs.declared.loose_run.LooseEnd.{LooseEnd}

@@ -4,7 +4,7 @@ use Rattle.std.specs.Option.{option_map_or}
 use Rattle.pals_model.specs.ComponentInputs.{rate_of}
 use Rattle.pals_runs.specs.declared.journal.Phase.{Phase}
 use Rattle.pals_runs.specs.declared.journal.Phase.TheVariants.{Waiting, Running, Between, Holding, Done}
-use Rattle.pals_runs.specs.declared.events.Event.{Event}
+use Rattle.pals_runs.specs.declared.events_and_faults.Event.{Event}
 use Rattle.bus_machine.specs.Nodes.{NodeState}
 use Rattle.bus_machine.specs.States.{Run, BusState, node_at}
 use Rattle.bus_machine.specs.MissedStarts.{sent_rounds}

@@ -1,6 +1,6 @@
 -- How lists of loose events end: a law at every run.
 use Rattle.std.specs.Prelude.{◌≡◌, ⊤, List}
-use Rattle.pals_runs.specs.declared.events.Event.{Event}
+use Rattle.pals_runs.specs.declared.events_and_faults.Event.{Event}
 use Rattle.pals_runs.specs.declared.journal.JournalEntry.{JournalEntry}
 use Rattle.bus_machine.specs.States.{Run, BusState}
 use Rattle.loose_world.specs.declared.loose_run.LooseEnd.{LooseEnd}

@@ -3,13 +3,13 @@ use Rattle.std.specs.Prelude.{◌≡◌, ℕ, ◌<◌, false, List, [], ◌++◌
 use Rattle.step_code.specs.declared.instr.CodeParts.{CodeParts}
 use Rattle.pals_base.specs.declared.values.NodeNo.{NodeNo}
 use Rattle.pals_model.specs.RoundTexts.{text_of, report}
-use Rattle.pals_runs.specs.declared.events.Event.{Event}
+use Rattle.pals_runs.specs.declared.events_and_faults.Event.{Event}
 use Rattle.pals_runs.specs.declared.journal.Stop.{Stop}
 use Rattle.bus_machine.specs.States.{Run, BusState, node_at, finished_by_all}
 use Rattle.bus_machine.specs.MissedStarts.{sent_rounds}
 use Rattle.bus_machine.specs.Machine.{BusEvent, IsStep}
 use Rattle.bus_machine.specs.Agreement.{Agrees}
-use Rattle.bus_machine.specs.proof.MachineLaws.{IsRunOf}
+use Rattle.bus_machine.specs.proof.AgreementLaws.{IsRunOf}
 use Rattle.bus_machine.specs.WorldTexts.{finished_by, sends_of, sent_lines, world_rows, worldtext}
 use Rattle.pals_bus.specs.BusValues.{BusValue}
 use Rattle.pals_bus.specs.proof.NodeAndCodeValues.{opening_bus}
@@ -18,8 +18,8 @@ use Rattle.loose_world.specs.declared.loose_run.LooseEnd.TheVariants.{All, Stopp
 use Rattle.loose_world.specs.LooseRuns.{Tells}
 use Rattle.loose_world.specs.proof.StepAndSendCounts.{IsCounted}
 use Rattle.loose_world.specs.proof.UndergoneEvents.{event_of, Undergoes, IsLeftBy, IsReplayed}
-use Rattle.loose_world.specs.proof.EventSenders.{senders, HasSent}
-use Rattle.pals_runs.specs.declared.events.Event.TheVariants as event
+use Rattle.loose_world.specs.proof.SendersAndSentCopies.{senders, HasSent}
+use Rattle.pals_runs.specs.declared.events_and_faults.Event.TheVariants as event
 
 -- ---- counts
 -- each step of the machine counts at each node

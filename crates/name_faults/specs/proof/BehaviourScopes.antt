@@ -4,9 +4,9 @@ use Rattle.aadl_tree.specs.Names.{same_name}
 use Rattle.std.specs.List.{list_any}
 use Rattle.aadl_names.specs.declared.name_roles.Role.{Role}
 use Rattle.aadl_names.specs.declared.name_roles.Role.TheVariants.{Turns}
-use Rattle.aadl_names.specs.AnnexNames.{Known, either}
+use Rattle.aadl_names.specs.NameUsesInAnnexes.{Known, either}
 use Rattle.aadl_names.specs.proof.NameTables.{value_of}
-use Rattle.name_faults.specs.proof.OptionalValues.{is_marked}
+use Rattle.name_faults.specs.proof.ConditionalValues.{is_marked}
 
 -- ports and variables, in the order in which they count, and the variables of loops, the outermost first
 pub record Scoped : Type 0 where

@@ -11,14 +11,14 @@ use Rattle.pals_model.specs.declared.design.Link.{Link}
 use Rattle.pals_runs.specs.declared.journal.Phase.TheVariants.{Waiting, Done}
 use Rattle.bus_machine.specs.declared.node_action.NodeAction.{NodeAction}
 use Rattle.bus_machine.specs.declared.node_action.Next.{Next}
-use Rattle.bus_machine.specs.proof.MachineLaws.{IsRunOf}
+use Rattle.bus_machine.specs.proof.AgreementLaws.{IsRunOf}
 use Rattle.bus_machine.specs.Plans.{plan_of}
 use Rattle.bus_machine.specs.States.{node_at}
 use Rattle.bus_machine.specs.MissedStarts.{sent_rounds}
 use Rattle.bus_machine.specs.Machine.{BusEvent}
-use Rattle.bus_machine.specs.Targets.{next_of, target}
+use Rattle.bus_machine.specs.ActionsAndTargets.{next_of, target}
 use Rattle.pals_bus.specs.BusValues.{BusValue}
-use Rattle.run_laws.specs.proof.LockedSteps.{IsToStart}
+use Rattle.run_laws.specs.proof.StepsUnderLock.{IsToStart}
 use Rattle.run_laws.specs.Runs.{lists_in, HasEnded, Does, IsAwaited, KeepsTo, Runs}
 use Rattle.node_threads.specs.declared.node_end.NodeNote.{NodeNote}
 use Rattle.node_threads.specs.declared.clocks.ClockAnswer.{ClockAnswer}

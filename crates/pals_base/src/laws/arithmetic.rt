@@ -3,7 +3,7 @@ ghost use Rattle.std.specs.Prelude.{◌≡◌, ◌≢◌, ◌-◌, ◌^◌, ℤ,
 ghost use Rattle.pals_base.specs.declared.values.Frame.{Frame};
 ghost use Rattle.pals_base.specs.declared.behaviour.Op.TheVariants.{Sub};
 ghost use Rattle.pals_base.specs.Arithmetic.{quotient_of, remainder_of, modulus_of, negation_of, magnitude_of};
-ghost use Rattle.pals_base.specs.proof.Division.{IsRemainder, IsModulus};
+ghost use Rattle.pals_base.specs.proof.Remainders.{IsRemainder, IsModulus};
 ghost use Rattle.pals_base.specs.PlainTrees.{Literal, Chain, NoMore, Then};
 ghost use Rattle.pals_base.specs.Expressions.{eval};
 

@@ -6,7 +6,7 @@ use Rattle.pals_model.specs.declared.design.Link.{Link}
 use Rattle.pals_model.specs.declared.flight_copy.FlightCopy.{FlightCopy}
 use Rattle.link_buffers.specs.proof.Flights.{is_due}
 use Rattle.link_buffers.specs.declared.due_queue.DueEntry.{DueEntry}
-use Rattle.link_buffers.specs.proof.Queues.{is_entry, is_due_at}
+use Rattle.link_buffers.specs.proof.DueQueues.{is_entry, is_due_at}
 use Rattle.bus_machine.specs.States.{flight_at, link_at}
 use Rattle.bus_machine.specs.Machine.{Arrive}
 use Rattle.std.specs.declared.alloc.AllocError.{AllocError}

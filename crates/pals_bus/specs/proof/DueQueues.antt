@@ -8,11 +8,11 @@ use Rattle.pals_base.specs.declared.values.LinkNo.{LinkNo}
 use Rattle.pals_model.specs.declared.design.Link.{Link}
 use Rattle.pals_model.specs.declared.flight_copy.FlightCopy.{FlightCopy}
 use Rattle.link_buffers.specs.declared.due_queue.DueEntry.{DueEntry}
-use Rattle.link_buffers.specs.proof.Queues.{QueueState, queue_of, is_entry, with_entry, without_entry, is_due_at}
+use Rattle.link_buffers.specs.proof.DueQueues.{QueueState, queue_of, is_entry, with_entry, without_entry, is_due_at}
 use Rattle.link_buffers.specs.proof.Flights.{FlightState}
 use Rattle.bus_machine.specs.States.{no_link}
 use Rattle.pals_node.specs.proof.NodeValues.{NodeValue}
-use Rattle.pals_bus.specs.proof.Placeholders.{no_node_value, no_flight, no_queue}
+use Rattle.pals_bus.specs.proof.OutOfRangeDefaults.{no_node_value, no_flight, no_queue}
 
 -- a copy with this round and this due reading
 abbrev pub is_copy_of : DueEntry → FlightCopy → Bool

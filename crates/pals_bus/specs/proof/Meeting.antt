@@ -2,7 +2,7 @@
 use Rattle.std.specs.Prelude.{◌≡◌, ◌≢◌, ◌⊎◌, ℕ, ◌<◌, ◌≤◌, true, length, Option, Some, None, option_map}
 use Rattle.bus_machine.specs.Plans.{plan_of}
 use Rattle.bus_machine.specs.States.{node_at}
-use Rattle.bus_machine.specs.Targets.{target, action_of}
+use Rattle.bus_machine.specs.ActionsAndTargets.{target, action_of}
 use Rattle.pals_bus.specs.declared.meet_and_loose_fault.Meet.{Meet}
 use Rattle.pals_bus.specs.BusValues.{BusValue}
 use Rattle.pals_bus.specs.declared.meet_and_loose_fault.Meet.TheVariants as meet

@@ -1,8 +1,8 @@
 -- The nodes of a run, in order.
 use Rattle.std.specs.Prelude.{ℕ, List, Option, option_map, slice_index_or}
-use Rattle.bus_machine.specs.Targets.{target, action_of}
+use Rattle.bus_machine.specs.ActionsAndTargets.{target, action_of}
 use Rattle.pals_node.specs.proof.NodeValues.{NodeValue}
-use Rattle.pals_bus.specs.proof.Placeholders.{no_node_value}
+use Rattle.pals_bus.specs.proof.OutOfRangeDefaults.{no_node_value}
 
 abbrev pub node_of : List NodeValue → ℕ → NodeValue
 node_of nodes node = slice_index_or nodes node no_node_value

@@ -4,13 +4,13 @@ use Rattle.std.specs.Prelude.{take, All, Option, Some, slice_get, slice_index_or
 use Rattle.pals_base.specs.declared.values.LinkNo.{LinkNo}
 use Rattle.pals_base.specs.declared.values.PortValue.{PortValue}
 use Rattle.pals_model.specs.declared.design.Link.{Link}
-use Rattle.pals_model.specs.declared.inputs_and_parts.Delays.{Delays}
+use Rattle.pals_model.specs.declared.inputs_parts_and_delays.Delays.{Delays}
 use Rattle.pals_model.specs.declared.flight_copy.FlightCopy.{FlightCopy}
 use Rattle.pals_model.specs.Delays.{delay_of}
 use Rattle.link_buffers.specs.proof.Flights.{FlightState, flight_of}
 use Rattle.bus_machine.specs.LinkEvents.{sent_copy}
 use Rattle.bus_machine.specs.States.{no_link}
-use Rattle.pals_bus.specs.proof.Placeholders.{no_flight}
+use Rattle.pals_bus.specs.proof.OutOfRangeDefaults.{no_flight}
 
 -- a link from a node
 abbrev pub is_from : ℕ → Link → Bool

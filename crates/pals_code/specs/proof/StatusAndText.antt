@@ -7,7 +7,7 @@ use Rattle.pals_code.specs.declared.answer.Answer.TheVariants.{Done, Usage, Text
 use Rattle.pals_code.specs.declared.answer.Answer.TheVariants.{ReadFault, TooLong}
 use Rattle.pals_code.specs.declared.status.TheConstants.{DONE, USAGE, TEXT_REFUSED, DESIGN_REFUSED, CODE_TOO_LONG}
 use Rattle.pals_code.specs.declared.status.TheConstants.{READ_FAULT, TOO_LONG}
-use Rattle.pals_code.specs.FixedTexts.{usage_line, read_fault_line, too_long_line}
+use Rattle.pals_code.specs.FixedAnswerTexts.{usage_line, read_fault_line, too_long_line}
 
 abbrev pub status_of : Answer → ℕ
 status_of (Done text) = DONE

@@ -4,9 +4,9 @@ use Rattle.std.specs.List.{enumerate_from, position_from}
 use Rattle.pals_base.specs.StepSequences.{upwards}
 use Rattle.pals_model.specs.declared.design.Component.{Component}
 use Rattle.pals_model.specs.declared.design.DesignParts.{DesignParts}
-use Rattle.pals_model.specs.declared.sources.PortSource.{PortSource}
+use Rattle.pals_model.specs.declared.port_sources.PortSource.{PortSource}
 use Rattle.pals_model.specs.ComponentInputs.{from_feed, from_link, feed_goes_to, link_goes_to}
-use Rattle.pals_model.specs.declared.sources.PortSource.TheVariants as source
+use Rattle.pals_model.specs.declared.port_sources.PortSource.TheVariants as source
 
 -- the table with this source for each in port
 abbrev pub table_of : List Component → (ℕ → ℕ → PortSource) → List (List PortSource)

@@ -3,7 +3,7 @@ use Rattle.std.specs.Prelude.{◌≡◌, List}
 use Rattle.pals_model.specs.declared.design.DesignParts.{DesignParts}
 use Rattle.pals_runs.specs.declared.vote_faults_and_pairs.Pair.{Pair}
 use Rattle.sync_product.specs.proof.ComponentWiring.{IsWiring}
-use Rattle.plant_fuse.specs.declared.tables.Tables.{Tables}
+use Rattle.plant_fuse.specs.declared.design_tables.Tables.{Tables}
 use Rattle.plant_fuse.specs.proof.Partners.{all_partners}
 
 pub record AreTables (design : DesignParts) (pairs : List Pair) (tables : Tables) : Type 0 where

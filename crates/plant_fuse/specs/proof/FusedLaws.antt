@@ -4,7 +4,7 @@ use Rattle.pals_base.specs.declared.values.PortValue.{PortValue}
 use Rattle.pals_base.specs.declared.values.PortValue.TheVariants.{Absent}
 use Rattle.pals_model.specs.declared.design.Component.{Component}
 use Rattle.pals_model.specs.declared.design.DesignParts.{DesignParts}
-use Rattle.pals_model.specs.declared.inputs_and_parts.Env.{Env}
+use Rattle.pals_model.specs.declared.inputs_parts_and_delays.Env.{Env}
 use Rattle.pals_model.specs.DesignRules.{IsDesign}
 use Rattle.pals_model.specs.Composition.{Configuration, comp}
 use Rattle.pals_model.specs.ComponentInputs.{values_at}
@@ -14,7 +14,7 @@ use Rattle.pals_model.specs.RoundTexts.{report}
 use Rattle.plant_fuse.specs.FusedComposition.{ArePairs, Inputs, left_by, frame_before, IsFused}
 use Rattle.plant_fuse.specs.proof.FusedRounds.{made_at, first_rounds, fused}
 use Rattle.plant_fuse.specs.proof.FuseState.{FuseState, AreStates}
-use Rattle.plant_fuse.specs.FusedText.{fused_parts, IsFusedReport}
+use Rattle.plant_fuse.specs.FusedReport.{fused_parts, IsFusedReport}
 
 -- the equations have a solution for each number of rounds
 abbrev pub SolutionExists : Type 0

@@ -3,8 +3,8 @@ use Rattle.std.specs.Prelude.{◌≡◌, ◌≢◌, ℕ, ◌<◌, nat_eq, Bool, 
 use Rattle.pals_model.specs.declared.design.Link.{Link}
 use Rattle.pals_model.specs.declared.design.DesignParts.{DesignParts}
 use Rattle.pals_runs.specs.declared.vote_faults_and_pairs.Pair.{Pair}
-use Rattle.plant_fuse.specs.declared.fuse_end.FuseEnd.{FuseEnd}
-use Rattle.plant_fuse.specs.declared.fuse_end.FuseEnd.TheVariants.{BadPair, Memory}
+use Rattle.plant_fuse.specs.declared.fuse_failure.FuseEnd.{FuseEnd}
+use Rattle.plant_fuse.specs.declared.fuse_failure.FuseEnd.TheVariants.{BadPair, Memory}
 use Rattle.plant_fuse.specs.FusedComposition.{IsPair, AreApart, ArePairs}
 
 -- two components, out of a number of them

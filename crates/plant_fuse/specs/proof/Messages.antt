@@ -4,7 +4,7 @@ use Rattle.pals_base.specs.declared.values.PortValue.{PortValue}
 use Rattle.pals_base.specs.StepSequences.{column, cut}
 use Rattle.pals_model.specs.declared.design.Link.{Link}
 use Rattle.pals_runs.specs.declared.vote_faults_and_pairs.Pair.{Pair}
-use Rattle.sync_product.specs.declared.stage.Stage.{Stage}
+use Rattle.sync_product.specs.declared.component_stage.Stage.{Stage}
 use Rattle.plant_fuse.specs.proof.Partners.{partner_of, is_inside}
 
 -- how many places of a tuple are sent: all of them inside a pair

@@ -8,15 +8,15 @@ use Rattle.pals_base.specs.declared.behaviour.BehaviourParts.{BehaviourParts}
 use Rattle.pals_base.specs.StepSequences.{frame_after, outputs, column, upwards}
 use Rattle.pals_model.specs.declared.design.Component.{Component}
 use Rattle.pals_model.specs.declared.design.Link.{Link}
-use Rattle.pals_model.specs.declared.sources.PortSource.{PortSource}
-use Rattle.pals_model.specs.declared.inputs_and_parts.Part.{Part}
+use Rattle.pals_model.specs.declared.port_sources.PortSource.{PortSource}
+use Rattle.pals_model.specs.declared.inputs_parts_and_delays.Part.{Part}
 use Rattle.sync_product.specs.declared.round_inputs.RoundInputs.{RoundInputs}
-use Rattle.sync_product.specs.declared.stage.Stage.{Stage}
+use Rattle.sync_product.specs.declared.component_stage.Stage.{Stage}
 use Rattle.sync_product.specs.proof.ProductSizes.{frame_size, frame_size_of, part_size, part_size_of, stage_size}
 use Rattle.sync_product.specs.proof.ProductSizes.{stage_size_of}
 use Rattle.sync_product.specs.proof.Rounds.{brought}
 use Rattle.plant_fuse.specs.declared.pair_steps.PairedComponent.{PairedComponent}
-use Rattle.pals_model.specs.declared.sources.PortSource.TheVariants as source
+use Rattle.pals_model.specs.declared.port_sources.PortSource.TheVariants as source
 
 -- a component of a pair: the number of its partner, and where its in ports read from
 pub record Seat : Type 0 where

@@ -3,7 +3,7 @@ use Rattle.std.specs.Prelude.{◌≡◌, ◌↔◌, ℕ, IfSome}
 use Rattle.pals_runs.specs.declared.journal.Phase.TheVariants.{Done}
 use Rattle.bus_machine.specs.Plans.{plan_of}
 use Rattle.bus_machine.specs.States.{node_at}
-use Rattle.bus_machine.specs.Targets.{target}
+use Rattle.bus_machine.specs.ActionsAndTargets.{target}
 use Rattle.run_laws.specs.Runs.{HasEnded}
 use Rattle.run_laws.specs.proof.RunQuantifiers.{InListRuns}
 use Rattle.run_laws.specs.NodeLinkQuantifiers.{EachNode, EachLink}

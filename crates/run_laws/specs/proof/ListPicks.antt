@@ -6,7 +6,7 @@ use Rattle.bus_machine.specs.declared.plan.Plan.{Plan}
 use Rattle.bus_machine.specs.Plans.{plan_of}
 use Rattle.bus_machine.specs.Nodes.{NodeState}
 use Rattle.bus_machine.specs.States.{node_at}
-use Rattle.bus_machine.specs.Targets.{targets}
+use Rattle.bus_machine.specs.ActionsAndTargets.{targets}
 use Rattle.run_laws.specs.JournalReadings.{acts}
 use Rattle.run_laws.specs.NodeActions.{Follows}
 use Rattle.run_laws.specs.Runs.{clock_at}

@@ -10,7 +10,7 @@ use Rattle.bus_machine.specs.States.{finished_by_all}
 use Rattle.run_laws.specs.TextLines.{lines_of}
 use Rattle.run_laws.specs.TraceVerdicts.{verdict}
 use Rattle.run_laws.specs.proof.RunQuantifiers.{InRuns}
-use Rattle.run_laws.specs.Histories.{IsStoppedOrDone, trace_of}
+use Rattle.run_laws.specs.HistoriesAndTraces.{IsStoppedOrDone, trace_of}
 use Rattle.run_laws.specs.Runs.{clock_at}
 
 -- no reading of a list is greater than a reading may be

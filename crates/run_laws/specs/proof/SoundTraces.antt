@@ -10,13 +10,13 @@ use Rattle.pals_runs.specs.declared.verdicts.Verdict.TheVariants.{Sound}
 use Rattle.bus_machine.specs.Plans.{plan_of}
 use Rattle.bus_machine.specs.States.{Run, BusState, finished_by_all}
 use Rattle.bus_machine.specs.Replay.{Replays}
-use Rattle.bus_machine.specs.proof.MachineLaws.{IsRunOf}
+use Rattle.bus_machine.specs.proof.AgreementLaws.{IsRunOf}
 use Rattle.run_laws.specs.EntriesInLines.{told}
 use Rattle.run_laws.specs.TraceVerdicts.{verdict}
 use Rattle.run_laws.specs.proof.RunQuantifiers.{InRuns}
 use Rattle.run_laws.specs.proof.RisingReadings.{LinesRise}
 use Rattle.run_laws.specs.proof.RunTraces.{AreReadings}
-use Rattle.run_laws.specs.Histories.{History, IsStoppedOrDone, IsTraceOf, trace_of}
+use Rattle.run_laws.specs.HistoriesAndTraces.{History, IsStoppedOrDone, IsTraceOf, trace_of}
 use Rattle.pals_runs.specs.declared.journal.Stop.TheVariants as stop
 use Rattle.pals_runs.specs.declared.journal.JournalEntry.TheVariants as entry
 

@@ -4,7 +4,7 @@ use Rattle.std.specs.Prelude.{◌≡◌, ◌≢◌, ◌⊎◌, ℕ, ◌<◌, Boo
 use Rattle.std.specs.Prelude.{None, slice_get}
 use Rattle.pals_base.specs.declared.values.NodeNo.{NodeNo}
 use Rattle.pals_model.specs.RoundTexts.{line_end, text_of}
-use Rattle.pals_report.specs.ClocksAndVerdicts.{clock_end_line}
+use Rattle.pals_report.specs.ClockEndsAndVerdicts.{clock_end_line}
 use Rattle.pals_runs.specs.JournalLines.{entry_line}
 use Rattle.pals_bus.specs.BusValues.{BusValue}
 use Rattle.loose_world.specs.proof.FinishedRows.{common_lines}

@@ -4,7 +4,7 @@ use Rattle.pals_model.specs.declared.design.DesignParts.{DesignParts}
 use Rattle.pals_model.specs.DesignRules.{IsDesign}
 use Rattle.pals_runs.specs.declared.commands.Command.{Command}
 use Rattle.scenario_json.specs.declared.scenario.Scenario.{Scenario}
-use Rattle.scenario_json.specs.proof.ScenarioFacts.{IsScenarioOf}
+use Rattle.scenario_json.specs.proof.ScenarioValidity.{IsScenarioOf}
 use Rattle.scenario_json.specs.Scenarios.{Means}
 
 -- its rounds, inputs, clocks, delays, faults and processors suit the design

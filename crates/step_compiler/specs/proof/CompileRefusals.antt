@@ -4,8 +4,8 @@ use Rattle.pals_base.specs.declared.behaviour.BehaviourParts.{BehaviourParts}
 use Rattle.pals_base.specs.declared.limits.TheConstants.{INSTRUCTIONS}
 use Rattle.step_code.specs.CappedWeights.{capped}
 use Rattle.step_code.specs.CodeLengths.{code_length}
-use Rattle.step_compiler.specs.declared.fault.CompileFault.{CompileFault}
-use Rattle.step_compiler.specs.declared.fault.CompileFault.TheVariants as fault
+use Rattle.step_compiler.specs.declared.compile_fault.CompileFault.{CompileFault}
+use Rattle.step_compiler.specs.declared.compile_fault.CompileFault.TheVariants as fault
 
 -- its code is too long, or there was not enough memory for one that is not
 abbrev pub IsCauseFor : BehaviourParts → CompileFault → Type 0

@@ -1,7 +1,7 @@
 -- A list of events in a world.
 use Rattle.std.specs.Prelude.{◌≡◌, ℕ, ◌≤◌, List, length, take, Some, slice_get}
-use Rattle.pals_runs.specs.declared.events.Event.{Event}
-use Rattle.pals_runs.specs.declared.events.EventFault.{EventFault}
+use Rattle.pals_runs.specs.declared.events_and_faults.Event.{Event}
+use Rattle.pals_runs.specs.declared.events_and_faults.EventFault.{EventFault}
 use Rattle.run_laws.specs.EventFaults.{fault_of, IsWithin}
 use Rattle.run_laws.specs.EventLists.{world_left}
 use Rattle.timed_world.specs.proof.WorldValues.{WorldValue, world_of}

@@ -1,12 +1,12 @@
 -- Which fault a message in flight is to a passing of time: it would fly past its last allowed time.
 use Rattle.std.specs.Prelude.{ℕ, if◌then◌else◌, Option, Some, None}
-use Rattle.pals_runs.specs.declared.events.EventFault.{EventFault}
+use Rattle.pals_runs.specs.declared.events_and_faults.EventFault.{EventFault}
 use Rattle.bus_machine.specs.LinkEvents.{is_in_flight}
 use Rattle.bus_machine.specs.States.{Run, flight_at}
 use Rattle.run_laws.specs.Worlds.{World}
 use Rattle.run_laws.specs.Deadlines.{message_deadline}
 use Rattle.run_laws.specs.EventFaults.{past}
-use Rattle.pals_runs.specs.declared.events.EventSubject.TheVariants as which
+use Rattle.pals_runs.specs.declared.events_and_faults.EventSubject.TheVariants as which
 
 -- it is in flight beyond its last allowed time
 abbrev pub flying_past : Run → World → ℕ → ℕ → ℕ → Option EventFault

@@ -1,7 +1,7 @@
 -- What a replay keeps of an audit: the bus, the readings, and an owed stop.
 use Rattle.std.specs.Prelude.{◌≡◌, ◌<◌, true, false, length, Option, option_map, IfSome}
 use Rattle.pals_runs.specs.declared.journal.JournalEntry.{JournalEntry}
-use Rattle.run_laws.specs.Entries.{IsEntryIn}
+use Rattle.run_laws.specs.EntriesOfDesigns.{IsEntryIn}
 use Rattle.run_laws.specs.EntriesInLines.{has_reading, timed}
 use Rattle.run_laws.specs.TraceVerdicts.{Audit, audit_after}
 use Rattle.trace_audit.specs.declared.entry_clocks.ClockReading.{ClockReading}

@@ -1,13 +1,13 @@
 -- How far the rows of a report are made.
 use Rattle.std.specs.Prelude.{◌≡◌, ◌≢◌, ℕ, ◌+◌, ◌/◌, ◌%◌, List, length, drop}
 use Rattle.pals_model.specs.declared.design.DesignParts.{DesignParts}
-use Rattle.pals_model.specs.declared.inputs_and_parts.Env.{Env}
+use Rattle.pals_model.specs.declared.inputs_parts_and_delays.Env.{Env}
 use Rattle.pals_model.specs.RoundTexts.{composed_lines}
 use Rattle.pals_report.specs.proof.TapPlaces.{tap_places}
 use Rattle.sync_product.specs.proof.ProductStates.{state_after}
 use Rattle.run_laws.specs.TraceVerdicts.{row_size}
 use Rattle.trace_audit.specs.declared.audited_rows.AuditedRows.{AuditedRows}
-use Rattle.trace_audit.specs.proof.RemainingLines.{HasLeft}
+use Rattle.trace_audit.specs.proof.RemainingRowLines.{HasLeft}
 
 -- the composition after this many rounds, and room for a round's values
 pub record AreRows (design : DesignParts) (env : Env) (r : AuditedRows) (rounds : ℕ) : Type 0 where

@@ -10,13 +10,13 @@ use Rattle.pals_model.specs.declared.design.Component.{Component}
 use Rattle.pals_model.specs.declared.design.Link.{Link}
 use Rattle.pals_model.specs.declared.design.Tap.{Tap}
 use Rattle.pals_model.specs.declared.design.DesignParts.{DesignParts}
-use Rattle.pals_model.specs.declared.inputs_and_parts.Part.{Part}
+use Rattle.pals_model.specs.declared.inputs_parts_and_delays.Part.{Part}
 use Rattle.pals_model.specs.ComponentInputs.{rate_of, inputs_of}
 use Rattle.pals_model.specs.Composition.{no_frame, opening}
-use Rattle.sync_product.specs.declared.stage.Stage.{Stage}
+use Rattle.sync_product.specs.declared.component_stage.Stage.{Stage}
 use Rattle.sync_product.specs.proof.ProductSizes.{PartSize, part_size, part_size_of, message_sizes}
 use Rattle.sync_product.specs.proof.Rounds.{frames_of, sent_by}
-use Rattle.triple_vote.specs.declared.layer.Layer.{Layer}
+use Rattle.triple_vote.specs.declared.replica_lane.Layer.{Layer}
 
 -- ---- room
 abbrev pub lengths : List (List PortValue) → List ℕ

@@ -6,15 +6,15 @@ use Rattle.pals_base.specs.declared.values.Frame.{Frame}
 use Rattle.pals_model.specs.declared.design.Link.{Link}
 use Rattle.pals_model.specs.declared.design.Tap.{Tap}
 use Rattle.pals_model.specs.declared.design.DesignParts.{DesignParts}
-use Rattle.pals_model.specs.declared.inputs_and_parts.Part.{Part}
-use Rattle.pals_model.specs.declared.sources.PortSource.{PortSource}
+use Rattle.pals_model.specs.declared.inputs_parts_and_delays.Part.{Part}
+use Rattle.pals_model.specs.declared.port_sources.PortSource.{PortSource}
 use Rattle.pals_model.specs.ComponentInputs.{all_sources}
 use Rattle.pals_model.specs.Composition.{no_frame, opening}
 use Rattle.pals_runs.specs.declared.vote_faults_and_pairs.VoteFault.{VoteFault}
-use Rattle.sync_product.specs.declared.stage.Stage.{Stage}
+use Rattle.sync_product.specs.declared.component_stage.Stage.{Stage}
 use Rattle.sync_product.specs.proof.ProductSizes.{stage_size, stage_sizes, message_sizes}
 use Rattle.sync_product.specs.proof.Rounds.{frames_of}
-use Rattle.triple_vote.specs.declared.layer.Layer.{Layer}
+use Rattle.triple_vote.specs.declared.replica_lane.Layer.{Layer}
 use Rattle.triple_vote.specs.Replicas.{is_replicated, copies_of, Voted, for_replicas, for_receivers, is_fault, fault_or}
 use Rattle.triple_vote.specs.Replicas.{vote_of}
 use Rattle.triple_vote.specs.proof.ReplicaLayers.{lengths, tap_sizes, HasRoom, is_there, IsMade}

@@ -5,15 +5,15 @@ use Rattle.pals_model.specs.declared.design.Component.{Component}
 use Rattle.pals_model.specs.declared.design.DesignParts.{DesignParts}
 use Rattle.pals_model.specs.proof.TwoCounters.{two_counters}
 use Rattle.pals_model.specs.ComponentInputs.{no_env}
-use Rattle.pals_runs.specs.declared.events.Event.{Event}
-use Rattle.pals_runs.specs.declared.events.Event.TheVariants.{Pass, Start, Step, Finish, Send, Arrive}
+use Rattle.pals_runs.specs.declared.events_and_faults.Event.{Event}
+use Rattle.pals_runs.specs.declared.events_and_faults.Event.TheVariants.{Pass, Start, Step, Finish, Send, Arrive}
 use Rattle.bus_machine.specs.States.{Run}
 use Rattle.run_laws.specs.Worlds.{world_run}
 use Rattle.bus_machine.specs.proof.StoppedCounterRuns.{a, b, to_a, to_b}
-use Rattle.run_laws.specs.proof.CounterWorlds.{counters_world, refused}
+use Rattle.run_laws.specs.proof.TwoCounterWorlds.{counters_world, refused}
 use Rattle.world_gen.specs.proof.Schedules.{schedule_at}
-use Rattle.pals_runs.specs.declared.events.EventFault.TheVariants as fault
-use Rattle.pals_runs.specs.declared.events.EventSubject.TheVariants as which
+use Rattle.pals_runs.specs.declared.events_and_faults.EventFault.TheVariants as fault
+use Rattle.pals_runs.specs.declared.events_and_faults.EventSubject.TheVariants as which
 
 abbrev both : ℕ → Event
 both at = Pass at (at ∷ at ∷ [])

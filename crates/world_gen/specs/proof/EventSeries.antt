@@ -7,14 +7,14 @@ use Rattle.pals_base.specs.declared.values.LinkNo.{LinkNo}
 use Rattle.pals_base.specs.declared.limits.TheConstants.{READING}
 use Rattle.pals_base.specs.StepSequences.{upwards}
 use Rattle.pals_model.specs.declared.design.DesignParts.{DesignParts}
-use Rattle.pals_runs.specs.declared.events.Event.{Event}
+use Rattle.pals_runs.specs.declared.events_and_faults.Event.{Event}
 use Rattle.bus_machine.specs.Plans.{plan_of}
 use Rattle.run_laws.specs.Deadlines.{lesser}
 use Rattle.world_gen.specs.declared.event_series.EventKind.{EventKind}
 use Rattle.world_gen.specs.declared.event_series.EventKind.TheVariants.{Begin, Finish, Send, Arrive}
 use Rattle.world_gen.specs.declared.event_series.EventSeries.{EventSeries}
 use Rattle.world_gen.specs.proof.Schedules.{which, event_of, step_count, begins, send_time, arrive_time}
-use Rattle.pals_runs.specs.declared.events.Event.TheVariants as event
+use Rattle.pals_runs.specs.declared.events_and_faults.Event.TheVariants as event
 
 -- ---- a course
 -- a node that begins steps makes some in a round

@@ -5,10 +5,10 @@ use Rattle.std.specs.Prelude.{◌∷◌, ◌++◌, length, replicate, flat_map, 
 use Rattle.pals_base.specs.PeriodBound.{alarm}
 use Rattle.pals_base.specs.StepSequences.{upwards}
 use Rattle.pals_model.specs.declared.design.DesignParts.{DesignParts}
-use Rattle.pals_runs.specs.declared.events.Event.{Event}
+use Rattle.pals_runs.specs.declared.events_and_faults.Event.{Event}
 use Rattle.bus_machine.specs.Plans.{plan_of}
 use Rattle.bus_machine.specs.States.{link_at}
-use Rattle.pals_runs.specs.declared.events.Event.TheVariants as event
+use Rattle.pals_runs.specs.declared.events_and_faults.Event.TheVariants as event
 
 -- ---- when things come
 -- step i of round r of a node, where its steps are numbered through all rounds

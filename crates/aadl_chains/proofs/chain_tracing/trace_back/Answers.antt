@@ -6,7 +6,7 @@ use Rattle.aadl_chains.specs.proof.OutermostFirstWalks.{crossing}
 use Rattle.aadl_chains.specs.proof.TracedChains.{Traces}
 use Rattle.aadl_chains.proofs.OutermostFirstWalks.{crossing_from}
 use Rattle.aadl_chains.proofs.TracedChains.{traces_nothing}
-use Rattle.aadl_chains.proofs.WholeWalks.{root_route, over_route}
+use Rattle.aadl_chains.proofs.WalksUpAndDown.{root_route, over_route}
 use Rattle.aadl_chains.proofs.chain_tracing.trace_back.Goals as goal
 
 pub lower_of-lower-requires : goal.lower_of-lower-requires

@@ -4,7 +4,7 @@ use Rattle.aadl_chains.specs.Chains.{Port}
 use Rattle.aadl_chains.specs.proof.TracedChains.{TracesTap}
 use Rattle.aadl_chains.proofs.FirstIncomingConnections.{inner_of}
 use Rattle.aadl_chains.proofs.TracedChains.{no_tap}
-use Rattle.aadl_chains.proofs.WholeWalks.{tap_route}
+use Rattle.aadl_chains.proofs.WalksUpAndDown.{tap_route}
 use Rattle.aadl_chains.proofs.chain_tracing.trace_tap.Goals as goal
 
 pub lower_of-lower-requires : goal.lower_of-lower-requires

@@ -1,5 +1,5 @@
 use Rattle.aadl_tree.specs.proof.PackageViews.{placed}
-use Rattle.aadl_chains.specs.proof.FoundFaults.{FindsAll}
+use Rattle.aadl_chains.specs.proof.ConnectionFaults.{FindsAll}
 use Rattle.aadl_chains.proofs.EndFaults.{FoundBelow}
 use Rattle.aadl_chains.proofs.connection_faults.check_all.Given as goal
 

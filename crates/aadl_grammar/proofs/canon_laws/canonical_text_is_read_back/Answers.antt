@@ -1,6 +1,6 @@
 use Rattle.std.proofs.Common.{sym, subst, ℕ, List}
 use Rattle.std.proofs.Math.Logic.{∥∥₁_map}
-use Rattle.aadl_tree.specs.Canon.{canon}
+use Rattle.aadl_tree.specs.CanonicalText.{canon}
 use Rattle.aadl_tree.specs.Declarations.{PackageTree}
 use Rattle.aadl_tree.specs.proof.PlaceMaps.{package_to, kept_place, no_place}
 use Rattle.aadl_tree.specs.proof.PackageViews.{placed}

@@ -1,4 +1,4 @@
-use Rattle.aadl_tree.specs.Marks.{keywords_outside, keywords_inside}
+use Rattle.aadl_tree.specs.KeywordsAndSymbols.{keywords_outside, keywords_inside}
 use Rattle.aadl_grammar.specs.proof.StackMachine.{whole_package, annex_body}
 use Rattle.aadl_grammar.proofs.OnlyListedKeywords.{listed_if_it_comes, outside_first, outside_stays, outside_fine}
 use Rattle.aadl_grammar.proofs.OnlyListedKeywords.{inside_first, inside_stays, inside_fine}

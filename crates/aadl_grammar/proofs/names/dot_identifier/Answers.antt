@@ -1,8 +1,8 @@
 use Rattle.std.proofs.Common.{◌∙◌, arith, refl}
-use Rattle.aadl_grammar.specs.proof.Symbols as s
+use Rattle.aadl_grammar.specs.proof.GrammarSymbols as s
 use Rattle.aadl_grammar.specs.proof.StackMachine.{move, depth}
 use Rattle.aadl_grammar.specs.proof.ParserAnswers.{here}
-use Rattle.aadl_grammar.proofs.SymbolMoves.{takes_row, omits_unless, exits, no_reads, along}
+use Rattle.aadl_grammar.proofs.TopSymbolMoves.{takes_row, omits_unless, exits, no_reads, along}
 use Rattle.aadl_grammar.proofs.PartSequences.{nothing, marked}
 use Rattle.aadl_grammar.proofs.names.dot_identifier.Goals as goal
 

@@ -1,13 +1,13 @@
 use Rattle.std.proofs.Common.{◌∙◌, ◌∷◌, [], ◌++◌, ap, sym, refl, arith, map}
 use Rattle.aadl_grammar.specs.proof.ParserAnswers.{here}
-use Rattle.aadl_grammar.proofs.SymbolMoves.{takes_row, omits_unless, begins_as, along, exits, no_reads}
+use Rattle.aadl_grammar.proofs.TopSymbolMoves.{takes_row, omits_unless, begins_as, along, exits, no_reads}
 use Rattle.aadl_grammar.proofs.PartSequences.{then, respelled, regroup}
 use Rattle.std.specs.Prelude.{flat_map}
 use Rattle.aadl_tree.specs.Names.{identifier_parts, qualifier_parts}
 use Rattle.aadl_tree.specs.proof.NameViews.{identifier_view}
 use Rattle.aadl_tree.specs.proof.PlaceMaps.{kept_place}
-use Rattle.aadl_grammar.proofs.QualifiedReferences.{qualified}
-use Rattle.aadl_grammar.specs.proof.Symbols as s
+use Rattle.aadl_grammar.proofs.ReferenceLoop.{qualified}
+use Rattle.aadl_grammar.specs.proof.GrammarSymbols as s
 use Rattle.aadl_grammar.specs.proof.StackMachine.{move, depth}
 use Rattle.aadl_grammar.proofs.names.reference.Goals as goal
 

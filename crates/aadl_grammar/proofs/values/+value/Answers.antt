@@ -1,7 +1,7 @@
 use Rattle.std.proofs.Common.{◌∙◌, ◌∷◌, [], ◌++◌, ap, sym, refl, arith}
 use Rattle.aadl_grammar.specs.proof.ParserAnswers.{here}
-use Rattle.aadl_grammar.proofs.SymbolMoves.{takes_row, deep_row, omits_unless, begins_as, enters_as, before_closer}
-use Rattle.aadl_grammar.proofs.SymbolMoves.{misses_at, along, exits, no_reads, too_deep, flag_runs, only_takes}
+use Rattle.aadl_grammar.proofs.TopSymbolMoves.{takes_row, deep_row, omits_unless, begins_as, enters_as, before_closer}
+use Rattle.aadl_grammar.proofs.TopSymbolMoves.{misses_at, along, exits, no_reads, too_deep, flag_runs, only_takes}
 use Rattle.aadl_grammar.proofs.PartSequences.{nothing, then, marked, respelled, shorter, flagged}
 use Rattle.aadl_tree.specs.SpellingParts.{plain}
 use Rattle.aadl_tree.specs.Values.{reference, classifier, value_parts, values_parts, association_parts}
@@ -11,10 +11,10 @@ use Rattle.aadl_tree.specs.proof.ValueViews.{values_view, associations_view}
 use Rattle.aadl_tree.specs.proof.PlaceMaps.{kept_place}
 use Rattle.aadl_tree.proofs.ValueViews.{view-List, view-Record, view-Reference, view-Classifier, view-association}
 use Rattle.aadl_grammar.specs.proof.ParseTable.{rows}
-use Rattle.aadl_grammar.proofs.PropertyLists.{values_push, associations_push, with_room, starts_at}
-use Rattle.aadl_grammar.proofs.PropertyLists.{association_begun}
+use Rattle.aadl_grammar.proofs.ValueAndPropertyLists.{values_push, associations_push, with_room, starts_at}
+use Rattle.aadl_grammar.proofs.ValueAndPropertyLists.{association_begun}
 use Rattle.aadl_tree.specs.declared.mark.Mark.TheVariants as k
-use Rattle.aadl_grammar.specs.proof.Symbols as s
+use Rattle.aadl_grammar.specs.proof.GrammarSymbols as s
 use Rattle.aadl_grammar.specs.proof.StackMachine.{move, depth}
 use Rattle.aadl_grammar.proofs.values.+value.Goals as goal
 

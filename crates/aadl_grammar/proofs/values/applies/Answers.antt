@@ -1,6 +1,6 @@
 use Rattle.std.proofs.Common.{◌∙◌, ◌∷◌, [], ◌++◌, ap, sym, refl, arith, rules, map, Some, None}
 use Rattle.aadl_grammar.specs.proof.ParserAnswers.{here, AnyRoom}
-use Rattle.aadl_grammar.proofs.SymbolMoves.{takes_row, omits_unless, along, exits, no_reads}
+use Rattle.aadl_grammar.proofs.TopSymbolMoves.{takes_row, omits_unless, along, exits, no_reads}
 use Rattle.aadl_grammar.proofs.PartSequences.{nothing, then, marked, respelled, begun}
 use Rattle.aadl_grammar.proofs.ListSymbols.{path_list, spelled, items_of, list_from, same_answer, item_advances}
 use Rattle.aadl_tree.specs.declared.mark.Mark.TheVariants as k
@@ -8,7 +8,7 @@ use Rattle.aadl_tree.specs.Names.{path_parts}
 use Rattle.aadl_tree.specs.Values.{applies_parts}
 use Rattle.aadl_tree.specs.proof.NameViews.{path_view}
 use Rattle.aadl_tree.specs.proof.PlaceMaps.{kept_place}
-use Rattle.aadl_grammar.specs.proof.Symbols as s
+use Rattle.aadl_grammar.specs.proof.GrammarSymbols as s
 use Rattle.aadl_grammar.specs.proof.StackMachine.{move, depth}
 use Rattle.aadl_grammar.proofs.values.applies.Goals as goal
 

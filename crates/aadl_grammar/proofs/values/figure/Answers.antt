@@ -2,11 +2,11 @@ use mir.Syntax.{w64}
 use mir.Val.{to_z, of_z, SFits}
 use Rattle.std.proofs.Common.{◌≡◌, ◌∙◌, ◌∷◌, [], ap, sym, refl, arith, rules, to_z-of_z}
 use Rattle.aadl_grammar.specs.proof.ParserAnswers.{here}
-use Rattle.aadl_grammar.proofs.SymbolMoves.{takes_row, refuses_unless}
+use Rattle.aadl_grammar.proofs.TopSymbolMoves.{takes_row, refuses_unless}
 use Rattle.aadl_grammar.proofs.PartSequences.{nothing, told, respelled}
 use Rattle.aadl_tree.specs.Terminals.{whole, real}
 use Rattle.aadl_tree.specs.SpellingParts.{token}
-use Rattle.aadl_grammar.specs.proof.Symbols as s
+use Rattle.aadl_grammar.specs.proof.GrammarSymbols as s
 use Rattle.aadl_grammar.specs.proof.StackMachine.{move, depth, syntax_at}
 use Rattle.aadl_grammar.proofs.values.figure.Goals as goal
 

@@ -1,13 +1,13 @@
 use Rattle.std.proofs.Common.{◌∙◌, ◌∷◌, [], ap, sym, refl, arith}
 use Rattle.aadl_grammar.specs.proof.ParserAnswers.{here}
-use Rattle.aadl_grammar.proofs.SymbolMoves.{takes_row, begins_past, acts_as, along, exits, no_reads}
+use Rattle.aadl_grammar.proofs.TopSymbolMoves.{takes_row, begins_past, acts_as, along, exits, no_reads}
 use Rattle.aadl_grammar.proofs.PartSequences.{nothing, then, told, respelled}
 use Rattle.aadl_tree.specs.Values.{named, value_parts}
 use Rattle.aadl_tree.specs.proof.NameViews.{reference_view}
 use Rattle.aadl_tree.specs.proof.PlaceMaps.{kept_place}
 use Rattle.aadl_tree.proofs.ValueViews.{view-Text, view-Named, view-Number}
-use Rattle.aadl_grammar.proofs.PropertyLists.{value_own, starts_at}
-use Rattle.aadl_grammar.specs.proof.Symbols as s
+use Rattle.aadl_grammar.proofs.ValueAndPropertyLists.{value_own, starts_at}
+use Rattle.aadl_grammar.specs.proof.GrammarSymbols as s
 use Rattle.aadl_grammar.specs.proof.StackMachine.{move, depth}
 use Rattle.aadl_grammar.proofs.values.plain_value.Goals as goal
 

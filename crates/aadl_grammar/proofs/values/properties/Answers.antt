@@ -1,14 +1,14 @@
 use Rattle.std.proofs.Common.{◌∙◌, ◌∷◌, [], ap, sym, refl, arith}
 use Rattle.aadl_grammar.specs.proof.ParserAnswers.{here}
-use Rattle.aadl_grammar.proofs.SymbolMoves.{takes_row, deep_row, omits_unless, refuses_unless, begins_as, enters_as}
-use Rattle.aadl_grammar.proofs.SymbolMoves.{along, exits, no_reads, too_deep}
+use Rattle.aadl_grammar.proofs.TopSymbolMoves.{takes_row, deep_row, omits_unless, refuses_unless, begins_as, enters_as}
+use Rattle.aadl_grammar.proofs.TopSymbolMoves.{along, exits, no_reads, too_deep}
 use Rattle.aadl_grammar.proofs.PartSequences.{nothing, respelled}
 use Rattle.aadl_tree.specs.Values.{properties_parts}
 use Rattle.aadl_tree.specs.proof.ValueViews.{associations_view}
 use Rattle.aadl_tree.specs.proof.PlaceMaps.{kept_place}
-use Rattle.aadl_grammar.proofs.PropertyLists.{starts_at, braced}
+use Rattle.aadl_grammar.proofs.ValueAndPropertyLists.{starts_at, braced}
 use Rattle.aadl_tree.specs.declared.mark.Mark.TheVariants as k
-use Rattle.aadl_grammar.specs.proof.Symbols as s
+use Rattle.aadl_grammar.specs.proof.GrammarSymbols as s
 use Rattle.aadl_grammar.specs.proof.StackMachine.{move, depth, syntax_at}
 use Rattle.aadl_grammar.proofs.values.properties.Goals as goal
 

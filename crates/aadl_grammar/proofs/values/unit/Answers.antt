@@ -1,11 +1,11 @@
 use Rattle.std.proofs.Common.{ap, sym, refl, arith}
 use Rattle.aadl_grammar.specs.proof.ParserAnswers.{here}
-use Rattle.aadl_grammar.proofs.SymbolMoves.{takes_row, omits_unless, a_word_at}
+use Rattle.aadl_grammar.proofs.TopSymbolMoves.{takes_row, omits_unless, a_word_at}
 use Rattle.aadl_grammar.proofs.PartSequences.{nothing, named, respelled}
 use Rattle.aadl_tree.specs.Names.{identifier_parts}
 use Rattle.aadl_tree.specs.proof.NameViews.{identifier_view}
 use Rattle.aadl_tree.specs.proof.PlaceMaps.{kept_place}
-use Rattle.aadl_grammar.specs.proof.Symbols as s
+use Rattle.aadl_grammar.specs.proof.GrammarSymbols as s
 use Rattle.aadl_grammar.specs.proof.StackMachine.{move, depth}
 use Rattle.aadl_grammar.proofs.values.unit.Goals as goal
 

@@ -6,7 +6,7 @@ use Rattle.aadl_tree.specs.proof.DeclarationViews.{feature_view}
 use Rattle.aadl_names.specs.ReferenceResolution.{implementation_at, ports_at}
 use Rattle.aadl_instance.specs.proof.ChainsSoFar.{paths_of}
 use Rattle.aadl_instance.proofs.ChainsSoFar.{thread_listed, into_thread}
-use Rattle.aadl_instance.proofs.ChainEnds.{stands}
+use Rattle.aadl_instance.proofs.ChainEndNumbers.{stands}
 use Rattle.aadl_instance.proofs.chain_search.add_thread.Goals as goal
 
 pub unreachable-requires : goal.unreachable-requires

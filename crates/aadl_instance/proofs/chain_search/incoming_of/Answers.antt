@@ -3,7 +3,7 @@ use Rattle.std.proofs.lemmas.List.{length-map}
 use Rattle.aadl_tree.specs.proof.PackageViews.{placed}
 use Rattle.aadl_instance.specs.proof.ChainsSoFar.{paths_of}
 use Rattle.aadl_instance.proofs.ChainsSoFar.{into_start, links_whole, feeds_whole}
-use Rattle.aadl_instance.proofs.ChainEnds.{path_at}
+use Rattle.aadl_instance.proofs.ChainEndNumbers.{path_at}
 use Rattle.aadl_instance.proofs.chain_search.incoming_of.Goals as goal
 
 pub loop-number-init : goal.loop-number-init

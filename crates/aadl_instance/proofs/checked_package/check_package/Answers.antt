@@ -7,7 +7,7 @@ use Rattle.aadl_names.specs.FirstFaults.{IsFirstByLine}
 use Rattle.aadl_names.specs.ReferenceResolution.{root_number}
 use Rattle.aadl_instance.specs.declared.checked_package.Checked.{Checked}
 use Rattle.aadl_instance.specs.Faults.{FoundIn, IsFault, IsRoot}
-use Rattle.aadl_instance.specs.proof.FaultlessPackages.{IsChecked}
+use Rattle.aadl_instance.specs.proof.CheckedPackages.{IsChecked}
 use Rattle.aadl_instance.proofs.FaultPrecedence.{matched, no_root, root_fault}
 use Rattle.aadl_instance.proofs.Roots.{is_root_at}
 use Rattle.aadl_instance.proofs.checked_package.check_package.Goals as goal

@@ -1,7 +1,7 @@
 use Rattle.std.proofs.Common.{inr, refl, subst}
 use Rattle.aadl_tree.specs.proof.PackageViews.{placed}
 use Rattle.aadl_instance.specs.declared.checked_package.Checked.{Checked}
-use Rattle.aadl_instance.specs.proof.FaultlessPackages.{FindsFault}
+use Rattle.aadl_instance.specs.proof.CheckedPackages.{FindsFault}
 use Rattle.aadl_instance.proofs.Roots.{root_declared}
 use Rattle.aadl_instance.proofs.checked_package.check_wires.Goals as goal
 

@@ -3,7 +3,7 @@ use Rattle.aadl_tree.specs.proof.PackageViews.{placed}
 use Rattle.aadl_uses.specs.declared.package_wires.Wires.{Wires}
 use Rattle.aadl_instance.specs.Instances.{IsInstance}
 use Rattle.aadl_instance.specs.proof.ChainsSoFar.{paths_of}
-use Rattle.aadl_instance.proofs.FaultlessInstances.{all_listed, all_stand, settled, instance_is, threads_same}
+use Rattle.aadl_instance.proofs.InstanceThreadsAndChains.{all_listed, all_stand, settled, instance_is, threads_same}
 use Rattle.aadl_instance.proofs.flattening.instance_of.Goals as goal
 
 pub threads_at-requires : goal.threads_at-requires

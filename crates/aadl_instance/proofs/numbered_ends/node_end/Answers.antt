@@ -8,7 +8,7 @@ use Rattle.aadl_instance.specs.proof.PortNumberTables.{number_in}
 use Rattle.aadl_instance.specs.proof.ChainsSoFar.{paths_of}
 use Rattle.aadl_instance.proofs.PortNumberTables.{few_before}
 use Rattle.aadl_instance.proofs.ChainsSoFar.{thread_listed}
-use Rattle.aadl_instance.proofs.ChainEnds.{node_is, thread_shown, few_at, open_at}
+use Rattle.aadl_instance.proofs.ChainEndNumbers.{node_is, thread_shown, few_at, open_at}
 use Rattle.aadl_instance.proofs.numbered_ends.node_end.Goals as goal
 
 pub overflow_cast-result : goal.overflow_cast-result

@@ -1,4 +1,4 @@
-use Rattle.aadl_names.proofs.PlaceOrder.{places_rise}
+use Rattle.aadl_names.proofs.RisingPlaces.{places_rise}
 use Rattle.aadl_names.proofs.place_laws.places_rise.Goals as goal
 
 pub returns : goal.returns

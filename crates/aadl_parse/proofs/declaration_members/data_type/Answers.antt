@@ -1,9 +1,9 @@
 use Rattle.std.proofs.Common.{◌∙◌, [], refl, arith}
 use Rattle.aadl_grammar.specs.proof.ParserAnswers.{here}
-use Rattle.aadl_grammar.proofs.SymbolMoves.{omits_unless, enters_as, along, exits, no_reads}
+use Rattle.aadl_grammar.proofs.TopSymbolMoves.{omits_unless, enters_as, along, exits, no_reads}
 use Rattle.aadl_grammar.proofs.PartSequences.{nothing}
-use Rattle.aadl_grammar.proofs.PropertyLists.{starts_at}
-use Rattle.aadl_grammar.specs.proof.Symbols as s
+use Rattle.aadl_grammar.proofs.ValueAndPropertyLists.{starts_at}
+use Rattle.aadl_grammar.specs.proof.GrammarSymbols as s
 use Rattle.aadl_grammar.specs.proof.StackMachine.{move, depth}
 use Rattle.aadl_parse.proofs.declaration_members.data_type.Goals as goal
 

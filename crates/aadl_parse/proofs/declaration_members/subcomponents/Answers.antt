@@ -3,7 +3,7 @@ use Rattle.aadl_tree.specs.SpellingParts.{subcomponent_section}
 use Rattle.aadl_tree.specs.Declarations.{section_parts, subcomponent_parts}
 use Rattle.aadl_tree.specs.proof.DeclarationViews.{subcomponent_view}
 use Rattle.aadl_tree.specs.proof.PlaceMaps.{kept_place}
-use Rattle.aadl_grammar.specs.proof.Symbols as s
+use Rattle.aadl_grammar.specs.proof.GrammarSymbols as s
 use Rattle.aadl_grammar.specs.proof.ParserAnswers.{Room}
 use Rattle.aadl_grammar.proofs.PartSequences.{begun}
 use Rattle.aadl_grammar.proofs.ListSymbols.{word_list, spelled, items_of, same_answer, respelled_answer, item_advances}

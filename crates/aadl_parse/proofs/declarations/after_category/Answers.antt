@@ -1,8 +1,8 @@
 use Rattle.std.proofs.Common.{◌∙◌, ◌∷◌, ap, sym, refl, arith}
 use Rattle.aadl_grammar.specs.proof.ParserAnswers.{here}
-use Rattle.aadl_grammar.proofs.SymbolMoves.{takes_row, refuses_unless, along, exits, no_reads, a_word_at}
+use Rattle.aadl_grammar.proofs.TopSymbolMoves.{takes_row, refuses_unless, along, exits, no_reads, a_word_at}
 use Rattle.aadl_grammar.proofs.PartSequences.{then, marked, named}
-use Rattle.aadl_grammar.specs.proof.Symbols as s
+use Rattle.aadl_grammar.specs.proof.GrammarSymbols as s
 use Rattle.aadl_grammar.specs.proof.StackMachine.{move, depth, syntax_at}
 use Rattle.aadl_parse.proofs.declarations.after_category.Goals as goal
 

@@ -1,12 +1,12 @@
 use Rattle.std.proofs.Common.{◌∙◌, ◌∷◌, [], refl, arith}
 use Rattle.aadl_grammar.specs.proof.ParserAnswers.{here}
-use Rattle.aadl_grammar.proofs.SymbolMoves.{omits_unless, enters_as, along, exits, no_reads}
+use Rattle.aadl_grammar.proofs.TopSymbolMoves.{omits_unless, enters_as, along, exits, no_reads}
 use Rattle.aadl_grammar.proofs.PartSequences.{pushed}
 use Rattle.aadl_tree.specs.Annexes.{annex_parts}
 use Rattle.aadl_tree.specs.proof.DeclarationViews.{annex_view}
 use Rattle.aadl_tree.specs.proof.PlaceMaps.{kept_place}
 use Rattle.aadl_parse.proofs.DeclarationStarts.{annex_begun}
-use Rattle.aadl_grammar.specs.proof.Symbols as s
+use Rattle.aadl_grammar.specs.proof.GrammarSymbols as s
 use Rattle.aadl_grammar.specs.proof.StackMachine.{move, depth}
 use Rattle.aadl_parse.proofs.declarations.annexes.Goals as goal
 

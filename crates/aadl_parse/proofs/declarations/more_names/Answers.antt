@@ -2,7 +2,7 @@ use Rattle.std.proofs.Common.{◌∷◌, [], rules, None}
 use Rattle.aadl_tree.specs.Names.{name_parts}
 use Rattle.aadl_tree.specs.proof.NameViews.{name_view}
 use Rattle.aadl_tree.specs.proof.PlaceMaps.{kept_place}
-use Rattle.aadl_grammar.specs.proof.Symbols as s
+use Rattle.aadl_grammar.specs.proof.GrammarSymbols as s
 use Rattle.aadl_grammar.specs.proof.ParserAnswers.{AnyRoom}
 use Rattle.aadl_grammar.proofs.PartSequences.{begun}
 use Rattle.aadl_grammar.proofs.ListSymbols.{name_list, whole_list, same_answer, item_advances}

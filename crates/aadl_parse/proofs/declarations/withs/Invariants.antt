@@ -4,7 +4,7 @@ use Rattle.aadl_tree.specs.Declarations.{with_parts}
 use Rattle.aadl_tree.specs.proof.DeclarationViews.{with_view}
 use Rattle.aadl_tree.specs.proof.PlaceMaps.{kept_place}
 use Rattle.aadl_tree.specs.declared.nesting_limit.TheConstants.{GREATEST_NESTING}
-use Rattle.aadl_grammar.specs.proof.Symbols as s
+use Rattle.aadl_grammar.specs.proof.GrammarSymbols as s
 use Rattle.aadl_grammar.specs.proof.StackMachine.{Stack, depth, fate}
 use Rattle.aadl_grammar.specs.proof.ParserAnswers.{here, Reads}
 use Rattle.aadl_parse.proofs.declarations.withs.Given as goal

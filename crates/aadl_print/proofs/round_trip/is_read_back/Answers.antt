@@ -1,6 +1,6 @@
 use Rattle.std.proofs.Common.{rules, ◌∙◌, List, ℕ, subst}
 use Rattle.std.specs.Prelude.{◌≢◌}
-use Rattle.aadl_tree.specs.GrammarTrees.{IsTreeOf}
+use Rattle.aadl_tree.specs.TextTreesAndFaults.{IsTreeOf}
 use Rattle.aadl_tree.specs.proof.PackageViews.{placed}
 use Rattle.aadl_parse.specs.declared.text_fault.TextFault.TheVariants.{Memory}
 use Rattle.aadl_parse.specs.ParseResults.{IsFaultOfText}

@@ -1,4 +1,4 @@
-use Rattle.aadl_tree.proofs.SymbolTokens.{symbol_known}
+use Rattle.aadl_tree.proofs.LexedSymbols.{symbol_known}
 use Rattle.aadl_tree.proofs.laws.marks_are_read.Goals as goal
 
 pub returns-clause-known : goal.returns-clause-known

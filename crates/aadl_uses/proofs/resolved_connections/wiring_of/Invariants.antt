@@ -2,7 +2,7 @@ use Rattle.std.proofs.Common.{◌≡◌, map, take}
 use Rattle.aadl_tree.specs.proof.PlaceMaps.{kept_place}
 use Rattle.aadl_tree.specs.proof.DeclarationViews.{declaration_view}
 use Rattle.aadl_tree.specs.proof.PackageViews.{placed}
-use Rattle.aadl_uses.specs.proof.DeclarationWires.{wires_in}
+use Rattle.aadl_uses.specs.proof.IncomingConnections.{wires_in}
 use Rattle.aadl_uses.proofs.resolved_connections.wiring_of.Given as goal
 
 abbrev pub invariant-loop-number : goal.invariant-loop-number

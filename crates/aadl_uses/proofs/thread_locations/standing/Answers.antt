@@ -1,6 +1,6 @@
 use Rattle.std.proofs.Common.{◌∙◌, sym, refl}
 use Rattle.aadl_tree.specs.proof.PackageViews.{placed}
-use Rattle.aadl_uses.proofs.PathDescent.{next_none}
+use Rattle.aadl_uses.proofs.SubcomponentsAlongPaths.{next_none}
 use Rattle.aadl_uses.proofs.thread_locations.standing.Goals as goal
 
 pub returns-in_err-here : goal.returns-in_err-here

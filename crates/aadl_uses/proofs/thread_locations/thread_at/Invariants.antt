@@ -1,5 +1,5 @@
 use Rattle.aadl_tree.specs.proof.PackageViews.{placed}
-use Rattle.aadl_uses.proofs.PathDescent.{Along}
+use Rattle.aadl_uses.proofs.SubcomponentsAlongPaths.{Along}
 use Rattle.aadl_uses.proofs.thread_locations.thread_at.Given as goal
 
 abbrev pub invariant-loop-at : goal.invariant-loop-at

@@ -2,7 +2,7 @@ use Rattle.std.proofs.Common.{◌≡◌, [], List, IfOk, subst}
 use Rattle.std.proofs.lemmas.Result.{IfOk-weaker}
 use Rattle.pals_model.specs.RoundTexts.{report}
 use Rattle.pals_runs.specs.declared.vote_faults_and_pairs.Pair.{Pair}
-use Rattle.plant_fuse.specs.FusedText.{IsFusedReport}
+use Rattle.plant_fuse.specs.FusedReport.{IsFusedReport}
 use Rattle.plant_fuse.specs.proof.FuseState.{FuseState}
 use Rattle.plant_fuse.proofs.ReportsWithoutPairs.{report_without_pairs}
 use Rattle.analysis_texts.proofs.plants.fuse.Goals as goal

@@ -4,7 +4,7 @@ use Rattle.pals_model.specs.declared.design.DesignParts.{DesignParts}
 use Rattle.pals_model.specs.ComponentInputs.{values_at}
 use Rattle.pals_report.specs.proof.TapPlaces.{tap_places}
 use Rattle.analysis_texts.proofs.FusedRows.{rows_begin, rows_next, rows_are}
-use Rattle.analysis_texts.proofs.ProductRounds.{length_values_at}
+use Rattle.analysis_texts.proofs.ProductRoundsAndRows.{length_values_at}
 use Rattle.analysis_texts.proofs.plants.fused_rows.Goals as goal
 
 pub loop-round-init : goal.loop-round-init

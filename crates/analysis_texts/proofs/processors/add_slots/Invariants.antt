@@ -1,7 +1,7 @@
 use Rattle.std.proofs.Common.{◌≡◌, ◌++◌, map, take}
 use Rattle.pals_model.specs.RoundTexts.{text_of}
 use Rattle.round_budget.specs.BudgetText.{slot_line}
-use Rattle.round_budget.specs.proof.ReleaseValues.{line_value}
+use Rattle.round_budget.specs.proof.ReleaseAndLineValues.{line_value}
 use Rattle.round_budget.specs.declared.serving.TimetableLine.{TimetableLine}
 use Rattle.analysis_texts.proofs.processors.add_slots.Given as goal
 

@@ -1,6 +1,6 @@
 use Rattle.std.proofs.Common.{◌≡◌, ap, ◌∙◌, refl}
 use Rattle.sync_product.specs.proof.ProductStates.{ProductState, advanced}
-use Rattle.analysis_texts.proofs.ProductRounds.{further, row_after}
+use Rattle.analysis_texts.proofs.ProductRoundsAndRows.{further, row_after}
 use Rattle.analysis_texts.proofs.properties.go_on.Goals as goal
 
 pub returns-clause-further : goal.returns-clause-further

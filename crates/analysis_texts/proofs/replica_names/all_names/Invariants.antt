@@ -1,7 +1,7 @@
 use Rattle.std.proofs.Common.{◌≡◌, ◌++◌, drop, map}
 use Rattle.std.specs.List.{enumerate_from}
 use Rattle.triple_vote.specs.Replicas.{is_replicated}
-use Rattle.analysis_texts.specs.proof.ReplicaLines.{names_of, all_names}
+use Rattle.analysis_texts.specs.proof.ReplicaNamesAndLines.{names_of, all_names}
 use Rattle.analysis_texts.proofs.replica_names.all_names.Given as goal
 
 -- the names so far, and those of the components that are left

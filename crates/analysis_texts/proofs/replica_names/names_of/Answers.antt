@@ -1,8 +1,8 @@
 use Rattle.std.proofs.Common.{rules, ◌≡◌, ◌∙◌, ◌++◌, ◌-◌, codes, decimal, true, map, ap, sym, arith, append_assoc}
 use Rattle.pals_base.specs.StepSequences.{upwards}
 use Rattle.triple_vote.specs.VotedText.{replica_name}
-use Rattle.analysis_texts.specs.proof.ReplicaLines.{names_of}
-use Rattle.analysis_texts.proofs.FilledTables.{name_more}
+use Rattle.analysis_texts.specs.proof.ReplicaNamesAndLines.{names_of}
+use Rattle.analysis_texts.proofs.FaultAndReplicaTables.{name_more}
 use Rattle.analysis_texts.proofs.replica_names.names_of.Goals as goal
 
 pub loop-replica-preserved : goal.loop-replica-preserved

@@ -4,8 +4,8 @@ use Rattle.pals_base.specs.StepSequences.{upwards}
 use Rattle.pals_model.specs.declared.design.Component.{Component}
 use Rattle.analysis_fields.specs.ReplicasAndFaults.{is_among}
 use Rattle.analysis_texts.specs.VoteInputs.{replicated_in}
-use Rattle.analysis_texts.specs.proof.ReplicaLines.{all_names}
-use Rattle.analysis_texts.proofs.FilledTables.{length-table}
+use Rattle.analysis_texts.specs.proof.ReplicaNamesAndLines.{all_names}
+use Rattle.analysis_texts.proofs.FaultAndReplicaTables.{length-table}
 use Rattle.analysis_texts.proofs.replica_names.replica_names.Goals as goal
 
 pub all_names-requires : goal.all_names-requires

@@ -8,7 +8,7 @@ use Rattle.triple_vote.specs.Replicas.{is_replicated, frame_at}
 use Rattle.triple_vote.specs.VotedText.{replica_lines}
 use Rattle.sync_product.proofs.ComponentLists.{entry_at, item_at, numbered-at}
 use Rattle.pals_report.proofs.RowLines.{lines_turn}
-use Rattle.analysis_texts.specs.proof.ReplicaLines.{names_of, all_names, all_lines}
+use Rattle.analysis_texts.specs.proof.ReplicaNamesAndLines.{names_of, all_names, all_lines}
 use Rattle.analysis_texts.proofs.replicas.add_components.Goals as goal
 
 pub bounds-names-node : goal.bounds-names-node

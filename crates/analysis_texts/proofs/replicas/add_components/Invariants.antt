@@ -1,7 +1,7 @@
 use Rattle.std.proofs.Common.{◌≡◌, ◌++◌, drop}
 use Rattle.pals_model.specs.RoundTexts.{text_of}
 use Rattle.triple_vote.specs.Replicas.{frame_at}
-use Rattle.analysis_texts.specs.proof.ReplicaLines.{all_lines}
+use Rattle.analysis_texts.specs.proof.ReplicaNamesAndLines.{all_lines}
 use Rattle.analysis_texts.proofs.replicas.add_components.Given as goal
 
 -- the lines so far, and those of the components that are left

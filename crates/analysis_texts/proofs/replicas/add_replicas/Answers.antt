@@ -6,10 +6,10 @@ use Rattle.pals_base.specs.declared.values.Frame.{Frame}
 use Rattle.pals_model.specs.RoundTexts.{line_end, text_of, component_line}
 use Rattle.triple_vote.specs.Replicas.{is_replicated, copies_of, frame_at}
 use Rattle.triple_vote.specs.VotedText.{replica_name}
-use Rattle.triple_vote.proofs.TabulatedLists.{table-at}
-use Rattle.analysis_texts.specs.proof.ReplicaLines.{names_of}
+use Rattle.triple_vote.proofs.ListTablesAndSearches.{table-at}
+use Rattle.analysis_texts.specs.proof.ReplicaNamesAndLines.{names_of}
 use Rattle.analysis_texts.proofs.LineBlocks.{counted_turn}
-use Rattle.analysis_texts.proofs.FilledTables.{length-table}
+use Rattle.analysis_texts.proofs.FaultAndReplicaTables.{length-table}
 use Rattle.analysis_texts.proofs.VotedRows.{replica_line, copies_few}
 use Rattle.analysis_texts.proofs.replicas.add_replicas.Goals as goal
 

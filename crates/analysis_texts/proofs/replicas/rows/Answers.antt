@@ -10,9 +10,9 @@ use Rattle.triple_vote.specs.proof.VoteLaws.{IsFault}
 use Rattle.triple_vote.specs.Replicas.{vcomp, vshown_by}
 use Rattle.triple_vote.specs.proof.VotedStates.{VotedState, vadvanced}
 use Rattle.triple_vote.specs.VotedText.{vreport}
-use Rattle.triple_vote.proofs.TabulatedLists.{table-at}
-use Rattle.analysis_texts.specs.proof.ReplicaLines.{all_names}
-use Rattle.analysis_texts.proofs.ProductRounds.{length_values_at}
+use Rattle.triple_vote.proofs.ListTablesAndSearches.{table-at}
+use Rattle.analysis_texts.specs.proof.ReplicaNamesAndLines.{all_names}
+use Rattle.analysis_texts.proofs.ProductRoundsAndRows.{length_values_at}
 use Rattle.analysis_texts.proofs.VotedRows.{MakesRound, voted_more}
 use Rattle.analysis_texts.proofs.replicas.rows.Goals as goal
 

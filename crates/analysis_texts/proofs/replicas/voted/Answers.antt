@@ -6,9 +6,9 @@ use Rattle.triple_vote.specs.Replicas.{vopening}
 use Rattle.triple_vote.specs.proof.VotedStates.{VotedState}
 use Rattle.triple_vote.specs.VotedText.{vreport}
 use Rattle.analysis_texts.specs.VoteInputs.{replicated_in, faults_of}
-use Rattle.analysis_texts.specs.proof.ReplicaLines.{all_names}
-use Rattle.analysis_texts.proofs.FilledTables.{length-table}
-use Rattle.analysis_texts.proofs.AllowedVoteFaults.{rounds_keep}
+use Rattle.analysis_texts.specs.proof.ReplicaNamesAndLines.{all_names}
+use Rattle.analysis_texts.proofs.FaultAndReplicaTables.{length-table}
+use Rattle.analysis_texts.proofs.WellFormedVoteFaults.{rounds_keep}
 use Rattle.analysis_texts.proofs.replicas.voted.Goals as goal
 
 pub rows-requires : goal.rows-requires

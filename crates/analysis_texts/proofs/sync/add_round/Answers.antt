@@ -3,7 +3,7 @@ use Rattle.list_lemmas.proofs.Results.{OnOk-always}
 use Rattle.pals_model.specs.Composition.{comp}
 use Rattle.pals_model.specs.RoundTexts.{row}
 use Rattle.sync_product.specs.proof.ProductStates.{ProductState, advanced}
-use Rattle.analysis_texts.proofs.ProductRounds.{further, parts_after}
+use Rattle.analysis_texts.proofs.ProductRoundsAndRows.{further, parts_after}
 use Rattle.analysis_texts.proofs.sync.add_round.Goals as goal
 
 pub returns-clause-row : goal.returns-clause-row

@@ -5,7 +5,7 @@ use Rattle.pals_model.specs.Composition.{comp}
 use Rattle.pals_model.specs.ComponentInputs.{values_at}
 use Rattle.pals_model.specs.RoundTexts.{row, report}
 use Rattle.pals_report.specs.proof.TapPlaces.{tap_places}
-use Rattle.analysis_texts.proofs.ProductRounds.{length_values_at, report_more}
+use Rattle.analysis_texts.proofs.ProductRoundsAndRows.{length_values_at, report_more}
 use Rattle.analysis_texts.proofs.sync.rows.Goals as goal
 
 pub loop-round-init : goal.loop-round-init

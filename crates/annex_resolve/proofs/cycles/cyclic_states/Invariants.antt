@@ -1,6 +1,6 @@
 use Rattle.std.proofs.Common.{◌≡◌, map}
 use Rattle.pals_base.specs.StepSequences.{upwards}
-use Rattle.annex_resolve.specs.CycleRules.{is_on_cycle}
+use Rattle.annex_resolve.specs.IncompleteStateCycles.{is_on_cycle}
 use Rattle.annex_resolve.specs.proof.ReachTables.{IsTable}
 use Rattle.annex_resolve.proofs.cycles.cyclic_states.Given as goal
 

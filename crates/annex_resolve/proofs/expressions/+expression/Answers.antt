@@ -12,7 +12,7 @@ use Rattle.aadl_tree.proofs.ExpressionViews.{view-Whole, view-Truth, view-Group,
 use Rattle.aadl_tree.proofs.ExpressionViews.{view-out-expression, view-out-sum, view-out-relation}
 use Rattle.annex_resolve.proofs.StructViews.{view-out-term}
 use Rattle.annex_resolve.proofs.SeveralOperands.{empty_by, some_by, none_by}
-use Rattle.annex_resolve.proofs.ResolvedSums.{term_alone, term_several, sum_alone, sum_several, relation_alone}
+use Rattle.annex_resolve.proofs.ResolvedTermsAndSums.{term_alone, term_several, sum_alone, sum_several, relation_alone}
 use Rattle.annex_resolve.proofs.ResolvedExpressions.{relation_compared, expression_alone, expression_several}
 use Rattle.annex_resolve.proofs.ResolvedExpressions.{factors_none, factors_next, of_factors, terms_none, terms_next}
 use Rattle.annex_resolve.proofs.ResolvedExpressions.{of_terms, relations_none, relations_next, of_relations}

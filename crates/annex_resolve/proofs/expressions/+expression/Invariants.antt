@@ -1,7 +1,7 @@
 use Rattle.std.proofs.Common.{take}
 use Rattle.aadl_tree.specs.proof.PlaceMaps.{kept_place}
 use Rattle.aadl_tree.specs.proof.ExpressionViews.{factors_view, terms_view, relations_view}
-use Rattle.annex_resolve.specs.ExpressionTypes.{factors_types, terms_types, relations_types}
+use Rattle.annex_resolve.specs.ExpressionTypesAndFindings.{factors_types, terms_types, relations_types}
 use Rattle.annex_resolve.specs.ResolvedTrees.{factors_of, terms_of, relations_of}
 use Rattle.annex_resolve.specs.proof.ResolutionResults.{ReadsOperands}
 use Rattle.annex_resolve.proofs.expressions.+expression.Given as goal

@@ -1,4 +1,4 @@
-use Rattle.annex_resolve.proofs.SingleQualifiers.{one_qualifier}
+use Rattle.annex_resolve.proofs.BaseTypesQualifier.{one_qualifier}
 use Rattle.annex_resolve.proofs.type_names.is_base_types.Goals as goal
 
 pub returns-in-len1 : goal.returns-in-len1

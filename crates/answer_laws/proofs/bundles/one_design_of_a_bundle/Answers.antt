@@ -1,4 +1,4 @@
-use Rattle.answer_laws.proofs.UniqueDesigns.{one_accepted}
+use Rattle.answer_laws.proofs.UniqueDesignsAndRefusals.{one_accepted}
 use Rattle.answer_laws.proofs.bundles.one_design_of_a_bundle.Goals as goal
 
 pub returns : goal.returns

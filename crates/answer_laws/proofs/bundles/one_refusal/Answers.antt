@@ -1,4 +1,4 @@
-use Rattle.answer_laws.proofs.UniqueDesigns.{one_list_text, fault_or_list, one_fault_text}
+use Rattle.answer_laws.proofs.UniqueDesignsAndRefusals.{one_list_text, fault_or_list, one_fault_text}
 use Rattle.answer_laws.proofs.bundles.one_refusal.Goals as goal
 
 pub returns-clause-violations : goal.returns-clause-violations

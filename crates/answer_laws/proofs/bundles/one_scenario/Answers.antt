@@ -1,4 +1,4 @@
-use Rattle.answer_laws.proofs.UniqueScenarios.{one_scenario}
+use Rattle.answer_laws.proofs.UniqueScenariosAndReports.{one_scenario}
 use Rattle.answer_laws.proofs.bundles.one_scenario.Goals as goal
 
 pub returns : goal.returns

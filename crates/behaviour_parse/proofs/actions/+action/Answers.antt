@@ -1,7 +1,7 @@
 use Rattle.std.proofs.Common.{◌∙◌, ◌∷◌, [], ◌++◌, ap, sym, refl, arith}
 use Rattle.aadl_grammar.specs.proof.ParserAnswers.{here}
-use Rattle.aadl_grammar.proofs.SymbolMoves.{takes_row, deep_row, omits_unless, refuses_unless, begins_as, before_closer}
-use Rattle.aadl_grammar.proofs.SymbolMoves.{misses_at, along, exits, no_reads, too_deep, only_takes}
+use Rattle.aadl_grammar.proofs.TopSymbolMoves.{takes_row, deep_row, omits_unless, refuses_unless, begins_as, before_closer}
+use Rattle.aadl_grammar.proofs.TopSymbolMoves.{misses_at, along, exits, no_reads, too_deep, only_takes}
 use Rattle.aadl_grammar.proofs.PartSequences.{nothing, then, marked, respelled, shorter, placed_at}
 use Rattle.std.specs.Prelude.{Some, None}
 use Rattle.std.proofs.lemmas.List.{append-nil}
@@ -14,7 +14,7 @@ use Rattle.aadl_grammar.specs.proof.ParseTable.{rows}
 use Rattle.behaviour_parse.proofs.ParsedActions.{loop_reads, choice_reads, choice_made, elsifs_push, mores_push, ended}
 use Rattle.behaviour_parse.proofs.ParsedActions.{not_ended, begins_from}
 use Rattle.aadl_tree.specs.declared.mark.Mark.TheVariants as k
-use Rattle.aadl_grammar.specs.proof.Symbols as s
+use Rattle.aadl_grammar.specs.proof.GrammarSymbols as s
 use Rattle.aadl_grammar.specs.proof.StackMachine.{move, depth, syntax_at}
 use Rattle.behaviour_parse.proofs.actions.+action.Goals as goal
 

@@ -3,7 +3,7 @@ use Rattle.aadl_tree.specs.Actions.{action_parts, mores_parts, elsifs_parts}
 use Rattle.aadl_tree.specs.proof.ActionViews.{action_view, mores_view, elsifs_view}
 use Rattle.aadl_tree.specs.proof.PlaceMaps.{kept_place}
 use Rattle.aadl_tree.specs.declared.nesting_limit.TheConstants.{GREATEST_NESTING}
-use Rattle.aadl_grammar.specs.proof.Symbols as s
+use Rattle.aadl_grammar.specs.proof.GrammarSymbols as s
 use Rattle.aadl_grammar.specs.proof.StackMachine.{Stack, depth, fate}
 use Rattle.aadl_grammar.specs.proof.ParserAnswers.{here, Reads}
 use Rattle.behaviour_parse.proofs.actions.+action.Given as goal

@@ -1,5 +1,5 @@
 use Rattle.std.proofs.Common.{refl}
-use Rattle.aadl_grammar.proofs.PropertyLists.{starts_at}
+use Rattle.aadl_grammar.proofs.ValueAndPropertyLists.{starts_at}
 use Rattle.behaviour_parse.proofs.ParsedActions.{begins_by}
 use Rattle.aadl_grammar.specs.proof.StackMachine.{move, depth}
 use Rattle.behaviour_parse.proofs.actions.begins_action.Goals as goal

@@ -1,11 +1,11 @@
 use Rattle.std.proofs.Common.{◌∙◌, ap, sym, refl, arith}
 use Rattle.aadl_grammar.specs.proof.ParserAnswers.{here}
-use Rattle.aadl_grammar.proofs.SymbolMoves.{takes_row, refuses_unless, along, exits, no_reads, a_word_at}
+use Rattle.aadl_grammar.proofs.TopSymbolMoves.{takes_row, refuses_unless, along, exits, no_reads, a_word_at}
 use Rattle.aadl_grammar.proofs.PartSequences.{then, marked, named, respelled}
 use Rattle.aadl_tree.specs.Actions.{action_parts}
 use Rattle.aadl_tree.specs.proof.PlaceMaps.{kept_place}
 use Rattle.aadl_tree.proofs.ActionViews.{view-Assign, view-Send}
-use Rattle.aadl_grammar.specs.proof.Symbols as s
+use Rattle.aadl_grammar.specs.proof.GrammarSymbols as s
 use Rattle.aadl_grammar.specs.proof.StackMachine.{move, depth, syntax_at}
 use Rattle.behaviour_parse.proofs.actions.plain_action.Goals as goal
 

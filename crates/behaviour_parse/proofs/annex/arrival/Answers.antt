@@ -1,8 +1,8 @@
 use Rattle.std.proofs.Common.{◌∙◌, ◌∷◌, arith}
-use Rattle.aadl_grammar.proofs.SymbolMoves.{along, exits, no_reads}
+use Rattle.aadl_grammar.proofs.TopSymbolMoves.{along, exits, no_reads}
 use Rattle.aadl_grammar.proofs.PartSequences.{nothing, then, marked}
 use Rattle.aadl_tree.specs.declared.mark.Mark.TheVariants as k
-use Rattle.aadl_grammar.specs.proof.Symbols as s
+use Rattle.aadl_grammar.specs.proof.GrammarSymbols as s
 use Rattle.aadl_grammar.specs.proof.StackMachine.{move, depth}
 use Rattle.behaviour_parse.proofs.annex.arrival.Goals as goal
 

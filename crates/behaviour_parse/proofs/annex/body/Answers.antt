@@ -1,7 +1,7 @@
 use Rattle.std.proofs.Common.{◌∙◌, ◌∷◌, arith}
-use Rattle.aadl_grammar.proofs.SymbolMoves.{along, exits, no_reads}
+use Rattle.aadl_grammar.proofs.TopSymbolMoves.{along, exits, no_reads}
 use Rattle.aadl_grammar.proofs.PartSequences.{then}
-use Rattle.aadl_grammar.specs.proof.Symbols as s
+use Rattle.aadl_grammar.specs.proof.GrammarSymbols as s
 use Rattle.aadl_grammar.specs.proof.StackMachine.{move, depth}
 use Rattle.behaviour_parse.proofs.annex.body.Goals as goal
 

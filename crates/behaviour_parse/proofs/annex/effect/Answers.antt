@@ -1,8 +1,8 @@
 use Rattle.std.proofs.Common.{◌∙◌, [], refl, arith}
 use Rattle.aadl_grammar.specs.proof.ParserAnswers.{here}
-use Rattle.aadl_grammar.proofs.SymbolMoves.{omits_unless, enters_as, along, exits, no_reads}
+use Rattle.aadl_grammar.proofs.TopSymbolMoves.{omits_unless, enters_as, along, exits, no_reads}
 use Rattle.aadl_grammar.proofs.PartSequences.{nothing}
-use Rattle.aadl_grammar.specs.proof.Symbols as s
+use Rattle.aadl_grammar.specs.proof.GrammarSymbols as s
 use Rattle.aadl_grammar.specs.proof.StackMachine.{move, depth}
 use Rattle.behaviour_parse.proofs.annex.effect.Goals as goal
 

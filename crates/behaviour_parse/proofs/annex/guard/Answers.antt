@@ -1,11 +1,11 @@
 use Rattle.std.proofs.Common.{◌∙◌, ◌∷◌, [], refl, arith}
 use Rattle.aadl_grammar.specs.proof.ParserAnswers.{here}
-use Rattle.aadl_grammar.proofs.SymbolMoves.{takes_row, omits_unless, before_closer, misses_at, along, exits, no_reads}
-use Rattle.aadl_grammar.proofs.SymbolMoves.{only_takes}
+use Rattle.aadl_grammar.proofs.TopSymbolMoves.{takes_row, omits_unless, before_closer, misses_at, along, exits, no_reads}
+use Rattle.aadl_grammar.proofs.TopSymbolMoves.{only_takes}
 use Rattle.aadl_grammar.proofs.PartSequences.{nothing, then, marked}
 use Rattle.aadl_grammar.specs.proof.ParseTable.{on, rows}
 use Rattle.aadl_tree.specs.declared.mark.Mark.TheVariants as k
-use Rattle.aadl_grammar.specs.proof.Symbols as s
+use Rattle.aadl_grammar.specs.proof.GrammarSymbols as s
 use Rattle.aadl_grammar.specs.proof.StackMachine.{move, depth}
 use Rattle.behaviour_parse.proofs.annex.guard.Goals as goal
 

@@ -9,11 +9,11 @@ use Rattle.aadl_tree.specs.proof.ActionViews.{block_view}
 use Rattle.aadl_tree.specs.proof.DeclarationViews.{guard_view}
 use Rattle.aadl_tree.specs.proof.PlaceMaps.{kept_place}
 use Rattle.aadl_grammar.specs.proof.ParserAnswers.{here}
-use Rattle.aadl_grammar.proofs.SymbolMoves.{begins_as, along, exits, no_reads}
+use Rattle.aadl_grammar.proofs.TopSymbolMoves.{begins_as, along, exits, no_reads}
 use Rattle.aadl_grammar.proofs.PartSequences.{then, respelled}
-use Rattle.behaviour_parse.proofs.DeclarationTerminals.{departed}
+use Rattle.behaviour_parse.proofs.DeclarationStarts.{departed}
 use Rattle.aadl_tree.specs.declared.mark.Mark.TheVariants as k
-use Rattle.aadl_grammar.specs.proof.Symbols as s
+use Rattle.aadl_grammar.specs.proof.GrammarSymbols as s
 use Rattle.aadl_grammar.specs.proof.StackMachine.{move, depth}
 use Rattle.behaviour_parse.proofs.annex.transition.Goals as goal
 

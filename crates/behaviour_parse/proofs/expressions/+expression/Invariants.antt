@@ -5,7 +5,7 @@ use Rattle.aadl_tree.specs.proof.ExpressionViews.{factor_view, factors_view, ter
 use Rattle.aadl_tree.specs.proof.ExpressionViews.{relations_view}
 use Rattle.aadl_tree.specs.proof.PlaceMaps.{kept_place}
 use Rattle.aadl_tree.specs.declared.nesting_limit.TheConstants.{GREATEST_NESTING}
-use Rattle.aadl_grammar.specs.proof.Symbols as s
+use Rattle.aadl_grammar.specs.proof.GrammarSymbols as s
 use Rattle.aadl_grammar.specs.proof.StackMachine.{Stack, depth, fate}
 use Rattle.aadl_grammar.specs.proof.ParserAnswers.{here, Reads}
 use Rattle.behaviour_parse.proofs.expressions.+expression.Given as goal

@@ -6,7 +6,7 @@ use Rattle.pals_base.specs.SingleStep.{is_present}
 use Rattle.pals_base.specs.proof.TreeViews.{actions_along, branches_along}
 use Rattle.behaviour_sem.specs.proof.ReadableFrames.{frame_of}
 use Rattle.behaviour_sem.specs.proof.ActionExecution.{effect}
-use Rattle.behaviour_sem.proofs.ActionTrees.{turn_after}
+use Rattle.behaviour_sem.proofs.ActionMeanings.{turn_after}
 use Rattle.behaviour_sem.proofs.actions.+run.Given as goal
 
 -- the actions that are left, from the variables and outputs so far, have the effect of all

@@ -1,7 +1,7 @@
 use Rattle.std.proofs.Common.{◌≡◌, sym, subst, rules}
 use Rattle.bound_checker.specs.proof.OverflowLimits.{IsRate}
 use Rattle.bound_checker.specs.ShortestPeriods.{greatest_rate}
-use Rattle.bound_checker.proofs.Multiples.{greatest-IsRate}
+use Rattle.bound_checker.proofs.RateMultiples.{greatest-IsRate}
 use Rattle.bound_checker.proofs.shortest_period.greatest_rate.Goals as goal
 
 pub returns-clause-rate : goal.returns-clause-rate

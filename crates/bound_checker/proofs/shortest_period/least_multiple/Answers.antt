@@ -1,4 +1,4 @@
-use Rattle.bound_checker.proofs.Multiples.{next_multiple-fits, first_of_call, is_least_multiple, has_no_multiple}
+use Rattle.bound_checker.proofs.RateMultiples.{next_multiple-fits, first_of_call, is_least_multiple, has_no_multiple}
 use Rattle.bound_checker.proofs.shortest_period.least_multiple.Goals as goal
 
 pub next_multiple_of-period-requires-clause-fits : goal.next_multiple_of-period-requires-clause-fits

@@ -1,5 +1,5 @@
 use Rattle.std.proofs.Common.{◌≡◌, sym, ap, ◌∙◌}
-use Rattle.aadl_tree.specs.Canon.{canon}
+use Rattle.aadl_tree.specs.CanonicalText.{canon}
 use Rattle.aadl_tree.specs.proof.PlaceMaps.{no_place, kept_place}
 use Rattle.aadl_tree.specs.proof.PackageViews.{placed}
 use Rattle.aadl_tree.proofs.PlaceMaps.Declarations.{package_tied}

@@ -1,4 +1,4 @@
-use Rattle.bus_machine.proofs.RunAgreement.{opening_agrees, step_keeps_agreement, replay_agrees}
+use Rattle.bus_machine.proofs.MessageAndRunAgreement.{opening_agrees, step_keeps_agreement, replay_agrees}
 use Rattle.bus_machine.proofs.laws.runs_agree.Goals as goal
 
 pub returns : goal.returns

@@ -2,7 +2,7 @@ use Rattle.std.proofs.Common.{sym, ◌∙◌}
 use Rattle.aadl_tree.specs.proof.PackageViews.{placed}
 use Rattle.aadl_names.specs.declared.recognised_properties.PropertyName.TheVariants.{Skew, Execution, Network}
 use Rattle.component_checks.specs.Times.{time_at, range_at}
-use Rattle.component_checks.specs.Roots.{at_root}
+use Rattle.component_checks.specs.RootFindings.{at_root}
 use Rattle.component_checks.proofs.TimesWithinAnHour.{gamma_within}
 use Rattle.component_checks.proofs.roots.add_root_findings.Goals as goal
 

@@ -2,7 +2,7 @@ use Rattle.std.proofs.Common.{map, ap, arith}
 use Rattle.std.proofs.lemmas.List.{length-map}
 use Rattle.aadl_tree.specs.proof.ValueViews.{value_view}
 use Rattle.aadl_tree.specs.proof.PlaceMaps.{kept_place}
-use Rattle.component_checks.specs.Types.{text_kind}
+use Rattle.component_checks.specs.TypeFindings.{text_kind}
 use Rattle.component_checks.proofs.SingleTexts.{no_only_text}
 use Rattle.component_checks.proofs.types.only_kind.Goals as goal
 

@@ -1,4 +1,4 @@
-use Rattle.design_laws.proofs.UniqueDesigns.{no_list}
+use Rattle.design_laws.proofs.UniqueInstancesAndDesigns.{no_list}
 use Rattle.design_laws.proofs.packages.accepted_or_refused.Goals as goal
 
 pub returns-clause-no_fault : goal.returns-clause-no_fault

@@ -1,5 +1,5 @@
 use Rattle.aadl_tree.specs.proof.PackageViews.{placed}
-use Rattle.design_laws.proofs.AcceptedPackages.{keeps_rules, is_there, within_bound}
+use Rattle.design_laws.proofs.AcceptedPackageDesigns.{keeps_rules, is_there, within_bound}
 use Rattle.design_laws.proofs.packages.designs_keep_their_rules.Goals as goal
 
 pub returns-clause-rules : goal.returns-clause-rules

@@ -1,4 +1,4 @@
-use Rattle.design_laws.proofs.AcceptedPackages.{given_names, keeps_rules, is_there}
+use Rattle.design_laws.proofs.AcceptedPackageDesigns.{given_names, keeps_rules, is_there}
 use Rattle.design_laws.proofs.packages.designs_of_texts_keep_their_rules.Goals as goal
 
 pub returns-clause-rules : goal.returns-clause-rules

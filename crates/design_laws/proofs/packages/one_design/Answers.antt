@@ -1,4 +1,4 @@
-use Rattle.design_laws.proofs.UniqueDesigns.{one_design}
+use Rattle.design_laws.proofs.UniqueInstancesAndDesigns.{one_design}
 use Rattle.design_laws.proofs.packages.one_design.Goals as goal
 
 pub returns : goal.returns

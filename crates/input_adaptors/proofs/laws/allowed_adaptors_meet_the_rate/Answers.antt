@@ -1,4 +1,4 @@
-use Rattle.input_adaptors.proofs.AdaptedTuples.{length-adapt}
+use Rattle.input_adaptors.proofs.TupleLengthsAndGroups.{length-adapt}
 use Rattle.input_adaptors.proofs.laws.allowed_adaptors_meet_the_rate.Goals as goal
 
 pub returns : goal.returns

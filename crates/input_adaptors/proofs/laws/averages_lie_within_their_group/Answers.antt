@@ -1,8 +1,8 @@
 use Rattle.pals_base.specs.declared.values.PortValue.TheVariants.{Present}
 use Rattle.pals_base.specs.declared.values.Adaptor.TheVariants.{Average}
 use Rattle.input_adaptors.specs.proof.GroupsAndExtremes.{group_at}
-use Rattle.input_adaptors.proofs.AdaptedTuples.{joined-from}
-use Rattle.input_adaptors.proofs.Means.{IsAboveSome-joined, IsBelowSome-joined}
+use Rattle.input_adaptors.proofs.TupleLengthsAndGroups.{joined-from}
+use Rattle.input_adaptors.proofs.MeanBounds.{IsAboveSome-joined, IsBelowSome-joined}
 use Rattle.input_adaptors.proofs.laws.averages_lie_within_their_group.Goals as goal
 
 pub returns-clause-above : goal.returns-clause-above

@@ -1,4 +1,4 @@
-use Rattle.input_adaptors.proofs.AdaptedTuples.{All-groups, flat_map-groups}
+use Rattle.input_adaptors.proofs.TupleLengthsAndGroups.{All-groups, flat_map-groups}
 use Rattle.input_adaptors.proofs.laws.groups_are_equal.Goals as goal
 
 pub returns-clause-equal : goal.returns-clause-equal

@@ -1,4 +1,4 @@
-use Rattle.input_adaptors.proofs.AdaptedTuples.{slice_get-adapt}
+use Rattle.input_adaptors.proofs.TupleLengthsAndGroups.{slice_get-adapt}
 use Rattle.input_adaptors.proofs.laws.places_are_made_of_groups.Goals as goal
 
 pub returns : goal.returns

@@ -1,4 +1,4 @@
-use Rattle.input_adaptors.proofs.SilentGroups.{joined-silent, joined-heard}
+use Rattle.input_adaptors.proofs.SilenceAndLatestNumber.{joined-silent, joined-heard}
 use Rattle.input_adaptors.proofs.laws.silence_gives_silence.Goals as goal
 
 pub returns-clause-silent : goal.returns-clause-silent

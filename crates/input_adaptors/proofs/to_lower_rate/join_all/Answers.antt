@@ -1,6 +1,6 @@
 use Rattle.std.proofs.Common.{◌≡◌, ◌∙◌, ap, ◌++◌, ◌∷◌, [], map, ◌+◌, ◌-◌, rules}
 use Rattle.pals_base.specs.Adaptors.{joined, groups}
-use Rattle.input_adaptors.proofs.JoinedGroups.{join_step}
+use Rattle.input_adaptors.proofs.OneMoreGroup.{join_step}
 use Rattle.input_adaptors.proofs.to_lower_rate.join_all.Goals as goal
 
 pub loop-group_number-preserved : goal.loop-group_number-preserved

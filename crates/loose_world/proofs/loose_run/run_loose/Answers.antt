@@ -1,7 +1,7 @@
 use Rattle.std.proofs.Common.{◌∙◌, ◌++◌, ap, subst}
 use Rattle.std.proofs.lemmas.List.{get_or_default}
 use Rattle.pals_model.specs.RoundTexts.{text_of}
-use Rattle.pals_runs.specs.declared.events.Event.{Event}
+use Rattle.pals_runs.specs.declared.events_and_faults.Event.{Event}
 use Rattle.pals_bus.specs.LooseEvents.{GoesOn}
 use Rattle.loose_world.specs.LooseRuns.{told_by}
 use Rattle.loose_world.proofs.LooseRuns.{done_more, cut_behind, on_err}

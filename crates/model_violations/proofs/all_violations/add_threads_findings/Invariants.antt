@@ -1,7 +1,7 @@
 use Rattle.std.proofs.Common.{◌≡◌, ◌++◌, take}
 use Rattle.std.specs.Prelude.{flat_map}
 use Rattle.aadl_tree.specs.proof.PackageViews.{placed}
-use Rattle.component_checks.specs.Threads.{thread_findings}
+use Rattle.component_checks.specs.ThreadRatesAndFindings.{thread_findings}
 use Rattle.model_violations.proofs.all_violations.add_threads_findings.Given as goal
 
 abbrev pub invariant-loop-thread : goal.invariant-loop-thread

@@ -1,7 +1,7 @@
 use Rattle.std.proofs.Common.{◌∙◌, ◌++◌, map, subst, sym, ap}
 use Rattle.std.specs.Prelude.{flat_map}
 use Rattle.aadl_tree.specs.proof.PackageViews.{placed}
-use Rattle.component_checks.specs.Threads.{thread_rate, greatest_rate, thread_findings}
+use Rattle.component_checks.specs.ThreadRatesAndFindings.{thread_rate, greatest_rate, thread_findings}
 use Rattle.model_violations.specs.proof.UnsortedFindings.{shown, AddUsed, AreFindings}
 use Rattle.model_violations.proofs.RateBounds.{rates_positive, greatest_fits}
 use Rattle.model_violations.proofs.AllFindings.{all_found}

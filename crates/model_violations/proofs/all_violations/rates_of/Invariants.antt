@@ -1,6 +1,6 @@
 use Rattle.std.proofs.Common.{◌≡◌, map, take}
 use Rattle.aadl_tree.specs.proof.PackageViews.{placed}
-use Rattle.component_checks.specs.Threads.{thread_rate}
+use Rattle.component_checks.specs.ThreadRatesAndFindings.{thread_rate}
 use Rattle.model_violations.proofs.all_violations.rates_of.Given as goal
 
 abbrev pub invariant-loop-thread : goal.invariant-loop-thread

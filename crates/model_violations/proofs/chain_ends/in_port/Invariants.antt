@@ -2,7 +2,7 @@ use Rattle.std.proofs.Common.{◌≡◌, map, filter, drop}
 use Rattle.std.specs.Prelude.{slice_get}
 use Rattle.aadl_tree.specs.proof.DeclarationViews.{feature_view}
 use Rattle.aadl_tree.specs.proof.PlaceMaps.{kept_place}
-use Rattle.component_checks.specs.Types.{is_in}
+use Rattle.component_checks.specs.TypeFindings.{is_in}
 use Rattle.model_violations.proofs.chain_ends.in_port.Given as goal
 
 -- `left` in ports of what is left are still to be passed over

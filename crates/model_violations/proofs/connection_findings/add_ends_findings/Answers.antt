@@ -3,8 +3,8 @@ use Rattle.std.specs.Option.{option_and_then}
 use Rattle.aadl_tree.specs.proof.PlaceMaps.{kept_place}
 use Rattle.aadl_tree.specs.proof.PackageViews.{placed}
 use Rattle.aadl_tree.specs.proof.DeclarationViews.{connection_view}
-use Rattle.aadl_uses.specs.declared.connections.Wire.{Wire}
-use Rattle.annex_resolve.specs.ExpressionTypes.{misfit}
+use Rattle.aadl_uses.specs.declared.connections_by_target.Wire.{Wire}
+use Rattle.annex_resolve.specs.ExpressionTypesAndFindings.{misfit}
 use Rattle.model_violations.specs.ConnectionFindings.{site_kind, kind_at}
 use Rattle.model_violations.proofs.connection_findings.add_ends_findings.Goals as goal
 

@@ -1,9 +1,9 @@
 use Rattle.std.proofs.Common.{not, ap}
 use Rattle.aadl_tree.specs.proof.PlaceMaps.{kept_place}
 use Rattle.aadl_tree.specs.proof.DeclarationViews.{feature_view}
-use Rattle.component_checks.specs.Types.{is_in}
+use Rattle.component_checks.specs.TypeFindings.{is_in}
 use Rattle.model_violations.specs.PortsAndVariables.{port_of}
-use Rattle.model_violations.proofs.FilteringLoops.{kept_next}
+use Rattle.model_violations.proofs.FilteredAndFirstItems.{kept_next}
 use Rattle.model_violations.proofs.declared_ports.outs_in.Goals as goal
 
 pub loop-port-preserved : goal.loop-port-preserved

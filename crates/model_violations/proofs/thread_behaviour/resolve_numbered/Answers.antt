@@ -5,7 +5,7 @@ use Rattle.aadl_tree.specs.proof.PackageViews.{placed}
 use Rattle.aadl_tree.specs.proof.DeclarationViews.{annex_tree_view, annex_view, implementation_view}
 use Rattle.aadl_names.specs.BehaviourAnnexes.{behaviours}
 use Rattle.annex_resolve.specs.BehavioursAndFindings.{behaviour_of, annex_findings}
-use Rattle.component_checks.specs.Types.{variables_findings}
+use Rattle.component_checks.specs.TypeFindings.{variables_findings}
 use Rattle.model_violations.specs.ThreadBehaviours.{annex_rules, behaviour_by, first_annex}
 use Rattle.model_violations.specs.PortsAndVariables.{values_of}
 use Rattle.model_violations.proofs.thread_behaviour.resolve_numbered.Goals as goal

@@ -1,5 +1,5 @@
 use Rattle.std.proofs.Common.{arith}
-use Rattle.aadl_lex.proofs.ScanLengths.{decimal_over}
+use Rattle.aadl_lex.proofs.ByteScanLoops.{decimal_over}
 use Rattle.model_violations.proofs.variables.number_of.Goals as goal
 
 pub returns-then-value-digit : goal.returns-then-value-digit

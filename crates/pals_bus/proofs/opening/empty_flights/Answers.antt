@@ -1,6 +1,6 @@
 use Rattle.pals_model.specs.declared.design.Link.{Link}
 use Rattle.bus_machine.specs.States.{no_link}
-use Rattle.pals_bus.specs.proof.Placeholders.{no_flight}
+use Rattle.pals_bus.specs.proof.OutOfRangeDefaults.{no_flight}
 use Rattle.pals_bus.proofs.Openings.{map_more}
 use Rattle.pals_bus.proofs.opening.empty_flights.Goals as goal
 

@@ -1,6 +1,6 @@
 use Rattle.std.proofs.Common.{◌≡◌, map, take}
 use Rattle.pals_model.specs.declared.design.Link.{Link}
-use Rattle.pals_bus.specs.proof.Placeholders.{no_flight}
+use Rattle.pals_bus.specs.proof.OutOfRangeDefaults.{no_flight}
 use Rattle.pals_bus.proofs.opening.empty_flights.Given as goal
 
 -- the flight of each link so far is empty

@@ -1,5 +1,5 @@
 use Rattle.pals_node.specs.proof.NodeValues.{NodeValue}
-use Rattle.pals_bus.specs.proof.Placeholders.{no_queue, no_node_value}
+use Rattle.pals_bus.specs.proof.OutOfRangeDefaults.{no_queue, no_node_value}
 use Rattle.pals_bus.proofs.Openings.{map_more}
 use Rattle.pals_bus.proofs.opening.empty_queues.Goals as goal
 

@@ -1,6 +1,6 @@
 use Rattle.std.proofs.Common.{◌≡◌, map, take}
 use Rattle.pals_node.specs.proof.NodeValues.{NodeValue}
-use Rattle.pals_bus.specs.proof.Placeholders.{no_queue}
+use Rattle.pals_bus.specs.proof.OutOfRangeDefaults.{no_queue}
 use Rattle.pals_bus.proofs.opening.empty_queues.Given as goal
 
 -- the queue of each node so far is empty

@@ -1,4 +1,4 @@
-use Rattle.pals_bus.specs.proof.Openings.{AreOpening}
+use Rattle.pals_bus.specs.proof.OpeningNodes.{AreOpening}
 use Rattle.pals_bus.proofs.opening.opening_nodes.Given as goal
 
 -- the nodes of the codes so far are there

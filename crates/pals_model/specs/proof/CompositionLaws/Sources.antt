@@ -8,7 +8,7 @@ use Rattle.pals_model.specs.declared.design.Feed.{Feed}
 use Rattle.pals_model.specs.declared.design.DesignParts.{DesignParts}
 use Rattle.pals_model.specs.ComponentInputs.{rate_of, root_of, link_goes_to, feed_goes_to, source_of, reading}
 use Rattle.pals_model.specs.DesignRules.{IsDesign}
-use Rattle.pals_model.specs.declared.sources.PortSource.TheVariants as source
+use Rattle.pals_model.specs.declared.port_sources.PortSource.TheVariants as source
 
 -- ---- where it reads from
 -- the in port of a link reads from that link

@@ -3,10 +3,10 @@ use Rattle.std.proofs.lemmas.List.{append-nil, drop_all}
 use Rattle.std.proofs.lemmas.Option.{slice_get-get_or}
 use Rattle.list_lemmas.proofs.ListOperations.{length-map_enumerate_from}
 use Rattle.pals_model.specs.declared.design.Component.{Component}
-use Rattle.pals_model.specs.declared.sources.PortSource.{PortSource}
+use Rattle.pals_model.specs.declared.port_sources.PortSource.{PortSource}
 use Rattle.pals_model.specs.ComponentInputs.{sources_of}
 use Rattle.bus_machine.specs.Plans.{component_at, no_component, input_of}
-use Rattle.bus_machine.proofs.ListsAndFlights.{numbered_at}
+use Rattle.bus_machine.proofs.ListsAndOldestCopies.{numbered_at}
 use Rattle.pals_node.proofs.plan.inputs_of.Goals as goal
 
 pub index-requires : goal.index-requires

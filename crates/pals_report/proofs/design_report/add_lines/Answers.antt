@@ -2,7 +2,7 @@ use Rattle.std.proofs.Common.{◌++◌, map, ap, ◌∙◌}
 use Rattle.pals_model.specs.RoundTexts.{text_of}
 use Rattle.pals_report.proofs.TextPrefixes.{last_on_ok}
 use Rattle.pals_report.specs.CheckReports.{period_lines, component_line, link_line, feed_line, tap_line, ignored_line}
-use Rattle.pals_report.proofs.JoinedLines.{five_behind, six_lists}
+use Rattle.pals_report.proofs.ConcatenatedTexts.{five_behind, six_lists}
 use Rattle.pals_report.proofs.design_report.add_lines.Goals as goal
 
 pub returns-clause-ok : goal.returns-clause-ok

@@ -4,7 +4,7 @@ use Rattle.pals_model.specs.DesignRules.{greatest_rate}
 use Rattle.pals_model.specs.RoundTexts.{line_end}
 use Rattle.pals_report.proofs.TextPrefixes.{last_on_ok, last_on_err}
 use Rattle.pals_report.specs.CheckReports.{time_line, shortest_word, period_lines}
-use Rattle.pals_report.proofs.JoinedLines.{four_behind, five_lines}
+use Rattle.pals_report.proofs.ConcatenatedTexts.{four_behind, five_lines}
 use Rattle.pals_report.proofs.periods.add_periods.Goals as goal
 
 pub returns-clause-ok : goal.returns-clause-ok

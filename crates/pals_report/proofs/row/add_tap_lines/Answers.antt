@@ -2,7 +2,7 @@ use Rattle.std.proofs.Common.{◌≡◌, ◌+◌, ◌∷◌, length, drop, get_o
 use Rattle.std.proofs.lemmas.Grind.{common_steps}
 use Rattle.pals_model.specs.RoundTexts.{tap_lines, taps_before}
 use Rattle.pals_report.specs.proof.RowLines.{taps_from}
-use Rattle.pals_report.proofs.TapCounts.{length-tap_places, place_at}
+use Rattle.pals_report.proofs.TapPlacesAndCounts.{length-tap_places, place_at}
 use Rattle.pals_report.proofs.RowLines.{lines_turn, at_place}
 use Rattle.pals_report.proofs.TextPrefixes.{begins_more}
 use Rattle.pals_report.proofs.row.add_tap_lines.Goals as goal

@@ -1,6 +1,6 @@
 use Rattle.std.proofs.Common.{◌≡◌, ◌<◌, ◌+◌, ◌∷◌, drop, get_or, ◌∙◌, arith}
 use Rattle.std.proofs.lemmas.Grind.{common_steps}
-use Rattle.pals_report.proofs.TapCounts.{place_le, counts_turn, places_turn}
+use Rattle.pals_report.proofs.TapPlacesAndCounts.{place_le, counts_turn, places_turn}
 use Rattle.pals_report.proofs.tap_places.places_of.Goals as goal
 
 pub overflow_add-count : goal.overflow_add-count

@@ -2,7 +2,7 @@ use Rattle.std.proofs.Common.{◌≡◌, ℕ, ◌<◌, ◌++◌, length, map, dr
 use Rattle.std.specs.List.{enumerate_from}
 use Rattle.pals_model.specs.RoundTexts.{taps_before}
 use Rattle.pals_report.specs.proof.TapPlaces.{tap_places}
-use Rattle.pals_report.proofs.TapCounts.{place_in}
+use Rattle.pals_report.proofs.TapPlacesAndCounts.{place_in}
 use Rattle.pals_report.proofs.tap_places.places_of.Given as goal
 
 -- how many taps so far have each source; the places so far, and those of the taps that are left

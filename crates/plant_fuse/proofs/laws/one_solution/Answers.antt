@@ -1,4 +1,4 @@
-use Rattle.plant_fuse.proofs.Solutions.{solution_exists, solution_is_one}
+use Rattle.plant_fuse.proofs.ExactlyOneSolution.{solution_exists, solution_is_one}
 use Rattle.plant_fuse.proofs.SolutionPrefixes.{solution_goes_on}
 use Rattle.plant_fuse.proofs.laws.one_solution.Goals as goal
 

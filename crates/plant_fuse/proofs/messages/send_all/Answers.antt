@@ -18,7 +18,7 @@ use Rattle.plant_fuse.specs.proof.Partners.{is_inside}
 use Rattle.plant_fuse.specs.proof.Messages.{sent_on}
 use Rattle.sync_product.proofs.StepRoom.{count_of_stages}
 use Rattle.plant_fuse.proofs.PartnerListLength.{count_of_partners}
-use Rattle.plant_fuse.proofs.PairWork.{partner_entry}
+use Rattle.plant_fuse.proofs.PairAndLoneWork.{partner_entry}
 use Rattle.plant_fuse.proofs.LinkMessages.{sent_item}
 use Rattle.plant_fuse.proofs.messages.send_all.Goals as goal
 

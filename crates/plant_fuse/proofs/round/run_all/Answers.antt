@@ -5,7 +5,7 @@ use Rattle.pals_runs.specs.declared.vote_faults_and_pairs.Pair.{Pair}
 use Rattle.sync_product.specs.proof.Rounds.{frames_of}
 use Rattle.plant_fuse.specs.proof.RoundWork.{IsRun}
 use Rattle.plant_fuse.proofs.ComponentPairs.{none_apart, pair_at, others_apart}
-use Rattle.plant_fuse.proofs.PairWork.{run_stays, stepped_stays}
+use Rattle.plant_fuse.proofs.PairAndLoneWork.{run_stays, stepped_stays}
 use Rattle.plant_fuse.proofs.round.run_all.Goals as goal
 
 abbrev no_pair : Pair

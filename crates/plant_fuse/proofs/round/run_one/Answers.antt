@@ -1,12 +1,12 @@
 use Rattle.std.proofs.Common.{◌∙◌, ◌<◌, sym, ap, length, slice_index_or, arith, rules}
 use Rattle.std.proofs.lemmas.List.{get_or-map}
-use Rattle.pals_model.specs.declared.inputs_and_parts.Part.{Part}
+use Rattle.pals_model.specs.declared.inputs_parts_and_delays.Part.{Part}
 use Rattle.pals_model.specs.Composition.{no_frame}
 use Rattle.sync_product.specs.proof.ProductSizes.{frame_size, part_size, stage_size}
 use Rattle.sync_product.proofs.SizePreservation.{same_sizes}
 use Rattle.sync_product.proofs.StepRoom.{count_of_parts, count_of_stages, fits_sources, fits_part, fits_frame}
 use Rattle.sync_product.proofs.StepRoom.{fits_stage}
-use Rattle.plant_fuse.proofs.PairWork.{alone_is_run}
+use Rattle.plant_fuse.proofs.PairAndLoneWork.{alone_is_run}
 use Rattle.plant_fuse.proofs.round.run_one.Goals as goal
 
 pub bounds-parts-node : goal.bounds-parts-node

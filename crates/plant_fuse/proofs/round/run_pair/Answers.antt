@@ -4,14 +4,14 @@ use Rattle.std.proofs.lemmas.List.{length-set}
 use Rattle.std.proofs.lemmas.Option.{slice_get-map}
 use Rattle.list_lemmas.proofs.Results.{OnOk-always, OnOk-weaker}
 use Rattle.pals_runs.specs.declared.vote_faults_and_pairs.Pair.{Pair}
-use Rattle.sync_product.specs.declared.stage.Stage.{Stage}
+use Rattle.sync_product.specs.declared.component_stage.Stage.{Stage}
 use Rattle.sync_product.specs.proof.Rounds.{frames_of}
 use Rattle.sync_product.specs.proof.ProductSizes.{part_size, stage_size}
 use Rattle.plant_fuse.specs.proof.RoundWork.{IsRun, StayBeside}
 use Rattle.plant_fuse.specs.proof.PairSteps.{AreSidesRun}
 use Rattle.plant_fuse.specs.proof.TakenElements.{TakenFrom}
 use Rattle.sync_product.proofs.StepRoom.{count_of_parts, count_of_stages}
-use Rattle.plant_fuse.proofs.PairWork.{pair_is_run}
+use Rattle.plant_fuse.proofs.PairAndLoneWork.{pair_is_run}
 use Rattle.plant_fuse.proofs.PairRoom.{paired_fits}
 use Rattle.plant_fuse.proofs.TakenElements.{kept_get, kept_length, back_first, back_second, back_other, seen_back}
 use Rattle.plant_fuse.proofs.round.run_pair.Goals as goal

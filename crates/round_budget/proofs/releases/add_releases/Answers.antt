@@ -8,7 +8,7 @@ use Rattle.pals_model.specs.ComponentInputs.{rate_of}
 use Rattle.round_budget.specs.Budgets as budgets
 use Rattle.round_budget.specs.Budgets.{release_of}
 use Rattle.round_budget.specs.declared.releases.Release.{Release}
-use Rattle.round_budget.specs.proof.ReleaseValues.{release_value}
+use Rattle.round_budget.specs.proof.ReleaseAndLineValues.{release_value}
 use Rattle.round_budget.proofs.releases.add_releases.Goals as goal
 
 first_alarm : (t k : ℕ) → t + k ≡ (0 + 1) * t + k

@@ -1,6 +1,6 @@
 use Rattle.std.proofs.Common.{◌≡◌, map, take}
 use Rattle.round_budget.specs.Budgets.{releases_in, numbers}
-use Rattle.round_budget.specs.proof.ReleaseValues.{release_value}
+use Rattle.round_budget.specs.proof.ReleaseAndLineValues.{release_value}
 use Rattle.round_budget.proofs.releases.releases.Given as goal
 
 abbrev pub invariant-loop-member : goal.invariant-loop-member

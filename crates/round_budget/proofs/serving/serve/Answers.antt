@@ -8,7 +8,7 @@ use Rattle.round_budget.specs.Budgets as budgets
 use Rattle.round_budget.specs.Budgets.{most_in, by_most, serve, line_from}
 use Rattle.round_budget.specs.declared.releases.Release.{Release}
 use Rattle.round_budget.specs.declared.serving.TimetableLine.{TimetableLine}
-use Rattle.round_budget.specs.proof.ReleaseValues.{release_value, line_value}
+use Rattle.round_budget.specs.proof.ReleaseAndLineValues.{release_value, line_value}
 use Rattle.round_budget.proofs.TimetableLines.{serve_next}
 use Rattle.round_budget.proofs.serving.serve.Goals as goal
 

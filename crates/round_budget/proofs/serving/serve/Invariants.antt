@@ -1,7 +1,7 @@
 use Rattle.std.proofs.Common.{◌≡◌, ◌+◌, ◌*◌, ◌≤◌, ◌++◌, map, drop}
 use Rattle.pals_base.specs.declared.limits.TheConstants.{HOUR}
 use Rattle.round_budget.specs.Budgets.{serve, by_most, line_from}
-use Rattle.round_budget.specs.proof.ReleaseValues.{release_value, line_value}
+use Rattle.round_budget.specs.proof.ReleaseAndLineValues.{release_value, line_value}
 use Rattle.round_budget.proofs.serving.serve.Given as goal
 
 -- with the rest they are all

@@ -4,7 +4,7 @@ use Rattle.pals_base.specs.declared.values.NodeNo.{NodeNo}
 use Rattle.pals_base.specs.declared.values.Gamma.{Gamma}
 use Rattle.round_budget.specs.Budgets.{total, fits, numbers}
 use Rattle.round_budget.proofs.ProcessorMembers.{rising_few}
-use Rattle.round_budget.proofs.FittingBudgets.{budgeted_by, respond_in_time, timetable_is_each}
+use Rattle.round_budget.proofs.TimetablePromises.{budgeted_by, respond_in_time, timetable_is_each}
 use Rattle.round_budget.proofs.timetables.timetable.Goals as goal
 
 pub total-total-requires-clause-count : goal.total-total-requires-clause-count

@@ -1,4 +1,4 @@
-use Rattle.run_laws.proofs.ShownActions.{rounds_are_shown}
+use Rattle.run_laws.proofs.JournalStartsAndSends.{rounds_are_shown}
 use Rattle.run_laws.proofs.LinkTiming.{all_links_timed}
 use Rattle.run_laws.proofs.laws.links_are_timed.Goals as goal
 

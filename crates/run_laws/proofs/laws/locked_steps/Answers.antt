@@ -1,5 +1,5 @@
-use Rattle.run_laws.proofs.DueArrivals.{list_picks, list_ends, due_arrives}
-use Rattle.run_laws.proofs.EndedLists.{stays_ended}
+use Rattle.run_laws.proofs.DueArrivalsAndListPicks.{list_picks, list_ends, due_arrives}
+use Rattle.run_laws.proofs.EndedListClocks.{stays_ended}
 use Rattle.run_laws.proofs.laws.locked_steps.Goals as goal
 
 pub returns : goal.returns

@@ -1,4 +1,4 @@
-use Rattle.run_laws.proofs.MeetingStops.{meetings_stop, meetings_end, no_meeting_stops}
+use Rattle.run_laws.proofs.MeetingStopsAndBounds.{meetings_stop, meetings_end, no_meeting_stops}
 use Rattle.run_laws.proofs.laws.meetings_stop.Goals as goal
 
 pub returns : goal.returns

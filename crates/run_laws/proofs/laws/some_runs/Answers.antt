@@ -1,4 +1,4 @@
-use Rattle.run_laws.proofs.CounterRuns.{some_meeting_ends, some_list_ends}
+use Rattle.run_laws.proofs.TwoCounterRuns.{some_meeting_ends, some_list_ends}
 use Rattle.run_laws.proofs.laws.some_runs.Goals as goal
 
 pub returns : goal.returns

@@ -1,4 +1,4 @@
-use Rattle.run_laws.proofs.ActionReadings.{all_times_fit}
+use Rattle.run_laws.proofs.StartAndSendReadings.{all_times_fit}
 use Rattle.run_laws.proofs.StopCauses.{stops_fit}
 use Rattle.run_laws.proofs.laws.stops_fit.Goals as goal
 

@@ -1,5 +1,5 @@
 use Rattle.run_laws.proofs.MessageWhereabouts.{messages_stand_once}
-use Rattle.run_laws.proofs.TimelyWorlds.{arrivals_are_kept, counts_are_close}
+use Rattle.run_laws.proofs.KeptWorldInvariant.{arrivals_are_kept, counts_are_close}
 use Rattle.run_laws.proofs.world_laws.messages_are_kept.Goals as goal
 
 pub returns : goal.returns

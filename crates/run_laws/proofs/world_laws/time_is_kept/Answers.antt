@@ -1,5 +1,5 @@
 use Rattle.run_laws.proofs.OpeningWorlds.{opening_keeps_time}
-use Rattle.run_laws.proofs.TimelyWorlds.{event_keeps_time}
+use Rattle.run_laws.proofs.KeptWorldInvariant.{event_keeps_time}
 use Rattle.run_laws.proofs.world_laws.time_is_kept.Goals as goal
 
 pub returns : goal.returns

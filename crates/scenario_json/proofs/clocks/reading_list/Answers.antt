@@ -1,7 +1,7 @@
 use Rattle.std.proofs.Common.{◌≤◌, sym, arith}
 use Rattle.std.proofs.lemmas.Grind.{common_steps}
 use Rattle.scenario_json.specs.Clocks.{last_of}
-use Rattle.scenario_json.proofs.RisingReadings.{last_push, order_push, range_push}
+use Rattle.scenario_json.proofs.NonDecreasingReadings.{last_push, order_push, range_push}
 use Rattle.scenario_json.proofs.clocks.reading_list.Goals as goal
 
 pub loop-at-preserved : goal.loop-at-preserved

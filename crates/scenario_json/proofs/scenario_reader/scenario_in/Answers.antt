@@ -1,5 +1,5 @@
 use Rattle.serde_json.specs.View.{view}
-use Rattle.scenario_json.proofs.ScenarioFields.{answer_keeps}
+use Rattle.scenario_json.proofs.ScenarioValidity.{answer_keeps}
 use Rattle.scenario_json.proofs.scenario_reader.scenario_in.Goals as goal
 
 pub returns-clause-kept : goal.returns-clause-kept

@@ -3,7 +3,7 @@ use Rattle.pals_base.specs.StepSequences.{upwards}
 use Rattle.pals_base.proofs.UpwardNumbers.{map_upwards_more}
 use Rattle.step_code.specs.CappedWeights.{capped}
 use Rattle.step_code.specs.CodeLengths.{length_edges}
-use Rattle.step_compiler.specs.proof.BlockLengths.{leaving_among, capped_length}
+use Rattle.step_compiler.specs.proof.BlockLengthsAndStarts.{leaving_among, capped_length}
 use Rattle.step_compiler.proofs.blocks.block_lengths.Goals as goal
 
 pub loop-state-preserved : goal.loop-state-preserved

@@ -1,6 +1,6 @@
 use Rattle.std.proofs.Common.{◌≡◌, map}
 use Rattle.pals_base.specs.StepSequences.{upwards}
-use Rattle.step_compiler.specs.proof.BlockLengths.{capped_length}
+use Rattle.step_compiler.specs.proof.BlockLengthsAndStarts.{capped_length}
 use Rattle.step_compiler.proofs.blocks.block_lengths.Given as goal
 
 abbrev pub invariant-loop-state : goal.invariant-loop-state

@@ -1,7 +1,7 @@
 use Rattle.std.proofs.Common.{◌≡◌, ◌≤◌, ◌+◌, ◌-◌, ◌^◌, drop, nat_eq}
 use Rattle.std.specs.Prelude.{filter}
 use Rattle.step_code.specs.CappedWeights.{capped}
-use Rattle.step_compiler.specs.BlockLayout.{dispatch_offset}
+use Rattle.step_compiler.specs.BlockInstructions.{dispatch_offset}
 use Rattle.step_compiler.proofs.blocks.dispatch_offset.Given as goal
 
 abbrev pub invariant-loop-transition : goal.invariant-loop-transition

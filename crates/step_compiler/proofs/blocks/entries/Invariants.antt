@@ -1,7 +1,7 @@
 use Rattle.std.proofs.Common.{◌≡◌, map}
 use Rattle.pals_base.specs.StepSequences.{upwards}
-use Rattle.step_compiler.specs.BlockLayout.{entry_of}
-use Rattle.step_compiler.specs.proof.BlockLengths.{in_list}
+use Rattle.step_compiler.specs.BlockInstructions.{entry_of}
+use Rattle.step_compiler.specs.proof.BlockLengthsAndStarts.{in_list}
 use Rattle.step_compiler.proofs.blocks.entries.Given as goal
 
 abbrev pub invariant-loop-state : goal.invariant-loop-state

@@ -2,8 +2,8 @@ use Rattle.std.proofs.Common.{◌∙◌, ◌+◌, ◌<◌, [], ◌∷◌, ◌++�
 use Rattle.list_lemmas.proofs.ListOperations.{drop-next}
 use Rattle.pals_base.specs.SingleStep.{is_complete}
 use Rattle.step_code.specs.CodeLengths.{length_edges}
-use Rattle.step_compiler.specs.BlockLayout.{block_code}
-use Rattle.step_compiler.specs.proof.BlockLengths.{in_list, leaving_among}
+use Rattle.step_compiler.specs.BlockInstructions.{block_code}
+use Rattle.step_compiler.specs.proof.BlockLengthsAndStarts.{in_list, leaving_among}
 use Rattle.step_compiler.proofs.PlacedCodeLengths.{block-length}
 use Rattle.step_compiler.proofs.AppendedCode.{more_parts}
 use Rattle.step_compiler.proofs.LayoutSplits.{leaving_split}

@@ -1,8 +1,8 @@
 use Rattle.std.proofs.Common.{◌≡◌, ◌++◌, length, drop, nat_eq}
 use Rattle.std.specs.Prelude.{filter}
 use Rattle.pals_base.specs.SingleStep.{is_complete, leaving}
-use Rattle.step_compiler.specs.BlockLayout.{block_code}
-use Rattle.step_compiler.specs.proof.BlockLengths.{in_list}
+use Rattle.step_compiler.specs.BlockInstructions.{block_code}
+use Rattle.step_compiler.specs.proof.BlockLengthsAndStarts.{in_list}
 use Rattle.step_compiler.proofs.blocks.push_block.Given as goal
 
 abbrev pub invariant-loop-transition : goal.invariant-loop-transition

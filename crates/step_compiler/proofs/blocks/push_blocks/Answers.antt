@@ -1,7 +1,7 @@
 use Rattle.std.proofs.Common.{◌∙◌, ◌+◌, ◌∷◌, ◌++◌, length, drop, slice_index_or, sym, ap, add-one, drop-cons}
 use Rattle.pals_base.specs.SingleStep.{is_complete, leaving}
-use Rattle.step_compiler.specs.BlockLayout.{block_code, block_length, blocks_code}
-use Rattle.step_compiler.specs.proof.BlockLengths.{in_list}
+use Rattle.step_compiler.specs.BlockInstructions.{block_code, block_length, blocks_code}
+use Rattle.step_compiler.specs.proof.BlockLengthsAndStarts.{in_list}
 use Rattle.step_compiler.proofs.PlacedCodeLengths.{block-length}
 use Rattle.step_compiler.proofs.AppendedCode.{more_parts}
 use Rattle.step_compiler.proofs.blocks.push_blocks.Goals as goal

@@ -1,6 +1,6 @@
 use Rattle.std.proofs.Common.{◌≡◌, ◌++◌, length, drop}
-use Rattle.step_compiler.specs.BlockLayout.{blocks_code}
-use Rattle.step_compiler.specs.proof.BlockLengths.{in_list}
+use Rattle.step_compiler.specs.BlockInstructions.{blocks_code}
+use Rattle.step_compiler.specs.proof.BlockLengthsAndStarts.{in_list}
 use Rattle.step_compiler.proofs.blocks.push_blocks.Given as goal
 
 abbrev pub invariant-loop-state : goal.invariant-loop-state

@@ -1,6 +1,6 @@
 use Rattle.std.proofs.Common.{◌≡◌, ◌≤◌, ◌+◌, ◌-◌, ◌^◌, drop}
 use Rattle.step_code.specs.CappedWeights.{capped}
-use Rattle.step_compiler.specs.proof.BlockLengths.{start_in}
+use Rattle.step_compiler.specs.proof.BlockLengthsAndStarts.{start_in}
 use Rattle.step_compiler.proofs.blocks.start_in.Given as goal
 
 abbrev pub invariant-loop-earlier : goal.invariant-loop-earlier

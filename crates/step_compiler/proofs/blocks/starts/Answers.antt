@@ -2,8 +2,8 @@ use Rattle.std.proofs.Common.{◌∙◌, [], ◌∷◌, ◌++◌, map, sym, ap, 
 use Rattle.pals_base.specs.StepSequences.{upwards}
 use Rattle.pals_base.proofs.UpwardNumbers.{map_upwards_more}
 use Rattle.step_code.specs.CappedWeights.{capped}
-use Rattle.step_compiler.specs.proof.BlockLengths.{start_in}
-use Rattle.step_compiler.specs.BlockLayout.{start_of}
+use Rattle.step_compiler.specs.proof.BlockLengthsAndStarts.{start_in}
+use Rattle.step_compiler.specs.BlockInstructions.{start_of}
 use Rattle.step_compiler.proofs.CappedBlockStarts.{starts_capped}
 use Rattle.step_compiler.proofs.blocks.starts.Goals as goal
 

@@ -1,6 +1,6 @@
 use Rattle.std.proofs.Common.{◌≡◌, map}
 use Rattle.pals_base.specs.StepSequences.{upwards}
-use Rattle.step_compiler.specs.BlockLayout.{start_of}
+use Rattle.step_compiler.specs.BlockInstructions.{start_of}
 use Rattle.step_compiler.proofs.blocks.starts.Given as goal
 
 abbrev pub invariant-loop-state : goal.invariant-loop-state

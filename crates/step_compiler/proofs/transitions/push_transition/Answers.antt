@@ -6,8 +6,8 @@ use Rattle.pals_base.specs.PlainTrees.{Edge}
 use Rattle.pals_base.specs.proof.TreeViews.{trigger_of, actions_along}
 use Rattle.step_code.specs.CodeLengths.{length_trigger}
 use Rattle.step_compiler.specs.TreeInstructions.{code_acts}
-use Rattle.step_compiler.specs.BlockLayout.{trigger_code, last_instr, past}
-use Rattle.step_compiler.specs.proof.BlockLengths.{in_list}
+use Rattle.step_compiler.specs.BlockInstructions.{trigger_code, last_instr, past}
+use Rattle.step_compiler.specs.proof.BlockLengthsAndStarts.{in_list}
 use Rattle.step_compiler.proofs.PlacedCodeLengths.{trigger-length}
 use Rattle.step_compiler.proofs.AppendedCode.{between}
 use Rattle.step_compiler.proofs.transitions.push_transition.Goals as goal

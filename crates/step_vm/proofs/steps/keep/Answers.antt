@@ -1,7 +1,7 @@
 use Rattle.std.proofs.Common.{◌∙◌, pos, refl, ap, arith, rules, w64, slice_set, slice_index_or}
 use Rattle.std.proofs.lemmas.Int.{to_z-of_z}
 use mir.Val.{SFits}
-use Rattle.step_vm.proofs.HeldInputs.{keep_more}
+use Rattle.step_vm.proofs.HeldInputsAndVariables.{keep_more}
 use Rattle.step_vm.proofs.steps.keep.Goals as goal
 
 pub loop-at-preserved : goal.loop-at-preserved

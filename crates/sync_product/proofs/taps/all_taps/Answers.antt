@@ -6,7 +6,7 @@ use Rattle.pals_model.specs.DesignRules.{IsTap}
 use Rattle.pals_model.proofs.FirstMatches.{at_element}
 use Rattle.sync_product.specs.proof.ProductSizes.{tap_ports}
 use Rattle.sync_product.proofs.ComponentLists.{item_at}
-use Rattle.sync_product.proofs.TapPorts.{table_from, no_taps, with_tap}
+use Rattle.sync_product.proofs.TapPortTable.{table_from, no_taps, with_tap}
 use Rattle.sync_product.proofs.taps.all_taps.Goals as goal
 
 pub loop-tap-init : goal.loop-tap-init

@@ -1,6 +1,6 @@
 use Rattle.std.proofs.Common.{◌≡◌, List, [], ℕ, map, take}
 use Rattle.pals_model.specs.declared.design.Component.{Component}
-use Rattle.sync_product.proofs.TapPorts.{table_from}
+use Rattle.sync_product.proofs.TapPortTable.{table_from}
 use Rattle.sync_product.proofs.taps.all_taps.Given as goal
 
 abbrev pub invariant-loop-component : goal.invariant-loop-component

@@ -1,6 +1,6 @@
 use Rattle.std.proofs.Common.{◌≡◌, List, [], ◌∷◌, ◌++◌, take, None, ap, ◌∙◌, sym, subst}
 use Rattle.std.proofs.lemmas.List.{take_more}
-use Rattle.pals_runs.specs.declared.events.Event.{Event}
+use Rattle.pals_runs.specs.declared.events_and_faults.Event.{Event}
 use Rattle.run_laws.specs.EventFaults.{fault_of}
 use Rattle.timed_world.specs.proof.WorldValues.{world_of}
 use Rattle.timed_world.specs.proof.EventLists.{Leads}

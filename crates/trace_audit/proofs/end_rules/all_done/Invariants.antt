@@ -1,5 +1,5 @@
 use Rattle.std.proofs.Common.{◌≡◌, drop}
-use Rattle.trace_audit.proofs.DoneNodes.{are_done}
+use Rattle.trace_audit.proofs.DoneNodesAndRounds.{are_done}
 use Rattle.trace_audit.proofs.end_rules.all_done.Given as goal
 
 -- all nodes are done where those that are left are

@@ -1,6 +1,6 @@
 use Rattle.std.proofs.Common.{◌∙◌, ◌<◌, ◌≤◌, length, ap, arith}
 use Rattle.pals_model.specs.declared.design.DesignParts.{DesignParts}
-use Rattle.trace_audit.proofs.DoneNodes.{least_more, least_end}
+use Rattle.trace_audit.proofs.DoneNodesAndRounds.{least_more, least_end}
 use Rattle.trace_audit.proofs.end_rules.finished_by_all.Goals as goal
 
 pub loop-node-preserved : goal.loop-node-preserved

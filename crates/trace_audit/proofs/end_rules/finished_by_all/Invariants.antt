@@ -1,5 +1,5 @@
 use Rattle.std.proofs.Common.{◌≡◌, drop}
-use Rattle.trace_audit.proofs.DoneNodes.{least_of}
+use Rattle.trace_audit.proofs.DoneNodesAndRounds.{least_of}
 use Rattle.bus_machine.specs.States.{finished_by_all}
 use Rattle.trace_audit.proofs.end_rules.finished_by_all.Given as goal
 

@@ -12,7 +12,7 @@ use Rattle.pals_node.specs.proof.Answers.{is_early, StepEnds}
 use Rattle.pals_bus.specs.proof.NodeAndCodeValues.{node_value}
 use Rattle.pals_bus.specs.proof.Answers.{BusStepEnds}
 use Rattle.trace_audit.proofs.BrokenRules.{early_breaks}
-use Rattle.trace_audit.proofs.OrderRule.{next_is, step_fits}
+use Rattle.trace_audit.proofs.OrderAndOwedStops.{next_is, step_fits}
 use Rattle.trace_audit.proofs.redone_events.step.Goals as goal
 
 pub returns-in-Err-Refused-NotYet-clause-rule : goal.returns-in-Err-Refused-NotYet-clause-rule

@@ -1,4 +1,4 @@
-use Rattle.triple_vote.proofs.VotedReports.{report_is_thrice, thrice_without_replicas}
+use Rattle.triple_vote.proofs.OutvotedFaultReports.{report_is_thrice, thrice_without_replicas}
 use Rattle.triple_vote.proofs.laws.reports_are_composed.Goals as goal
 
 pub returns : goal.returns

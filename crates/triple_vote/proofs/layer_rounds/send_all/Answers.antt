@@ -2,7 +2,7 @@ use Rattle.std.proofs.Common.{◌∙◌, ap, sym, length, arith}
 use Rattle.pals_model.specs.declared.design.Link.{Link}
 use Rattle.sync_product.specs.proof.Rounds.{sent_by}
 use Rattle.triple_vote.specs.proof.ReplicaLayers.{is_there}
-use Rattle.triple_vote.proofs.TupleWrites.{filled_all}
+use Rattle.triple_vote.proofs.SelectiveListWrites.{filled_all}
 use Rattle.triple_vote.proofs.StageMessages.{message_fits, message_sizes_stay, message_sent}
 use Rattle.triple_vote.proofs.layer_rounds.send_all.Goals as goal
 

@@ -3,7 +3,7 @@ use Rattle.pals_model.specs.declared.design.Link.{Link}
 use Rattle.sync_product.specs.proof.ProductSizes.{message_sizes}
 use Rattle.sync_product.specs.proof.Rounds.{sent_by}
 use Rattle.triple_vote.specs.proof.ReplicaLayers.{lengths, is_there}
-use Rattle.triple_vote.proofs.TupleWrites.{Filled}
+use Rattle.triple_vote.proofs.SelectiveListWrites.{Filled}
 use Rattle.triple_vote.proofs.layer_rounds.send_all.Given as goal
 
 -- the first messages are written

@@ -1,9 +1,9 @@
 use Rattle.std.proofs.Common.{◌∙◌, refl, ap, sym, length, arith}
 use Rattle.std.specs.Prelude.{slice_get}
 use Rattle.pals_model.specs.declared.design.Tap.{Tap}
-use Rattle.sync_product.specs.declared.stage.Stage.{Stage}
+use Rattle.sync_product.specs.declared.component_stage.Stage.{Stage}
 use Rattle.triple_vote.specs.proof.ReplicaLayers.{is_there, whole_from}
-use Rattle.triple_vote.proofs.TupleWrites.{filled_all}
+use Rattle.triple_vote.proofs.SelectiveListWrites.{filled_all}
 use Rattle.triple_vote.proofs.StageMessages.{tuple_fits, tuple_sizes_stay, tuple_shown}
 use Rattle.triple_vote.proofs.layer_rounds.show_all.Goals as goal
 

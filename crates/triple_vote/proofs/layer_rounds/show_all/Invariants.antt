@@ -2,7 +2,7 @@ use Rattle.std.proofs.Common.{◌≡◌}
 use Rattle.std.specs.Prelude.{slice_get}
 use Rattle.pals_model.specs.declared.design.Tap.{Tap}
 use Rattle.triple_vote.specs.proof.ReplicaLayers.{lengths, tap_sizes, is_there, whole_from}
-use Rattle.triple_vote.proofs.TupleWrites.{Filled}
+use Rattle.triple_vote.proofs.SelectiveListWrites.{Filled}
 use Rattle.triple_vote.proofs.layer_rounds.show_all.Given as goal
 
 -- the first tuples are written

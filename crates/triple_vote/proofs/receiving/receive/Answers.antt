@@ -1,7 +1,7 @@
 use Rattle.std.proofs.Common.{◌∙◌, ◌+◌, length, refl, sym, ap, arith}
 use Rattle.triple_vote.specs.proof.ThreeLayers.{sent_in, received_of}
 use Rattle.triple_vote.proofs.FaultTables.{sent_first}
-use Rattle.triple_vote.proofs.VotedMessages.{sent_size, received_three}
+use Rattle.triple_vote.proofs.VotedMessagesAndTaps.{sent_size, received_three}
 use Rattle.triple_vote.proofs.receiving.receive.Goals as goal
 
 pub vote_into-requires-clause-to : goal.vote_into-requires-clause-to

@@ -1,13 +1,13 @@
 use Rattle.std.proofs.Common.{◌∙◌, ◌<◌, Bool, List, [], ap, sym, length, slice_get, slice_index_or, arith}
 use Rattle.std.proofs.lemmas.Option.{slice_get-get_or}
 use Rattle.pals_model.specs.declared.design.Link.{Link}
-use Rattle.triple_vote.specs.declared.layer.Layer.{Layer}
+use Rattle.triple_vote.specs.declared.replica_lane.Layer.{Layer}
 use Rattle.triple_vote.specs.Replicas.{is_replicated}
 use Rattle.triple_vote.specs.proof.ReplicaLayers.{is_there}
 use Rattle.triple_vote.specs.proof.ThreeLayers.{there_in, sent_in, received_of}
-use Rattle.triple_vote.proofs.TupleWrites.{filled_skip, filled_all}
-use Rattle.triple_vote.proofs.VotedMessages.{no_link, there_read, sent_fit, faults_are_fit, heard_sizes_stay}
-use Rattle.triple_vote.proofs.VotedMessages.{heard_more}
+use Rattle.triple_vote.proofs.SelectiveListWrites.{filled_skip, filled_all}
+use Rattle.triple_vote.proofs.VotedMessagesAndTaps.{no_link, there_read, sent_fit, faults_are_fit, heard_sizes_stay}
+use Rattle.triple_vote.proofs.VotedMessagesAndTaps.{heard_more}
 use Rattle.triple_vote.proofs.receiving.receive_all.Goals as goal
 
 pub receive-requires-clause-number : goal.receive-requires-clause-number

@@ -4,7 +4,7 @@ use Rattle.sync_product.specs.proof.ProductSizes.{message_sizes}
 use Rattle.triple_vote.specs.Replicas.{is_replicated}
 use Rattle.triple_vote.specs.proof.ReplicaLayers.{lengths, is_there}
 use Rattle.triple_vote.specs.proof.ThreeLayers.{there_in, sent_in, received_of}
-use Rattle.triple_vote.proofs.TupleWrites.{Filled}
+use Rattle.triple_vote.proofs.SelectiveListWrites.{Filled}
 use Rattle.triple_vote.proofs.receiving.receive_all.Given as goal
 
 -- what is received on the first links is written

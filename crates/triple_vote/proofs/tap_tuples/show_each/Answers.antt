@@ -2,8 +2,8 @@ use Rattle.std.proofs.Common.{◌∙◌, true, refl, ap, length, arith}
 use Rattle.pals_model.specs.declared.design.Tap.{Tap}
 use Rattle.triple_vote.specs.Replicas.{is_replicated}
 use Rattle.triple_vote.specs.proof.ThreeLayers.{shown_in, shown_of}
-use Rattle.triple_vote.proofs.TupleWrites.{filled_all}
-use Rattle.triple_vote.proofs.VotedMessages.{shown_fit, shown_sizes_stay, shown_more}
+use Rattle.triple_vote.proofs.SelectiveListWrites.{filled_all}
+use Rattle.triple_vote.proofs.VotedMessagesAndTaps.{shown_fit, shown_sizes_stay, shown_more}
 use Rattle.triple_vote.proofs.tap_tuples.show_each.Goals as goal
 
 pub show-requires : goal.show-requires

@@ -3,7 +3,7 @@ use Rattle.pals_model.specs.declared.design.Tap.{Tap}
 use Rattle.triple_vote.specs.Replicas.{is_replicated}
 use Rattle.triple_vote.specs.proof.ReplicaLayers.{lengths, tap_sizes}
 use Rattle.triple_vote.specs.proof.ThreeLayers.{shown_in, shown_of}
-use Rattle.triple_vote.proofs.TupleWrites.{Filled}
+use Rattle.triple_vote.proofs.SelectiveListWrites.{Filled}
 use Rattle.triple_vote.proofs.tap_tuples.show_each.Given as goal
 
 -- what the first root out ports show is written

@@ -1,4 +1,4 @@
-use Rattle.world_gen.proofs.RingBehaviours.{parts_behave}
+use Rattle.world_gen.proofs.RingBehaviourRules.{parts_behave}
 use Rattle.world_gen.proofs.ring_behaviours.ring_behaviour.Goals as goal
 
 pub new-requires : goal.new-requires

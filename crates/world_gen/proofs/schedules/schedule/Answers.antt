@@ -1,5 +1,5 @@
 use Rattle.std.proofs.Common.{ap, ◌∙◌, length, arith}
-use Rattle.world_gen.proofs.GrowingSchedules.{timetable_keeps, GoesOn, goes_on, is_done}
+use Rattle.world_gen.proofs.PartialSchedules.{timetable_keeps, GoesOn, goes_on, is_done}
 use Rattle.world_gen.proofs.schedules.schedule.Goals as goal
 
 pub next_moment-requires : goal.next_moment-requires

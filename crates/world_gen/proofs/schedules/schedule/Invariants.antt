@@ -1,6 +1,6 @@
 use Rattle.std.proofs.Common.{◌+◌, ◌-◌, ◌≤◌}
 use Rattle.pals_base.specs.declared.limits.TheConstants.{READING}
-use Rattle.world_gen.proofs.GrowingSchedules.{IsSoFar}
+use Rattle.world_gen.proofs.PartialSchedules.{IsSoFar}
 use Rattle.world_gen.proofs.schedules.schedule.Given as goal
 
 abbrev pub invariant-loop-moment : goal.invariant-loop-moment

@@ -1,7 +1,7 @@
 use Rattle.std.proofs.Common.{◌≡◌, ◌∙◌, ◌++◌, None, ap, subst}
 use Rattle.std.proofs.lemmas.List.{get_or_default}
 use Rattle.pals_model.specs.RoundTexts.{text_of}
-use Rattle.pals_runs.specs.declared.events.Event.{Event}
+use Rattle.pals_runs.specs.declared.events_and_faults.Event.{Event}
 use Rattle.pals_bus.specs.BusValues.{BusValue}
 use Rattle.run_laws.specs.EventFaults.{fault_of}
 use Rattle.loose_world.specs.LooseRuns.{told_by}

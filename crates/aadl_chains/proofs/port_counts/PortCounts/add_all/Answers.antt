@@ -1,7 +1,7 @@
 use Rattle.std.proofs.Common.{◌≡◌, ◌∙◌, ap, arith, get_or, length, slice_get, sym, Some, None, List}
 use Rattle.std.proofs.lemmas.Option.{slice_get-get_or}
 use Rattle.aadl_tree.specs.proof.PackageViews.{placed}
-use Rattle.aadl_uses.specs.declared.connections.Wire.{Wire}
+use Rattle.aadl_uses.specs.declared.connections_by_target.Wire.{Wire}
 use Rattle.aadl_uses.specs.Wiring.{wires_at}
 use Rattle.aadl_chains.proofs.PortCountTables.{none_front, front_more, front_added}
 use Rattle.aadl_chains.proofs.port_counts.PortCounts.add_all.Goals as goal

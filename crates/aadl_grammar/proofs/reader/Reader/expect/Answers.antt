@@ -1,8 +1,8 @@
 use Rattle.std.proofs.Common.{◌∙◌, ap, sym, refl, arith}
-use Rattle.aadl_grammar.specs.proof.Symbols as s
+use Rattle.aadl_grammar.specs.proof.GrammarSymbols as s
 use Rattle.aadl_grammar.specs.proof.StackMachine.{depth, syntax_at}
 use Rattle.aadl_grammar.specs.proof.ParserAnswers.{here}
-use Rattle.aadl_grammar.proofs.SymbolMoves.{takes_row, refuses_unless, only_takes}
+use Rattle.aadl_grammar.proofs.TopSymbolMoves.{takes_row, refuses_unless, only_takes}
 use Rattle.aadl_grammar.proofs.reader.Reader.expect.Goals as goal
 
 pub returns-in-Some : goal.returns-in-Some

@@ -1,7 +1,7 @@
 use Rattle.std.proofs.Common.{◌≡◌, ◌∙◌, ap, sym}
 use Rattle.std.specs.List.{find}
 use Rattle.std.specs.Str.{str_eq_ignore_ascii_case}
-use Rattle.aadl_tree.specs.Marks.{mark_text}
+use Rattle.aadl_tree.specs.KeywordsAndSymbols.{mark_text}
 use Rattle.aadl_tree.specs.proof.MarkFirstBytes.{keywords_from}
 use Rattle.aadl_tree.proofs.MarkFirstBytes.{keyword_kept, no_keyword, some_bytes}
 use Rattle.aadl_tree.proofs.mark.Mark.keyword.Goals as goal

@@ -1,7 +1,7 @@
 use Rattle.std.proofs.Common.{◌∙◌, ap, sym}
 use Rattle.std.specs.List.{find}
 use Rattle.std.specs.Str.{bytes_eq}
-use Rattle.aadl_tree.specs.Marks.{mark_text}
+use Rattle.aadl_tree.specs.KeywordsAndSymbols.{mark_text}
 use Rattle.aadl_tree.proofs.MarkFirstBytes.{symbol_kept, no_symbol}
 use Rattle.aadl_tree.proofs.mark.Mark.symbol.Goals as goal
 

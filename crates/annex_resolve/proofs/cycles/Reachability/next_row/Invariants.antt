@@ -1,6 +1,6 @@
 use Rattle.std.proofs.Common.{◌≡◌, ◌+◌, map}
 use Rattle.pals_base.specs.StepSequences.{upwards}
-use Rattle.annex_resolve.specs.CycleRules.{reaches}
+use Rattle.annex_resolve.specs.IncompleteStateCycles.{reaches}
 use Rattle.annex_resolve.proofs.cycles.Reachability.next_row.Given as goal
 
 abbrev pub invariant-loop-target : goal.invariant-loop-target

@@ -1,8 +1,8 @@
 use Rattle.std.proofs.Common.{◌≡◌, ◌-◌, ◌≤◌, not, length, insert, sym, ap, ◌∙◌, subst, rules, tests, arith}
 use Rattle.link_buffers.specs.proof.Halving.{IsFirstToFail}
 use Rattle.std.proofs.lemmas.List.Edits.{length-insert}
-use Rattle.link_buffers.specs.proof.Queues.{comes_before, IsRising}
-use Rattle.link_buffers.proofs.EntryPositions.{parted_not_after, inserted, rising-inserted, same_queue}
+use Rattle.link_buffers.specs.proof.DueQueues.{comes_before, IsRising}
+use Rattle.link_buffers.proofs.DueEntryPositions.{parted_not_after, inserted, rising-inserted, same_queue}
 use Rattle.link_buffers.proofs.due_queue.DueQueue.add.Goals.{After-put_at}
 use Rattle.link_buffers.proofs.due_queue.DueQueue.add.Goals as goal
 

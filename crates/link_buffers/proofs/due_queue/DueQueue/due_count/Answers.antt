@@ -1,8 +1,8 @@
 use Rattle.std.proofs.Common.{sym, rules, tests}
 use Rattle.link_buffers.specs.proof.Halving.{IsFirstToFail}
-use Rattle.link_buffers.specs.proof.Queues.{is_due_at}
+use Rattle.link_buffers.specs.proof.DueQueues.{is_due_at}
 use Rattle.link_buffers.proofs.PartitionedLists.{filter_front, count_front}
-use Rattle.link_buffers.proofs.EntryPositions.{parted_due}
+use Rattle.link_buffers.proofs.DueEntryPositions.{parted_due}
 use Rattle.link_buffers.proofs.due_queue.DueQueue.due_count.Goals.{After-partition_point}
 use Rattle.link_buffers.proofs.due_queue.DueQueue.due_count.Goals as goal
 

@@ -5,8 +5,8 @@ use Rattle.std.proofs.lemmas.List.Edits.{length-remove}
 use Rattle.std.proofs.lemmas.List.Quantifiers.{all_pairs_remove}
 use Rattle.std.proofs.lemmas.Option.{slice_get_within}
 use Rattle.std.proofs.lemmas.Grind.{common_steps}
-use Rattle.link_buffers.specs.proof.Queues.{comes_before, IsRising}
-use Rattle.link_buffers.proofs.EntryPositions.{parted_before, removed, found, absent, kept}
+use Rattle.link_buffers.specs.proof.DueQueues.{comes_before, IsRising}
+use Rattle.link_buffers.proofs.DueEntryPositions.{parted_before, removed, found, absent, kept}
 use Rattle.link_buffers.proofs.due_queue.DueQueue.remove.Goals.{After-stands_at, After-take_at}
 use Rattle.link_buffers.proofs.due_queue.DueQueue.remove.Goals as goal
 

@@ -1,5 +1,5 @@
 use Rattle.std.proofs.Common.{◌≢◌, ℕ, ◌<◌, None}
-use Rattle.node_threads.specs.proof.NodeEnds.{end_in}
+use Rattle.node_threads.specs.proof.NodeEndsAndOutcomes.{end_in}
 use Rattle.node_threads.proofs.course.SharedRun.is_over.Given as goal
 
 -- the parts of the nodes so far have ended

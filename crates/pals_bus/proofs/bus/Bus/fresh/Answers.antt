@@ -2,13 +2,13 @@ use Rattle.std.proofs.Common.{◌≡◌, ◌∙◌, List, length, map, sym, ap, 
 use Rattle.std.specs.Arc.{arc_value}
 use Rattle.step_code.specs.declared.instr.CodeParts.{CodeParts}
 use Rattle.pals_model.specs.declared.design.DesignParts.{DesignParts}
-use Rattle.pals_model.specs.declared.inputs_and_parts.Delays.{Delays}
+use Rattle.pals_model.specs.declared.inputs_parts_and_delays.Delays.{Delays}
 use Rattle.pals_model.specs.Delays.{AreDelays}
 use Rattle.bus_machine.specs.States.{Run}
 use Rattle.pals_node.specs.proof.NodeValues.{NodeValue, opening_value}
 use Rattle.pals_bus.specs.BusValues.{BusValue}
 use Rattle.pals_bus.specs.proof.BusInvariant.{value_of}
-use Rattle.pals_bus.specs.proof.Openings.{AreOpening}
+use Rattle.pals_bus.specs.proof.OpeningNodes.{AreOpening}
 use Rattle.pals_bus.specs.proof.NodeAndCodeValues.{AreCodes, codes_in, opening_bus}
 use Rattle.pals_bus.proofs.NodeChanges.{codes_mean}
 use Rattle.pals_bus.proofs.Openings.{codes_open, nodes_anew, run_anew}

@@ -1,10 +1,10 @@
 use Rattle.std.proofs.Common.{◌≡◌, ◌↔◌, ◌∙◌, ◌<◌, nat_lt, length, sym, subst, IsTrue, arith, rules, tests}
 use Rattle.std.proofs.lemmas.List.{get_or_default}
-use Rattle.pals_bus.specs.proof.Placeholders.{no_queue}
+use Rattle.pals_bus.specs.proof.OutOfRangeDefaults.{no_queue}
 use Rattle.pals_bus.specs.proof.DueMessages.{HasDue}
 use Rattle.pals_bus.specs.proof.BusInvariant.{value_of}
 use Rattle.pals_bus.specs.BusValues.{BusValue}
-use Rattle.pals_bus.proofs.DueEntries.{due_by_queue}
+use Rattle.pals_bus.proofs.DueEntriesAndCopies.{due_by_queue}
 use Rattle.pals_bus.proofs.ArrivalLoop.{flights_many}
 use Rattle.pals_bus.proofs.InvariantConsequences.{within_nodes}
 use Rattle.pals_bus.proofs.bus.Bus.has_due.Goals as goal

@@ -3,8 +3,8 @@ use Rattle.pals_model.specs.declared.design.DesignParts.{DesignParts}
 use Rattle.pals_model.specs.declared.design.Link.{Link}
 use Rattle.pals_model.specs.DesignRules.{IsDesign}
 use Rattle.pals_node.specs.proof.NodeValues.{NodeValue}
-use Rattle.pals_bus.specs.declared.fields.BusFields.{BusFields}
-use Rattle.pals_bus.specs.proof.Placeholders.{no_flight, no_queue}
+use Rattle.pals_bus.specs.declared.bus_fields.BusFields.{BusFields}
+use Rattle.pals_bus.specs.proof.OutOfRangeDefaults.{no_flight, no_queue}
 use Rattle.pals_bus.specs.proof.LinksFrom.{AreOutgoing}
 use Rattle.pals_bus.specs.proof.NodeAndCodeValues.{codes_in}
 use Rattle.pals_bus.proofs.Openings.{IsOpening, opening_keeps, opening_shows}

@@ -3,10 +3,10 @@ use Rattle.std.proofs.lemmas.Grind.{common_steps}
 use Rattle.pals_runs.specs.declared.journal.JournalEntry.TheVariants as entry
 use Rattle.pals_node.specs.proof.Answers.{StartEnds}
 use Rattle.pals_node.specs.proof.NodeValues.{NodeValue}
-use Rattle.pals_bus.specs.declared.fields.BusFields.{BusFields}
+use Rattle.pals_bus.specs.declared.bus_fields.BusFields.{BusFields}
 use Rattle.pals_bus.specs.proof.NodeLists.{node_of}
-use Rattle.pals_bus.proofs.NodeCalls.{Turned}
-use Rattle.pals_bus.proofs.CallResults.{HasRoundRoom, is_ready, starts, misses}
+use Rattle.pals_bus.proofs.NodeAfterCall.{Turned}
+use Rattle.pals_bus.proofs.NodeCallResults.{HasRoundRoom, is_ready, starts, misses}
 use Rattle.pals_bus.proofs.bus.Bus.start.Goals as goal
 
 pub invariant_of-self-in-Err : goal.invariant_of-self-in-Err

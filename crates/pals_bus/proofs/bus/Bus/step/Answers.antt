@@ -3,9 +3,9 @@ use Rattle.std.proofs.lemmas.Grind.{common_steps}
 use Rattle.pals_runs.specs.declared.journal.JournalEntry.TheVariants as entry
 use Rattle.pals_node.specs.proof.NodeValues.{NodeValue}
 use Rattle.pals_node.specs.proof.Answers.{StepEnds}
-use Rattle.pals_bus.specs.declared.fields.BusFields.{BusFields}
-use Rattle.pals_bus.proofs.NodeCalls.{Turned}
-use Rattle.pals_bus.proofs.CallResults.{reserved, refuses, steps}
+use Rattle.pals_bus.specs.declared.bus_fields.BusFields.{BusFields}
+use Rattle.pals_bus.proofs.NodeAfterCall.{Turned}
+use Rattle.pals_bus.proofs.NodeCallResults.{reserved, refuses, steps}
 use Rattle.pals_bus.proofs.bus.Bus.step.Goals as goal
 
 pub returns-in-Err-clause-cause : goal.returns-in-Err-clause-cause

@@ -1,13 +1,13 @@
 use Rattle.std.proofs.Common.{◌∙◌, ◌<◌, length, sym, subst, arith}
 use Rattle.std.specs.Prelude.{IfNone, []}
 use Rattle.std.proofs.lemmas.List.{get_or_default}
-use Rattle.pals_bus.specs.proof.Placeholders.{no_queue}
+use Rattle.pals_bus.specs.proof.OutOfRangeDefaults.{no_queue}
 use Rattle.pals_bus.specs.proof.DueMessages.{AreLeft, TakesDue}
 use Rattle.pals_bus.specs.proof.BusInvariant.{value_of}
 use Rattle.pals_bus.specs.BusValues.{BusValue}
-use Rattle.pals_bus.proofs.DueEntries.{left_at_first}
-use Rattle.pals_bus.proofs.DueArrivals.{none_due}
-use Rattle.pals_bus.proofs.CallResults.{journal_shows}
+use Rattle.pals_bus.proofs.DueEntriesAndCopies.{left_at_first}
+use Rattle.pals_bus.proofs.FirstDueArrival.{none_due}
+use Rattle.pals_bus.proofs.NodeCallResults.{journal_shows}
 use Rattle.pals_bus.proofs.bus.Bus.take_due.Goals as goal
 
 pub arrive_all-requires-clause-left : goal.arrive_all-requires-clause-left

@@ -1,5 +1,5 @@
 use Rattle.std.proofs.Common.{arith}
-use Rattle.pals_report.proofs.Columns.{behind_within}
+use Rattle.pals_report.proofs.ColumnsWithinText.{behind_within}
 use Rattle.pals_report.proofs.cursor.Cursor.go_on.Goals as goal
 
 pub overflow_add-column : goal.overflow_add-column

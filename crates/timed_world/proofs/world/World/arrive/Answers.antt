@@ -1,7 +1,7 @@
 use Rattle.std.proofs.Common.{sym, subst}
-use Rattle.pals_runs.specs.declared.events.Event.TheVariants as event
+use Rattle.pals_runs.specs.declared.events_and_faults.Event.TheVariants as event
 use Rattle.timed_world.specs.proof.WorldValues.{WorldValue}
-use Rattle.timed_world.proofs.FaultlessEvents.{IsFine, arrived, moves_keep}
+use Rattle.timed_world.proofs.EventEffects.{IsFine, arrived, moves_keep}
 use Rattle.timed_world.proofs.BusRefusals.{arrival_only}
 use Rattle.timed_world.proofs.world.World.arrive.Goals as goal
 

@@ -6,7 +6,7 @@ use Rattle.pals_model.specs.declared.design.DesignParts.{DesignParts}
 use Rattle.bus_machine.specs.LinkEvents.{is_in_flight}
 use Rattle.bus_machine.specs.States.{flight_at}
 use Rattle.timed_world.specs.proof.WorldValues.{WorldValue, KeepsWorld, world_of}
-use Rattle.timed_world.proofs.SingleFlights.{arrival_fits}
+use Rattle.timed_world.proofs.SingleCopiesInFlight.{arrival_fits}
 use Rattle.timed_world.proofs.world.World.fault_of_arrival.Goals as goal
 
 some_copied : (o : Option (Bor FlightCopy)) → is_some (option_copied o) ≡ is_some o

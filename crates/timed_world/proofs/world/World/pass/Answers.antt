@@ -1,7 +1,7 @@
 use Rattle.std.proofs.Common.{sym, subst}
-use Rattle.pals_runs.specs.declared.events.Event.TheVariants as event
+use Rattle.pals_runs.specs.declared.events_and_faults.Event.TheVariants as event
 use Rattle.timed_world.specs.proof.WorldValues.{WorldValue}
-use Rattle.timed_world.proofs.FaultlessEvents.{IsFine, passed, moves_keep}
+use Rattle.timed_world.proofs.EventEffects.{IsFine, passed, moves_keep}
 use Rattle.timed_world.proofs.world.World.pass.Goals as goal
 
 pub invariant_of-self : goal.invariant_of-self

@@ -1,11 +1,11 @@
 use Rattle.std.proofs.Common.{◌≡◌, true, false, ap, ◌∙◌, sym, subst}
-use Rattle.pals_runs.specs.declared.events.Event.TheVariants as event
+use Rattle.pals_runs.specs.declared.events_and_faults.Event.TheVariants as event
 use Rattle.bus_machine.specs.States.{node_at}
 use Rattle.run_laws.specs.Worlds.{is_held}
-use Rattle.run_laws.proofs.FaultlessEvents.{sends_in_time}
+use Rattle.run_laws.proofs.FaultlessEventConditions.{sends_in_time}
 use Rattle.timed_world.specs.declared.standing.NodeStanding.{NodeStanding}
 use Rattle.timed_world.specs.proof.WorldValues.{WorldValue, world_of}
-use Rattle.timed_world.proofs.FaultlessEvents.{IsFine, reads, moves_on, stays_put, sent, moves_keep}
+use Rattle.timed_world.proofs.EventEffects.{IsFine, reads, moves_on, stays_put, sent, moves_keep}
 use Rattle.timed_world.proofs.BusRefusals.{send_reads}
 use Rattle.timed_world.proofs.world.World.send.Goals as goal
 

@@ -1,9 +1,9 @@
 use Rattle.std.proofs.Common.{ap, sym, ◌∙◌, subst}
-use Rattle.pals_runs.specs.declared.events.Event.TheVariants as event
+use Rattle.pals_runs.specs.declared.events_and_faults.Event.TheVariants as event
 use Rattle.pals_bus.specs.BusValues.{BusValue}
-use Rattle.run_laws.proofs.FaultlessEvents.{starts_in_time}
+use Rattle.run_laws.proofs.FaultlessEventConditions.{starts_in_time}
 use Rattle.timed_world.specs.proof.WorldValues.{WorldValue, KeepsWorld, Moves, world_of}
-use Rattle.timed_world.proofs.FaultlessEvents.{IsFine, reads, begun, moves_keep}
+use Rattle.timed_world.proofs.EventEffects.{IsFine, reads, begun, moves_keep}
 use Rattle.timed_world.proofs.BusRefusals.{start_only}
 use Rattle.timed_world.proofs.world.World.start.Goals as goal
 

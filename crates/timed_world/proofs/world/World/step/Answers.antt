@@ -1,8 +1,8 @@
 use Rattle.std.proofs.Common.{sym, subst}
-use Rattle.pals_runs.specs.declared.events.Event.TheVariants as event
-use Rattle.run_laws.proofs.FaultlessEvents.{steps_in_time}
+use Rattle.pals_runs.specs.declared.events_and_faults.Event.TheVariants as event
+use Rattle.run_laws.proofs.FaultlessEventConditions.{steps_in_time}
 use Rattle.timed_world.specs.proof.WorldValues.{WorldValue, world_of}
-use Rattle.timed_world.proofs.FaultlessEvents.{IsFine, reads, stepped, moves_keep}
+use Rattle.timed_world.proofs.EventEffects.{IsFine, reads, stepped, moves_keep}
 use Rattle.timed_world.proofs.BusRefusals.{step_only}
 use Rattle.timed_world.proofs.world.World.step.Goals as goal
 

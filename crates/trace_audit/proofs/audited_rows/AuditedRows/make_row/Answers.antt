@@ -6,7 +6,7 @@ use Rattle.pals_model.specs.ComponentInputs.{values_at}
 use Rattle.pals_model.specs.RoundTexts.{composed_lines, row}
 use Rattle.sync_product.specs.proof.ProductStates.{ProductState}
 use Rattle.trace_audit.specs.declared.row_text.RowText.{RowText}
-use Rattle.trace_audit.specs.proof.RemainingLines.{HasLeft}
+use Rattle.trace_audit.specs.proof.RemainingRowLines.{HasLeft}
 use Rattle.trace_audit.proofs.ReportRows.{length-values_at, parts_made}
 use Rattle.trace_audit.proofs.audited_rows.AuditedRows.make_row.Goals as goal
 

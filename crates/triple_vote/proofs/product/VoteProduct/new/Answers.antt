@@ -11,7 +11,7 @@ use Rattle.triple_vote.specs.proof.VotedStates.{vbegun}
 use Rattle.triple_vote.specs.proof.ReplicaLayers.{lengths}
 use Rattle.triple_vote.specs.proof.ThreeLayers.{AreOpened}
 use Rattle.triple_vote.proofs.OpeningReplicas.{shown_fits, are_heard}
-use Rattle.triple_vote.proofs.AdvancedStates.{state_begun}
+use Rattle.triple_vote.proofs.OpeningAndNextStates.{state_begun}
 use Rattle.triple_vote.proofs.product.VoteProduct.new.Goals as goal
 
 abbrev silent : DesignParts → List (List (List PortValue))

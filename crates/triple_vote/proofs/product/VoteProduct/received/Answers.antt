@@ -7,8 +7,8 @@ use Rattle.pals_model.specs.ComponentInputs.{rate_of}
 use Rattle.triple_vote.specs.Replicas.{copies_of, received_at}
 use Rattle.triple_vote.specs.proof.VotedStates.{VotedState}
 use Rattle.triple_vote.specs.proof.ThreeLayers.{parts_in}
-use Rattle.triple_vote.proofs.AdvancedStates.{received_read, before_three}
-use Rattle.triple_vote.proofs.VotedMessages.{no_link}
+use Rattle.triple_vote.proofs.OpeningAndNextStates.{received_read, before_three}
+use Rattle.triple_vote.proofs.VotedMessagesAndTaps.{no_link}
 use Rattle.triple_vote.proofs.LayerUpdates.{heard_room}
 use Rattle.triple_vote.proofs.TupleLengths.{tuple_within}
 use Rattle.triple_vote.proofs.product.VoteProduct.received.Goals as goal

@@ -1,5 +1,5 @@
 use Rattle.std.proofs.Common.{arith}
-use Rattle.world_gen.proofs.SeriesNumbers.{next_is, next_none}
+use Rattle.world_gen.proofs.NextSeriesEvents.{next_is, next_none}
 use Rattle.world_gen.proofs.event_series.EventSeries.next.Goals as goal
 
 pub returns-then-number-from-clause-value : goal.returns-then-number-from-clause-value

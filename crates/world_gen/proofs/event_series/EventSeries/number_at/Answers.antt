@@ -1,5 +1,5 @@
 use Rattle.std.proofs.Common.{sym, ◌∙◌}
-use Rattle.world_gen.proofs.SeriesNumbers.{at_moment, after_moment, over_at}
+use Rattle.world_gen.proofs.NextSeriesEvents.{at_moment, after_moment, over_at}
 use Rattle.world_gen.proofs.event_series.EventSeries.number_at.Goals as goal
 
 pub returns-in_err-number-clause-value : goal.returns-in_err-number-clause-value

@@ -1,5 +1,0 @@
-use Rattle.aadl_grammar.proofs.OneTerminalLookahead.{rows_decide}
-use Rattle.aadl_grammar.proofs.laws.one_terminal_decides.Goals as goal
-
-pub returns : goal.returns
-returns c x = rows_decide x

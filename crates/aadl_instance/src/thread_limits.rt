@@ -1,0 +1,76 @@
+//! Whether some thread has more of something than a thread may have.
+ghost use Rattle.std.specs.Prelude.{◌≡◌, ◌↔◌, ◌<◌, ℕ, min, Contains, IsTrue};
+ghost use Rattle.aadl_tree.specs.proof.PackageViews.{placed};
+ghost use Rattle.aadl_uses.specs.Uses.{IsInUse};
+ghost use Rattle.aadl_uses.specs.ThreadLocations.{ThreadWith};
+ghost use Rattle.aadl_instance.specs.proof.ThreadLimits as spec;
+ghost use Rattle.aadl_instance.specs.proof.ThreadLimits.{HasTooMany};
+
+use crate::behaviour_sizes::{states_up_to, variables_up_to};
+use aadl_uses::Wires;
+use indexmap::IndexSet;
+use pals_base::limits::{PORTS, STATES, VARIABLES};
+
+/// What a thread may have only a limited number of.
+#[derive(Clone, Copy)]
+pub enum ThreadPart {
+    /// In ports and out ports together.
+    Ports,
+    /// Variables of its behaviour, without those of loops.
+    Variables,
+    /// States of its behaviour.
+    States,
+}
+
+impl ThreadPart {
+    // How many a thread may have.
+    fn most(self) -> usize
+        ensures { result ≡ spec.most self }
+    {
+        match self {
+            ThreadPart::Ports => PORTS,
+            ThreadPart::Variables => VARIABLES,
+            ThreadPart::States => STATES,
+        }
+    }
+}
+
+/// Whether a thread that is in use has more of something than it may have.
+pub fn has_too_many(wires: &Wires<'_>, used: &IndexSet<usize>, part: ThreadPart) -> bool
+    ensures used { IsTrue result ↔ HasTooMany (placed wires.now.uses.names.tree.now) used.now.keys part }
+    // of all that is in use below a root
+    ensures below { (root : ℕ) → ((n : ℕ) → Contains used.now.keys n ↔ IsInUse (placed wires.now.uses.names.tree.now) root n)
+        → IsTrue result
+        ↔ ThreadWith (placed wires.now.uses.names.tree.now) root (λ x path. spec.most part < spec.count_of (placed wires.now.uses.names.tree.now) x part) }
+{
+    for number in 0..wires.uses.len() {
+        if used.contains(&number) && wires.uses.is_thread(number) && has_over(wires, number, part) {
+            return true;
+        }
+    }
+    false
+}
+
+// Whether an implementation has more of something than a thread may have.
+fn has_over(wires: &Wires<'_>, number: usize, part: ThreadPart) -> bool
+    ensures { IsTrue result ↔ (spec.most part < spec.count_at (placed wires.now.uses.names.tree.now) number part) }
+{
+    count_up_to(wires, number, part, part.most() + 1) > part.most()
+}
+
+// How much of something an implementation has, up to a limit.
+fn count_up_to(wires: &Wires<'_>, number: usize, part: ThreadPart, limit: usize) -> usize
+    ensures { result ≡ min limit (spec.count_at (placed wires.now.uses.names.tree.now) number part) }
+{
+    match part {
+        ThreadPart::Ports => limit.min(wires.uses.ports(number).len()),
+        ThreadPart::Variables => match wires.uses.implementation(number) {
+            Some(x) => variables_up_to(x, limit),
+            None => 0,
+        },
+        ThreadPart::States => match wires.uses.implementation(number) {
+            Some(x) => states_up_to(x, limit),
+            None => 0,
+        },
+    }
+}

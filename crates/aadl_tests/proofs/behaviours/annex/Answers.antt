@@ -1,5 +1,0 @@
-use Rattle.aadl_tests.proofs.TokenSequences.{all_among}
-use Rattle.aadl_tests.proofs.behaviours.annex.Goals as goal
-
-pub parse_annex-requires : goal.parse_annex-requires
-parse_annex-requires c = all_among _ c.in-Ok.tokens.items _ c.as_slice.ensures.value c.in-Ok.ensures.tokens

@@ -1,0 +1,25 @@
+-- Where a behaviour stops being one or nests too deep; and that the grammar gives a tree for some text.
+use Rattle.std.specs.Prelude.{ℕ, true, List, [], ◌∷◌}
+use Rattle.aadl_lex.specs.declared.token.Token.{Token}
+use Rattle.aadl_tree.specs.Terminals.{spots_from}
+use Rattle.aadl_tree.specs.Declarations.{PackageTree}
+use Rattle.aadl_tree.specs.LanguagesAndNesting.{IsBehaviour, FailsAt, DeepAt}
+use Rattle.aadl_tree.specs.TextTreesAndFaults.{IsTreeOf, outer_nesting}
+
+-- the grammar gives the tree for some text
+abbrev pub IsGiven : PackageTree ℕ → Type 0
+IsGiven tree = (text : List ℕ) × IsTreeOf text tree
+
+-- where the last token ends; 0 where there is none
+abbrev pub end_of : List Token → ℕ
+end_of [] = 0
+end_of (t ∷ []) = t.end
+end_of (t ∷ u ∷ ts) = end_of (u ∷ ts)
+
+-- The tokens are no behaviour from this place on.
+abbrev pub BehaviourStopsAt : List ℕ → List Token → ℕ → Type 0
+BehaviourStopsAt text tokens at = FailsAt IsBehaviour outer_nesting (end_of tokens) (spots_from true text tokens) at
+
+-- At this place of the behaviour the nesting gets too deep.
+abbrev pub BehaviourNestsAt : List ℕ → List Token → ℕ → Type 0
+BehaviourNestsAt text tokens at = DeepAt IsBehaviour outer_nesting (spots_from true text tokens) at

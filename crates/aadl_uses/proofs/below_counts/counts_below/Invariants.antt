@@ -1,6 +1,0 @@
-use Rattle.aadl_uses.specs.proof.MarkedPathCounts.{Counted}
-use Rattle.aadl_uses.proofs.KnownPrefixes.{FrontOf}
-use Rattle.aadl_uses.proofs.below_counts.counts_below.Given as goal
-
-abbrev pub invariant-loop-at : goal.invariant-loop-at
-invariant-loop-at l = FrontOf (Counted l.limit l.graph l.marks) 0 l.graph l.order.keys l.at l.counts.items

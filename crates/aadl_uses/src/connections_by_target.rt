@@ -1,0 +1,145 @@
+//! The connections of one declaration, found by the ports into which they go.
+ghost use Rattle.std.specs.Prelude.{◌≡◌, ◌↔◌, None, Some, IfOk, OnOk, IsTrue, if◌then◌else◌};
+ghost use Rattle.std.specs.Option.{option_or};
+ghost use Rattle.aadl_names.specs.declared.port_place.PortPlace.{PortPlace};
+ghost use Rattle.aadl_uses.specs.proof.NumbersByPort.{is_site, number_of};
+ghost use Rattle.aadl_uses.specs.SecondConnections as spec;
+ghost use Rattle.aadl_uses.specs.proof.FirstConnections as inner;
+
+use aadl_names::PortPlace;
+use indexmap::IndexMap;
+use pals_base::Items;
+use std::alloc::{AllocError, Global};
+use std::marker::Model;
+
+/// A connection, by the ports that it joins, where they are declared.
+#[derive(Clone, Copy)]
+pub struct Wire {
+    pub source: Option<PortPlace>,
+    pub target: Option<PortPlace>,
+}
+
+/// The connections of a declaration. Contracts see their list.
+pub struct Connections {
+    wires: Items<Wire>,
+    // of those that go into one port, the first
+    firsts: IndexMap<PortPlace, usize>,
+}
+
+impl Drop for Connections {
+    fn drop(self) {
+        let Connections {
+            wires: _,
+            firsts: _,
+        } = self;
+    }
+}
+
+impl Model for Connections {
+    ghost use Rattle.std.specs.Prelude.{◌≡◌, List};
+    ghost use Rattle.aadl_names.specs.declared.port_place.PortPlace.{PortPlace};
+    ghost use Rattle.aadl_uses.specs.declared.connections_by_target.Wire.{Wire};
+    ghost use Rattle.aadl_uses.specs.proof.NumbersByPort.{number_of};
+    ghost use Rattle.aadl_uses.specs.SecondConnections as spec;
+    ghost use Rattle.aadl_uses.specs.proof.FirstConnections as inner;
+
+    ghost Value = { List Wire };
+
+    ghost view = { λ c. c.wires };
+
+    ghost invariant = { λ c. (target : PortPlace) → number_of c.firsts.entries target ≡ inner.first_into c.wires target };
+}
+
+impl Connections {
+    /// Connections in their order.
+    pub fn of(alloc: Global, wires: Items<Wire>) -> Result<Connections, AllocError>
+        ensures { IfOk result (λ connections. connections ≡ wires) }
+    {
+        let firsts = firsts_of(alloc, wires.as_slice())?;
+        Ok(Connections { wires, firsts })
+    }
+
+    /// The connections in their order.
+    pub fn as_slice(&self) -> &[Wire]
+        ensures { result.now ≡ self.now }
+    {
+        self.wires.as_slice()
+    }
+
+    /// The number of the first one that goes into a port.
+    pub fn first_into(&self, target: PortPlace) -> Option<usize>
+        ensures { result ≡ inner.first_into self.now target }
+    {
+        self.firsts.get(&target).copied()
+    }
+
+    /// Whether a connection goes into a port into which one before it goes.
+    pub fn is_second(&self, number: usize) -> bool
+        ensures { IsTrue result ↔ spec.IsSecond self.now number }
+    {
+        match target_at(self.as_slice(), number) {
+            Some(target) => is_before(self.first_into(target), number),
+            None => false,
+        }
+    }
+}
+
+// The port into which a connection goes.
+fn target_at(wires: &[Wire], number: usize) -> Option<PortPlace>
+    ensures { result ≡ spec.target_in wires.now number }
+{
+    match wires.get(number) {
+        Some(wire) => wire.target,
+        None => None,
+    }
+}
+
+// Whether there is a number, and it is below another.
+fn is_before(first: Option<usize>, number: usize) -> bool
+    ensures { result ≡ inner.is_before first number }
+{
+    match first {
+        Some(first) => first < number,
+        None => false,
+    }
+}
+
+// The number of the first connection into each port.
+fn firsts_of(alloc: Global, wires: &[Wire]) -> Result<IndexMap<PortPlace, usize>, AllocError>
+    ensures { IfOk result (λ firsts. (target : PortPlace) → number_of firsts.entries target ≡ inner.first_into wires.now target) }
+{
+    let mut firsts = IndexMap::new(alloc);
+    for (number, wire) in wires.iter().enumerate() {
+        add_first(&mut firsts, wire.target, number)?;
+    }
+    Ok(firsts)
+}
+
+// Adds the number of a connection into a port, unless one goes into it.
+fn add_first(
+    firsts: &mut IndexMap<PortPlace, usize>,
+    target: Option<PortPlace>,
+    number: usize,
+) -> Result<(), AllocError>
+    ensures { OnOk result ((other : PortPlace)
+        → number_of firsts.new.entries other ≡ option_or (number_of firsts.old.entries other) (if is_site other target then Some number else None)) }
+{
+    match target {
+        None => Ok(()),
+        Some(target) => add_number(firsts, target, number),
+    }
+}
+
+fn add_number(
+    firsts: &mut IndexMap<PortPlace, usize>,
+    target: PortPlace,
+    number: usize,
+) -> Result<(), AllocError>
+    ensures { OnOk result ((other : PortPlace)
+        → number_of firsts.new.entries other ≡ option_or (number_of firsts.old.entries other) (if is_site other (Some target) then Some number else None)) }
+{
+    if firsts.get(&target).is_none() {
+        firsts.insert(target, number)?;
+    }
+    Ok(())
+}

@@ -1,0 +1,118 @@
+-- The tables of a vote, filled item by item: the faults of each round, which components have replicas, and the names
+-- of replicas.
+use Rattle.std.proofs.Common.{◌≡◌, ◌≢◌, ◌∙◌, inl, inr, ℕ, zero, suc, ◌+◌, ◌-◌, ◌<◌, ◌≤◌, Bool, true, false, cond}
+use Rattle.std.proofs.Common.{nat_eq, ◌||◌, List, [], ◌∷◌, ◌++◌, length, map, take, filter, replicate, codes, decimal}
+use Rattle.std.proofs.Common.{refl, sym, ap, ap₂, arith}
+use Rattle.std.specs.Prelude.{slice_index_or, slice_set}
+use Rattle.std.proofs.Math.Bool.{or-true, or-false}
+use Rattle.std.proofs.lemmas.Bool.{cases_eq, eq-eqb, ne_eqb}
+use Rattle.std.proofs.lemmas.List.{append-nil, length-map, length-set, map-append, same_lists, get_or-set_same}
+use Rattle.std.proofs.lemmas.List.{get_or-set_other}
+use Rattle.std.proofs.lemmas.List.Elements.{filter-append}
+use Rattle.std.proofs.lemmas.List.Folds.{list_any_more}
+use Rattle.pals_base.specs.declared.values.NodeNo.{NodeNo}
+use Rattle.pals_base.specs.StepSequences.{upwards}
+use Rattle.pals_base.proofs.UpwardNumbers.{map_upwards_more}
+use Rattle.pals_runs.specs.declared.vote_faults_and_pairs.VoteFault.{VoteFault}
+use Rattle.analysis_fields.specs.declared.replica_faults.RoundFault.{RoundFault}
+use Rattle.analysis_fields.specs.ReplicasAndFaults.{is_among}
+use Rattle.triple_vote.specs.VotedText.{replica_name}
+use Rattle.triple_vote.proofs.ListTablesAndSearches.{length-upwards, table-at}
+use Rattle.analysis_texts.specs.VoteInputs.{faults_of}
+use Rattle.analysis_texts.specs.proof.ReplicaNamesAndLines.{filed}
+
+pub length-table : {A : Type 0} (f : ℕ → A) (n : ℕ) → length (map f (upwards 0 n)) ≡ n
+length-table f n = length-map (upwards 0 n) f ∙ length-upwards 0 n
+
+-- a table with another item at a place is a table whose items are the same elsewhere
+set_table : {A : Type 0} (f g : ℕ → A) (n at : ℕ) (x : A) → (at < n → x ≡ g at) → ((k : ℕ) → k ≢ at → f k ≡ g k)
+    → slice_set (map f (upwards 0 n)) at x ≡ map g (upwards 0 n)
+set_table f g n at x here others =
+    let old = map f (upwards 0 n) in
+    let size : length (slice_set old at x) ≡ n = length-set old at x ∙ length-table f n in
+    same_lists (slice_set old at x) (map g (upwards 0 n)) (size ∙ sym (length-table g n))
+    (λ k d within.
+    let below : k < n = omega (arith, within, size) in
+    elim (cases_eq k at) [
+      | inl same ↦
+          ap (λ j. slice_index_or (slice_set old j x) k d) (sym same)
+          ∙ get_or-set_same old k x d (let wide = length-table f n in omega (arith, wide, below))
+          ∙ here (omega (arith, same, below)) ∙ ap g (sym same)
+          ∙ sym (table-at g n k d below)
+      | inr apart ↦ get_or-set_other old at k x d apart ∙ table-at f n k d below ∙ others k apart
+          ∙ sym (table-at g n k d below)
+    ])
+
+-- the same items at each place
+pub same_table : {A : Type 0} (f g : ℕ → A) (n : ℕ) → ((k : ℕ) → f k ≡ g k) → map f (upwards 0 n) ≡ map g (upwards 0 n)
+same_table f g n each =
+    same_lists (map f (upwards 0 n)) (map g (upwards 0 n)) (length-table f n ∙ sym (length-table g n))
+    (λ k d within. let below : k < n = (let size = length-table f n in omega (arith, within, size)) in
+    table-at f n k d below ∙ each k ∙ sym (table-at g n k d below))
+
+-- ---- faults
+filter_one : (f : RoundFault) (round : ℕ) (is : Bool) → nat_eq f.round round ≡ is
+    → filter (λ (g : RoundFault). nat_eq g.round round) (f ∷ []) ≡ cond is (f ∷ []) []
+filter_one f round is e = ap (λ b. cond b (f ∷ []) []) e
+
+faults-more : (faults : List RoundFault) (f : RoundFault) (round : ℕ) (is : Bool) → nat_eq f.round round ≡ is
+    → faults_of (faults ++ f ∷ []) round
+    ≡ faults_of faults round ++ map (λ (g : RoundFault). g.fault) (cond is (f ∷ []) [])
+faults-more faults f round is e =
+    let test = λ (g : RoundFault). nat_eq g.round round in
+    ap (map (λ (g : RoundFault). g.fault)) (filter-append test faults (f ∷ []))
+    ∙ map-append (λ (g : RoundFault). g.fault) (filter test faults) (filter test (f ∷ []))
+    ∙ ap (λ gs. faults_of faults round ++ map (λ (g : RoundFault). g.fault) gs) (filter_one f round is e)
+
+-- one more fault
+pub filed_more : (faults : List RoundFault) (f : RoundFault) (n : ℕ) (table : List (List VoteFault))
+    → table ≡ map (faults_of faults) (upwards 0 n)
+    → filed table f ≡ map (faults_of (faults ++ f ∷ [])) (upwards 0 n)
+filed_more faults f n table is =
+    let item = slice_index_or table f.round [] ++ f.fault ∷ [] in
+    ap (λ (t : List (List VoteFault)). slice_set t f.round item) is
+    ∙ set_table (faults_of faults) (faults_of (faults ++ f ∷ [])) n f.round item
+    (λ below.
+    ap (λ (t : List (List VoteFault)). slice_index_or t f.round [] ++ f.fault ∷ []) is
+    ∙ ap (λ (fs : List VoteFault). fs ++ f.fault ∷ []) (table-at (faults_of faults) n f.round [] below)
+    ∙ sym (faults-more faults f f.round true (eq-eqb f.round f.round refl)))
+    (λ k apart. sym (faults-more faults f k false (ne_eqb f.round k (λ same. apart (sym same)))
+    ∙ append-nil (faults_of faults k)))
+
+-- ---- replicas
+among-more : (nodes : List NodeNo) (i : ℕ) (d : NodeNo) (node : ℕ) → i < length nodes
+    → is_among (take (i + 1) nodes) node ≡ (is_among (take i nodes) node || nat_eq (slice_index_or nodes i d).0 node)
+among-more nodes i d node within = list_any_more (λ (n : NodeNo). nat_eq n.0 node) nodes i d within
+
+pub marked_more : (nodes : List NodeNo) (i : ℕ) (d : NodeNo) (n : ℕ) (marks : List Bool) → i < length nodes
+    → marks ≡ map (is_among (take i nodes)) (upwards 0 n)
+    → slice_set marks (slice_index_or nodes i d).0 true ≡ map (is_among (take (i + 1) nodes)) (upwards 0 n)
+marked_more nodes i d n marks within are =
+    let node = (slice_index_or nodes i d).0 in
+    ap (λ ms. slice_set ms node true) are
+    ∙ set_table (is_among (take i nodes)) (is_among (take (i + 1) nodes)) n node true
+    (λ below. sym (among-more nodes i d node within
+    ∙ ap (λ b. is_among (take i nodes) node || b) (eq-eqb node node refl) ∙ or-true (is_among (take i nodes) node)))
+    (λ k apart. sym (among-more nodes i d k within
+    ∙ ap (λ b. is_among (take i nodes) k || b) (ne_eqb node k (λ same. apart (sym same)))
+    ∙ or-false (is_among (take i nodes) k)))
+
+marks_from : (n from : ℕ) → replicate n false ≡ map (is_among []) (upwards from n)
+marks_from zero from = refl
+marks_from (suc n) from = ap (λ marks. false ∷ marks) (marks_from n (suc from))
+
+-- before the first
+pub none_marked : (n : ℕ) → replicate n false ≡ map (is_among []) (upwards 0 n)
+none_marked n = marks_from n 0
+
+-- ---- names
+-- one more name
+pub name_more : (path : List ℕ) (counter : ℕ) (names : List (List ℕ)) (name : List ℕ) → 1 ≤ counter
+    → names ≡ map (replica_name path true) (upwards 0 (counter - 1)) → name ≡ path ++ codes "#" ++ decimal counter
+    → names ++ name ∷ [] ≡ map (replica_name path true) (upwards 0 (counter + 1 - 1))
+name_more path counter names name first are is =
+    let n = counter - 1 in
+    let next : counter ≡ suc n = omega arith in
+    let count : n + 1 ≡ counter + 1 - 1 = omega arith in
+    ap₂ (λ ns t. ns ++ t ∷ []) are (is ∙ ap (λ k. path ++ codes "#" ++ decimal k) next)
+    ∙ sym (map_upwards_more (replica_name path true) n) ∙ ap (λ k. map (replica_name path true) (upwards 0 k)) count

@@ -1,0 +1,110 @@
+-- What a product has after one more round, and the row that the round adds to the text.
+use Rattle.std.proofs.Common.{◌≡◌, ℕ, zero, suc, ◌+◌, ◌<◌, List, [], ◌∷◌, ◌++◌, length, map, sym, ap, ◌∙◌, arith}
+use Rattle.std.proofs.Common.{get_or, refl, ap₂, add-one, add-zero, zero-add, append-nil}
+use Rattle.std.proofs.lemmas.List.{length-map}
+use Rattle.std.proofs.lemmas.Grind.{flat_map-append}
+use Rattle.std.specs.Prelude.{Some, flat_map, slice_get, slice_index_or}
+use Rattle.std.proofs.lemmas.Simd.{map-map}
+use Rattle.pals_base.specs.declared.values.PortValue.{PortValue}
+use Rattle.pals_base.specs.declared.values.Frame.{Frame}
+use Rattle.pals_base.specs.declared.values.PortValue.TheVariants.{Absent}
+use Rattle.pals_base.specs.StepSequences.{Stepped, upwards}
+use Rattle.pals_base.proofs.UpwardNumbers.{upwards-more}
+use Rattle.pals_model.specs.declared.design.DesignParts.{DesignParts}
+use Rattle.pals_model.specs.declared.inputs_parts_and_delays.Env.{Env}
+use Rattle.pals_model.specs.declared.inputs_parts_and_delays.Part.{Part}
+use Rattle.pals_model.specs.Composition.{comp, next, no_frame, part, all_steps, part_of}
+use Rattle.pals_model.specs.ComponentInputs.{values_at}
+use Rattle.pals_model.specs.RoundTexts.{line_end, text_of, composed_lines, row, report}
+use Rattle.pals_model.proofs.CompositionLaws.{one_frame_each}
+use Rattle.pals_report.specs.proof.RowLines.{ArePartsOf}
+use Rattle.run_monitor.specs.proof.FormBits.{row_of}
+use Rattle.sync_product.specs.proof.ProductStates.{ProductState, advanced, parts_of}
+
+-- ---- counting up
+slice_get-map-upwards : {A : Type 0} (f : ℕ → A) (from n k : ℕ) → k < n
+    → slice_get (map f (upwards from n)) k ≡ Some (f (from + k))
+slice_get-map-upwards f from zero k h = absurd (omega arith)
+slice_get-map-upwards f from (suc n) zero h = ap (λ m. Some (f m)) (omega arith)
+slice_get-map-upwards f from (suc n) (suc k) h =
+    let below : k < n = omega arith in
+    slice_get-map-upwards f (suc from) n k below ∙ ap (λ m. Some (f m)) (omega arith)
+
+-- ---- values that are written over others
+
+pub length_values_at : (env : Env) (round : ℕ) → length (values_at env round) ≡ length env.lists
+length_values_at env round = length-map env.lists (λ list. slice_index_or list round Absent)
+
+-- ---- what a round leaves
+-- a product that stood at a round has the round's parts after it
+pub parts_after : (design : DesignParts) (env : Env) (round : ℕ) (values : List PortValue) (old : ProductState)
+    (parts : List Part) → old.design ≡ design
+    → values ≡ values_at env round
+    → old.configuration ≡ comp design env round → parts ≡ (advanced old values).parts
+    → ArePartsOf design env round (λ node. slice_get parts node)
+unfolding part
+parts_after design env round values old parts same here at is node below =
+    let all = all_steps design (values_at env round) (comp design env round) in
+    ap (λ ps. slice_get ps node)
+    (is ∙ ap (λ d. parts_of d (all_steps d values old.configuration)) same
+    ∙ ap (λ k. parts_of design (all_steps design values k)) at
+    ∙ ap (λ v. parts_of design (all_steps design v (comp design env round))) here)
+    ∙ slice_get-map-upwards (part_of design all) 0 (length design.components) node below
+    ∙ ap (λ m. Some (part_of design all m)) (zero-add node)
+
+-- a product that stood at a round stands at the next
+pub further : (design : DesignParts) (env : Env) (round : ℕ) (values : List PortValue) (old : ProductState)
+    → old.design ≡ design → values ≡ values_at env round
+    → old.configuration ≡ comp design env round → (advanced old values).configuration ≡ comp design env (round + 1)
+unfolding comp
+further design env round values old same here at =
+    ap (λ d. next d values old.configuration) same ∙ ap (next design values) at
+    ∙ ap (λ v. next design v (comp design env round)) here
+    ∙ ap (comp design env) (sym (add-one round))
+
+-- and its parts have the frames that stand there
+frames_of_all : (xs : List Frame) (from n : ℕ) (all : List Frame) → length xs ≡ n
+    → ((k : ℕ) (d : Frame) → k < n → get_or all (from + k) d ≡ get_or xs k d)
+    → map (λ node. get_or all node no_frame) (upwards from n) ≡ xs
+frames_of_all [] from zero all size each = refl
+frames_of_all [] from (suc n) all size each = absurd (omega arith)
+frames_of_all (x ∷ xs) from zero all size each = absurd (omega arith)
+frames_of_all (x ∷ xs) from (suc n) all size each =
+    ap₂ (λ y ys. y ∷ ys) (ap (λ k. get_or all k no_frame) (sym (add-zero from)) ∙ each 0 no_frame (omega arith))
+    (frames_of_all xs (suc from) n all (omega arith)
+    (λ k d below. ap (λ j. get_or all j d) (omega arith) ∙ each (suc k) d (omega arith)))
+
+pub row_after : (env : Env) (round : ℕ) (values : List PortValue) (old : ProductState) (parts : List Part)
+    → values ≡ values_at env round
+    → old.configuration ≡ comp old.design env round → parts ≡ (advanced old values).parts
+    → row_of parts ≡ (comp old.design env (round + 1)).frames
+unfolding comp
+row_after env round values old parts here at is =
+    let design = old.design in
+    let stepped = all_steps design (values_at env round) (comp design env round) in
+    let frames : List Frame = map (λ (s : Stepped). s.frame) stepped in
+    let size : length frames ≡ length design.components = one_frame_each design env (suc round) in
+    ap row_of (is ∙ ap (λ k. parts_of design (all_steps design values k)) at
+    ∙ ap (λ v. parts_of design (all_steps design v (comp design env round))) here)
+    ∙ map-map (λ (p : Part). p.frame) (part_of design stepped) (upwards 0 (length design.components))
+    ∙ frames_of_all frames 0 (length design.components) frames size
+    (λ k d below. ap (λ j. get_or frames j d) (zero-add k))
+    ∙ ap (λ n. (comp design env n).frames) (sym (add-one round))
+
+-- ---- the report
+-- one more row behind those of the rounds before it
+pub rows_more : (lines : ℕ → List (List ℕ)) (round : ℕ) (text : List ℕ)
+    → text ≡ text_of (flat_map lines (upwards 0 round))
+    → text ++ text_of (lines round) ≡ text_of (flat_map lines (upwards 0 (round + 1)))
+rows_more lines round text is =
+    ap (λ t. t ++ text_of (lines round)) is
+    ∙ sym (ap (λ n. text_of (flat_map lines (upwards 0 n))) (add-one round)
+    ∙ ap (λ rounds. text_of (flat_map lines rounds)) (upwards-more 0 round)
+    ∙ ap text_of (flat_map-append lines (upwards 0 round) ((0 + round) ∷ []))
+    ∙ flat_map-append (λ line. line ++ line_end) (flat_map lines (upwards 0 round)) (flat_map lines ((0 + round) ∷ []))
+    ∙ ap (λ more. text_of (flat_map lines (upwards 0 round)) ++ text_of more)
+    (append-nil (lines (0 + round)) ∙ ap lines (zero-add round)))
+
+pub report_more : (design : DesignParts) (env : Env) (round : ℕ) (text : List ℕ) → text ≡ report design env round
+    → text ++ row design env round ≡ report design env (round + 1)
+report_more design env round text is = rows_more (composed_lines design env) round text is

@@ -1,0 +1,28 @@
+//! Common divisors and multiples.
+ghost use Rattle.std.specs.Prelude.{◌*◌, ◌^◌, ◌<◌};
+ghost use Rattle.bound_checker.specs.proof.DivisorsAndMultiples.{IsGreatestDivisor, IsLeastCommon};
+
+// The greatest number that divides both, by Euclid.
+fn gcd(a: u64, b: u64) -> u64
+    ensures { IsGreatestDivisor a b result }
+{
+    let mut high = a;
+    let mut low = b;
+    while low != 0 {
+        let rest = high % low;
+        high = low;
+        low = rest;
+    }
+    high
+}
+
+// The least number above 0 that is a multiple of both.
+pub fn lcm(a: u64, b: u64) -> u64
+    requires left { 0 < a }
+    requires right { 0 < b }
+    requires fits { a * b < 2 ^ 64 }
+    ensures positive { 0 < result }
+    ensures least { IsLeastCommon a b result }
+{
+    a / gcd(a, b) * b
+}

@@ -1,0 +1,145 @@
+-- The first connection that is on no chain, or is the second into a port.
+use Rattle.std.proofs.Common.{◌≡◌, ◌↔◌, ℕ, zero, suc, Bool, false, ◌&&◌, IsTrue, List, [], ◌∷◌, length, map, slice_get}
+use Rattle.std.proofs.Common.{Contains, Option, Some, None, refl, sym, subst, ◌∙◌}
+use Rattle.std.proofs.lemmas.Option.{none-some, same_Some, slice_get_within}
+use Rattle.list_lemmas.proofs.Elements.{Contains-nil}
+use Rattle.list_lemmas.proofs.ElementPositions.{slice_get-from_Contains, Contains-from_slice_get}
+use Rattle.aadl_tree.specs.declared.declarations.Direction.{Direction}
+use Rattle.aadl_tree.specs.declared.declarations.Direction.TheVariants as directions
+use Rattle.aadl_tree.specs.Declarations.{Connection, Implementation, PackageTree}
+use Rattle.aadl_names.specs.declared.fault.PackageFault.{PackageFault}
+use Rattle.aadl_names.specs.declared.port_place.PortPlace.{PortPlace}
+use Rattle.aadl_names.specs.proof.FirstFaultSoFar.{found}
+use Rattle.aadl_names.specs.ReferenceResolution.{implementation_at, connections_of}
+use Rattle.aadl_uses.specs.proof.PackageContainment.{containment, FirstIn}
+use Rattle.aadl_uses.specs.Uses.{IsInUse}
+use Rattle.aadl_uses.specs.declared.connections_by_target.Wire.{Wire}
+use Rattle.aadl_uses.specs.SecondConnections.{IsSecond, target_in}
+use Rattle.aadl_uses.specs.proof.FirstConnections.{is_before, first_into}
+use Rattle.aadl_uses.specs.Wiring.{wire_of, wires_of, wires_at}
+use Rattle.aadl_uses.proofs.FirstConnectionTables.{is_second-tells, no_second}
+use Rattle.aadl_uses.specs.proof.ContainmentOrders.{IsOrder}
+use Rattle.aadl_chains.specs.proof.PortsJoinedOutside.{opposite, LeadsFrom, leads_from}
+use Rattle.aadl_chains.proofs.JoinedOutsideByConnection.{leads_to, leads_found}
+use Rattle.aadl_chains.specs.Chains.{IsEndFault}
+use Rattle.aadl_chains.specs.proof.DeclaredEnds.{AreDeclared}
+use Rattle.aadl_chains.specs.proof.ConnectionsOnChains.{IsOnWay}
+use Rattle.aadl_chains.specs.proof.ConnectionFaults.{IsFoundAt, IsFoundIn, dead_end, second}
+use Rattle.aadl_chains.proofs.EndFaults.{both_found, nothing_at, ways_tell, no_source, no_target, end_fault}
+use Rattle.aadl_chains.proofs.EndFaults.{found_fault}
+use Rattle.design_laws.proofs.FaultSearches.{Finds, none_found, alike_found, Below, found_below, first_in}
+use Rattle.design_laws.proofs.PortsReachingThreads.{inside}
+use Rattle.design_laws.proofs.PortsLeadingOut.{is_used, outside}
+
+-- a connection is wired
+wire_if : (tree : PackageTree ℕ) (o : Option (Implementation ℕ)) (k : ℕ) (link : Connection ℕ)
+    → slice_get (connections_of o) k ≡ Some link
+    → (wire : Wire) × (slice_get (wires_of tree o) k ≡ Some wire)
+wire_if tree None k link e = absurd (Contains-nil link (Contains-from_slice_get [] k link e))
+wire_if tree (Some x) k link e = by x.connections k e
+  where
+    by : (cs : List (Connection ℕ)) (k : ℕ) → slice_get cs k ≡ Some link
+        → (wire : Wire) × (slice_get (map (wire_of tree x) cs) k ≡ Some wire)
+    by [] k e = absurd (Contains-nil link (Contains-from_slice_get [] k link e))
+    by (c ∷ cs) zero e = (wire_of tree x c, refl)
+    by (c ∷ cs) (suc k) e = by cs k e
+
+record Told (P : Type 0) : Type 0 where
+  answer : Bool
+  tells : IsTrue answer ↔ P
+
+second_by : (wires : List Wire) (k : ℕ) (o : Option PortPlace) → target_in wires k ≡ o → Told (IsSecond wires k)
+second_by wires k None e = record { answer = false; tells = no_second wires k e }
+second_by wires k (Some target) e =
+    record {
+      answer = is_before (first_into wires target) k;
+      tells = is_second-tells wires k target (is_before (first_into wires target) k) e refl;
+    }
+
+module _ (tree : PackageTree ℕ) (root : ℕ) (sound : AreDeclared tree) (keys : List ℕ)
+    (order : IsOrder (containment tree) keys)
+    (used : List ℕ) (tells : (n : ℕ) → Contains used n ↔ IsInUse tree root n) where
+  -- connections lead from the end to a thread or the root
+  leads : (d : Direction) (n : ℕ) (site : PortPlace) → Told (LeadsFrom tree root d n site)
+  leads d n site =
+      let i = inside tree (opposite d) keys order in
+      let o = outside tree root d i.0 i.1 keys order (is_used tree root used tells) in
+      record {
+        answer = leads_from o.0 i.0 tree root d n (Some site);
+        tells = (
+          λ e. leads_to tree root d i.0 i.1 o.0 n site o.1.sound e,
+          λ l. leads_found tree root d i.0 i.1 o.0 n site (o.1.complete n) l,
+        );
+      }
+
+  by_target : (n : ℕ) (wire : Wire) (s : PortPlace) (o : Option PortPlace) → wire.source ≡ Some s → wire.target ≡ o
+      → Told (IsOnWay tree root n wire)
+  by_target n wire s None e f = record { answer = false; tells = no_target tree root n wire f }
+  by_target n wire s (Some t) e f =
+      let a = leads directions.In n s in
+      let b = leads directions.Out n t in
+      record {
+        answer = a.answer && b.answer;
+        tells = ways_tell tree root n wire s t a.answer b.answer e f a.tells b.tells;
+      }
+
+  by_source : (n : ℕ) (wire : Wire) (o : Option PortPlace) → wire.source ≡ o → Told (IsOnWay tree root n wire)
+  by_source n wire None e = record { answer = false; tells = no_source tree root n wire e }
+  by_source n wire (Some s) e = by_target n wire s wire.target e refl
+
+  -- ---- a connection
+  by_link : (n k : ℕ) (old : Option PackageFault) (o : Option (Connection ℕ))
+      → slice_get (connections_of (implementation_at tree n)) k ≡ o → Finds (IsFoundAt tree root n k) old
+  by_link n k old None e = record { new = old; all = nothing_at tree root n k old e }
+  by_link n k old (Some link) e =
+      let w = wire_if tree (implementation_at tree n) k link e in
+      let b = by_source n w.0 w.0.source refl in
+      let c = second_by (wires_at tree n) k (target_in (wires_at tree n) k) refl in
+      record {
+        new = found (found old (dead_end b.answer link)) (second c.answer link);
+        all =
+            both_found tree root n k link w.0 e w.1 b.answer c.answer old
+            (found (found old (dead_end b.answer link)) (second c.answer link)) b.tells c.tells refl;
+      }
+
+  at_link : (n k : ℕ) (old : Option PackageFault) → Finds (IsFoundAt tree root n k) old
+  at_link n k old = by_link n k old (slice_get (connections_of (implementation_at tree n)) k) refl
+
+  -- ---- the connections of a declaration
+  in_declaration : (n : ℕ) (old : Option PackageFault) → Finds (IsFoundIn tree root n) old
+  in_declaration n old =
+      alike_found (Below (IsFoundAt tree root n) (length (connections_of (implementation_at tree n))))
+      (IsFoundIn tree root n) old (λ f h. (h.0, h.2))
+      (λ f h. (h.0, slice_get_within (connections_of (implementation_at tree n)) h.0 h.1.link h.1.is_connection, h.1))
+      (found_below (IsFoundAt tree root n) (at_link n) (length (connections_of (implementation_at tree n))) old)
+
+  -- ---- the declarations in use
+  abbrev FoundAt : ℕ → PackageFault → Type 0
+  FoundAt i fault = (n : ℕ) × (slice_get used i ≡ Some n) × IsFoundIn tree root n fault
+
+  by_key : (i : ℕ) (old : Option PackageFault) (o : Option ℕ) → slice_get used i ≡ o → Finds (FoundAt i) old
+  by_key i old None e = none_found (FoundAt i) old (λ f h. none-some h.0 (sym e ∙ h.1))
+  by_key i old (Some n) e =
+      alike_found (IsFoundIn tree root n) (FoundAt i) old (λ f h. (n, e, h)) (λ f h. other f h.0 h.1 h.2)
+      (in_declaration n old)
+    where
+      other : (f : PackageFault) (m : ℕ) → slice_get used i ≡ Some m → IsFoundIn tree root m f → IsFoundIn tree root n f
+      other f m g h = subst (λ (x : ℕ). IsFoundIn tree root x f) (same_Some m n (sym g ∙ e)) h
+
+  at_key : (i : ℕ) (old : Option PackageFault) → Finds (FoundAt i) old
+  at_key i old = by_key i old (slice_get used i) refl
+
+  to_end : (f : PackageFault) → Below FoundAt (length used) f → IsEndFault tree root f
+  to_end f (i, lt, (n, e, h)) = end_fault tree root sound n f ((tells n).0 (Contains-from_slice_get used i n e)) h
+
+  from_end : (f : PackageFault) → IsEndFault tree root f → Below FoundAt (length used) f
+  from_end f x =
+      let h = found_fault tree root sound f x in
+      let c = (tells h.0).1 h.1 in
+      (c.0, c.1, (h.0, slice_get-from_Contains used h.0 c, h.2))
+
+  pub first_end : (o : Option PackageFault) × FirstIn (IsEndFault tree root) o
+  first_end =
+      first_in (IsEndFault tree root)
+      (alike_found (Below FoundAt (length used)) (IsEndFault tree root) None to_end from_end
+      (found_below FoundAt at_key (length used) None))

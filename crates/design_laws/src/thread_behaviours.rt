@@ -1,0 +1,21 @@
+//! What the findings of a thread leave out. The law is the contract of a function that does nothing.
+ghost use Rattle.std.specs.Prelude.{◌≡◌, ℕ, [], true, flat_map, Some, slice_get};
+ghost use Rattle.aadl_tree.specs.Declarations.{PackageTree, Implementation, implementation};
+ghost use Rattle.aadl_names.specs.PackageFaults.{package_faults};
+ghost use Rattle.aadl_names.specs.ReferenceResolution.{is_thread, ports_of};
+ghost use Rattle.component_checks.specs.TypeFindings.{port_findings};
+ghost use Rattle.model_violations.specs.ThreadBehaviours.{implementation_findings};
+ghost use Rattle.design_laws.specs.proof.PackageNames.{HasWords, NamesDiffer};
+ghost use Rattle.design_laws.specs.proof.ThreadBehaviours.{Behaves};
+
+use crate::annex_behaviours::no_findings_make_a_behaviour;
+
+/// Where the names of a package are words, those of a thread's implementation differ, nothing is wrong
+/// with names, and nothing is found on the types of its ports and on its annex, it has a behaviour.
+pub fn no_findings_make_a_thread_behave()
+    ensures { (tree : PackageTree ℕ) (root n : ℕ) (x : Implementation ℕ) → HasWords tree → NamesDiffer tree x → package_faults tree root ≡ []
+        → slice_get tree.declarations n ≡ Some (implementation x) → is_thread x.category ≡ true
+        → flat_map port_findings (ports_of tree x) ≡ [] → implementation_findings tree x ≡ [] → Behaves tree x }
+{
+    no_findings_make_a_behaviour();
+}

@@ -1,6 +1,0 @@
-use Rattle.std.proofs.Common.{◌≡◌}
-use Rattle.node_threads.proofs.locked.Locked.caller_sleeps.Given as goal
-
--- the course stays
-abbrev pub invariant-loop-number : goal.invariant-loop-number
-invariant-loop-number l = l.self.course ≡ l.fn.self.course

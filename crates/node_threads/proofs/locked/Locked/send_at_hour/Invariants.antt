@@ -1,6 +1,0 @@
-use Rattle.node_threads.specs.proof.SharedCourses.{Stays}
-use Rattle.node_threads.proofs.locked.Locked.send_at_hour.Given as goal
-
--- the run stays
-abbrev pub invariant-loop-number : goal.invariant-loop-number
-invariant-loop-number l = Stays l.fn.self.course l.self.course

@@ -1,0 +1,14 @@
+-- The nodes of a run before its first event.
+use Rattle.std.specs.Prelude.{◌≡◌, ℕ, ◌<◌, List, length, slice_index_or}
+use Rattle.pals_model.specs.declared.design.DesignParts.{DesignParts}
+use Rattle.step_code.specs.declared.instr.CodeParts.{CodeParts}
+use Rattle.pals_node.specs.proof.NodeValues.{NodeValue, program_of, opening_value}
+use Rattle.pals_bus.specs.proof.NodeAndCodeValues.{code_at}
+use Rattle.pals_bus.specs.proof.OutOfRangeDefaults.{no_node_value}
+
+-- each has the plan of its component and its code
+pub record AreOpening (design : DesignParts) (codes : List CodeParts) (rounds : ℕ)
+    (nodes : List NodeValue) : Type 0 where
+  pub count : length nodes ≡ length codes
+  pub each : (node : ℕ) → node < length nodes
+      → slice_index_or nodes node no_node_value ≡ opening_value (program_of design node (code_at codes node)) rounds

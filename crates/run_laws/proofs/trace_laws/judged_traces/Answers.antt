@@ -1,5 +1,0 @@
-use Rattle.run_laws.proofs.CounterTraces.{traces_are_judged}
-use Rattle.run_laws.proofs.trace_laws.judged_traces.Goals as goal
-
-pub returns : goal.returns
-returns c = traces_are_judged

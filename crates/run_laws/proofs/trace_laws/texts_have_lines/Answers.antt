@@ -1,5 +1,0 @@
-use Rattle.run_laws.proofs.TextLines.{texts_have_lines}
-use Rattle.run_laws.proofs.trace_laws.texts_have_lines.Goals as goal
-
-pub returns : goal.returns
-returns c = texts_have_lines

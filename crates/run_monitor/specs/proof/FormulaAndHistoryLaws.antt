@@ -1,0 +1,63 @@
+-- Laws of formulas of monitors, and of the history of a design, which grows by a row each round.
+use Rattle.std.specs.Prelude.{◌≡◌, ◌↔◌, IsTrue, ℕ, suc, ◌<◌, ◌≤◌, List, [], ◌∷◌, ◌++◌, length}
+use Rattle.pals_base.specs.declared.values.Frame.{Frame}
+use Rattle.pals_model.specs.declared.design.DesignParts.{DesignParts}
+use Rattle.pals_model.specs.declared.inputs_parts_and_delays.Env.{Env}
+use Rattle.pals_model.specs.Composition.{comp}
+use Rattle.pals_model.specs.RoundTexts.{text_of}
+use Rattle.pals_runs.specs.Formula.{Formula, Previous, Once, Historically, Since}
+use Rattle.run_monitor.specs.FormulaSemantics.{holds}
+use Rattle.run_monitor.specs.proof.BitPerFormula.{further, bits_after}
+use Rattle.run_monitor.specs.FalseProperties.{history}
+use Rattle.run_monitor.specs.WatchText.{watched_lines, watched_rows}
+
+abbrev pub Holds : Formula → List (List Frame) → ℕ → Type 0
+Holds f h n = IsTrue (holds f h n)
+
+-- ---- the words of time
+abbrev pub PreviousReads : Type 0
+PreviousReads = (f : Formula) (h : List (List Frame)) (n : ℕ) →
+    Holds (Previous f) h n ↔ ((m : ℕ) × (n ≡ suc m) × Holds f h m)
+
+abbrev pub OnceReads : Type 0
+OnceReads = (f : Formula) (h : List (List Frame)) (n : ℕ) → Holds (Once f) h n ↔ ((m : ℕ) × (m ≤ n) × Holds f h m)
+
+abbrev pub HistoricallyReads : Type 0
+HistoricallyReads = (f : Formula) (h : List (List Frame)) (n : ℕ) →
+    Holds (Historically f) h n ↔ ((m : ℕ) → m ≤ n → Holds f h m)
+
+abbrev pub SinceReads : Type 0
+SinceReads = (f g : Formula) (h : List (List Frame)) (n : ℕ) →
+    Holds (Since f g) h n ↔ ((m : ℕ) × (m ≤ n) × Holds g h m × ((i : ℕ) → m < i → i ≤ n → Holds f h i))
+
+-- ---- one round more
+-- what a formula says at a round stays, whatever comes after it
+abbrev pub PastStays : Type 0
+PastStays = (f : Formula) (h more : List (List Frame)) (n : ℕ) → n < length h → holds f (h ++ more) n ≡ holds f h n
+
+-- the bits after a history are enough to say what each formula says at one more round
+abbrev pub OneBitEach : Type 0
+OneBitEach = (f : Formula) (h : List (List Frame)) (row : List Frame) →
+    further (bits_after h) row f ≡ holds f (h ++ row ∷ []) (length h)
+
+-- ---- the history of a design
+-- it has a row for each round
+abbrev pub HistoryHasRounds : Type 0
+HistoryHasRounds = (design : DesignParts) (env : Env) (rounds : ℕ) → length (history design env rounds) ≡ rounds
+
+-- each round adds its frames
+abbrev pub HistoryGoesOn : Type 0
+HistoryGoesOn = (design : DesignParts) (env : Env) (rounds : ℕ) →
+    history design env (suc rounds) ≡ history design env rounds ++ (comp design env (suc rounds)).frames ∷ []
+
+-- what is said of a round is what was said when it was the last one
+abbrev pub SaidAtOnce : Type 0
+SaidAtOnce = (f : Formula) (design : DesignParts) (env : Env) (round rounds : ℕ) → round < rounds →
+    holds f (history design env rounds) round ≡ holds f (history design env (suc round)) round
+
+-- so each round adds its lines
+abbrev pub RowsGoOn : Type 0
+RowsGoOn = (design : DesignParts) (env : Env) (rounds : ℕ) (properties : List (List ℕ × Formula)) →
+    watched_rows design env (suc rounds) properties
+    ≡ watched_rows design env rounds properties
+    ++ text_of (watched_lines properties (history design env (suc rounds)) rounds)

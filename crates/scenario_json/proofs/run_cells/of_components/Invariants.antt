@@ -1,8 +1,0 @@
-use Rattle.std.proofs.Common.{◌≡◌, ◌≤◌, ◌*◌, ◌^◌, take, sum_by}
-use Rattle.scenario_json.specs.RunCells.{component_cells}
-use Rattle.scenario_json.proofs.run_cells.of_components.Given as goal
-
--- the sum so far, no part of which is large
-abbrev pub invariant-loop-component : goal.invariant-loop-component
-invariant-loop-component l =
-    (l.sum ≡ sum_by (component_cells) (take l.component-index l.components)) × (l.sum ≤ 2 ^ 66 * l.component-index)

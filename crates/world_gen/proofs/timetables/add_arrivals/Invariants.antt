@@ -1,6 +1,0 @@
-use Rattle.std.proofs.Common.{◌≡◌, ◌++◌}
-use Rattle.world_gen.specs.proof.EventSeries.{arrive_course, each_of}
-use Rattle.world_gen.proofs.timetables.add_arrivals.Given as goal
-
-abbrev pub invariant-loop-link : goal.invariant-loop-link
-invariant-loop-link l = l.courses ≡ l.initial.courses ++ each_of l.link (arrive_course l.design l.rounds)

@@ -1,6 +1,0 @@
-use Rattle.std.proofs.Common.{◌≡◌, ◌++◌}
-use Rattle.world_gen.specs.proof.EventSeries.{begin_course, each_of}
-use Rattle.world_gen.proofs.timetables.add_begins.Given as goal
-
-abbrev pub invariant-loop-node : goal.invariant-loop-node
-invariant-loop-node l = l.courses ≡ l.initial.courses ++ each_of l.node (begin_course l.design l.rounds)

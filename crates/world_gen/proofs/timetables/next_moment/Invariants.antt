@@ -1,6 +1,0 @@
-use Rattle.std.proofs.Common.{◌≡◌, take}
-use Rattle.world_gen.specs.proof.EventSeries.{next_moment}
-use Rattle.world_gen.proofs.timetables.next_moment.Given as goal
-
-abbrev pub invariant-loop-course : goal.invariant-loop-course
-invariant-loop-course l = l.moment ≡ next_moment (take l.course-index l.courses) l.from

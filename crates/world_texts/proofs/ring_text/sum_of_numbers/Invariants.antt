@@ -1,7 +1,0 @@
-use Rattle.std.proofs.Common.{◌≡◌}
-use Rattle.world_texts.proofs.RingSums.{sum_first}
-use Rattle.world_texts.proofs.ring_text.sum_of_numbers.Given as goal
-
--- the sum of the first numbers
-abbrev pub invariant-loop-node : goal.invariant-loop-node
-invariant-loop-node l = l.sum ≡ sum_first l.nodes l.rounds l.node
