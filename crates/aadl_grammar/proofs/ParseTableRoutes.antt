@@ -12,7 +12,8 @@ use Rattle.aadl_tree.specs.proof.MarkNumbers.{mark_number}
 use Rattle.aadl_tree.proofs.MarkNumbers.{same_number}
 use Rattle.aadl_grammar.proofs.HeadsAndTails.{not_both}
 use Rattle.aadl_grammar.specs.proof.StackMachine.{class_number}
-use Rattle.aadl_grammar.specs.proof.GrammarSymbols.{Class, a_word, a_whole, a_real, a_quoted, an_unread, the, Symbol, Row}
+use Rattle.aadl_grammar.specs.proof.GrammarSymbols.{Class, a_word, a_whole, a_real, a_quoted, an_unread, the, Symbol}
+use Rattle.aadl_grammar.specs.proof.GrammarSymbols.{Row}
 use Rattle.aadl_grammar.specs.proof.GrammarSymbols as s
 use Rattle.aadl_grammar.specs.proof.ParseTable.{rows}
 use Rattle.aadl_grammar.specs.proof.ReachableKeywords.{Stands, at_first, later, CanCome}

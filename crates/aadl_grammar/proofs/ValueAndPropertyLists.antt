@@ -1,6 +1,6 @@
 -- Lists of values and of properties that grow by one item, as the loops of parsers read them.
-use Rattle.std.proofs.Common.{◌≡◌, ℕ, ◌<◌, ◌∙◌, sym, ap, List, [], ◌∷◌, ◌++◌, length, append_assoc, arith}
-use Rattle.std.proofs.Common.{refl, flat_map}
+use Rattle.std.proofs.Common.{◌≡◌, ℕ, ◌<◌, ◌∙◌, sym, ap, List, [], ◌∷◌, ◌++◌, length, append_assoc, arith, refl}
+use Rattle.std.proofs.Common.{flat_map}
 use Rattle.std.specs.Prelude.{Result}
 use Rattle.std.proofs.lemmas.List.{append-nil}
 use Rattle.aadl_tree.specs.declared.mark.Mark.TheVariants as k

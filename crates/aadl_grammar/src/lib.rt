@@ -11,8 +11,8 @@
 #![tactic(auto)]
 
 pub mod canon_laws;
-pub mod keyword_laws;
 pub mod fate_and_uniqueness_laws;
+pub mod keyword_laws;
 mod lists;
 mod names;
 mod parse_fault;

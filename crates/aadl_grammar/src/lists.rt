@@ -4,7 +4,8 @@ ghost use Rattle.aadl_tree.specs.SpellingParts.{Section, section_mark};
 ghost use Rattle.aadl_tree.specs.Declarations.{section_parts};
 ghost use Rattle.aadl_grammar.specs.proof.GrammarSymbols.{Symbol};
 ghost use Rattle.aadl_grammar.specs.proof.ParserAnswers.{here, Parses};
-ghost use Rattle.aadl_grammar.specs.proof.ListAnswers.{Allows, Follows, NoneFollows, IsSection, Advances, ItemsOf, ParsesMore};
+ghost use Rattle.aadl_grammar.specs.proof.ListAnswers.{Allows, Follows, NoneFollows, IsSection, Advances, ItemsOf};
+ghost use Rattle.aadl_grammar.specs.proof.ListAnswers.{ParsesMore};
 
 use crate::reader::{Parsed, Reader};
 use aadl_tree::Mark;

@@ -3,8 +3,8 @@ ghost use Rattle.std.specs.Prelude.{◌≡◌, ◌+◌, true, [], reverse, IfOk,
 ghost use Rattle.aadl_chains.specs.proof.PortsJoinedInside.{is_in_at};
 ghost use Rattle.aadl_chains.specs.Links.{IsLink, IsFeed, IsTap, TargetBefore, PortBefore};
 ghost use Rattle.aadl_instance.specs.proof.ChainsSoFar as shown;
-ghost use Rattle.aadl_instance.specs.proof.ChainSearchStates.{tree_of, paths_in, IsReady, IsNumbered, IsNode, Shows, ShowsInto};
-ghost use Rattle.aadl_instance.specs.proof.ChainSearchStates.{ShowsTaps};
+ghost use Rattle.aadl_instance.specs.proof.ChainSearchStates.{tree_of, paths_in, IsReady, IsNumbered, IsNode, Shows};
+ghost use Rattle.aadl_instance.specs.proof.ChainSearchStates.{ShowsInto, ShowsTaps};
 ghost use Rattle.aadl_instance.specs.proof.ChainsSoFar.{HasPort, IsBegin};
 
 use crate::chain::{Chain, ChainEnd, ConnAt};

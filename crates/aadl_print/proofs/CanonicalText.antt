@@ -3,8 +3,8 @@ use Rattle.std.proofs.Common.{◌≡◌, ◌∙◌, ℕ, Bool, true, false, refl
 use Rattle.std.specs.Prelude.{◌||◌, if◌then◌else◌}
 use Rattle.aadl_tree.specs.Terminals.{Kind}
 use Rattle.aadl_tree.specs.SpellingParts.{Part, token, may, kept}
-use Rattle.aadl_tree.specs.CanonicalText.{kind_text, holds_left, holds_right, ends_line, line_end, text_behind, canonical}
-use Rattle.aadl_tree.specs.CanonicalText.{canon}
+use Rattle.aadl_tree.specs.CanonicalText.{kind_text, holds_left, holds_right, ends_line, line_end, text_behind}
+use Rattle.aadl_tree.specs.CanonicalText.{canonical, canon}
 use Rattle.aadl_tree.specs.Declarations.{PackageTree, package_parts}
 use Rattle.aadl_print.specs.declared.spacing.Spacing.TheVariants.{Nothing, Space, LineEnd}
 use Rattle.aadl_print.specs.proof.PrintedText.{Printed, gap_text, gap_behind, blank, put, printed}

@@ -9,23 +9,24 @@
 
 pub mod actions;
 pub mod annex;
+mod compact_push;
 pub mod declarations;
 pub mod expression_offsets;
 pub mod expressions;
+mod keywords_and_symbols;
 pub mod laws;
 pub mod mark;
-mod keywords_and_symbols;
 pub mod names;
 pub mod nesting_limit;
 pub mod package;
 pub mod sameness;
-mod compact_push;
 pub mod values;
 
 pub use actions::{Action, Actions, Block, Bound, Choice, Elsif, Loop};
 pub use annex::{
     Annex, AnnexContent, AnnexTree, Guard, StateDeclaration, Transition, VariableDeclaration,
 };
+pub use compact_push::push_exact;
 pub use declarations::{
     Category, Connection, ConnectionEnd, Declaration, Direction, Feature, Implementation,
     ImplementationName, Subcomponent, TypeDeclaration, With,
@@ -39,5 +40,4 @@ pub use names::{Identifier, Identifiers, Name, Path, Reference};
 pub use nesting_limit::GREATEST_NESTING;
 pub use package::PackageTree;
 pub use sameness::{Same, same};
-pub use compact_push::push_exact;
 pub use values::{Association, AssociationOperator, Number, Quantity, UnsignedNumber, Value};

@@ -3,13 +3,13 @@
 //! threads below a root: where each stands, and by which path it is known.
 #![tactic(auto)]
 
-pub mod marked_counts;
 pub mod connections_by_target;
 pub mod containment;
 pub mod containment_order;
 pub mod cycle_suspects;
 mod declaration_levels;
 mod implementation_types;
+pub mod marked_counts;
 pub mod package_wires;
 mod path_weights;
 mod paths_to_marked;
@@ -21,11 +21,11 @@ mod resolved_connections;
 mod thread_locations;
 pub mod uses;
 
-pub use marked_counts::counts_below;
 pub use connections_by_target::{Connections, Wire};
 pub use containment::Containment;
 pub use containment_order::order;
 pub use cycle_suspects::{leads_back, suspects};
+pub use marked_counts::counts_below;
 pub use package_wires::Wires;
 pub use path_weights::{Weights, heaviest_below};
 pub use paths_to_marked::{Paths, paths_below};

@@ -33,17 +33,18 @@ use Rattle.annex_resolve.specs.declared.scope.DeclaredName.{DeclaredName}
 use Rattle.annex_resolve.specs.declared.expressions.Typed.{Typed}
 use Rattle.annex_resolve.specs.declared.violation.Violation.{Violation}
 use Rattle.annex_resolve.specs.ExpressionTypesAndFindings.{misfit, read_kind, primary_kind, primary_types, sides_misfit}
-use Rattle.annex_resolve.specs.ExpressionTypesAndFindings.{factor_kind, factor_types, factors_types, term_kind, term_types}
-use Rattle.annex_resolve.specs.ExpressionTypesAndFindings.{terms_types, total_kind, sum_types, relation_kind, relation_types}
-use Rattle.annex_resolve.specs.ExpressionTypesAndFindings.{relations_types, expression_kind, expression_types}
+use Rattle.annex_resolve.specs.ExpressionTypesAndFindings.{factor_kind, factor_types, factors_types, term_kind}
+use Rattle.annex_resolve.specs.ExpressionTypesAndFindings.{term_types, terms_types, total_kind, sum_types}
+use Rattle.annex_resolve.specs.ExpressionTypesAndFindings.{relation_kind, relation_types, relations_types}
+use Rattle.annex_resolve.specs.ExpressionTypesAndFindings.{expression_kind, expression_types}
 use Rattle.annex_resolve.specs.ResolvedTrees.{truth_of, primary_of, chained, multiply_op, sign_op, relation_op}
 use Rattle.annex_resolve.specs.ResolvedTrees.{logic_op, factor_of, factors_of, term_of, terms_of, sum_of, relation_of}
 use Rattle.annex_resolve.specs.ResolvedTrees.{relations_of, expression_of}
 use Rattle.annex_resolve.specs.NamesAndFindings.{finding, found_if, entry_named, read_of, or_zero}
 use Rattle.annex_resolve.specs.declared.violation.TheConstants.{BAD_TYPE}
 use Rattle.annex_resolve.specs.proof.ResolutionResults.{Reads, ReadsOperands}
-use Rattle.annex_resolve.proofs.ResolvedTermsAndSums.{put_last, take_next, one_more, several, factors-push, factors_types-push}
-use Rattle.annex_resolve.proofs.ResolvedTermsAndSums.{terms-push, terms_types-push, relation_both}
+use Rattle.annex_resolve.proofs.ResolvedTermsAndSums.{put_last, take_next, one_more, several, factors-push}
+use Rattle.annex_resolve.proofs.ResolvedTermsAndSums.{factors_types-push, terms-push, terms_types-push, relation_both}
 
 -- ---- relation
 pub relations-push : (scope : Scope) (xs : List (LogicOperator × source_relation.Relation))

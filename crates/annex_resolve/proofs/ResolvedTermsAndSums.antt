@@ -25,9 +25,9 @@ use Rattle.aadl_tree.specs.proof.ExpressionViews.{leading_view, factor_view, fac
 use Rattle.annex_resolve.specs.declared.scope.Scope.{Scope}
 use Rattle.annex_resolve.specs.declared.expressions.Typed.{Typed}
 use Rattle.annex_resolve.specs.declared.violation.Violation.{Violation}
-use Rattle.annex_resolve.specs.ExpressionTypesAndFindings.{misfit, sides_misfit, factor_kind, factor_types, factors_types}
-use Rattle.annex_resolve.specs.ExpressionTypesAndFindings.{term_kind, term_types, terms_types, total_kind, sum_types}
-use Rattle.annex_resolve.specs.ExpressionTypesAndFindings.{relation_kind, relation_types}
+use Rattle.annex_resolve.specs.ExpressionTypesAndFindings.{misfit, sides_misfit, factor_kind, factor_types}
+use Rattle.annex_resolve.specs.ExpressionTypesAndFindings.{factors_types, term_kind, term_types, terms_types}
+use Rattle.annex_resolve.specs.ExpressionTypesAndFindings.{total_kind, sum_types, relation_kind, relation_types}
 use Rattle.annex_resolve.specs.ResolvedTrees.{chained, signed_by, multiply_op, sign_op, relation_op, factor_of}
 use Rattle.annex_resolve.specs.ResolvedTrees.{factors_of, term_of, terms_of, sum_of, relation_of}
 use Rattle.annex_resolve.specs.proof.ResolutionResults.{Reads, ReadsOperands}

@@ -10,11 +10,12 @@ ghost use Rattle.aadl_tree.specs.proof.ExpressionViews.{leading_view, primary_vi
 ghost use Rattle.aadl_tree.specs.proof.ExpressionViews.{term_view, terms_view, sum_view, relation_view, relations_view};
 ghost use Rattle.aadl_tree.specs.proof.ExpressionViews.{expression_view};
 ghost use Rattle.annex_resolve.specs.NamesAndFindings.{kind_of, read_of};
-ghost use Rattle.annex_resolve.specs.ExpressionTypesAndFindings.{fits, misfit, read_kind, is_equality, sides_misfit, primary_kind};
-ghost use Rattle.annex_resolve.specs.ExpressionTypesAndFindings.{factor_kind, term_kind, total_kind, relation_kind};
-ghost use Rattle.annex_resolve.specs.ExpressionTypesAndFindings.{expression_kind, primary_types, factor_types, term_types};
-ghost use Rattle.annex_resolve.specs.ExpressionTypesAndFindings.{factors_types, sum_types, terms_types, relation_types};
-ghost use Rattle.annex_resolve.specs.ExpressionTypesAndFindings.{expression_types, relations_types, whole_types};
+ghost use Rattle.annex_resolve.specs.ExpressionTypesAndFindings.{fits, misfit, read_kind, is_equality, sides_misfit};
+ghost use Rattle.annex_resolve.specs.ExpressionTypesAndFindings.{primary_kind, factor_kind, term_kind, total_kind};
+ghost use Rattle.annex_resolve.specs.ExpressionTypesAndFindings.{relation_kind, expression_kind, primary_types};
+ghost use Rattle.annex_resolve.specs.ExpressionTypesAndFindings.{factor_types, term_types, factors_types, sum_types};
+ghost use Rattle.annex_resolve.specs.ExpressionTypesAndFindings.{terms_types, relation_types, expression_types};
+ghost use Rattle.annex_resolve.specs.ExpressionTypesAndFindings.{relations_types, whole_types};
 ghost use Rattle.annex_resolve.specs.ResolvedTrees.{multiply_op, sign_op, relation_op, logic_op, chained, signed_by};
 ghost use Rattle.annex_resolve.specs.ResolvedTrees.{truth_of, primary_of, factor_of, term_of, factors_of, sum_of};
 ghost use Rattle.annex_resolve.specs.ResolvedTrees.{terms_of, relation_of, expression_of, relations_of};

@@ -1,6 +1,6 @@
 -- A run of each scenario comes to its end, and an answer tells it.
-use Rattle.std.proofs.Common.{◌≡◌, ◌⊎◌, inl, inr, ℕ, ◌<◌, ◌≤◌, Bool, List, [], ◌++◌, length, Option, Some, None}
-use Rattle.std.proofs.Common.{refl, ap, if◌then◌else◌}
+use Rattle.std.proofs.Common.{◌≡◌, ◌⊎◌, inl, inr, ℕ, ◌<◌, ◌≤◌, Bool, List, [], ◌++◌, length, Option, Some, None, refl}
+use Rattle.std.proofs.Common.{ap, if◌then◌else◌}
 use Rattle.pals_base.specs.declared.limits.TheConstants.{ROUNDS}
 use Rattle.pals_clock.specs.ClockStates.{ClockState}
 use Rattle.pals_clock.specs.declared.clock.Clocks.{Clocks}

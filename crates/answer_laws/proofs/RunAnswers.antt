@@ -17,7 +17,8 @@ use Rattle.bus_machine.specs.States.{finished_by_all}
 use Rattle.run_laws.specs.TextLines.{lines_of}
 use Rattle.run_laws.specs.TraceVerdicts.{verdict}
 use Rattle.run_laws.proofs.FinalStops.{told as stop_is_last}
-use Rattle.run_laws.specs.proof.TimelyRunsAndEnds.{InTime, NoneStops, BoundsAreInTime, EndsAreOne, AllPicked, PickedAreDone}
+use Rattle.run_laws.specs.proof.TimelyRunsAndEnds.{InTime, NoneStops, BoundsAreInTime, EndsAreOne, AllPicked}
+use Rattle.run_laws.specs.proof.TimelyRunsAndEnds.{PickedAreDone}
 use Rattle.run_texts.specs.RunTexts.{journal_text}
 use Rattle.pals_top.specs.ExecutionCommands as execution
 use Rattle.pals_top.specs.ExecutionAnswers.{IsCodeTooLong, IsExecutionAnswer}

@@ -12,8 +12,8 @@ ghost use Rattle.bundle_designs.specs.Bundles.{IsSplit, HasNoDivider};
 ghost use Rattle.bundle_designs.specs.BundleMeanings.{IsFaulty, HasViolations, IsAccepted};
 ghost use Rattle.pals_top.specs.RefusalAnswers.{IsBundleRefused};
 
-use design_laws::unique_faults::one_fault;
 use design_laws::packages::one_design;
+use design_laws::unique_faults::one_fault;
 
 /// A bundle is divided by one of its lines, in one way, or has no such line.
 pub fn one_split()

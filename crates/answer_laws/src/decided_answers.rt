@@ -7,8 +7,8 @@ ghost use Rattle.pals_top.specs.ProgramInput.{Reading};
 ghost use Rattle.pals_top.specs.proof.PrivateFunctions.{is_run};
 
 use crate::accepted_designs::accepted_designs_keep_their_rules;
-use design_laws::unique_faults::one_fault;
 use design_laws::packages::one_design;
+use design_laws::unique_faults::one_fault;
 use loose_world::world_laws::one_end;
 use plant_fuse::laws::one_report;
 use round_budget::laws::text_is_one;

@@ -3,10 +3,10 @@
 #![tactic(auto)]
 
 pub mod accepted_designs;
+pub mod boolean_values;
 pub mod bundles;
 pub mod calls;
 pub mod decided_answers;
 pub mod existence;
-pub mod boolean_values;
 pub mod runs;
 pub mod statuses;

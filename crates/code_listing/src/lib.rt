@@ -2,10 +2,10 @@
 #![tactic(auto)]
 
 mod component;
-mod period_and_bounds;
 mod instr;
 pub mod laws;
 mod listing;
 mod operand_names;
+mod period_and_bounds;
 
 pub use listing::add_listing;

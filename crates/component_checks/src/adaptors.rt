@@ -1,8 +1,8 @@
 //! What is wrong with adaptors.
 ghost use Rattle.std.specs.Prelude.{◌≡◌, ◌<◌, ◌++◌, OnOk, drop};
 ghost use Rattle.annex_resolve.specs.NamesAndFindings.{found_if};
-ghost use Rattle.component_checks.specs.PeriodAndAdaptorFindings.{is_digit, is_first_digit, place_number, adaptor_named};
-ghost use Rattle.component_checks.specs.PeriodAndAdaptorFindings.{kind_suits, is_right};
+ghost use Rattle.component_checks.specs.PeriodAndAdaptorFindings.{is_digit, is_first_digit, place_number};
+ghost use Rattle.component_checks.specs.PeriodAndAdaptorFindings.{adaptor_named, kind_suits, is_right};
 
 use crate::periods::name_and_number;
 use annex_resolve::Violation;

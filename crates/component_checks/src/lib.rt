@@ -12,11 +12,11 @@ pub mod component_property_lists;
 pub mod package_properties;
 pub mod periods;
 pub mod property_lookup;
-pub mod unquoted_strings;
 pub mod roots;
 pub mod threads;
 pub mod times;
 pub mod types;
+pub mod unquoted_strings;
 pub mod word_values;
 
 pub use adaptors::{Carrier, adaptor_named};

@@ -23,8 +23,8 @@ use Rattle.design_laws.proofs.DistinctFaultPlaces.{Clear, clear_none, clear_one,
 use Rattle.design_laws.proofs.DistinctFaultPlaces.{clear_section, clear_append, clear_flat}
 use Rattle.design_laws.proofs.PossibleNameFaults.{of_feature, of_subcomponent, of_connection, of_annex, none_of}
 use Rattle.design_laws.proofs.PossibleNameFaults.{of_type, of_implementation, of_declaration, possible}
-use Rattle.design_laws.proofs.DistinctAnnexFaultPlaces.{identifier_clear, associations_clear, properties_clear, transitions_of}
-use Rattle.design_laws.proofs.DistinctAnnexFaultPlaces.{behaviour_clear, annex_clear}
+use Rattle.design_laws.proofs.DistinctAnnexFaultPlaces.{identifier_clear, associations_clear, properties_clear}
+use Rattle.design_laws.proofs.DistinctAnnexFaultPlaces.{transitions_of, behaviour_clear, annex_clear}
 
 -- ---- what a subcomponent and a connection refer to
 -- a reference begins where its first word stands

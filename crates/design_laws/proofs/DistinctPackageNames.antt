@@ -33,8 +33,8 @@ use Rattle.design_laws.specs.proof.PackageNames.{NamesDiffer}
 use Rattle.design_laws.proofs.PlacedNames.{Pairs, pairs_append, pairs_weaker, Rise, rise_back, in_front, in_back, IsIn}
 use Rattle.design_laws.proofs.PlacedNames.{Placed}
 use Rattle.design_laws.proofs.PairwiseDistinctNames.{where_true, Apart, Differs, names_differ}
-use Rattle.design_laws.proofs.DeclaredNameOrder.{type_names, member_names, first_variables, first_states, rise_declarations}
-use Rattle.design_laws.proofs.DeclaredNameOrder.{rise_one}
+use Rattle.design_laws.proofs.DeclaredNameOrder.{type_names, member_names, first_variables, first_states}
+use Rattle.design_laws.proofs.DeclaredNameOrder.{rise_declarations, rise_one}
 
 -- ---- pairs by their numbers
 pub pairs_all : {X : Type 0} (R : X → X → Type 0) (xs : List X) → Pairs R xs → AllPairs R xs

@@ -47,11 +47,11 @@ use Rattle.component_checks.specs.PropertyLookup.{type_lists, own_lists, sub_lis
 use Rattle.component_checks.specs.PropertyLookup.{first_in}
 use Rattle.component_checks.specs.Times.{time_at, range_at, shown, list_big}
 use Rattle.component_checks.specs.TypeFindings.{port_findings}
-use Rattle.component_checks.specs.ThreadRatesAndFindings.{root_period, own_period, is_periodic, thread_place, thread_rate}
-use Rattle.component_checks.specs.ThreadRatesAndFindings.{thread_findings}
-use Rattle.component_checks.specs.RootFindings.{at_root, root_skew, root_range, root_gamma, root_place, missing, missing_bound}
-use Rattle.component_checks.specs.RootFindings.{missing_findings, is_zero, is_reversed, place_of, zero_skew, reversed_range}
-use Rattle.component_checks.specs.RootFindings.{order_findings, root_findings}
+use Rattle.component_checks.specs.ThreadRatesAndFindings.{root_period, own_period, is_periodic, thread_place}
+use Rattle.component_checks.specs.ThreadRatesAndFindings.{thread_rate, thread_findings}
+use Rattle.component_checks.specs.RootFindings.{at_root, root_skew, root_range, root_gamma, root_place, missing}
+use Rattle.component_checks.specs.RootFindings.{missing_bound, missing_findings, is_zero, is_reversed, place_of}
+use Rattle.component_checks.specs.RootFindings.{zero_skew, reversed_range, order_findings, root_findings}
 use Rattle.model_violations.specs.IgnoredProperties.{is_number, is_root_type}
 use Rattle.model_violations.specs.ConnectionsAndCarriers.{carries}
 use Rattle.model_violations.specs.ConnectionFindings.{connections_findings}

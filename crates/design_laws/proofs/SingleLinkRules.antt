@@ -35,9 +35,10 @@ use Rattle.model_violations.specs.Violations.{shown_by, used_findings, rates_of}
 use Rattle.design_laws.specs.InstanceDesigns.{chain_adaptor}
 use Rattle.design_laws.proofs.MatchedLists.{Zipped}
 use Rattle.design_laws.proofs.ChainEndPorts.{Sits, in_seen, rate_at}
-use Rattle.design_laws.proofs.LinksFromChains.{rated_fits, thread_end, root_end, start_goes_out, end_goes_in, link_joins}
-use Rattle.design_laws.proofs.LinksFromChains.{feed_joins, tap_joins, connection_is, adaptor_is, node_of, link_of}
-use Rattle.design_laws.proofs.LinksFromChains.{feed_of, tap_of, is_target, in_kind_is, is_source, out_kind_is, rate_is}
+use Rattle.design_laws.proofs.LinksFromChains.{rated_fits, thread_end, root_end, start_goes_out, end_goes_in}
+use Rattle.design_laws.proofs.LinksFromChains.{link_joins, feed_joins, tap_joins, connection_is, adaptor_is, node_of}
+use Rattle.design_laws.proofs.LinksFromChains.{link_of, feed_of, tap_of, is_target, in_kind_is, is_source, out_kind_is}
+use Rattle.design_laws.proofs.LinksFromChains.{rate_is}
 
 module _ {tree : PackageTree ℕ} {name : List ℕ} {parts : Parts} (flat : IsFlat tree name parts) (used : ℕ → Bool)
     (is_use : IsUse tree parts.root used) (none : used_findings tree (shown_by tree parts) used ≡ [])

@@ -22,8 +22,8 @@ use Rattle.annex_resolve.specs.declared.scope.Meaning.TheVariants.{InPort, OutPo
 use Rattle.annex_resolve.specs.declared.violation.TheConstants.{BAD_TYPE, LOOP_TOO_LONG}
 use Rattle.annex_resolve.specs.NamesAndFindings.{found_if, entry_named, kind_of, sets, sends, may_set, may_send, given}
 use Rattle.annex_resolve.specs.NamesAndFindings.{given_to, with_loop}
-use Rattle.annex_resolve.specs.ExpressionTypesAndFindings.{fits, misfit, same_kind, whole_types, expression_kind, expression_types}
-use Rattle.annex_resolve.specs.ExpressionTypesAndFindings.{kind_named}
+use Rattle.annex_resolve.specs.ExpressionTypesAndFindings.{fits, misfit, same_kind, whole_types, expression_kind}
+use Rattle.annex_resolve.specs.ExpressionTypesAndFindings.{expression_types, kind_named}
 use Rattle.annex_resolve.specs.ResolvedTrees.{expression_of, action_of, actions_of, mores_of, elsifs_of, otherwise_of}
 use Rattle.annex_resolve.specs.ResolvedTrees.{block_of}
 use Rattle.annex_resolve.specs.ActionFindings.{turns, together, is_too_long, is_integer, branch_findings}

@@ -29,10 +29,11 @@ use Rattle.annex_resolve.specs.declared.scope.Meaning.{Meaning}
 use Rattle.annex_resolve.specs.declared.scope.Meaning.TheVariants.{InPort, OutPort, Variable, LoopVariable}
 use Rattle.annex_resolve.specs.declared.violation.TheConstants.{BAD_TYPE}
 use Rattle.annex_resolve.specs.NamesAndFindings.{entry_named, read_of, value_of, freshness_of, or_zero}
-use Rattle.annex_resolve.specs.ExpressionTypesAndFindings.{fits, misfit, is_equality, read_kind, primary_kind, factor_kind}
-use Rattle.annex_resolve.specs.ExpressionTypesAndFindings.{term_kind, total_kind, relation_kind, expression_kind, primary_types}
-use Rattle.annex_resolve.specs.ExpressionTypesAndFindings.{factor_types, term_types, factors_types, sum_types, terms_types}
-use Rattle.annex_resolve.specs.ExpressionTypesAndFindings.{relation_types, expression_types, relations_types}
+use Rattle.annex_resolve.specs.ExpressionTypesAndFindings.{fits, misfit, is_equality, read_kind, primary_kind}
+use Rattle.annex_resolve.specs.ExpressionTypesAndFindings.{factor_kind, term_kind, total_kind, relation_kind}
+use Rattle.annex_resolve.specs.ExpressionTypesAndFindings.{expression_kind, primary_types, factor_types, term_types}
+use Rattle.annex_resolve.specs.ExpressionTypesAndFindings.{factors_types, sum_types, terms_types, relation_types}
+use Rattle.annex_resolve.specs.ExpressionTypesAndFindings.{expression_types, relations_types}
 use Rattle.annex_resolve.specs.ResolvedTrees.{multiply_op, sign_op, relation_op, logic_op, negated_by, truth_of}
 use Rattle.annex_resolve.specs.ResolvedTrees.{primary_of, factor_of, term_of, factors_of, sum_of, terms_of, relation_of}
 use Rattle.annex_resolve.specs.ResolvedTrees.{expression_of, relations_of}

@@ -5,12 +5,12 @@
 #![tactic(auto)]
 
 pub mod annex_behaviours;
-pub mod thread_behaviours;
 pub mod chains;
 pub mod designs;
-pub mod package_outcomes;
-pub mod unique_faults;
 pub mod instances;
 pub mod names;
+pub mod package_outcomes;
 pub mod packages;
 pub mod rates_and_bounds;
+pub mod thread_behaviours;
+pub mod unique_faults;

@@ -9,7 +9,8 @@ use Rattle.pals_base.specs.declared.limits.TheConstants.{RATE}
 use Rattle.aadl_tree.specs.Declarations.{PackageTree}
 use Rattle.aadl_uses.specs.declared.thread_locations.ThreadAt.{ThreadAt}
 use Rattle.component_checks.specs.BoundsAndRates.{divides, is_rate, rate_of}
-use Rattle.component_checks.specs.ThreadRatesAndFindings.{thread_rate, greater_rate, greatest_rate, root_period, own_period}
+use Rattle.component_checks.specs.ThreadRatesAndFindings.{thread_rate, greater_rate, greatest_rate, root_period}
+use Rattle.component_checks.specs.ThreadRatesAndFindings.{own_period}
 
 passed_by : (b : Bool) (n k : ℕ) → cond b (Some n) None ≡ Some k → (b ≡ true) × (n ≡ k)
 passed_by true n k is = (refl, cc)

@@ -3,15 +3,14 @@
 #![tactic(auto)]
 
 pub mod actions_and_expressions;
-pub mod behaviour_sections;
-pub mod variable_and_state_names;
 pub mod behaviour_scope;
+pub mod behaviour_sections;
 mod behaviours;
 mod connections;
 mod declarations;
 pub mod duplicates_by_space;
-mod implementations;
 mod first_fault;
+mod implementations;
 mod port_duplicates;
 pub mod port_names;
 pub mod properties;
@@ -23,8 +22,8 @@ pub mod thread_category;
 pub mod transitions;
 pub mod type_ports;
 mod types_and_annexes;
+pub mod variable_and_state_names;
 
-pub use variable_and_state_names::{state_names, variable_roles};
 pub use behaviour_scope::BehaviourScope;
 pub use duplicates_by_space::{check_spaces, first_behaviour};
 pub use first_fault::first_name_fault;
@@ -32,3 +31,4 @@ pub use port_names::{AllPortNames, PortNames};
 pub use properties::check_properties;
 pub use transitions::check_transitions;
 pub use type_ports::{all_port_names, names_at};
+pub use variable_and_state_names::{state_names, variable_roles};

@@ -12,7 +12,8 @@ use Rattle.node_threads.specs.declared.node_end.NodeEnd.TheVariants as end
 use Rattle.node_threads.specs.declared.node_end.NodeNote.{NodeNote}
 use Rattle.node_threads.specs.declared.node_end.NodeNote.TheVariants as note
 use Rattle.node_threads.specs.proof.SharedCourses.{CourseValue, note_at, IsCourse}
-use Rattle.node_threads.specs.proof.NodeEndsAndOutcomes.{EndFits, EndsFit, noted_end, phase_end, stopped_end, closed_end, end_in}
+use Rattle.node_threads.specs.proof.NodeEndsAndOutcomes.{EndFits, EndsFit, noted_end, phase_end, stopped_end}
+use Rattle.node_threads.specs.proof.NodeEndsAndOutcomes.{closed_end, end_in}
 
 -- ---- the ends
 closed_fits : (c : CourseValue) (node : ℕ) (closed : Bool) (e : NodeEnd) → c.bus.closed ≡ closed

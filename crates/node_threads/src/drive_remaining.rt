@@ -6,9 +6,9 @@ ghost use Rattle.node_threads.specs.proof.NodeEndsAndOutcomes.{EndsFit, IsOutcom
 
 use crate::course::SharedRun;
 use crate::job_gate::{Gate, done_by};
+use crate::moves_under_lock::NextMove;
 use crate::node_end::NodeEnd;
 use crate::threads::RunEnd;
-use crate::moves_under_lock::NextMove;
 use pals_base::{Items, NoMemory, NodeNo};
 use std::alloc::Global;
 use std::mem::swap;

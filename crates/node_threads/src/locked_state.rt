@@ -6,9 +6,9 @@ ghost use Rattle.node_threads.specs.proof.SharedCourses.{Stays, IsOpen, IsDone};
 ghost use Rattle.node_threads.specs.proof.Sleepers.{seat_at, Waits};
 
 use crate::course::SharedRun;
+use crate::moves_under_lock::NextMove;
 use crate::sleepers::Sleepers;
 use crate::sleeping_thread::Sleeper;
-use crate::moves_under_lock::NextMove;
 use pals_base::NodeNo;
 use pals_node::Done;
 

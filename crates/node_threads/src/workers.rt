@@ -2,8 +2,8 @@
 //! that have no thread. Only the type of a course tells what comes out, so there are no clauses here.
 use crate::job_gate::{Gate, done_by};
 use crate::locked_state::Locked;
-use crate::thread_admission::Starter;
 use crate::moves_under_lock::NextMove;
+use crate::thread_admission::Starter;
 use crate::wake_signals::WakeSignals;
 use pals_base::NodeNo;
 use pals_node::Done;

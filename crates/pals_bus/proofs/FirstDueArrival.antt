@@ -24,8 +24,8 @@ use Rattle.pals_bus.specs.proof.DueMessages.{IsDueTo, IsNextDue, TakesDue, takes
 use Rattle.pals_bus.proofs.QueueFlightAgreement.{contains_counted, copy_counts, counts, counts_elsewhere, count_oldest}
 use Rattle.pals_bus.proofs.EqualDueReadings.{SameDue, due_of}
 use Rattle.pals_bus.proofs.CopyRemovalAndLoss.{oldest_round}
-use Rattle.pals_bus.proofs.DueEntriesAndCopies.{if_some, copy_there, copy_parts, flies, due_of_entry, IsEntryOf, entry_of_due}
-use Rattle.pals_bus.proofs.DueEntriesAndCopies.{not_first}
+use Rattle.pals_bus.proofs.DueEntriesAndCopies.{if_some, copy_there, copy_parts, flies, due_of_entry, IsEntryOf}
+use Rattle.pals_bus.proofs.DueEntriesAndCopies.{entry_of_due, not_first}
 
 -- ---- the first entry that is left
 -- it is due, and its copy is in flight

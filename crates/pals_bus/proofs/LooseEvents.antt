@@ -27,7 +27,8 @@ use Rattle.pals_bus.specs.declared.bus_error.MessageError.{MessageError}
 use Rattle.pals_bus.specs.declared.bus_error.MessageError.TheVariants as message
 use Rattle.pals_bus.specs.BusValues.{BusValue, Happens}
 use Rattle.pals_bus.specs.LooseEvents.{IsRefused, loose_event, message_of}
-use Rattle.pals_bus.specs.proof.LooseStopsAndFaults.{LooseEnds, start_fault, step_fault, finish_fault, send_fault, link_fault}
+use Rattle.pals_bus.specs.proof.LooseStopsAndFaults.{LooseEnds, start_fault, step_fault, finish_fault, send_fault}
+use Rattle.pals_bus.specs.proof.LooseStopsAndFaults.{link_fault}
 use Rattle.pals_bus.specs.proof.Answers.{StartsRound, BusStartEnds, BusStepEnds, BusFinishEnds, BusSendEnds, LinkEnds}
 use Rattle.pals_bus.proofs.EventEffects.{start_after}
 

@@ -28,8 +28,8 @@ use Rattle.pals_bus.specs.proof.RoundMessages.{HasRoomFor, AreSent}
 use Rattle.pals_bus.specs.proof.NodeLists.{node_of}
 use Rattle.pals_bus.specs.proof.DueQueues.{AreQueues, AreQueuesAmid, HasQueueRoomFor}
 use Rattle.pals_bus.proofs.NodeAfterCall.{Turned, turn_shown, turn_told}
-use Rattle.pals_bus.proofs.StartsStepsAndFinishes.{start_happens, start_keeps, start_misses, miss_keeps, step_happens, step_keeps}
-use Rattle.pals_bus.proofs.StartsStepsAndFinishes.{finish_happens, finish_room, finish_keeps_bus}
+use Rattle.pals_bus.proofs.StartsStepsAndFinishes.{start_happens, start_keeps, start_misses, miss_keeps, step_happens}
+use Rattle.pals_bus.proofs.StartsStepsAndFinishes.{step_keeps, finish_happens, finish_room, finish_keeps_bus}
 use Rattle.pals_bus.proofs.RoundSends.{send_owes, send_happens, send_keeps_bus, send_queues}
 
 -- what an event leaves: fields that keep the bus, and what is said of them

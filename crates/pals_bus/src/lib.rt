@@ -3,16 +3,16 @@
 //! call, so the journal replays to the bus, and the bus agrees with the composition.
 #![tactic(auto)]
 
+mod all_due_arrivals;
 mod arrival;
 mod bus;
 mod bus_error;
-mod all_due_arrivals;
+mod bus_fields;
 mod events_of_messages;
 mod events_of_nodes;
-mod bus_fields;
 mod flights;
-mod loose_world_events;
 mod loose_faults;
+mod loose_world_events;
 mod meet_and_loose_fault;
 mod meeting;
 mod missed_starts;

@@ -1,6 +1,7 @@
 //! Why nothing happens, as a loose world says it.
 ghost use Rattle.std.specs.Prelude.{◌≡◌};
-ghost use Rattle.pals_bus.specs.proof.LooseStopsAndFaults.{start_fault, step_fault, finish_fault, send_fault, link_fault};
+ghost use Rattle.pals_bus.specs.proof.LooseStopsAndFaults.{start_fault, step_fault, finish_fault, send_fault};
+ghost use Rattle.pals_bus.specs.proof.LooseStopsAndFaults.{link_fault};
 
 use crate::bus_error::{
     BusError, BusFinishEnd, BusSendEnd, BusStartEnd, BusStepEnd, LinkEnd, MessageError,

@@ -4,13 +4,13 @@
 
 pub mod design;
 mod design_clones;
+mod design_equality;
 pub mod flight_copy;
 pub mod inputs_parts_and_delays;
 pub mod laws;
 pub mod outgoing_links;
-pub mod rates_and_kinds;
-mod design_equality;
 pub mod port_sources;
+pub mod rates_and_kinds;
 
 pub use design::{Component, Design, DesignParts, Feed, Link, Tap};
 pub use flight_copy::FlightCopy;

@@ -4,14 +4,14 @@
 #![tactic(auto)]
 
 mod answers;
-mod slots_and_input_vectors;
 mod instruction_key;
 mod job;
 mod job_memory;
+mod next_actions;
 mod node;
 mod node_fields;
 mod plan;
-mod next_actions;
+mod slots_and_input_vectors;
 mod written_tuples;
 
 pub use answers::{FinishEnd, Finished, SendEnd, StartEnd, StepEnd};

@@ -14,9 +14,9 @@ ghost use Rattle.pals_node.specs.proof.Answers.{FinishesHere, NoneRuns, Sends, S
 
 use crate::answers::{FinishEnd, Finished, SendEnd, StartEnd, StepEnd};
 use crate::job::{Done, Job, StepStart};
+use crate::next_actions::{next_in_round, next_send, next_start};
 use crate::node_fields::NodeFields;
 use crate::plan::NodePlan;
-use crate::next_actions::{next_in_round, next_send, next_start};
 use bus_machine::{Input, Next, Plan};
 use link_buffers::Slot;
 use output_backoff::release_at;

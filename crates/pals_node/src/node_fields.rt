@@ -16,10 +16,10 @@ ghost use Rattle.pals_node.specs.proof.NodeInvariants.{Keeps, IsProgram, PhaseKe
 ghost use Rattle.pals_node.specs.proof.NodeInvariants.{AreTuples, IsStepMade, value_of, state_of, finished_value};
 ghost use Rattle.pals_node.specs.proof.NodeInvariants.{ended_at};
 
-use crate::slots_and_input_vectors::{empty_all, empty_slots, round_vectors};
 use crate::job::{Done, Job, StepStart};
 use crate::job_memory::Memory;
 use crate::plan::NodePlan;
+use crate::slots_and_input_vectors::{empty_all, empty_slots, round_vectors};
 use crate::written_tuples::{absent_tuples, write_places, write_ports};
 use bus_machine::Plan;
 use link_buffers::Slot;

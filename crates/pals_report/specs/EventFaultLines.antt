@@ -2,9 +2,10 @@
 use Rattle.std.specs.Prelude.{ℕ, codes, decimal, List, [], ◌∷◌, ◌++◌}
 use Rattle.pals_model.specs.declared.design.DesignParts.{DesignParts}
 use Rattle.pals_runs.specs.declared.events_and_faults.EventFault.{EventFault}
-use Rattle.pals_runs.specs.declared.events_and_faults.EventFault.TheVariants.{BadName, LossOrRepeat, TimeBack, ClockBack}
-use Rattle.pals_runs.specs.declared.events_and_faults.EventFault.TheVariants.{ClockApart, PastDeadline, WrongPhase, NoSuchMessage}
-use Rattle.pals_runs.specs.declared.events_and_faults.EventFault.TheVariants.{NotDue, TooSoon, Memory}
+use Rattle.pals_runs.specs.declared.events_and_faults.EventFault.TheVariants.{BadName, LossOrRepeat, TimeBack}
+use Rattle.pals_runs.specs.declared.events_and_faults.EventFault.TheVariants.{ClockBack, ClockApart, PastDeadline}
+use Rattle.pals_runs.specs.declared.events_and_faults.EventFault.TheVariants.{WrongPhase, NoSuchMessage, NotDue}
+use Rattle.pals_runs.specs.declared.events_and_faults.EventFault.TheVariants.{TooSoon, Memory}
 use Rattle.pals_runs.specs.declared.events_and_faults.EventSubject.{EventSubject}
 use Rattle.pals_runs.specs.declared.events_and_faults.EventSubject.TheVariants.{Node, Message}
 use Rattle.pals_runs.specs.JournalLines.{node_word, link_word, spaced}

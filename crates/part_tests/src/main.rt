@@ -5,12 +5,12 @@
 
 mod adaptors;
 mod alarms;
-mod least_periods;
 mod buffers;
 mod clocks;
 mod code_fixtures;
 mod code_verification;
 mod compiled_behaviours;
+mod least_periods;
 mod parsed_behaviours;
 mod step_comparison;
 mod step_outcomes;
@@ -63,7 +63,11 @@ fn tell_numbers(rt: &HostRuntime) -> io::Result<()> {
     tell(rt, "releases", Ok(alarms::are_releases()))?;
     tell(rt, "usual periods", Ok(least_periods::are_usual_periods()))?;
     tell(rt, "slow periods", Ok(least_periods::are_slow_periods()))?;
-    tell(rt, "least multiples", Ok(least_periods::are_least_multiples()))?;
+    tell(
+        rt,
+        "least multiples",
+        Ok(least_periods::are_least_multiples()),
+    )?;
     tell(
         rt,
         "least multiples at the ends",

@@ -2,6 +2,7 @@
 //! round hand in hand. Its definition and its laws stand in `specs`.
 #![tactic(auto)]
 
+mod design_tables;
 mod fuse_failure;
 mod fusibility;
 pub mod laws;
@@ -9,7 +10,6 @@ mod messages;
 mod pair_steps;
 mod product;
 mod round;
-mod design_tables;
 mod taken_stages_and_parts;
 
 pub use fuse_failure::FuseEnd;

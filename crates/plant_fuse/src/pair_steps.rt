@@ -9,8 +9,8 @@ ghost use Rattle.plant_fuse.specs.proof.PairSteps.{work, FitsSteps, AreSidesRun}
 use pals_base::tuples::place;
 use pals_base::{Frame, NoMemory, PortValue, Tuple};
 use pals_model::{Link, Part, PortSource};
-use sync_product::round_inputs::{RoundInputs, place_brought};
 use sync_product::component_stage::{Stage, write_taps};
+use sync_product::round_inputs::{RoundInputs, place_brought};
 use sync_product::wiring::WiredComponent;
 
 /// A component of a pair, with the number of its partner, and the frame that it goes on from.

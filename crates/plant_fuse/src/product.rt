@@ -6,11 +6,11 @@ ghost use Rattle.plant_fuse.specs.FusedComposition.{ArePairs};
 ghost use Rattle.plant_fuse.specs.proof.Fusibility.{IsEnd};
 ghost use Rattle.plant_fuse.specs.proof.FuseState.{begun, IsAdvanced};
 
+use crate::design_tables::Tables;
 use crate::fuse_failure::FuseEnd;
 use crate::fusibility::first_bad;
 use crate::messages::send_all;
 use crate::round::run_all;
-use crate::design_tables::Tables;
 use pals_base::{Items, LinkNo, NoMemory, NodeNo, PortValue, Tuple};
 use pals_model::{Design, Part};
 use pals_runs::Pair;
@@ -18,9 +18,9 @@ use std::alloc::Global;
 use std::marker::Model;
 use std::mem::swap;
 use std::sync::Arc;
+use sync_product::component_stage::Stage;
 use sync_product::opening::{opening_messages, opening_parts, stages};
 use sync_product::round_inputs::RoundInputs;
-use sync_product::component_stage::Stage;
 
 /// The fused composition of a design and its pairs after some rounds: its configuration, and what each
 /// component left in the last round. Contracts see these beside the design and the pairs. It has its

@@ -6,14 +6,14 @@ ghost use Rattle.plant_fuse.specs.FusedComposition.{IsPair, ArePairs};
 ghost use Rattle.plant_fuse.specs.proof.DesignTables.{AreTables};
 ghost use Rattle.plant_fuse.specs.proof.RoundWork.{IsPaired, IsRunAlone, AreAlone, IsRun, AreRun, StayBeside};
 
-use crate::pair_steps::{FusedPair, PairedComponent, run_sides};
 use crate::design_tables::Tables;
+use crate::pair_steps::{FusedPair, PairedComponent, run_sides};
 use crate::taken_stages_and_parts::{put_stage, take_part, take_stage};
 use pals_base::{Items, NoMemory, NodeNo};
 use pals_model::{Design, Part};
 use pals_runs::Pair;
-use sync_product::round_inputs::RoundInputs;
 use sync_product::component_stage::Stage;
+use sync_product::round_inputs::RoundInputs;
 
 /// Makes the steps of all components, from their frames in the parts of the round before: those that
 /// stand in no pair by themselves, and a plant and its controller hand in hand. At Ok the new parts and

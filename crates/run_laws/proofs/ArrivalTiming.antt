@@ -33,8 +33,8 @@ use Rattle.bus_machine.proofs.AgreementChanges.{node_set, node_stays}
 use Rattle.run_laws.specs.proof.WorldInvariant.{IsOnce, copies, waits, taken, one_if, KeepsLink, KeepsTime}
 use Rattle.run_laws.proofs.Lists.{count_without}
 use Rattle.run_laws.proofs.WorldNodeTiming.{Stands, stands_at, component_is}
-use Rattle.run_laws.proofs.WorldLinkTiming.{comes_in_time, ComesInTime, is_kept, link_is, rule_of, one_of_true, one_of_false}
-use Rattle.run_laws.proofs.WorldLinkTiming.{in_flight_counts, counts_in_flight}
+use Rattle.run_laws.proofs.WorldLinkTiming.{comes_in_time, ComesInTime, is_kept, link_is, rule_of, one_of_true}
+use Rattle.run_laws.proofs.WorldLinkTiming.{one_of_false, in_flight_counts, counts_in_flight}
 use Rattle.run_laws.proofs.LocalWorldChanges.{same_at, changed, stands_put, keeps_again}
 use Rattle.run_laws.proofs.FaultlessEventConditions.{ArrivesInTime}
 

@@ -30,7 +30,8 @@ use Rattle.bus_machine.proofs.NodeEventAgreement.{finish_keeps_all}
 use Rattle.run_laws.specs.proof.WorldInvariant.{IsInTime, IsReadySince, KeepsTime}
 use Rattle.run_laws.proofs.TimeArithmetic.{finish_between, late_running}
 use Rattle.run_laws.proofs.WorldNodeTiming.{fits_at, may_be, may_is, Stands, stands_at, left_in_time, both_in_time}
-use Rattle.run_laws.proofs.WorldNodeTiming.{send_in_time, sends_in_time, phase_last, send_last, phase_agrees, next_alarm}
+use Rattle.run_laws.proofs.WorldNodeTiming.{send_in_time, sends_in_time, phase_last, send_last, phase_agrees}
+use Rattle.run_laws.proofs.WorldNodeTiming.{next_alarm}
 use Rattle.run_laws.proofs.LocalWorldChanges.{changed, same_links, stands_put, keeps_again, moved_here, moved_length}
 use Rattle.run_laws.proofs.LocalWorldChanges.{moved_other}
 use Rattle.run_laws.proofs.FaultlessEventConditions.{FinishesInTime}

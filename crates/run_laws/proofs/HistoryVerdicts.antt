@@ -46,8 +46,8 @@ use Rattle.run_laws.specs.TraceVerdicts.{Audit, opening_audit, noted, second_ent
 use Rattle.run_laws.specs.TraceVerdicts.{line_broken, is_done, wrong_or, verdict}
 use Rattle.run_laws.specs.Meetings.{AllDone}
 use Rattle.run_laws.specs.EntriesOfDesigns.{IsEntryIn}
-use Rattle.run_laws.specs.HistoriesAndTraces.{IsStoppedOrDone, IsRead, StepsInTime, StartsInTime, ArrivesInTime, IsInTime}
-use Rattle.run_laws.specs.HistoriesAndTraces.{History, opens, goes_on}
+use Rattle.run_laws.specs.HistoriesAndTraces.{IsStoppedOrDone, IsRead, StepsInTime, StartsInTime, ArrivesInTime}
+use Rattle.run_laws.specs.HistoriesAndTraces.{IsInTime, History, opens, goes_on}
 use Rattle.run_laws.proofs.EntryLines.{lines_tell_entries}
 use Rattle.run_laws.proofs.EntryForms.{lines_have_forms}
 use Rattle.run_laws.proofs.MissedLinks.{missed_link}

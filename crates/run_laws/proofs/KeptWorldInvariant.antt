@@ -14,8 +14,8 @@ use Rattle.run_laws.specs.EventLists.{world_left}
 use Rattle.run_laws.specs.proof.WorldLaws.{EventKeepsTime, ArrivalsAreKept, CountsAreClose, ListsAreInStep}
 use Rattle.run_laws.specs.proof.WorldLaws.{ListsKeepArrivals, ListsGoRight}
 use Rattle.run_laws.proofs.WorldNodeTiming.{counts_close}
-use Rattle.run_laws.proofs.FaultlessEventConditions.{named, starts_in_time, steps_in_time, finishes_in_time, sends_in_time}
-use Rattle.run_laws.proofs.FaultlessEventConditions.{arrives_in_time}
+use Rattle.run_laws.proofs.FaultlessEventConditions.{named, starts_in_time, steps_in_time, finishes_in_time}
+use Rattle.run_laws.proofs.FaultlessEventConditions.{sends_in_time, arrives_in_time}
 use Rattle.run_laws.proofs.TimePassage.{passes_in_time, pass_keeps_time}
 use Rattle.run_laws.proofs.StartTiming.{start_keeps_time}
 use Rattle.run_laws.proofs.StepTiming.{step_keeps_time}

@@ -10,8 +10,8 @@ use Rattle.std.specs.Option.{option_map}
 use Rattle.bus_machine.specs.declared.plan.Plan.{Plan}
 use Rattle.bus_machine.specs.declared.node_action.NodeAction.{NodeAction}
 use Rattle.bus_machine.specs.declared.node_action.NodeAction.TheVariants as action
-use Rattle.bus_machine.specs.ActionsAndTargets.{Progress, target, send_is_next, next_action, progress_after, actions_from}
-use Rattle.bus_machine.specs.ActionsAndTargets.{actions, targets}
+use Rattle.bus_machine.specs.ActionsAndTargets.{Progress, target, send_is_next, next_action, progress_after}
+use Rattle.bus_machine.specs.ActionsAndTargets.{actions_from, actions, targets}
 use Rattle.run_laws.specs.NodeActions.{Turn, first_turn, next_turn, turns, turn}
 
 -- ---- one turn after another

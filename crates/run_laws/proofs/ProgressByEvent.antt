@@ -17,8 +17,8 @@ use Rattle.bus_machine.specs.Nodes.{NodeState, round_of, at_rest}
 use Rattle.bus_machine.specs.NodeEvents.{started, stepped, finished, sent_from, after_send, after_round, with_message}
 use Rattle.bus_machine.specs.declared.node_action.NodeAction.{NodeAction}
 use Rattle.bus_machine.specs.declared.node_action.NodeAction.TheVariants as action
-use Rattle.bus_machine.specs.ActionsAndTargets.{Progress, actions, target, send_is_next, next_action, progress_after, targets}
-use Rattle.bus_machine.specs.ActionsAndTargets.{next_in}
+use Rattle.bus_machine.specs.ActionsAndTargets.{Progress, actions, target, send_is_next, next_action, progress_after}
+use Rattle.bus_machine.specs.ActionsAndTargets.{targets, next_in}
 use Rattle.run_laws.specs.NodeActions.{Turn, turn, progress_in, upcoming, Follows}
 use Rattle.run_laws.proofs.NodeActions.{IsPlan, turn_next, sized, size, bit, action_at, target_at}
 

@@ -21,7 +21,8 @@ use Rattle.bus_machine.specs.NodeEvents.{started, stepped, finished, sent_from, 
 use Rattle.bus_machine.specs.States.{Run}
 use Rattle.bus_machine.specs.proof.AgreementLaws.{IsRunOf}
 use Rattle.bus_machine.specs.declared.node_action.NodeAction.TheVariants as action
-use Rattle.bus_machine.specs.ActionsAndTargets.{Progress, target, send_is_next, next_action, progress_after, action_in, next_in}
+use Rattle.bus_machine.specs.ActionsAndTargets.{Progress, target, send_is_next, next_action, progress_after, action_in}
+use Rattle.bus_machine.specs.ActionsAndTargets.{next_in}
 use Rattle.run_laws.specs.NodeActions.{turn, progress_in, upcoming, Follows}
 use Rattle.run_laws.proofs.ProgressByEvent.{turn_acts, turn_brings}
 

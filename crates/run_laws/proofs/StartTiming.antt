@@ -43,8 +43,8 @@ use Rattle.bus_machine.proofs.AgreementChanges.{node_set, node_stays}
 use Rattle.bus_machine.proofs.NodeEventAgreement.{start_keeps}
 use Rattle.run_laws.specs.proof.WorldInvariant.{IsOnce, copies, waits, taken, one_if, RunsSince, KeepsLink, KeepsTime}
 use Rattle.run_laws.proofs.Lists.{upwards_at, zipped_at}
-use Rattle.run_laws.proofs.WorldNodeTiming.{FitsAt, fits_at, may_is, Stands, stands_at, both_in_time, sends_in_time, late}
-use Rattle.run_laws.proofs.WorldNodeTiming.{phase_agrees}
+use Rattle.run_laws.proofs.WorldNodeTiming.{FitsAt, fits_at, may_is, Stands, stands_at, both_in_time, sends_in_time}
+use Rattle.run_laws.proofs.WorldNodeTiming.{late, phase_agrees}
 use Rattle.run_laws.proofs.WorldLinkTiming.{has_come, link_is, one_of_true, one_of_false}
 use Rattle.run_laws.proofs.LocalWorldChanges.{same_at, changed, stands_put, keeps_again}
 use Rattle.run_laws.proofs.FaultlessEventConditions.{StartsInTime}

@@ -30,7 +30,8 @@ use Rattle.run_laws.specs.TimelyRounds.{IsTimely, PicksAll, PicksEndAt, ListStop
 use Rattle.run_laws.specs.Meetings.{AllDone, MeetingStop}
 use Rattle.run_laws.specs.proof.ReadingsAndStops.{StopFits}
 use Rattle.run_laws.specs.proof.RunTermination.{IsFirstEnded}
-use Rattle.run_laws.specs.proof.TimelyRunsAndEnds.{InTime, NoneStops, BoundsAreInTime, EndsFirst, EndsAreOne, PickedAreDone}
+use Rattle.run_laws.specs.proof.TimelyRunsAndEnds.{InTime, NoneStops, BoundsAreInTime, EndsFirst, EndsAreOne}
+use Rattle.run_laws.specs.proof.TimelyRunsAndEnds.{PickedAreDone}
 use Rattle.run_laws.proofs.NodePicks.{runs_agree, node_agrees}
 use Rattle.run_laws.proofs.JournalStartsAndSends.{rounds_are_shown}
 use Rattle.run_laws.proofs.StopCauses.{stops_fit}

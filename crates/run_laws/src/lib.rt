@@ -6,6 +6,6 @@
 
 pub mod history_and_trace_laws;
 pub mod laws;
-pub mod replay_laws;
 pub mod line_laws;
+pub mod replay_laws;
 pub mod world_laws;

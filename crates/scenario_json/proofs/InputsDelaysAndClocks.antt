@@ -25,8 +25,8 @@ use Rattle.scenario_values.specs.NameLookup.{node_at, link_at, root_at}
 use Rattle.scenario_json.specs.InputsAndDelays.{value_list, with_input, inputs_in, with_delay, delay_list}
 use Rattle.scenario_json.specs.InputsAndDelays.{with_link_delays, delays_in}
 use Rattle.scenario_json.specs.Clocks.{last_of, with_reading, reading_list, with_clock, clock_lists, is_meet, clocks_in}
-use Rattle.scenario_json.specs.proof.InputsDelaysAndClocks.{AreInputsOf, IsDelayList, AreDelaysOf, IsOpening, AreClocksOf}
-use Rattle.scenario_json.specs.proof.InputsDelaysAndClocks.{AreClocksFor}
+use Rattle.scenario_json.specs.proof.InputsDelaysAndClocks.{AreInputsOf, IsDelayList, AreDelaysOf, IsOpening}
+use Rattle.scenario_json.specs.proof.InputsDelaysAndClocks.{AreClocksOf, AreClocksFor}
 use Rattle.scenario_json.proofs.NonDecreasingReadings.{order_push}
 
 -- ---- inputs

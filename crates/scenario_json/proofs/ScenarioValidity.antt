@@ -26,7 +26,8 @@ use Rattle.scenario_json.specs.RunCellCount.{cells_of}
 use Rattle.scenario_json.specs.InputsAndDelays.{inputs_in, delays_in}
 use Rattle.scenario_json.specs.Clocks.{clocks_in}
 use Rattle.scenario_json.specs.proof.InputsDelaysAndClocks.{AreInputsOf, AreDelaysOf, AreClocksFor}
-use Rattle.scenario_json.proofs.InputsDelaysAndClocks.{no_inputs_keep, inputs_keep, least_delays_keep, delays_keep, clocks_keep}
+use Rattle.scenario_json.proofs.InputsDelaysAndClocks.{no_inputs_keep, inputs_keep, least_delays_keep, delays_keep}
+use Rattle.scenario_json.proofs.InputsDelaysAndClocks.{clocks_keep}
 use Rattle.analysis_fields.specs.proof.FaultAndProcessorFacts.{IsFaultOf, IsProcessorOf}
 use Rattle.analysis_fields.specs.declared.replica_faults.RoundFault.{RoundFault}
 use Rattle.analysis_fields.specs.declared.processors.Processor.{Processor}

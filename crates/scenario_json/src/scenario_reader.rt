@@ -20,7 +20,10 @@ ghost use Rattle.scenario_json.specs.Scenarios.{faults_field, plants_field, proc
 ghost use Rattle.scenario_json.specs.Scenarios.{IsAnswer};
 
 use crate::scenario::Scenario;
-use crate::{cells_of, least_delays, no_inputs, read_clocks, read_delays, read_events, read_inputs, read_trace, };
+use crate::{
+    cells_of, least_delays, no_inputs, read_clocks, read_delays, read_events, read_inputs,
+    read_trace,
+};
 use analysis_fields::{
     Processor, Property, RoundFault, read_faults, read_plants, read_processors, read_properties,
     read_replicas,

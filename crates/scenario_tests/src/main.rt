@@ -5,8 +5,8 @@
 mod commands_from_words;
 mod designs;
 mod journal_and_fault_lines;
-mod scenario_predicates;
 mod scenario_answers;
+mod scenario_predicates;
 
 use case_files::check;
 use std::io;

@@ -2,10 +2,10 @@
 //! values of ports. And the faults of scenarios, each with the name of the place where it stands.
 #![tactic(auto)]
 
+mod design_names;
 mod fault;
 pub mod json_values;
-mod design_names;
 pub mod placed_faults;
 
-pub use fault::ScenarioFault;
 pub use design_names::DesignNames;
+pub use fault::ScenarioFault;

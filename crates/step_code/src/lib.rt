@@ -6,9 +6,9 @@ pub mod code;
 pub mod fault;
 mod heights;
 pub mod instr;
+mod instruction_rules;
 pub mod laws;
 mod loops;
-mod instruction_rules;
 mod verifier;
 mod weights;
 

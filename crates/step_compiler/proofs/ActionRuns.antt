@@ -24,8 +24,9 @@ use Rattle.step_compiler.proofs.PlacedCodeLengths.{branches-length}
 use Rattle.step_compiler.proofs.AccessBounds.{Sees, Sizes, SeesAct, SeesActs, SeesBranches}
 use Rattle.step_code.proofs.WeightBounds.{get_set_other, get_set_same, spans}
 use Rattle.step_compiler.proofs.ExpressionRuns.{At, at, Gives, stays, leads_on, goes, jumps, passes, expr_runs}
-use Rattle.step_compiler.proofs.ActionAndLoopEffects.{Fits, Arrives, Comes, come_after, comes_at, then_comes, with_value}
-use Rattle.step_compiler.proofs.ActionAndLoopEffects.{next_fits, assigned, sent, loop_fits, turn, Bodies, turns_run}
+use Rattle.step_compiler.proofs.ActionAndLoopEffects.{Fits, Arrives, Comes, come_after, comes_at, then_comes}
+use Rattle.step_compiler.proofs.ActionAndLoopEffects.{with_value, next_fits, assigned, sent, loop_fits, turn, Bodies}
+use Rattle.step_compiler.proofs.ActionAndLoopEffects.{turns_run}
 
 module _ (whole : List Instr) (s : Senses) (z : Sizes) where
   loop_runs : (body : Actions) (b : Bool) (n p : ℕ) (low high : ℤ) (stack slots : List ℤ) (outs : List Value)

@@ -5,13 +5,13 @@ mod actions;
 mod block_order;
 mod blocks;
 mod checked_numbers;
+mod compile_fault;
 mod compiler;
 mod expressions;
-mod compile_fault;
 pub mod laws;
 mod lengths;
 mod loop_depths;
 mod transitions;
 
-pub use compiler::compile;
 pub use compile_fault::CompileFault;
+pub use compiler::compile;

@@ -1,6 +1,7 @@
 //! The multirate synchronous composition of a design, round by round.
 #![tactic(auto)]
 
+pub mod component_stage;
 pub mod laws;
 mod messages;
 pub mod opening;
@@ -8,7 +9,6 @@ mod product;
 pub mod renumbering_laws;
 mod round;
 pub mod round_inputs;
-pub mod component_stage;
 mod taps;
 pub mod tuple_columns;
 pub mod wiring;

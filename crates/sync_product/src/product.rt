@@ -3,11 +3,11 @@ ghost use Rattle.std.specs.Prelude.{◌≡◌, ◌<◌, IfOk, OnOk, OnErr, Some,
 ghost use Rattle.std.specs.Arc.{arc_value};
 ghost use Rattle.sync_product.specs.proof.ProductStates.{begun, advanced};
 
+use crate::component_stage::Stage;
 use crate::messages::send_all;
 use crate::opening::{opening_messages, opening_parts, stages};
 use crate::round::run_all;
 use crate::round_inputs::RoundInputs;
-use crate::component_stage::Stage;
 use crate::wiring::Wiring;
 use pals_base::{Items, LinkNo, NoMemory, NodeNo, PortValue, Tuple};
 use pals_model::{Design, Part};

@@ -4,8 +4,8 @@ ghost use Rattle.sync_product.specs.proof.ProductSizes.{part_size, stage_size, p
 ghost use Rattle.sync_product.specs.proof.ComponentWiring.{IsWiring};
 ghost use Rattle.sync_product.specs.proof.Rounds.{AreStepped, frames_of};
 
-use crate::round_inputs::RoundInputs;
 use crate::component_stage::Stage;
+use crate::round_inputs::RoundInputs;
 use crate::wiring::Wiring;
 use pals_base::{Items, NoMemory};
 use pals_model::Part;

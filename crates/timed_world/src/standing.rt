@@ -28,9 +28,9 @@ pub struct NodeStanding {
 }
 
 impl NodeStanding {
-    ghost use Rattle.timed_world.specs.proof.NodeFaults.{IsSound, alarm_of_step, release_of, start_fault};
-    ghost use Rattle.timed_world.specs.proof.NodeFaults.{step_fault, finish_fault, send_fault, may_go, phase_last};
-    ghost use Rattle.timed_world.specs.proof.NodeFaults.{send_last, last_time};
+    ghost use Rattle.timed_world.specs.proof.NodeFaults.{IsSound, alarm_of_step, release_of, start_fault, step_fault};
+    ghost use Rattle.timed_world.specs.proof.NodeFaults.{finish_fault, send_fault, may_go, phase_last, send_last};
+    ghost use Rattle.timed_world.specs.proof.NodeFaults.{last_time};
 
     /// Why it may not start its next round, if so.
     pub fn start_fault(&self, plan: &Plan) -> Option<EventFault>

@@ -8,8 +8,8 @@ ghost use Rattle.triple_vote.specs.proof.ReplicaLayers.{AreWhole};
 
 use pals_base::{Items, NoMemory, NodeNo, PortValue, Tuple};
 use pals_model::{Design, Part, PortSource};
-use sync_product::round_inputs::RoundInputs;
 use sync_product::component_stage::Stage;
+use sync_product::round_inputs::RoundInputs;
 use sync_product::tuple_columns::write_column;
 use sync_product::wiring::WiredComponent;
 

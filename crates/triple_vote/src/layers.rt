@@ -9,14 +9,14 @@ ghost use Rattle.triple_vote.specs.proof.ThreeLayers.{AreThree, AreOpened, AreMa
 ghost use Rattle.triple_vote.specs.proof.ThreeLayers.{AreTurned};
 
 use crate::fault_table::FaultTable;
-use crate::replica_lane::Layer;
 use crate::receiving::receive_all;
+use crate::replica_lane::Layer;
 use pals_base::{Items, NoMemory, PortValue, Tuple};
 use pals_model::{Design, PortSource};
 use std::alloc::Global;
+use sync_product::component_stage::Stage;
 use sync_product::opening::opening_messages;
 use sync_product::round_inputs::RoundInputs;
-use sync_product::component_stage::Stage;
 
 /// Three layers before the first round: one replica of each component, and two more of those that are
 /// marked.

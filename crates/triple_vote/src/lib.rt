@@ -4,12 +4,12 @@
 
 mod fault_table;
 pub mod laws;
-mod replica_lane;
 mod layer_rounds;
 mod layers;
 mod opening;
 mod product;
 mod receiving;
+mod replica_lane;
 mod tap_tuples;
 pub mod votes;
 

@@ -8,9 +8,9 @@ ghost use Rattle.triple_vote.specs.proof.VoteLaws.{IsFault};
 ghost use Rattle.triple_vote.specs.proof.VotedStates.{vbegun, vadvanced};
 
 use crate::fault_table::{FaultTable, first_faults};
-use crate::replica_lane::Layer;
 use crate::layers::{opening_heard, opening_layers, receive_each, run_each, turn_each};
 use crate::opening::opening_shown;
+use crate::replica_lane::Layer;
 use crate::tap_tuples::show_each;
 use pals_base::{Frame, Items, LinkNo, NoMemory, NodeNo, PortValue, Tuple};
 use pals_model::port_sources::all_sources;
@@ -19,8 +19,8 @@ use pals_runs::VoteFault;
 use std::alloc::Global;
 use std::marker::Model;
 use std::sync::Arc;
-use sync_product::opening::stages;
 use sync_product::component_stage::Stage;
+use sync_product::opening::stages;
 
 /// The composition of a design with three replicas of some components, after some rounds: the frame of
 /// each replica, what each received on each link in the last round, and what each root out port showed

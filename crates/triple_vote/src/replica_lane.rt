@@ -10,9 +10,9 @@ use pals_base::{Items, NoMemory, Tuple};
 use pals_model::{Design, Part, PortSource};
 use std::alloc::Global;
 use std::mem::swap;
+use sync_product::component_stage::Stage;
 use sync_product::opening::opening_messages;
 use sync_product::round_inputs::RoundInputs;
-use sync_product::component_stage::Stage;
 
 /// The replicas of one number: which components have one, their frames after the last round, room for
 /// those of the next, and what they make in a round: a message for each link, and the whole tuple for

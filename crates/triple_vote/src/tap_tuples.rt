@@ -4,8 +4,8 @@ ghost use Rattle.pals_model.specs.DesignRules.{IsDesign};
 ghost use Rattle.triple_vote.specs.proof.ReplicaLayers.{lengths, tap_sizes};
 ghost use Rattle.triple_vote.specs.proof.ThreeLayers.{AreThree, shown_in, tuple_of, shown_of, AreShown, AreOfSize};
 
-use crate::replica_lane::Layer;
 use crate::layer_rounds::{is_there, tuple_at};
+use crate::replica_lane::Layer;
 use crate::votes::vote_into;
 use pals_base::{Items, PortValue, Tuple};
 use pals_model::Design;

@@ -4,10 +4,10 @@
 
 mod event_series;
 pub mod laws;
+mod node_and_link_series;
 mod ring_behaviours;
 mod rings;
 mod schedules;
-mod node_and_link_series;
 
 pub use rings::ring;
 pub use schedules::schedule;

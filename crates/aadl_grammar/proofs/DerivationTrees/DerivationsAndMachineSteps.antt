@@ -9,8 +9,8 @@ use Rattle.aadl_grammar.specs.proof.StackMachine.{Stack, Move, takes, omitted, r
 use Rattle.aadl_grammar.specs.proof.StackMachine.{move_by, move, chosen, step, ends}
 use Rattle.aadl_grammar.proofs.DerivationTrees.ForbiddenFollowers.{among, firsts, first_of, tail, distinct}
 use Rattle.aadl_grammar.proofs.DerivationTrees.ForbiddenFollowers.{rows_settled, distinct_firsts, settled, settled_rows}
-use Rattle.aadl_grammar.proofs.DerivationTrees.ForbiddenFollowerMembership.{among_left, among_right, Clear, firsts_in_tail}
-use Rattle.aadl_grammar.proofs.DerivationTrees.ForbiddenFollowerMembership.{clear_behind}
+use Rattle.aadl_grammar.proofs.DerivationTrees.ForbiddenFollowerMembership.{among_left, among_right, Clear}
+use Rattle.aadl_grammar.proofs.DerivationTrees.ForbiddenFollowerMembership.{firsts_in_tail, clear_behind}
 use Rattle.std.specs.Cmp.{first_so, second_so}
 use Rattle.std.proofs.lemmas.Option.{same_Some}
 use Rattle.aadl_grammar.proofs.HeadsAndTails.{not_both}

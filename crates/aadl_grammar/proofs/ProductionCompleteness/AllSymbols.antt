@@ -9,13 +9,14 @@ use Rattle.aadl_grammar.specs.proof.ParseTable.{rows, can_omit}
 use Rattle.aadl_grammar.proofs.DerivationTrees.SymbolTrees.{U, TreeOf, parts}
 use Rattle.aadl_grammar.proofs.DerivationTrees.TreeBuilders.{AllGive, InRows, uses}
 use Rattle.aadl_grammar.proofs.ProductionTrees.AllSymbols.{builders, Empty, empty}
-use Rattle.aadl_grammar.proofs.ProductionSoundness.NamesAndValues.{only_give, identifier_give, name_give, names_give, path_give}
-use Rattle.aadl_grammar.proofs.ProductionSoundness.NamesAndValues.{paths_give, more_identifiers_give, reference_give}
-use Rattle.aadl_grammar.proofs.ProductionSoundness.NamesAndValues.{dot_identifier_give, figure_give, unit_give, quantity_give}
-use Rattle.aadl_grammar.proofs.ProductionSoundness.NamesAndValues.{upper_give, value_give, path_group_give}
-use Rattle.aadl_grammar.proofs.ProductionSoundness.NamesAndValues.{reference_group_give, values_give, more_values_give}
-use Rattle.aadl_grammar.proofs.ProductionSoundness.NamesAndValues.{operator_give, constant_give, applies_give, more_paths_give}
-use Rattle.aadl_grammar.proofs.ProductionSoundness.NamesAndValues.{association_give, associations_give, properties_give}
+use Rattle.aadl_grammar.proofs.ProductionSoundness.NamesAndValues.{only_give, identifier_give, name_give, names_give}
+use Rattle.aadl_grammar.proofs.ProductionSoundness.NamesAndValues.{path_give, paths_give, more_identifiers_give}
+use Rattle.aadl_grammar.proofs.ProductionSoundness.NamesAndValues.{reference_give, dot_identifier_give, figure_give}
+use Rattle.aadl_grammar.proofs.ProductionSoundness.NamesAndValues.{unit_give, quantity_give, upper_give, value_give}
+use Rattle.aadl_grammar.proofs.ProductionSoundness.NamesAndValues.{path_group_give, reference_group_give, values_give}
+use Rattle.aadl_grammar.proofs.ProductionSoundness.NamesAndValues.{more_values_give, operator_give, constant_give}
+use Rattle.aadl_grammar.proofs.ProductionSoundness.NamesAndValues.{applies_give, more_paths_give, association_give}
+use Rattle.aadl_grammar.proofs.ProductionSoundness.NamesAndValues.{associations_give, properties_give}
 use Rattle.aadl_grammar.proofs.ProductionSoundness.Expressions.{primary_give, fresh_give, factor_give, term_give}
 use Rattle.aadl_grammar.proofs.ProductionSoundness.Expressions.{factors_give, sum_give, terms_give, compared_give}
 use Rattle.aadl_grammar.proofs.ProductionSoundness.Expressions.{relation_give, relations_give, after_and_give}
@@ -41,14 +42,16 @@ use Rattle.aadl_grammar.proofs.ProductionSoundness.Declarations.{implementation_
 use Rattle.aadl_grammar.proofs.ProductionSoundness.Declarations.{implementation_end_give, package_end_give}
 use Rattle.aadl_grammar.proofs.ProductionSoundness.Declarations.{after_category_give, declarations_give}
 use Rattle.aadl_grammar.proofs.ProductionSoundness.Declarations.{more_names_give, withs_give, a_package_give}
-use Rattle.aadl_grammar.proofs.ProductionCompleteness.NamesAndValues.{identifier_opens, name_opens, names_opens, path_opens}
-use Rattle.aadl_grammar.proofs.ProductionCompleteness.NamesAndValues.{paths_opens, more_identifiers_opens, reference_opens}
-use Rattle.aadl_grammar.proofs.ProductionCompleteness.NamesAndValues.{dot_identifier_opens, figure_opens, unit_opens}
-use Rattle.aadl_grammar.proofs.ProductionCompleteness.NamesAndValues.{quantity_opens, upper_opens, value_opens}
-use Rattle.aadl_grammar.proofs.ProductionCompleteness.NamesAndValues.{path_group_opens, reference_group_opens, values_opens}
+use Rattle.aadl_grammar.proofs.ProductionCompleteness.NamesAndValues.{identifier_opens, name_opens, names_opens}
+use Rattle.aadl_grammar.proofs.ProductionCompleteness.NamesAndValues.{path_opens, paths_opens, more_identifiers_opens}
+use Rattle.aadl_grammar.proofs.ProductionCompleteness.NamesAndValues.{reference_opens, dot_identifier_opens}
+use Rattle.aadl_grammar.proofs.ProductionCompleteness.NamesAndValues.{figure_opens, unit_opens, quantity_opens}
+use Rattle.aadl_grammar.proofs.ProductionCompleteness.NamesAndValues.{upper_opens, value_opens, path_group_opens}
+use Rattle.aadl_grammar.proofs.ProductionCompleteness.NamesAndValues.{reference_group_opens, values_opens}
 use Rattle.aadl_grammar.proofs.ProductionCompleteness.NamesAndValues.{more_values_opens, operator_opens, constant_opens}
-use Rattle.aadl_grammar.proofs.ProductionCompleteness.NamesAndValues.{applies_opens, more_paths_opens, association_opens}
-use Rattle.aadl_grammar.proofs.ProductionCompleteness.NamesAndValues.{associations_opens, properties_opens}
+use Rattle.aadl_grammar.proofs.ProductionCompleteness.NamesAndValues.{applies_opens, more_paths_opens}
+use Rattle.aadl_grammar.proofs.ProductionCompleteness.NamesAndValues.{association_opens, associations_opens}
+use Rattle.aadl_grammar.proofs.ProductionCompleteness.NamesAndValues.{properties_opens}
 use Rattle.aadl_grammar.proofs.ProductionCompleteness.Expressions.{primary_opens, fresh_opens, factor_opens, term_opens}
 use Rattle.aadl_grammar.proofs.ProductionCompleteness.Expressions.{factors_opens, sum_opens, terms_opens}
 use Rattle.aadl_grammar.proofs.ProductionCompleteness.Expressions.{compared_opens, relation_opens, relations_opens}

@@ -16,13 +16,15 @@ use Rattle.aadl_grammar.proofs.DerivationTrees.ReferencesByFirstWord.{chain_of}
 use Rattle.aadl_grammar.proofs.DerivationTrees.TreeBuilders.{respell, InRows, behind_opens, uses, Opens, OpensOr}
 use Rattle.aadl_grammar.proofs.ProductionTrees.NamesAndValues.{identifier_builders, name_builders, names_builders}
 use Rattle.aadl_grammar.proofs.ProductionTrees.NamesAndValues.{path_builders, paths_builders, more_identifiers_builders}
-use Rattle.aadl_grammar.proofs.ProductionTrees.NamesAndValues.{reference_builders, dot_identifier_builders, figure_builders}
-use Rattle.aadl_grammar.proofs.ProductionTrees.NamesAndValues.{unit_builders, quantity_builders, upper_builders, value_builders}
-use Rattle.aadl_grammar.proofs.ProductionTrees.NamesAndValues.{value_joins, path_group_builders, reference_group_builders}
+use Rattle.aadl_grammar.proofs.ProductionTrees.NamesAndValues.{reference_builders, dot_identifier_builders}
+use Rattle.aadl_grammar.proofs.ProductionTrees.NamesAndValues.{figure_builders, unit_builders, quantity_builders}
+use Rattle.aadl_grammar.proofs.ProductionTrees.NamesAndValues.{upper_builders, value_builders, value_joins}
+use Rattle.aadl_grammar.proofs.ProductionTrees.NamesAndValues.{path_group_builders, reference_group_builders}
 use Rattle.aadl_grammar.proofs.ProductionTrees.NamesAndValues.{values_builders, values_joins, more_values_builders}
 use Rattle.aadl_grammar.proofs.ProductionTrees.NamesAndValues.{operator_builders, constant_builders, applies_builders}
-use Rattle.aadl_grammar.proofs.ProductionTrees.NamesAndValues.{more_paths_builders, association_builders, associations_builders}
-use Rattle.aadl_grammar.proofs.ProductionTrees.NamesAndValues.{associations_joins, properties_builders}
+use Rattle.aadl_grammar.proofs.ProductionTrees.NamesAndValues.{more_paths_builders, association_builders}
+use Rattle.aadl_grammar.proofs.ProductionTrees.NamesAndValues.{associations_builders, associations_joins}
+use Rattle.aadl_grammar.proofs.ProductionTrees.NamesAndValues.{properties_builders}
 
 pub identifier_opens : Opens s.identifier identifier_builders
 identifier_opens t ks rest (more, e, sp) = inl (uses t.spelling tt more e sp)

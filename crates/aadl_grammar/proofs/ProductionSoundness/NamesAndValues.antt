@@ -14,12 +14,13 @@ use Rattle.aadl_grammar.proofs.ProductionTrees.NamesAndValues.{only_builders, id
 use Rattle.aadl_grammar.proofs.ProductionTrees.NamesAndValues.{names_builders, path_builders, paths_builders}
 use Rattle.aadl_grammar.proofs.ProductionTrees.NamesAndValues.{more_identifiers_builders, reference_builders}
 use Rattle.aadl_grammar.proofs.ProductionTrees.NamesAndValues.{dot_identifier_builders, figure_builders, unit_builders}
-use Rattle.aadl_grammar.proofs.ProductionTrees.NamesAndValues.{quantity_builders, upper_builders, value_builders, value_joins}
-use Rattle.aadl_grammar.proofs.ProductionTrees.NamesAndValues.{path_group_builders, reference_group_builders, values_builders}
-use Rattle.aadl_grammar.proofs.ProductionTrees.NamesAndValues.{values_joins, more_values_builders, operator_builders}
+use Rattle.aadl_grammar.proofs.ProductionTrees.NamesAndValues.{quantity_builders, upper_builders, value_builders}
+use Rattle.aadl_grammar.proofs.ProductionTrees.NamesAndValues.{value_joins, path_group_builders}
+use Rattle.aadl_grammar.proofs.ProductionTrees.NamesAndValues.{reference_group_builders, values_builders, values_joins}
+use Rattle.aadl_grammar.proofs.ProductionTrees.NamesAndValues.{more_values_builders, operator_builders}
 use Rattle.aadl_grammar.proofs.ProductionTrees.NamesAndValues.{constant_builders, applies_builders, more_paths_builders}
-use Rattle.aadl_grammar.proofs.ProductionTrees.NamesAndValues.{association_builders, associations_builders, associations_joins}
-use Rattle.aadl_grammar.proofs.ProductionTrees.NamesAndValues.{properties_builders}
+use Rattle.aadl_grammar.proofs.ProductionTrees.NamesAndValues.{association_builders, associations_builders}
+use Rattle.aadl_grammar.proofs.ProductionTrees.NamesAndValues.{associations_joins, properties_builders}
 
 regroup : (ps qs rs : List (Part U)) → ps ++ (qs ++ rs) ≡ (ps ++ qs) ++ rs
 regroup ps qs rs = sym (append_assoc ps qs rs)

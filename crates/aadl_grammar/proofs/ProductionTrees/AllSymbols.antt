@@ -13,10 +13,11 @@ use Rattle.aadl_grammar.proofs.ProductionTrees.NamesAndValues.{names_builders, p
 use Rattle.aadl_grammar.proofs.ProductionTrees.NamesAndValues.{more_identifiers_builders, reference_builders}
 use Rattle.aadl_grammar.proofs.ProductionTrees.NamesAndValues.{dot_identifier_builders, figure_builders, unit_builders}
 use Rattle.aadl_grammar.proofs.ProductionTrees.NamesAndValues.{quantity_builders, upper_builders, value_builders}
-use Rattle.aadl_grammar.proofs.ProductionTrees.NamesAndValues.{path_group_builders, reference_group_builders, values_builders}
-use Rattle.aadl_grammar.proofs.ProductionTrees.NamesAndValues.{more_values_builders, operator_builders, constant_builders}
-use Rattle.aadl_grammar.proofs.ProductionTrees.NamesAndValues.{applies_builders, more_paths_builders, association_builders}
-use Rattle.aadl_grammar.proofs.ProductionTrees.NamesAndValues.{associations_builders, properties_builders}
+use Rattle.aadl_grammar.proofs.ProductionTrees.NamesAndValues.{path_group_builders, reference_group_builders}
+use Rattle.aadl_grammar.proofs.ProductionTrees.NamesAndValues.{values_builders, more_values_builders, operator_builders}
+use Rattle.aadl_grammar.proofs.ProductionTrees.NamesAndValues.{constant_builders, applies_builders, more_paths_builders}
+use Rattle.aadl_grammar.proofs.ProductionTrees.NamesAndValues.{association_builders, associations_builders}
+use Rattle.aadl_grammar.proofs.ProductionTrees.NamesAndValues.{properties_builders}
 use Rattle.aadl_grammar.proofs.ProductionTrees.Expressions.{primary_builders, fresh_builders, factor_builders}
 use Rattle.aadl_grammar.proofs.ProductionTrees.Expressions.{term_builders, factors_builders, sum_builders}
 use Rattle.aadl_grammar.proofs.ProductionTrees.Expressions.{terms_builders, compared_builders, relation_builders}

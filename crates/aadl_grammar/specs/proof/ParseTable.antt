@@ -1,7 +1,8 @@
 -- How each symbol may begin, and which may be left out.
 use Rattle.std.specs.Prelude.{◌≢◌, Bool, true, false, List, [], ◌∷◌, ◌++◌}
 use Rattle.aadl_tree.specs.declared.mark.Mark.{Mark}
-use Rattle.aadl_grammar.specs.proof.GrammarSymbols.{Class, a_word, a_whole, a_real, a_quoted, an_unread, the, Symbol, Row}
+use Rattle.aadl_grammar.specs.proof.GrammarSymbols.{Class, a_word, a_whole, a_real, a_quoted, an_unread, the, Symbol}
+use Rattle.aadl_grammar.specs.proof.GrammarSymbols.{Row}
 use Rattle.aadl_tree.specs.declared.mark.Mark.TheVariants as k
 use Rattle.aadl_grammar.specs.proof.GrammarSymbols as s
 

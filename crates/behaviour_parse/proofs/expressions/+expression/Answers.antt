@@ -2,8 +2,8 @@ use mir.Syntax.{w64}
 use mir.Val.{to_z, of_z, SFits}
 use Rattle.std.proofs.Common.{◌≡◌, ◌∙◌, ◌∷◌, [], ◌++◌, ap, sym, refl, arith, true, false, rules, to_z-of_z, Some, None}
 use Rattle.aadl_grammar.specs.proof.ParserAnswers.{here}
-use Rattle.aadl_grammar.proofs.TopSymbolMoves.{takes_row, deep_row, omits_unless, refuses_unless, begins_as, begins_past}
-use Rattle.aadl_grammar.proofs.TopSymbolMoves.{along, exits, no_reads, too_deep, a_word_at}
+use Rattle.aadl_grammar.proofs.TopSymbolMoves.{takes_row, deep_row, omits_unless, refuses_unless, begins_as}
+use Rattle.aadl_grammar.proofs.TopSymbolMoves.{begins_past, along, exits, no_reads, too_deep, a_word_at}
 use Rattle.aadl_grammar.proofs.PartSequences.{nothing, then, marked, named, respelled, shorter, placed_at}
 use Rattle.aadl_tree.specs.SpellingParts.{token}
 use Rattle.aadl_tree.specs.Terminals.{whole}
@@ -16,8 +16,9 @@ use Rattle.aadl_tree.specs.proof.PlaceMaps.{kept_place}
 use Rattle.aadl_tree.proofs.ExpressionViews.{view-Whole, view-Truth, view-Named, view-Group, view-Abs, view-Not}
 use Rattle.aadl_tree.proofs.ExpressionViews.{view-Plain, view-term, view-sum, view-relation, view-expression}
 use Rattle.aadl_grammar.specs.proof.ParseTable.{on}
-use Rattle.behaviour_parse.proofs.OperatorsAndOperands.{multiplies, sign_terms, sign_sum, compares, joined, joined_reads}
-use Rattle.behaviour_parse.proofs.OperatorsAndOperands.{joined_shorter, factors_push, terms_push, relations_push}
+use Rattle.behaviour_parse.proofs.OperatorsAndOperands.{multiplies, sign_terms, sign_sum, compares, joined}
+use Rattle.behaviour_parse.proofs.OperatorsAndOperands.{joined_reads, joined_shorter, factors_push, terms_push}
+use Rattle.behaviour_parse.proofs.OperatorsAndOperands.{relations_push}
 use Rattle.std.proofs.lemmas.List.{append-nil}
 use Rattle.aadl_tree.specs.declared.mark.Mark.TheVariants as k
 use Rattle.aadl_grammar.specs.proof.GrammarSymbols as s

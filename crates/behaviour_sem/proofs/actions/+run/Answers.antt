@@ -9,7 +9,8 @@ use Rattle.pals_base.specs.proof.TreeViews.{action_of, actions_along, branches_a
 use Rattle.behaviour_sem.specs.proof.ReadableFrames.{frame_of}
 use Rattle.behaviour_sem.specs.proof.StepOutcomes.{Left, Chose}
 use Rattle.behaviour_sem.specs.proof.ActionExecution.{effect}
-use Rattle.behaviour_sem.proofs.ActionMeanings.{act-If, act-For, turn_after, Left-chose-err, numbers-none, for_each-more}
+use Rattle.behaviour_sem.proofs.ActionMeanings.{act-If, act-For, turn_after, Left-chose-err, numbers-none}
+use Rattle.behaviour_sem.proofs.ActionMeanings.{for_each-more}
 use Rattle.behaviour_sem.proofs.actions.+run.Goals as goal
 
 pub run-returns-in_err-run_first-in-If-clause-runs : goal.run-returns-in_err-run_first-in-If-clause-runs
