@@ -6,49 +6,37 @@ use Rattle.std.proofs.Common.{refl, sym, ap, ap₂, arith}
 use Rattle.std.specs.Prelude.{slice_index_or, slice_set}
 use Rattle.std.proofs.Math.Bool.{or-true, or-false}
 use Rattle.std.proofs.lemmas.Bool.{cases_eq, eq-eqb, ne_eqb}
-use Rattle.std.proofs.lemmas.List.{append-nil, length-map, length-set, map-append, same_lists, get_or-set_same}
-use Rattle.std.proofs.lemmas.List.{get_or-set_other}
+use Rattle.std.proofs.lemmas.List.{append-nil, length-set, map-append, same_lists, get_or-set_same, get_or-set_other}
 use Rattle.std.proofs.lemmas.List.Elements.{filter-append}
 use Rattle.std.proofs.lemmas.List.Folds.{list_any_more}
 use Rattle.pals_base.specs.declared.values.NodeNo.{NodeNo}
 use Rattle.pals_base.specs.StepSequences.{upwards}
-use Rattle.pals_base.proofs.UpwardNumbers.{map_upwards_more}
+use Rattle.pals_base.proofs.UpwardNumbers.{map_upwards_more, get_or-map_upwards, length-map_upwards}
 use Rattle.pals_runs.specs.declared.vote_faults_and_pairs.VoteFault.{VoteFault}
 use Rattle.analysis_fields.specs.declared.replica_faults.RoundFault.{RoundFault}
 use Rattle.analysis_fields.specs.ReplicasAndFaults.{is_among}
 use Rattle.triple_vote.specs.VotedText.{replica_name}
-use Rattle.triple_vote.proofs.ListTablesAndSearches.{length-upwards, table-at}
 use Rattle.analysis_texts.specs.VoteInputs.{faults_of}
 use Rattle.analysis_texts.specs.proof.ReplicaNamesAndLines.{filed}
-
-pub length-table : {A : Type 0} (f : ℕ → A) (n : ℕ) → length (map f (upwards 0 n)) ≡ n
-length-table f n = length-map (upwards 0 n) f ∙ length-upwards 0 n
 
 -- a table with another item at a place is a table whose items are the same elsewhere
 set_table : {A : Type 0} (f g : ℕ → A) (n at : ℕ) (x : A) → (at < n → x ≡ g at) → ((k : ℕ) → k ≢ at → f k ≡ g k)
     → slice_set (map f (upwards 0 n)) at x ≡ map g (upwards 0 n)
 set_table f g n at x here others =
     let old = map f (upwards 0 n) in
-    let size : length (slice_set old at x) ≡ n = length-set old at x ∙ length-table f n in
-    same_lists (slice_set old at x) (map g (upwards 0 n)) (size ∙ sym (length-table g n))
+    let size : length (slice_set old at x) ≡ n = length-set old at x ∙ length-map_upwards f 0 n in
+    same_lists (slice_set old at x) (map g (upwards 0 n)) (size ∙ sym (length-map_upwards g 0 n))
     (λ k d within.
     let below : k < n = omega (arith, within, size) in
     elim (cases_eq k at) [
       | inl same ↦
           ap (λ j. slice_index_or (slice_set old j x) k d) (sym same)
-          ∙ get_or-set_same old k x d (let wide = length-table f n in omega (arith, wide, below))
+          ∙ get_or-set_same old k x d (let wide = length-map_upwards f 0 n in omega (arith, wide, below))
           ∙ here (omega (arith, same, below)) ∙ ap g (sym same)
-          ∙ sym (table-at g n k d below)
-      | inr apart ↦ get_or-set_other old at k x d apart ∙ table-at f n k d below ∙ others k apart
-          ∙ sym (table-at g n k d below)
+          ∙ sym (get_or-map_upwards g n k d below)
+      | inr apart ↦ get_or-set_other old at k x d apart ∙ get_or-map_upwards f n k d below ∙ others k apart
+          ∙ sym (get_or-map_upwards g n k d below)
     ])
-
--- the same items at each place
-pub same_table : {A : Type 0} (f g : ℕ → A) (n : ℕ) → ((k : ℕ) → f k ≡ g k) → map f (upwards 0 n) ≡ map g (upwards 0 n)
-same_table f g n each =
-    same_lists (map f (upwards 0 n)) (map g (upwards 0 n)) (length-table f n ∙ sym (length-table g n))
-    (λ k d within. let below : k < n = (let size = length-table f n in omega (arith, within, size)) in
-    table-at f n k d below ∙ each k ∙ sym (table-at g n k d below))
 
 -- ---- faults
 filter_one : (f : RoundFault) (round : ℕ) (is : Bool) → nat_eq f.round round ≡ is
@@ -74,7 +62,7 @@ filed_more faults f n table is =
     ∙ set_table (faults_of faults) (faults_of (faults ++ f ∷ [])) n f.round item
     (λ below.
     ap (λ (t : List (List VoteFault)). slice_index_or t f.round [] ++ f.fault ∷ []) is
-    ∙ ap (λ (fs : List VoteFault). fs ++ f.fault ∷ []) (table-at (faults_of faults) n f.round [] below)
+    ∙ ap (λ (fs : List VoteFault). fs ++ f.fault ∷ []) (get_or-map_upwards (faults_of faults) n f.round [] below)
     ∙ sym (faults-more faults f f.round true (eq-eqb f.round f.round refl)))
     (λ k apart. sym (faults-more faults f k false (ne_eqb f.round k (λ same. apart (sym same)))
     ∙ append-nil (faults_of faults k)))

@@ -3,13 +3,13 @@ use Rattle.std.proofs.Common.{◌≡◌, ℕ, zero, suc, ◌+◌, ◌<◌, List,
 use Rattle.std.proofs.Common.{get_or, refl, ap₂, add-one, add-zero, zero-add, append-nil}
 use Rattle.std.proofs.lemmas.List.{length-map}
 use Rattle.std.proofs.lemmas.Grind.{flat_map-append}
-use Rattle.std.specs.Prelude.{Some, flat_map, slice_get, slice_index_or}
+use Rattle.std.specs.Prelude.{flat_map, slice_get, slice_index_or}
 use Rattle.std.proofs.lemmas.Simd.{map-map}
 use Rattle.pals_base.specs.declared.values.PortValue.{PortValue}
 use Rattle.pals_base.specs.declared.values.Frame.{Frame}
 use Rattle.pals_base.specs.declared.values.PortValue.TheVariants.{Absent}
 use Rattle.pals_base.specs.StepSequences.{Stepped, upwards}
-use Rattle.pals_base.proofs.UpwardNumbers.{upwards-more}
+use Rattle.pals_base.proofs.UpwardNumbers.{upwards-more, slice_get-map_upwards}
 use Rattle.pals_model.specs.declared.design.DesignParts.{DesignParts}
 use Rattle.pals_model.specs.declared.inputs_parts_and_delays.Env.{Env}
 use Rattle.pals_model.specs.declared.inputs_parts_and_delays.Part.{Part}
@@ -20,15 +20,6 @@ use Rattle.pals_model.proofs.CompositionLaws.{one_frame_each}
 use Rattle.pals_report.specs.proof.RowLines.{ArePartsOf}
 use Rattle.run_monitor.specs.proof.FormBits.{row_of}
 use Rattle.sync_product.specs.proof.ProductStates.{ProductState, advanced, parts_of}
-
--- ---- counting up
-slice_get-map-upwards : {A : Type 0} (f : ℕ → A) (from n k : ℕ) → k < n
-    → slice_get (map f (upwards from n)) k ≡ Some (f (from + k))
-slice_get-map-upwards f from zero k h = absurd (omega arith)
-slice_get-map-upwards f from (suc n) zero h = ap (λ m. Some (f m)) (omega arith)
-slice_get-map-upwards f from (suc n) (suc k) h =
-    let below : k < n = omega arith in
-    slice_get-map-upwards f (suc from) n k below ∙ ap (λ m. Some (f m)) (omega arith)
 
 -- ---- values that are written over others
 
@@ -49,8 +40,7 @@ parts_after design env round values old parts same here at is node below =
     (is ∙ ap (λ d. parts_of d (all_steps d values old.configuration)) same
     ∙ ap (λ k. parts_of design (all_steps design values k)) at
     ∙ ap (λ v. parts_of design (all_steps design v (comp design env round))) here)
-    ∙ slice_get-map-upwards (part_of design all) 0 (length design.components) node below
-    ∙ ap (λ m. Some (part_of design all m)) (zero-add node)
+    ∙ slice_get-map_upwards (part_of design all) (length design.components) node below
 
 -- a product that stood at a round stands at the next
 pub further : (design : DesignParts) (env : Env) (round : ℕ) (values : List PortValue) (old : ProductState)

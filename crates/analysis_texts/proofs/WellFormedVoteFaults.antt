@@ -4,6 +4,7 @@ use Rattle.std.proofs.Common.{None, filter, slice_get, refl, sym, subst, arith}
 use Rattle.std.proofs.lemmas.List.Elements.{All-nil, All-cons, All-head, All-tail, All-same, All-from_get_or}
 use Rattle.pals_base.specs.declared.values.NodeNo.{NodeNo}
 use Rattle.pals_base.specs.StepSequences.{upwards}
+use Rattle.pals_base.proofs.UpwardNumbers.{get_or-map_upwards, length-map_upwards}
 use Rattle.pals_model.specs.declared.design.Link.{Link}
 use Rattle.pals_model.specs.declared.design.DesignParts.{DesignParts}
 use Rattle.pals_runs.specs.declared.vote_faults_and_pairs.VoteFault.{VoteFault}
@@ -12,9 +13,7 @@ use Rattle.analysis_fields.specs.proof.FaultAndProcessorFacts.{IsFaultOf}
 use Rattle.analysis_fields.specs.ReplicasAndFaults.{source_in as named_source}
 use Rattle.triple_vote.specs.Replicas.{source_in}
 use Rattle.triple_vote.specs.proof.VoteLaws.{IsFault}
-use Rattle.triple_vote.proofs.ListTablesAndSearches.{table-at}
 use Rattle.analysis_texts.specs.VoteInputs.{faults_of}
-use Rattle.analysis_texts.proofs.FaultAndReplicaTables.{length-table}
 
 same_source : (o : Option Link) → source_in o ≡ named_source o
 same_source None = refl
@@ -53,5 +52,7 @@ rounds_keep design replicas faults rounds table keep is =
     All-same each table listed is
     (All-from_get_or each listed []
     (λ k within.
-    let below : k < rounds = (let size = length-table (faults_of faults) rounds in omega (arith, size, within)) in
-    subst each (sym (table-at (faults_of faults) rounds k [] below)) (faults_keep design replicas faults k keep)))
+    let below : k < rounds =
+    (let size = length-map_upwards (faults_of faults) 0 rounds in omega (arith, size, within)) in
+    subst each (sym (get_or-map_upwards (faults_of faults) rounds k [] below))
+    (faults_keep design replicas faults k keep)))

@@ -1,7 +1,7 @@
 -- The table of which state leads to which by a single transition, filled one transition after another.
-use Rattle.std.proofs.Common.{◌≡◌, ◌≢◌, ℕ, ◌<◌, ◌≤◌, ◌+◌, zero, suc, Bool, true, false, not, ◌&&◌, ◌||◌, nat_eq, List}
-use Rattle.std.proofs.Common.{[], ◌∷◌, ◌++◌, length, map, filter, set, get_or, replicate, refl, sym, ap, ap₂, ◌∙◌}
-use Rattle.std.proofs.Common.{arith, cond, inl, inr}
+use Rattle.std.proofs.Common.{◌≡◌, ◌≢◌, ℕ, ◌<◌, ◌+◌, zero, suc, Bool, true, false, not, ◌&&◌, ◌||◌, nat_eq, List, []}
+use Rattle.std.proofs.Common.{◌∷◌, ◌++◌, length, map, filter, set, get_or, replicate, refl, sym, ap, ap₂, ◌∙◌, arith}
+use Rattle.std.proofs.Common.{cond, inl, inr}
 use Rattle.std.specs.List.{list_any}
 use Rattle.std.proofs.lemmas.Bool.{cases_eq, eq-eqb, ne_eqb}
 use Rattle.std.proofs.lemmas.List.{append-nil}
@@ -12,16 +12,10 @@ use Rattle.pals_base.specs.declared.behaviour.BehaviourParts.{BehaviourParts}
 use Rattle.pals_base.specs.PlainTrees.{Edge}
 use Rattle.pals_base.specs.SingleStep.{is_complete}
 use Rattle.pals_base.specs.StepSequences.{upwards}
+use Rattle.pals_base.proofs.UpwardNumbers.{get_or-map_upwards, map_upwards_same}
 use Rattle.annex_resolve.specs.proof.ReachTables.{marked, leads_by, row_by, table_by}
 
 -- ---- lists that have an element for each number
-mapped_same : {A : Type 0} (f g : ℕ → A) (from n : ℕ) → ((i : ℕ) → from ≤ i → f i ≡ g i)
-    → map f (upwards from n) ≡ map g (upwards from n)
-mapped_same f g from zero same = refl
-mapped_same f g from (suc n) same =
-    ap₂ (λ x xs. x ∷ xs) (same from (omega arith))
-    (mapped_same f g (suc from) n (λ i above. same i (omega (arith, above))))
-
 -- one of them is another
 mapped_put : {A : Type 0} (f g : ℕ → A) (from n k : ℕ) (v : A) → (k < n → g (from + k) ≡ v)
     → ((i : ℕ) → i ≢ from + k → g i ≡ f i)
@@ -29,7 +23,7 @@ mapped_put : {A : Type 0} (f g : ℕ → A) (from n k : ℕ) (v : A) → (k < n 
 mapped_put f g from zero k v here there = refl
 mapped_put f g from (suc n) zero v here there =
     ap₂ (λ x xs. x ∷ xs) (sym (here (omega arith)) ∙ ap g (omega arith))
-    (mapped_same f g (suc from) n (λ i above. sym (there i (λ e. omega (arith, e, above)))))
+    (map_upwards_same f g (suc from) n (λ i above below. sym (there i (λ e. omega (arith, e, above)))))
 mapped_put f g from (suc n) (suc k) v here there =
     let moved : suc from + k ≡ from + suc k = omega arith in
     ap₂ (λ x xs. x ∷ xs) (sym (there from (λ e. omega (arith, e))))
@@ -40,13 +34,6 @@ mapped_all : {A : Type 0} (f : ℕ → A) (v : A) (from n : ℕ) → ((i : ℕ) 
     → map f (upwards from n) ≡ replicate n v
 mapped_all f v from zero same = refl
 mapped_all f v from (suc n) same = ap₂ (λ x xs. x ∷ xs) (same from) (mapped_all f v (suc from) n same)
-
-mapped_read : {A : Type 0} (f : ℕ → A) (from n k : ℕ) (d : A) → k < n
-    → get_or (map f (upwards from n)) k d ≡ f (from + k)
-mapped_read f from zero k d within = absurd (omega (arith, within))
-mapped_read f from (suc n) zero d within = ap f (omega arith)
-mapped_read f from (suc n) (suc k) d within =
-    mapped_read f (suc from) n k d (omega (arith, within)) ∙ ap f (omega arith)
 
 -- ---- no transition
 
@@ -120,7 +107,7 @@ module _ (b : BehaviourParts) (es : List Edge) (e : Edge) where
         → row_by b (es ++ e ∷ []) e.source ≡ set (get_or before e.source []) e.target true
     row_marked within =
         sym (ap (λ row. set row e.target true)
-        (mapped_read (row_by b es) 0 (length b.states) e.source [] within ∙ ap (row_by b es) (omega arith))
+        (get_or-map_upwards (row_by b es) (length b.states) e.source [] within)
         ∙ mapped_put (leads_by b es e.source) (leads_more e.source) 0 (length b.states) e.target true
         (λ inside. let e' : 0 + e.target ≡ e.target = omega arith in ap (leads_more e.source) e' ∙ leads_there)
         (λ i other. leads_elsewhere i (λ is. other (omega (arith, is)))))
@@ -136,12 +123,12 @@ module _ (b : BehaviourParts) (es : List Edge) (e : Edge) where
   -- from one that is complete
   pub table-stays : is_complete b e.source ≡ true → table_by b (es ++ e ∷ []) ≡ table_by b es
   table-stays complete =
-      mapped_same (row_by b (es ++ e ∷ [])) (row_by b es) 0 (length b.states)
-      (λ s above. elim (cases_eq e.source s) as (λ r. row_by b (es ++ e ∷ []) s ≡ row_by b es s) [
+      map_upwards_same (row_by b (es ++ e ∷ [])) (row_by b es) 0 (length b.states)
+      (λ s above below. elim (cases_eq e.source s) as (λ r. row_by b (es ++ e ∷ []) s ≡ row_by b es s) [
         | inl is ↦
             let ends : is_complete b s ≡ true = ap (is_complete b) (sym is) ∙ complete in
-            mapped_same (leads_more s) (leads_by b es s) 0 (length b.states)
-            (λ t over. ap (λ c. not c && list_any (to_state t) (filter (from_state s) (es ++ e ∷ []))) ends
+            map_upwards_same (leads_more s) (leads_by b es s) 0 (length b.states)
+            (λ t over under. ap (λ c. not c && list_any (to_state t) (filter (from_state s) (es ++ e ∷ []))) ends
             ∙ sym (ap (λ c. not c && list_any (to_state t) (filter (from_state s) es)) ends))
         | inr not_is ↦ row_stays s (ne_eqb e.source s not_is)
       ])

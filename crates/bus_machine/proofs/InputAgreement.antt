@@ -11,6 +11,7 @@ use Rattle.pals_base.specs.declared.values.PortValue.{PortValue}
 use Rattle.pals_base.specs.declared.values.PortValue.TheVariants.{Absent}
 use Rattle.pals_base.specs.Adaptors.{adapt}
 use Rattle.pals_base.specs.StepSequences.{upwards, columns}
+use Rattle.pals_base.proofs.UpwardNumbers.{length-upwards, upwards_is}
 use Rattle.pals_model.specs.declared.design.Component.{Component}
 use Rattle.pals_model.specs.declared.design.Link.{Link}
 use Rattle.pals_model.specs.declared.design.Feed.{Feed}
@@ -73,15 +74,6 @@ ports_bring design rate values messages (src ∷ sources) (slot ∷ slots) same 
     (ports_bring design rate values messages sources slots (omega arith) (λ k s is. stands (suc k) s is))
 
 -- ---- the source of a port
-upwards_at : (from n k p : ℕ) → slice_get (upwards from n) k ≡ Some p → p ≡ from + k
-upwards_at from zero k p is = absurd (cc)
-upwards_at from (suc n) zero p is = let same : from ≡ p = cc in omega arith
-upwards_at from (suc n) (suc k) p is = let later : p ≡ suc from + k = upwards_at (suc from) n k p is in omega arith
-
-length-upwards : (from n : ℕ) → length (upwards from n) ≡ n
-length-upwards from zero = refl
-length-upwards from (suc n) = ap suc (length-upwards (suc from) n)
-
 pub length_sources : (design : DesignParts) (node : ℕ) (c : Component)
     → length (sources_of design node c) ≡ length c.behaviour.ins
 length_sources design node c =
@@ -95,7 +87,7 @@ source_at design node k c src is =
     let found =
     option_map-parts (λ port. source_of design node port) (slice_get ports k) src
     (sym (slice_get-map (λ port. source_of design node port) ports k) ∙ is) in
-    let place : found.0 ≡ 0 + k = upwards_at 0 (length c.behaviour.ins) k found.0 found.1 in
+    let place : found.0 ≡ 0 + k = (upwards_is 0 (length c.behaviour.ins) k found.0 found.1).0 in
     let same : k ≡ found.0 = omega arith in
     ap (source_of design node) same ∙ found.2
 

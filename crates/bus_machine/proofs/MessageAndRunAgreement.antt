@@ -6,13 +6,14 @@ use Rattle.std.proofs.Common.{arith}
 use Rattle.std.specs.Prelude.{nat_le, ◌&&◌, is_some, is_none, slice_index_or, slice_set, if◌then◌else◌}
 use Rattle.std.proofs.lemmas.Bool.{cases_eq, cases_lt, cases_order, eqb-true, and_parts, false≢true}
 use Rattle.std.proofs.lemmas.Grind.{get_or-set_at}
-use Rattle.std.proofs.lemmas.List.{length-set, length-map, get_or-set_other, get_or_past, get_or-map}
+use Rattle.std.proofs.lemmas.List.{length-set, length-map, get_or-set_other, get_or_past}
 use Rattle.std.proofs.lemmas.List.Elements.{All-append}
 use Rattle.std.proofs.lemmas.Option.{slice_get_within, slice_get-get_or, get_or_from_slice_get}
 use Rattle.list_lemmas.proofs.PairwiseProperties.{AllPairs-slice_get}
 use Rattle.pals_base.specs.declared.values.PortValue.{PortValue}
 use Rattle.pals_base.specs.declared.values.LinkNo.{LinkNo}
 use Rattle.pals_base.specs.StepSequences.{upwards}
+use Rattle.pals_base.proofs.UpwardNumbers.{length-upwards, get_or-map_upwards}
 use Rattle.pals_model.specs.declared.design.Component.{Component}
 use Rattle.pals_model.specs.declared.design.Link.{Link}
 use Rattle.pals_model.specs.declared.flight_copy.FlightCopy.{FlightCopy}
@@ -237,18 +238,6 @@ step_keeps_agreement run s t e rules agree step =
     subst (Agrees run) (sym step.state) (keeps run s e rules agree step.allowed)
 
 -- ---- the opening
-length-upwards : (from n : ℕ) → length (upwards from n) ≡ n
-length-upwards from zero = refl
-length-upwards from (suc n) = ap suc (length-upwards (suc from) n)
-
-upwards-from : (from n k at : ℕ) → at ≡ from + k → k < n → slice_index_or (upwards from n) k 0 ≡ at
-upwards-from from zero k at is within = absurd (omega arith)
-upwards-from from (suc n) zero at is within = omega arith
-upwards-from from (suc n) (suc k) at is within = upwards-from (suc from) n k at (omega arith) (omega arith)
-
-upwards-at : (from n k : ℕ) → k < n → slice_index_or (upwards 0 n) k 0 ≡ k
-upwards-at from n k within = upwards-from 0 n k k (omega arith) within
-
 abbrev no_slot : Option (List PortValue)
 no_slot = None
 
@@ -281,14 +270,10 @@ opens_node run node c rules is_c = record {
       ∙ length_sources run.design node c;
 }
 
-node_opens : (run : Run) (node : ℕ) → node < length run.design.components
+pub node_opens : (run : Run) (node : ℕ) → node < length run.design.components
     → node_at (opening run) node ≡ opening_node (plan_of run.design node)
 node_opens run node within =
-    let count = length-upwards 0 (length run.design.components) in
-    let below : node < length (upwards 0 (length run.design.components)) = omega arith in
-    get_or-map (λ k. opening_node (plan_of run.design k)) (upwards 0 (length run.design.components)) node 0
-    no_node below
-    ∙ ap (λ k. opening_node (plan_of run.design k)) (upwards-at 0 (length run.design.components) node within)
+    get_or-map_upwards (λ k. opening_node (plan_of run.design k)) (length run.design.components) node no_node within
 
 pub opening_agrees : OpeningAgrees
 opening_agrees run rules = record {

@@ -1,10 +1,9 @@
 -- What follows where a test passes, or a list of findings is empty.
-use Rattle.std.proofs.Common.{◌≡◌, ℕ, ◌+◌, ◌<◌, ◌≤◌, zero, suc, Bool, true, false, not, cond, List, [], ◌∷◌, ◌++◌, map}
-use Rattle.std.proofs.Common.{Some, refl, ap, ◌∙◌, arith}
+use Rattle.std.proofs.Common.{◌≡◌, ℕ, ◌+◌, zero, suc, Bool, true, false, not, cond, List, [], ◌∷◌, ◌++◌, map, Some}
+use Rattle.std.proofs.Common.{refl, ap, ◌∙◌, arith}
 use Rattle.std.specs.Prelude.{flat_map, filter, slice_get}
-use Rattle.std.specs.List.{list_all, enumerate_from}
-use Rattle.std.proofs.lemmas.Bool.{and_from, not-false}
-use Rattle.pals_base.specs.StepSequences.{upwards}
+use Rattle.std.specs.List.{enumerate_from}
+use Rattle.std.proofs.lemmas.Bool.{not-false}
 use Rattle.annex_resolve.specs.NamesAndFindings.{found_if}
 
 pub nothing_left : {X : Type 0} (xs ys : List X) → xs ++ ys ≡ [] → (xs ≡ []) × (ys ≡ [])
@@ -32,13 +31,6 @@ none_at f from (y ∷ ys) e (suc n) x is =
     let here = nothing_left (f (from, y)) (flat_map f (enumerate_from (from + 1) ys)) e in
     let z : from + suc n ≡ (from + 1) + n = omega arith in
     ap (λ k. f (k, x)) z ∙ none_at f (from + 1) ys here.1 n x is
-
-pub all_upwards : (p : ℕ → Bool) (from n : ℕ) → ((k : ℕ) → from ≤ k → k < from + n → p k ≡ true)
-    → list_all p (upwards from n) ≡ true
-all_upwards p from zero each = refl
-all_upwards p from (suc n) each =
-    and_from (p from) (list_all p (upwards (suc from) n)) (each from (omega arith) (omega arith))
-    (all_upwards p (suc from) n (λ k low high. each k (omega (arith, low)) (omega (arith, high))))
 
 kept_by : {A B : Type 0} (f : A → B) (b : Bool) (x : A) (ys : List B) (zs : List A) → ys ≡ map f zs
     → cond b (f x ∷ ys) ys ≡ map f (cond b (x ∷ zs) zs)

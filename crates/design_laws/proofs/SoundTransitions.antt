@@ -16,6 +16,7 @@ use Rattle.pals_base.specs.BehaviourRules.{has_condition, is_edge, dispatch_coun
 use Rattle.pals_base.specs.BehaviourRules.{IsAcyclic}
 use Rattle.pals_base.specs.StepSequences.{upwards}
 use Rattle.pals_base.proofs.WaysAndCycles.{incomplete_within}
+use Rattle.pals_base.proofs.UpwardNumbers.{slice_get-map_upwards, list_all_upwards}
 use Rattle.aadl_tree.specs.Annexes.{Guard, dispatch, otherwise, when, Transition}
 use Rattle.aadl_tree.specs.Actions.{Block}
 use Rattle.annex_resolve.specs.declared.scope.Scope.{Scope}
@@ -29,10 +30,9 @@ use Rattle.annex_resolve.specs.BehavioursAndFindings.{declared, state_number, tr
 use Rattle.annex_resolve.specs.BehavioursAndFindings.{guard_types, effect_findings, transition_findings}
 use Rattle.annex_resolve.specs.BehavioursAndFindings.{breaks_dispatch, way_of, leg_of, ways_from, is_otherwise}
 use Rattle.annex_resolve.specs.BehavioursAndFindings.{is_guarded, is_open, lacks_otherwise, state_rules, cycles_of}
-use Rattle.annex_resolve.proofs.TableCells.{mapped_at}
 use Rattle.annex_resolve.proofs.StateReachability.{way_reaches}
 use Rattle.design_laws.specs.proof.FittingAnnexNames.{FitsScope, is_declared}
-use Rattle.design_laws.proofs.EmptyFindingLists.{nothing_left, not_wrong, none_at, all_upwards, filter-map}
+use Rattle.design_laws.proofs.EmptyFindingLists.{nothing_left, not_wrong, none_at, filter-map}
 use Rattle.design_laws.proofs.SoundActions.{test_sound, block_sound}
 
 -- ---- transitions
@@ -183,7 +183,7 @@ module _ (b : BehaviourParts) (scope : Scope) (states : List StateAt) (ts : List
       let rest =
       nothing_left second third
       (otherwise_empty s.complete (second ++ third) p.1 (sym (complete_is n s is) ∙ open')) in
-      sym (ap (λ o. unwrap_or o false) (mapped_at (is_on_cycle b) (length b.states) n within))
+      sym (ap (λ o. unwrap_or o false) (slice_get-map_upwards (is_on_cycle b) (length b.states) n within))
       ∙ not_wrong (unwrap_or (slice_get (cycles_of b) n) false) s.at CYCLE_WITHOUT_COMPLETE s.name rest.1
 
   -- the state of a number below their count
@@ -193,7 +193,7 @@ module _ (b : BehaviourParts) (scope : Scope) (states : List StateAt) (ts : List
 
   pub all_have_ways : flat_map (state_rules b (map (leg_of states) ts) (cycles_of b)) (enumerate_from 0 states) ≡ []
       → list_all (has_ways b) (upwards 0 (length b.states)) ≡ true
-  all_have_ways none = all_upwards (has_ways b) 0 (length b.states) (λ n low high.
+  all_have_ways none = list_all_upwards (has_ways b) 0 (length b.states) (λ n low high.
       let s = state_of n (omega (arith, high)) in
       let rules' = none_at (state_rules b (map (leg_of states) ts) (cycles_of b)) 0 states none n s.0 s.1 in
       let z : 0 + n ≡ n = omega arith in

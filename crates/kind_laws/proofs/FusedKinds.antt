@@ -13,6 +13,7 @@ use Rattle.pals_base.specs.PeriodBound.{sent_steps}
 use Rattle.pals_base.specs.SingleStep.{initial}
 use Rattle.pals_base.specs.StepSequences.{cut, upwards}
 use Rattle.pals_base.proofs.StepTermination.{starts_well}
+use Rattle.pals_base.proofs.UpwardNumbers.{get_or-map_upwards}
 use Rattle.pals_model.specs.declared.design.Component.{Component}
 use Rattle.pals_model.specs.declared.design.Link.{Link}
 use Rattle.pals_model.specs.declared.design.Tap.{Tap}
@@ -41,7 +42,6 @@ use Rattle.plant_fuse.proofs.StepRanks.{is_controller, rank, rank_upto, rank_bef
 use Rattle.plant_fuse.proofs.StepRanks.{rank_from_round}
 use Rattle.plant_fuse.proofs.PairLinks.{back_rates, forth_is, read_from_target}
 use Rattle.plant_fuse.proofs.StepDependencies.{read_at}
-use Rattle.triple_vote.proofs.ListTablesAndSearches.{table-at}
 use Rattle.kind_laws.specs.proof.FusedKinds.{SolutionsFit}
 use Rattle.kind_laws.proofs.ElementsByIndex.{upwards_all, upwards_at, places_all, either_fits}
 use Rattle.kind_laws.proofs.InPortKinds.{MessagesFit, link_read, reading_fits}
@@ -181,7 +181,7 @@ module _ (design : DesignParts) (pairs : List Pair) (env : Env) (ins : Inputs) (
           let count = length c.behaviour.ins in
           let here : slice_index_or (map value (sources_of design node c)) p Absent ≡ value (from p) =
           ap (λ (values : List PortValue). slice_index_or values p Absent) (map_map from value (upwards 0 count))
-          ∙ table-at (λ q. value (from q)) count p Absent (slice_get_within c.behaviour.ins p port is_port) in
+          ∙ get_or-map_upwards (λ q. value (from q)) count p Absent (slice_get_within c.behaviour.ins p port is_port) in
           subst (PortFits port.kind) (sym here)
           (value_fits p port is_port (position (link_goes_to node p) design.links)
           (position (feed_goes_to node p) design.feeds) refl refl)

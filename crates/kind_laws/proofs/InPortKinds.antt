@@ -11,6 +11,7 @@ use Rattle.pals_base.specs.declared.values.PortValue.TheVariants.{Absent}
 use Rattle.pals_base.specs.declared.behaviour.PortDecl.{PortDecl}
 use Rattle.pals_base.specs.AllowedAdaptors.{suits_kind}
 use Rattle.pals_base.specs.StepSequences.{upwards, column}
+use Rattle.pals_base.proofs.UpwardNumbers.{get_or-map_upwards}
 use Rattle.pals_model.specs.declared.design.Component.{Component}
 use Rattle.pals_model.specs.declared.design.Link.{Link}
 use Rattle.pals_model.specs.declared.design.DesignParts.{DesignParts}
@@ -27,7 +28,6 @@ use Rattle.pals_model.proofs.AllElements.{index_fits}
 use Rattle.pals_model.proofs.KindsOfAdaptors.{absent_fits, adapt_fits}
 use Rattle.pals_model.proofs.KindsOfRounds.{place_of_column}
 use Rattle.plant_fuse.proofs.FunctionTables.{map_map}
-use Rattle.triple_vote.proofs.ListTablesAndSearches.{table-at}
 use Rattle.kind_laws.proofs.ElementsByIndex.{upwards_all}
 
 abbrev pub MessagesFit : DesignParts → List (List PortValue) → Type 0
@@ -117,7 +117,7 @@ vectors_fit design env round messages node c rules given sent is_c =
     (λ at above below p port is.
     let here : slice_index_or lists p [] ≡ read (source p) =
     ap (λ (tuples : List (List PortValue)). slice_index_or tuples p []) (map_map source read (upwards 0 count))
-    ∙ table-at (λ q. read (source q)) count p [] (slice_get_within c.behaviour.ins p port is) in
+    ∙ get_or-map_upwards (λ q. read (source q)) count p [] (slice_get_within c.behaviour.ins p port is) in
     let fits : TupleFits port.kind (slice_index_or lists p []) =
     subst (TupleFits port.kind) (sym here)
     (reading_fits design rules node p c port is_c is env round messages given sent

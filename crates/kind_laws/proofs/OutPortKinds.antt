@@ -15,12 +15,12 @@ use Rattle.pals_base.specs.SingleStep.{fire, HasShape}
 use Rattle.pals_base.specs.BehaviourRules.{IsBehaviour}
 use Rattle.pals_base.specs.StepSequences.{outputs, column, cut, steps}
 use Rattle.pals_base.proofs.StepTermination.{fires_well}
+use Rattle.pals_base.proofs.UpwardNumbers.{get_or-map_upwards}
 use Rattle.pals_model.specs.PortKinds.{kind_of}
 use Rattle.pals_model.specs.proof.FittingValues.{PortFits, TupleFits, PortsFit, FrameFits}
 use Rattle.pals_model.proofs.AllElements.{map_all, every}
 use Rattle.pals_model.proofs.KindsOfSteps.{firing_fits, outputs_fit}
 use Rattle.pals_model.proofs.KindsOfAdaptors.{absent_fits}
-use Rattle.triple_vote.proofs.ListTablesAndSearches.{table-at}
 
 -- ---- a port
 -- each value is a number
@@ -59,7 +59,8 @@ tuple_by b frame vectors port None all is =
     every (PortFits Integer) (slice_index_or (steps b frame vectors).tuples port []) any_number
 tuple_by b frame vectors port (Some named) all is =
     let rows = outputs b frame vectors in
-    let here = table-at (λ at. column at rows) (length b.outs) port [] (slice_get_within b.outs port named is) in
+    let here =
+    get_or-map_upwards (λ at. column at rows) (length b.outs) port [] (slice_get_within b.outs port named is) in
     subst (TupleFits named.kind) (sym here)
     (map_all (PortsFit b.outs) (PortFits named.kind) (λ (row : List PortValue). slice_index_or row port Absent) rows
     (λ row fits. fits port named is) all)

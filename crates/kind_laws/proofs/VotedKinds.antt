@@ -17,6 +17,7 @@ use Rattle.pals_base.specs.PeriodBound.{sent_steps}
 use Rattle.pals_base.specs.SingleStep.{HasShape}
 use Rattle.pals_base.specs.StepSequences.{upwards}
 use Rattle.pals_base.proofs.StepTermination.{starts_well}
+use Rattle.pals_base.proofs.UpwardNumbers.{length-upwards, get_or-map_upwards}
 use Rattle.pals_model.specs.declared.design.Component.{Component}
 use Rattle.pals_model.specs.declared.design.Link.{Link}
 use Rattle.pals_model.specs.declared.design.Tap.{Tap}
@@ -36,7 +37,7 @@ use Rattle.triple_vote.specs.Votes.{same_port, vote, votes}
 use Rattle.triple_vote.specs.Replicas.{is_replicated, copies_of, receivers_in, Voted, frame_at, heard_by, first_frame}
 use Rattle.triple_vote.specs.Replicas.{first_tuple, vopening, steps_in, replica_steps, tuple_at, is_fault, fault_or}
 use Rattle.triple_vote.specs.Replicas.{own_message, sent_to, vote_of, receives_on, vnext, vcomp, vshown_by, vshown}
-use Rattle.triple_vote.proofs.ListTablesAndSearches.{length-upwards, table-at, found}
+use Rattle.triple_vote.proofs.ListTablesAndSearches.{found}
 use Rattle.triple_vote.proofs.ReplicaRounds.{has_first, has_three}
 use Rattle.kind_laws.specs.proof.VotedKinds.{FaultFits, FaultsFit, VotesFit, ShownFit}
 use Rattle.kind_laws.proofs.ElementsByIndex.{upwards_all, either_fits}
@@ -78,7 +79,7 @@ frames_at : (design : DesignParts) (replicated : List Bool) (f : ℕ → ℕ →
     (upwards 0 (length design.components))) node []
     ≡ map (f node) (upwards 0 (copies_of replicated node))
 frames_at design replicated f node within =
-    table-at (λ n. map (f n) (upwards 0 (copies_of replicated n))) (length design.components) node [] within
+    get_or-map_upwards (λ n. map (f n) (upwards 0 (copies_of replicated n))) (length design.components) node [] within
 
 count_at : (design : DesignParts) (replicated : List Bool) (f : ℕ → ℕ → Frame) (node : ℕ)
     → node < length design.components
@@ -96,8 +97,8 @@ tuples_at : (design : DesignParts) (replicated : List Bool) (f : ℕ → ℕ →
     (upwards 0 (length design.links))) number []
     ≡ map (f number) (upwards 0 (receivers_in replicated (slice_get design.links number)))
 tuples_at design replicated f number within =
-    table-at (λ l. map (f l) (upwards 0 (receivers_in replicated (slice_get design.links l)))) (length design.links)
-    number [] within
+    get_or-map_upwards (λ l. map (f l) (upwards 0 (receivers_in replicated (slice_get design.links l))))
+    (length design.links) number [] within
 
 module _ (design : DesignParts) (env : Env) (replicated : List Bool) (rules : IsDesign design)
     (given : EnvFits design env) where

@@ -8,6 +8,7 @@ use Rattle.std.proofs.lemmas.List.Elements.{All-head, All-tail}
 use Rattle.std.proofs.lemmas.Option.{slice_get-get_or}
 use Rattle.std.proofs.lemmas.List.{nil_from_length}
 use Rattle.pals_base.specs.StepSequences.{upwards}
+use Rattle.pals_base.proofs.UpwardNumbers.{slice_get-map_upwards, map_upwards_same, flat_map_upwards_same}
 use Rattle.pals_model.specs.declared.design.Component.{Component}
 use Rattle.pals_model.specs.declared.design.Tap.{Tap}
 use Rattle.pals_model.specs.declared.design.DesignParts.{DesignParts}
@@ -29,25 +30,6 @@ use Rattle.loose_world.proofs.RoundCounts.{rounds_are_finished}
 use Rattle.loose_world.proofs.UndergoneEvents.{events_replay}
 
 -- ---- numbers from one on
-pub same_map : {X : Type 0} (f g : ℕ → X) (from n : ℕ) → ((k : ℕ) → k < from + n → f k ≡ g k)
-    → map f (upwards from n) ≡ map g (upwards from n)
-same_map f g from zero same = refl
-same_map f g from (suc n) same =
-    ap₂ (λ x xs. x ∷ xs) (same from (omega arith)) (same_map f g (suc from) n (λ k below. same k (omega arith)))
-
-pub same_flat_map : {X : Type 0} (f g : ℕ → List X) (from n : ℕ) → ((k : ℕ) → k < from + n → f k ≡ g k)
-    → flat_map f (upwards from n) ≡ flat_map g (upwards from n)
-same_flat_map f g from zero same = refl
-same_flat_map f g from (suc n) same =
-    ap₂ (λ x xs. x ++ xs) (same from (omega arith)) (same_flat_map f g (suc from) n (λ k below. same k (omega arith)))
-
--- what stands at a place of the first m numbers
-place_from : {X : Type 0} (f : ℕ → X) (from m k n : ℕ) → n ≡ from + k → k < m
-    → slice_get (map f (upwards from m)) k ≡ Some (f n)
-place_from f from zero k n is below = absurd (omega arith)
-place_from f from (suc m) zero n is below = ap (λ j. Some (f j)) (omega arith)
-place_from f from (suc m) (suc k) n is below = place_from f (suc from) m k n (omega arith) (omega arith)
-
 past_from : {X : Type 0} (f : ℕ → X) (from m k : ℕ) → m ≤ k → slice_get (map f (upwards from m)) k ≡ None
 past_from f from zero k past = refl
 past_from f from (suc m) zero past = absurd (omega arith)
@@ -110,7 +92,7 @@ part_is run t node round agree within below =
     (agree.nodes node (component_at run.design node)
     (slice_get-get_or run.design.components node no_component within)).parts in
     ap (λ ps. slice_get ps round) parts
-    ∙ place_from (part run.design run.env node) 0 (length (node_at t.state node).parts) round round (omega arith) below
+    ∙ slice_get-map_upwards (part run.design run.env node) (length (node_at t.state node).parts) round below
 
 no_part : (run : Run) (t : BusValue) (node round : ℕ) → Agrees run t.state → node < length run.design.components
     → length (node_at t.state node).parts ≤ round → part_of_round t round node ≡ None
@@ -144,16 +126,17 @@ finished_rows run events t lines rules left =
     let is_run = (events_replay run events t lines rules left).run_is in
     let counts : finished t ≡ map (finished_by run.design events) (upwards 0 (length run.design.components)) =
     ap (λ (r : Run). map (λ node. length (node_at t.state node).parts) (upwards 0 (length r.design.components))) is_run
-    ∙ same_map (λ node. length (node_at t.state node).parts) (finished_by run.design events) 0
-    (length run.design.components) (λ k below. rounds_are_finished run events t lines rules left k (omega arith)) in
+    ∙ map_upwards_same (λ node. length (node_at t.state node).parts) (finished_by run.design events) 0
+    (length run.design.components)
+    (λ k above below. rounds_are_finished run events t lines rules left k (omega arith)) in
     ap (λ (r : Run). flat_map (λ round. row_lines r.design (part_of_round t round) round)
     (upwards 0 (fold max 0 (finished t)))) is_run
     ∙ ap (λ ks. flat_map (λ round. row_lines run.design (part_of_round t round) round)
     (upwards 0 (fold max 0 ks))) counts
-    ∙ same_flat_map (λ round. row_lines run.design (part_of_round t round) round)
+    ∙ flat_map_upwards_same (λ round. row_lines run.design (part_of_round t round) round)
     (λ round. row_lines run.design (part_shown run.design run.env events round) round) 0
     (rounds_shown run.design events)
-    (λ round below. same_row run.design (part_of_round t round) (part_shown run.design run.env events round) round
+    (λ round above below. same_row run.design (part_of_round t round) (part_shown run.design run.env events round) round
     rules.design (λ node within. same_part run events t lines node round rules left within))
 
 pub common_rows : (t : BusValue) → IsRunOf t.run → Agrees t.run t.state
@@ -162,9 +145,9 @@ common_rows t rules agree =
     let design = t.run.design in
     let env = t.run.env in
     let count = agree.node_count in
-    ap text_of (same_flat_map (λ round. row_lines design (part_of_round t round) round) (composed_lines design env) 0
-    (finished_by_all t.run t.state)
-    (λ round below. same_row design (part_of_round t round) (λ node. Some (part design env node round)) round
+    ap text_of (flat_map_upwards_same (λ round. row_lines design (part_of_round t round) round)
+    (composed_lines design env) 0 (finished_by_all t.run t.state)
+    (λ round above below. same_row design (part_of_round t round) (λ node. Some (part design env node round)) round
     rules.design
     (λ node within.
     let least = least_at t.run.rounds t.state.nodes node no_node (omega (arith, count, within)) in

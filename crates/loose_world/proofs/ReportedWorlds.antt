@@ -5,6 +5,7 @@ use Rattle.std.specs.Prelude.{fold, max, flat_map, if◌then◌else◌}
 use Rattle.std.proofs.lemmas.Bool.{lt-ltb}
 use Rattle.std.proofs.lemmas.List.Concat.{flat_map-append}
 use Rattle.pals_base.specs.StepSequences.{upwards}
+use Rattle.pals_base.proofs.UpwardNumbers.{map_upwards_same, flat_map_upwards_same}
 use Rattle.pals_model.specs.declared.design.DesignParts.{DesignParts}
 use Rattle.pals_model.specs.declared.inputs_parts_and_delays.Env.{Env}
 use Rattle.pals_model.specs.Composition.{part}
@@ -13,7 +14,7 @@ use Rattle.pals_model.specs.DesignRules.{IsDesign}
 use Rattle.pals_runs.specs.declared.events_and_faults.Event.{Event}
 use Rattle.bus_machine.specs.WorldTexts.{finished_by, part_shown, rounds_shown, sent_lines, world_rows, worldtext}
 use Rattle.loose_world.specs.proof.ReportedWorlds.{AllHaveFinished}
-use Rattle.loose_world.proofs.FinishedRows.{same_map, same_flat_map, same_row}
+use Rattle.loose_world.proofs.FinishedRows.{same_row}
 
 -- the most of equal numbers
 most_same : (n a from m : ℕ) → a ≤ n → 0 < m → fold max a (map (λ (_ : ℕ). n) (upwards from m)) ≡ n
@@ -26,8 +27,8 @@ module _ (design : DesignParts) (env : Env) (events : List Event) (rounds : ℕ)
   rounds_are : rounds_shown design events ≡ rounds
   rounds_are =
       let some = all.some in
-      ap (fold max 0) (same_map (finished_by design events) (λ _. rounds) 0 (length design.components)
-      (λ node within. all.each node (omega (arith, within))))
+      ap (fold max 0) (map_upwards_same (finished_by design events) (λ _. rounds) 0 (length design.components)
+      (λ node above within. all.each node (omega (arith, within))))
       ∙ most_same rounds 0 0 (length design.components) (omega arith) some
 
   part_is_shown : (round node : ℕ) → round < rounds → node < length design.components
@@ -42,9 +43,9 @@ module _ (design : DesignParts) (env : Env) (events : List Event) (rounds : ℕ)
   world_is_reported =
       ap (λ (n : ℕ). flat_map (λ round. row_lines design (part_shown design env events round) round)
       (upwards 0 n)) rounds_are
-      ∙ same_flat_map (λ round. row_lines design (part_shown design env events round) round)
+      ∙ flat_map_upwards_same (λ round. row_lines design (part_shown design env events round) round)
       (composed_lines design env) 0 rounds
-      (λ round below. same_row design (part_shown design env events round)
+      (λ round above below. same_row design (part_shown design env events round)
       (λ node. Some (part design env node round)) round rules
       (λ node within. part_is_shown round node (omega (arith, below)) within))
 

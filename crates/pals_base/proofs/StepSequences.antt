@@ -1,7 +1,7 @@
 -- The laws of steps one after another and of halted frames: frames and outputs after several steps, and the columns
 -- gathered from them.
-use Rattle.std.proofs.Common.{◌≡◌, ◌∙◌, ℕ, zero, suc, ◌+◌, ◌<◌, List, [], ◌∷◌, ◌++◌, length, map, take, replicate, Some}
-use Rattle.std.proofs.Common.{refl, sym, ap, add-zero, zero-add, arith}
+use Rattle.std.proofs.Common.{◌≡◌, ◌∙◌, ℕ, zero, suc, ◌<◌, List, [], ◌∷◌, ◌++◌, length, map, take, replicate, Some}
+use Rattle.std.proofs.Common.{refl, ap}
 use Rattle.std.proofs.lemmas.List.{length-map}
 use Rattle.std.specs.Prelude.{slice_get}
 use Rattle.std.specs.List.{All, AllByRecursion, fold}
@@ -12,6 +12,7 @@ use Rattle.pals_base.specs.declared.values.PortValue.{PortValue}
 use Rattle.pals_base.specs.declared.behaviour.BehaviourParts.{BehaviourParts}
 use Rattle.pals_base.specs.SingleStep.{Fired, fire, holding, silence, unless_halted, reaction, is_present}
 use Rattle.pals_base.specs.StepSequences.{frame_after, outputs, upwards, column, columns}
+use Rattle.pals_base.proofs.UpwardNumbers.{length-upwards, slice_get-map_upwards}
 
 pub outputs-take : (b : BehaviourParts) (frame : Frame) (vectors : List (List PortValue)) (n : ℕ)
     → take n (outputs b frame vectors) ≡ outputs b frame (take n vectors)
@@ -32,25 +33,12 @@ outputs-append b frame (x ∷ xs) ys =
     ap (λ os. (fire b frame x).outs ∷ os) (outputs-append b (fire b frame x).frame xs ys)
 
 -- ---- columns
-length-upwards : (from n : ℕ) → length (upwards from n) ≡ n
-length-upwards from zero = refl
-length-upwards from (suc n) = ap suc (length-upwards (suc from) n)
-
 pub length-columns : (n : ℕ) (lists : List (List PortValue)) → length (columns n lists) ≡ n
 length-columns n lists = length-map (upwards 0 n) (λ at. column at lists) ∙ length-upwards 0 n
 
-slice_get-column : (lists : List (List PortValue)) (from n at : ℕ) → at < n
-    → slice_get (map (λ k. column k lists) (upwards from n)) at ≡ Some (column (from + at) lists)
-slice_get-column lists from zero at within = absurd (omega arith)
-slice_get-column lists from (suc n) zero within = ap (λ k. Some (column k lists)) (sym (add-zero from))
-slice_get-column lists from (suc n) (suc at) within =
-    let place : suc from + at ≡ from + suc at = omega arith in
-    slice_get-column lists (suc from) n at (omega arith) ∙ ap (λ k. Some (column k lists)) place
-
 pub slice_get-columns : (n : ℕ) (lists : List (List PortValue)) (at : ℕ) → at < n
     → slice_get (columns n lists) at ≡ Some (column at lists)
-slice_get-columns n lists at within =
-    slice_get-column lists 0 n at within ∙ ap (λ k. Some (column k lists)) (zero-add at)
+slice_get-columns n lists at within = slice_get-map_upwards (λ k. column k lists) n at within
 
 each_column : (lists : List (List PortValue)) (ats : List ℕ)
     → AllByRecursion (λ c. length c ≡ length lists) (map (λ at. column at lists) ats)

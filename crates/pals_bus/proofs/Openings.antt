@@ -1,6 +1,6 @@
 -- A bus before its first event.
-use Rattle.std.proofs.Common.{◌≡◌, ◌∙◌, inl, inr, ℕ, zero, suc, ◌+◌, ◌*◌, ◌<◌, ◌≤◌, Bool, true, false, List, [], ◌∷◌}
-use Rattle.std.proofs.Common.{◌++◌, length, map, take, Option, None, refl, sym, ap, ap₂, subst, arith, length-append}
+use Rattle.std.proofs.Common.{◌≡◌, ◌∙◌, inl, inr, ℕ, ◌+◌, ◌*◌, ◌<◌, ◌≤◌, Bool, true, false, List, [], ◌∷◌, ◌++◌, length}
+use Rattle.std.proofs.Common.{map, take, Option, None, refl, sym, ap, ap₂, subst, arith, length-append}
 use Rattle.std.specs.Prelude.{sum_by, slice_index_or}
 use Rattle.std.specs.Arc.{arc_value}
 use Rattle.std.proofs.lemmas.Bool.{cases_lt, false≢true}
@@ -10,6 +10,7 @@ use Rattle.std.proofs.lemmas.List.Elements.{All-from_get_or}
 use Rattle.std.proofs.lemmas.List.Sums.{sum_by-le}
 use Rattle.pals_base.specs.declared.limits.TheConstants.{ROUNDS}
 use Rattle.pals_base.specs.StepSequences.{upwards}
+use Rattle.pals_base.proofs.UpwardNumbers.{length-map_upwards, get_or-map_upwards}
 use Rattle.pals_model.specs.declared.design.DesignParts.{DesignParts}
 use Rattle.pals_model.specs.declared.design.Link.{Link}
 use Rattle.pals_model.specs.declared.flight_copy.FlightCopy.{FlightCopy}
@@ -39,15 +40,6 @@ use Rattle.pals_bus.specs.proof.OpeningNodes.{AreOpening}
 use Rattle.pals_bus.proofs.NodeChanges.{states}
 use Rattle.pals_bus.proofs.QueueOpeningsAndSends.{queues_open}
 
-upwards_at : (from n k : ℕ) → k < n → slice_index_or (upwards from n) k 0 ≡ from + k
-upwards_at from zero k lt = absurd (omega (arith, lt))
-upwards_at from (suc n) zero lt = omega arith
-upwards_at from (suc n) (suc k) lt = let next = upwards_at (suc from) n k (omega (arith, lt)) in omega (arith, next)
-
-length_upwards : (from n : ℕ) → length (upwards from n) ≡ n
-length_upwards from zero = refl
-length_upwards from (suc n) = ap suc (length_upwards (suc from) n)
-
 pub states_open : (design : DesignParts) (all : List CodeParts) (rounds : ℕ) (nodes : List NodeValue)
     → AreOpening design all rounds nodes → length all ≡ length design.components
     → states nodes ≡ map (λ node. opening_node (plan_of design node)) (upwards 0 (length design.components))
@@ -55,18 +47,14 @@ states_open design all rounds nodes are count =
     let n = length design.components in
     let f = λ (node : ℕ). opening_node (plan_of design node) in
     let size : length (states nodes) ≡ n = length-map nodes (λ (k : NodeValue). k.state) ∙ are.count ∙ count in
-    let wide = length_upwards 0 n in
-    ext_get_or no_node (states nodes) (map f (upwards 0 n)) (size ∙ sym (length-map (upwards 0 n) f ∙ wide))
+    ext_get_or no_node (states nodes) (map f (upwards 0 n)) (size ∙ sym (length-map_upwards f 0 n))
     (λ k lt.
     let same : length (states nodes) ≡ length nodes = length-map nodes (λ (k : NodeValue). k.state) in
     let within : k < length nodes = omega (arith, same, lt) in
     let below : k < n = omega (arith, size, lt) in
-    let number = upwards_at 0 n k below in
-    let at : slice_index_or (upwards 0 n) k 0 ≡ k = omega (arith, number) in
     get_or-map (λ (m : NodeValue). m.state) nodes k no_node_value no_node within
     ∙ ap (λ (m : NodeValue). m.state) (are.each k within)
-    ∙ ap f (sym at)
-    ∙ sym (get_or-map f (upwards 0 n) k 0 no_node (omega (arith, wide, below))))
+    ∙ sym (get_or-map_upwards f n k no_node below))
 
 pub codes_open : (design : DesignParts) (all : List CodeParts) (rounds : ℕ) (nodes : List NodeValue)
     → AreOpening design all rounds nodes → codes_in nodes ≡ all

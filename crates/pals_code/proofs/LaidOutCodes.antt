@@ -1,10 +1,10 @@
 -- For the law that one listing means one design: the codes laid out for a design's behaviours are codes of its
 -- components.
-use Rattle.std.proofs.Common.{◌≡◌, ℕ, zero, suc, List, [], ◌∷◌, length, map, zip, Some, slice_get, All, refl, ap, ◌∙◌}
+use Rattle.std.proofs.Common.{◌≡◌, ℕ, suc, List, [], ◌∷◌, length, map, zip, Some, slice_get, All, refl, ap, ◌∙◌}
 use Rattle.std.proofs.lemmas.List.{length-map}
 use Rattle.std.proofs.lemmas.List.Elements.{All-nil, All-cons}
 use Rattle.pals_base.specs.declared.behaviour.BehaviourParts.{BehaviourParts}
-use Rattle.pals_base.specs.StepSequences.{upwards}
+use Rattle.pals_base.proofs.UpwardNumbers.{length-upwards}
 use Rattle.pals_model.specs.declared.design.Component.{Component}
 use Rattle.pals_model.specs.declared.design.DesignParts.{DesignParts}
 use Rattle.pals_model.specs.DesignRules.{IsDesign}
@@ -14,10 +14,6 @@ use Rattle.step_compiler.specs.LaidOutCode.{states_of, IsLaidOut, AreLaidOut}
 use Rattle.design_codes.specs.DesignBehaviours.{behaviours}
 use Rattle.code_listing.specs.NumberRanges.{AllFit}
 use Rattle.code_listing.specs.proof.ToldDesigns.{IsCodeOf, AreListed}
-
-length-upwards : (from n : ℕ) → length (upwards from n) ≡ n
-length-upwards from zero = refl
-length-upwards from (suc n) = ap suc (length-upwards (suc from) n)
 
 code_of : (b : BehaviourParts) (code : CodeParts) → IsLaidOut b code → IsCodeOf b code
 code_of b code laid_out = record {

@@ -13,9 +13,10 @@ use Rattle.pals_base.specs.declared.values.Frame.{Frame}
 use Rattle.pals_base.specs.declared.behaviour.BehaviourParts.{BehaviourParts}
 use Rattle.pals_base.specs.SingleStep.{fire, HasShape}
 use Rattle.pals_base.specs.BehaviourRules.{IsBehaviour}
-use Rattle.pals_base.specs.StepSequences.{frame_after, outputs, column, columns, cut, upwards}
+use Rattle.pals_base.specs.StepSequences.{frame_after, outputs, columns, cut, upwards}
 use Rattle.pals_base.proofs.StepTermination.{fires_well, starts_well}
 use Rattle.pals_base.proofs.StepSequences.{length-columns, length-each_column}
+use Rattle.pals_base.proofs.UpwardNumbers.{length-upwards}
 use Rattle.pals_model.specs.declared.design.Component.{Component}
 use Rattle.pals_model.specs.declared.design.Link.{Link}
 use Rattle.pals_model.specs.declared.design.Tap.{Tap}
@@ -34,9 +35,6 @@ use Rattle.pals_model.proofs.CompositionLaws.{state_begins, state_goes_on, messa
 use Rattle.pals_model.proofs.FirstMatches.{at_element}
 
 -- ---- columns
-length-upwards : (n : ℕ) → length (upwards 0 n) ≡ n
-length-upwards n = sym (length-map (upwards 0 n) (λ at. column at [])) ∙ length-columns n []
-
 pub columns_have_lengths : (n m : ℕ) (lists : List (List PortValue)) → length lists ≡ m
     → All (λ list. length list ≡ m) (columns n lists)
 columns_have_lengths n m lists size =
@@ -57,7 +55,7 @@ inputs_are_vectors design values messages node c =
     let size : length (map (reading design values messages c.rate) sources) ≡ length c.behaviour.ins
     =
     length-map sources (reading design values messages c.rate)
-    ∙ length-map ports (λ port. source_of design node port) ∙ length-upwards (length c.behaviour.ins) in
+    ∙ length-map ports (λ port. source_of design node port) ∙ length-upwards 0 (length c.behaviour.ins) in
     record {
       count = length-columns c.rate (map (reading design values messages c.rate) sources);
       each =

@@ -12,6 +12,7 @@ use Rattle.pals_base.specs.PeriodBound.{sent_steps}
 use Rattle.pals_base.specs.SingleStep.{initial}
 use Rattle.pals_base.specs.StepSequences.{Stepped, outputs, frame_after, cut, column, upwards}
 use Rattle.pals_base.proofs.StepSequences.{frame_after-append, outputs-append, slice_get-columns}
+use Rattle.pals_base.proofs.UpwardNumbers.{length-map_upwards}
 use Rattle.pals_model.specs.declared.design.Component.{Component}
 use Rattle.pals_model.specs.declared.design.Link.{Link}
 use Rattle.pals_model.specs.declared.design.DesignParts.{DesignParts}
@@ -31,7 +32,7 @@ use Rattle.plant_fuse.specs.FusedComposition.{message_on, messages_before, from_
 use Rattle.plant_fuse.specs.FusedComposition.{IsFused}
 use Rattle.plant_fuse.specs.proof.FusedRounds.{frame_of, fused}
 use Rattle.plant_fuse.specs.proof.FusedLaws.{WithoutPairs}
-use Rattle.plant_fuse.proofs.FunctionTables.{length_map_upwards, table}
+use Rattle.plant_fuse.proofs.FunctionTables.{table}
 use Rattle.plant_fuse.proofs.StepRanks.{IsSmall, small_rate}
 use Rattle.plant_fuse.proofs.StepDependencies.{read_at}
 
@@ -190,7 +191,7 @@ module _ (design : DesignParts) (env : Env) (rounds : ℕ) (ins : Inputs) (sound
     left = outputs c.behaviour (state design env node round) own_feed
 
     feed_size : length own_feed ≡ c.rate
-    feed_size = ap length (sym round_vectors) ∙ length_map_upwards (vector node c) (round * c.rate) c.rate
+    feed_size = ap length (sym round_vectors) ∙ length-map_upwards (vector node c) (round * c.rate) c.rate
 
     left_size : length left ≡ c.rate
     left_size = length-outputs c.behaviour (state design env node round) own_feed ∙ feed_size
@@ -223,14 +224,14 @@ module _ (design : DesignParts) (env : Env) (rounds : ℕ) (ins : Inputs) (sound
           let start = initial c.behaviour in
           let both = before ++ own_feed in
           let first_size : length (outputs c.behaviour start before) ≡ round * c.rate =
-          length-outputs c.behaviour start before ∙ length_map_upwards (vector node c) 0 (round * c.rate) in
+          length-outputs c.behaviour start before ∙ length-map_upwards (vector node c) 0 (round * c.rate) in
           let split : outputs c.behaviour start both ≡ outputs c.behaviour start before ++ left =
           outputs-append c.behaviour start before own_feed
           ∙ ap (λ (f : Frame). outputs c.behaviour start before ++ outputs c.behaviour f own_feed)
           (frames node c is_c) in
           let both_size : length (outputs c.behaviour start both) ≡ round * c.rate + c.rate =
           length-outputs c.behaviour start both ∙ ap length (sym first_rounds)
-          ∙ length_map_upwards (vector node c) 0 (suc round * c.rate)
+          ∙ length-map_upwards (vector node c) 0 (suc round * c.rate)
           ∙ (let sum : suc round * c.rate ≡ round * c.rate + c.rate = omega arith in sum) in
           ap (λ xs. slice_index_or (outputs c.behaviour start xs) (round * c.rate + i) []) all_inputs
           ∙ ap (λ (os : List (List PortValue)). slice_index_or os (round * c.rate + i) [])

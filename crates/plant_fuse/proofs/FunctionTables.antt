@@ -1,6 +1,6 @@
--- Lists that are tables of a function over numbers: their lengths, and their elements by place.
-use Rattle.std.proofs.Common.{◌≡◌, ◌∙◌, ℕ, zero, suc, ◌+◌, ◌<◌, ◌≤◌, List, [], ◌∷◌, length, map, Some, None, slice_get}
-use Rattle.std.proofs.Common.{slice_index_or, refl, sym, ap, ap₂, arith}
+-- Lists that are tables of a function over numbers: which are the same, and their elements by place.
+use Rattle.std.proofs.Common.{◌≡◌, ◌∙◌, ℕ, zero, suc, ◌+◌, List, [], ◌∷◌, map, Some, None, slice_get, slice_index_or}
+use Rattle.std.proofs.Common.{refl, sym, ap, ap₂, arith}
 use Rattle.std.specs.List.{enumerate_from}
 use Rattle.pals_base.specs.StepSequences.{upwards}
 
@@ -9,21 +9,6 @@ map_map f g [] = refl
 map_map f g (x ∷ xs) = ap (λ ys. g (f x) ∷ ys) (map_map f g xs)
 
 -- ---- numbers
-pub map_upwards_same : {X : Type 0} (f g : ℕ → X) (from n : ℕ) → ((k : ℕ) → from ≤ k → k < from + n → f k ≡ g k)
-    → map f (upwards from n) ≡ map g (upwards from n)
-map_upwards_same f g from zero same = refl
-map_upwards_same f g from (suc n) same =
-    ap₂ (λ y ys. y ∷ ys) (same from (omega arith) (omega arith))
-    (map_upwards_same f g (suc from) n (λ k above below. same k (omega arith) (omega arith)))
-
-pub length_upwards : (from n : ℕ) → length (upwards from n) ≡ n
-length_upwards from zero = refl
-length_upwards from (suc n) = ap suc (length_upwards (suc from) n)
-
-pub length_map_upwards : {X : Type 0} (f : ℕ → X) (from n : ℕ) → length (map f (upwards from n)) ≡ n
-length_map_upwards f from zero = refl
-length_map_upwards f from (suc n) = ap suc (length_map_upwards f (suc from) n)
-
 get_from_same : {X : Type 0} (f g : ℕ → X) (from n at place : ℕ) → place ≡ from + at → f place ≡ g place
     → slice_get (map f (upwards from n)) at ≡ slice_get (map g (upwards from n)) at
 get_from_same f g from zero at place is same = refl
@@ -35,15 +20,6 @@ get_from_same f g from (suc n) (suc at) place is same = get_from_same f g (suc f
 pub get_upwards_same : {X : Type 0} (f g : ℕ → X) (n at : ℕ) → f at ≡ g at
     → slice_get (map f (upwards 0 n)) at ≡ slice_get (map g (upwards 0 n)) at
 get_upwards_same f g n at same = get_from_same f g 0 n at at (omega arith) same
-
-counted_from : {X : Type 0} (f : ℕ → X) (from n k place : ℕ) → place ≡ from + k → k < n
-    → slice_get (map f (upwards from n)) k ≡ Some (f place)
-counted_from f from zero k place is within = absurd (omega arith)
-counted_from f from (suc n) zero place is within = ap (λ m. Some (f m)) (let same : from ≡ place = omega arith in same)
-counted_from f from (suc n) (suc k) place is within = counted_from f (suc from) n k place (omega arith) (omega arith)
-
-pub counted_at : {X : Type 0} (f : ℕ → X) (n k : ℕ) → k < n → slice_get (map f (upwards 0 n)) k ≡ Some (f k)
-counted_at f n k within = counted_from f 0 n k k (omega arith) within
 
 -- ---- elements with their numbers
 abbrev pub table : {X Y : Type 0} → (ℕ → X → Y) → ℕ → List X → List Y

@@ -7,12 +7,11 @@ use Rattle.pals_base.specs.declared.values.Frame.{Frame}
 use Rattle.pals_base.specs.declared.behaviour.BehaviourParts.{BehaviourParts}
 use Rattle.pals_base.specs.SingleStep.{fire}
 use Rattle.pals_base.specs.StepSequences.{outputs, upwards}
-use Rattle.pals_base.proofs.UpwardNumbers.{map_upwards_more}
+use Rattle.pals_base.proofs.UpwardNumbers.{map_upwards_more, map_upwards_same}
 use Rattle.pals_base.proofs.StepSequences.{frame_after-append, outputs-append}
 use Rattle.sync_product.specs.declared.round_inputs.RoundInputs.{RoundInputs}
 use Rattle.plant_fuse.specs.proof.PairSteps.{Seat, Work, side_vector, row_before, plant_vector, controller_vector}
 use Rattle.plant_fuse.specs.proof.PairSteps.{IsMade, work, AreMade}
-use Rattle.plant_fuse.proofs.FunctionTables.{map_upwards_same}
 
 -- ---- rows so far
 pub row_before_take : (rows : List (List PortValue)) (n : ℕ) → row_before (take n rows) n ≡ row_before rows n

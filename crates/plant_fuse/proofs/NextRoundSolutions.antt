@@ -16,6 +16,7 @@ use Rattle.pals_base.specs.PeriodBound.{sent_steps}
 use Rattle.pals_base.specs.SingleStep.{initial}
 use Rattle.pals_base.specs.StepSequences.{frame_after, outputs, cut, upwards}
 use Rattle.pals_base.proofs.StepSequences.{frame_after-append, outputs-append}
+use Rattle.pals_base.proofs.UpwardNumbers.{length-map_upwards, map_upwards_same, get_or-map_upwards}
 use Rattle.pals_model.specs.declared.design.Component.{Component}
 use Rattle.pals_model.specs.declared.design.Link.{Link}
 use Rattle.pals_model.specs.declared.design.DesignParts.{DesignParts}
@@ -35,7 +36,7 @@ use Rattle.plant_fuse.specs.proof.RoundEquations.{frame_at, outputs_from, left_i
 use Rattle.plant_fuse.specs.proof.RoundEquations.{read_by, round_vector, IsFusedRound, tuple_from, message_in}
 use Rattle.plant_fuse.specs.proof.RoundEquations.{after_round, last_round}
 use Rattle.plant_fuse.specs.proof.FusedLaws.{RoundsGoOn}
-use Rattle.plant_fuse.proofs.FunctionTables.{map_upwards_same, length_map_upwards, table, table_at, table_same}
+use Rattle.plant_fuse.proofs.FunctionTables.{table, table_at, table_same}
 use Rattle.plant_fuse.proofs.StepRanks.{IsSmall, small_rate}
 use Rattle.plant_fuse.proofs.PairLinks.{back_rates, forth_is, read_from_target}
 use Rattle.plant_fuse.proofs.StepDependencies.{read_at, same_messages}
@@ -52,12 +53,6 @@ drop_upwards f from zero m place is =
 drop_upwards f from (suc n) m place is =
     let size : suc n + m ≡ suc (n + m) = omega arith in
     ap (λ k. drop (suc n) (map f (upwards from k))) size ∙ drop_upwards f (suc from) n m place (omega arith)
-
-place_of : {X : Type 0} (f : ℕ → X) (from n i place : ℕ) (d : X) → place ≡ from + i → i < n
-    → slice_index_or (map f (upwards from n)) i d ≡ f place
-place_of f from zero i place d is within = absurd (omega arith)
-place_of f from (suc n) zero place d is within = ap f (let same : from ≡ place = omega arith in same)
-place_of f from (suc n) (suc i) place d is within = place_of f (suc from) n i place d (omega arith) (omega arith)
 
 absent_at : (n i : ℕ) → slice_index_or (replicate n Absent) i Absent ≡ Absent
 absent_at zero i = refl
@@ -107,7 +102,7 @@ module _ (design : DesignParts) (pairs : List Pair) (env : Env) (rounds : ℕ) (
   pub inputs_size : (node : ℕ) (c : Component) → slice_get design.components node ≡ Some c
       → length (inputs_to ins node) ≡ suc rounds * c.rate
   inputs_size node c is_c =
-      ap length (inputs_are node c is_c) ∙ length_map_upwards (vector node c) 0 (suc rounds * c.rate)
+      ap length (inputs_are node c is_c) ∙ length-map_upwards (vector node c) 0 (suc rounds * c.rate)
 
   -- the vectors of the round, and the frame before it
   pub vectors_at : (node : ℕ) (c : Component) → slice_get design.components node ≡ Some c
@@ -208,8 +203,8 @@ module _ (design : DesignParts) (pairs : List Pair) (env : Env) (rounds : ℕ) (
           ∙ ap (λ b. if b then round_tuple design ins link.source.0 link.out_port n else if is_forth pairs link then
           round_tuple design ins link.source.0 link.out_port n else cut (sent_steps design.gamma design.period k)
           (round_tuple design ins link.source.0 link.out_port n)) back)
-          ∙ place_of (λ j. left_by design ins link.source.0 link.out_port (n * k + j)) 0 k (k - 1) (k - 1) Absent
-          (omega arith) (omega (arith, some, rate)))
+          ∙ get_or-map_upwards (λ j. left_by design ins link.source.0 link.out_port (n * k + j)) k (k - 1) Absent
+          (omega (arith, some, rate)))
 
       back_at : (j : ℕ) → j ≡ i → is_back pairs link ≡ true → rate_of design link.source.0 ≡ c.rate
           → left_before design ins link.source.0 link.out_port (rounds * c.rate + j)

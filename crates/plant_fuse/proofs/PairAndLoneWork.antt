@@ -7,6 +7,7 @@ use Rattle.pals_base.specs.declared.values.PortValue.{PortValue}
 use Rattle.pals_base.specs.declared.values.Frame.{Frame}
 use Rattle.pals_base.specs.declared.values.NodeNo.{NodeNo}
 use Rattle.pals_base.specs.StepSequences.{frame_after, outputs, column}
+use Rattle.pals_base.proofs.UpwardNumbers.{slice_get-map_upwards}
 use Rattle.pals_model.specs.declared.design.Component.{Component}
 use Rattle.pals_model.specs.declared.design.DesignParts.{DesignParts}
 use Rattle.pals_model.specs.declared.inputs_parts_and_delays.Part.{Part}
@@ -25,7 +26,6 @@ use Rattle.plant_fuse.specs.proof.Partners.{partner_of, all_partners}
 use Rattle.plant_fuse.specs.proof.DesignTables.{AreTables}
 use Rattle.plant_fuse.specs.proof.PairSteps.{Seat, Work, seat_of, side_work, AreMade, AreSidesRun}
 use Rattle.plant_fuse.specs.proof.RoundWork.{seat, IsPaired, HasWork, IsRun, StayBeside, IsRunAlone}
-use Rattle.plant_fuse.proofs.FunctionTables.{counted_at}
 use Rattle.plant_fuse.proofs.TakenElements.{get_set_other}
 
 seat_is : (design : DesignParts) (parts : List Part) (node partner : ℕ) (side : PairedComponent)
@@ -167,4 +167,4 @@ pub partner_entry : (design : DesignParts) (pairs : List Pair) (tables : Tables)
     → partner ≡ slice_index_or tables.partners node partner → partner ≡ partner_of pairs node
 partner_entry design pairs tables node partner are within is =
     entry_at tables.partners (all_partners design pairs) node partner (partner_of pairs node) are.partners_are
-    (counted_at (partner_of pairs) (length design.components) node within) is
+    (slice_get-map_upwards (partner_of pairs) (length design.components) node within) is

@@ -11,6 +11,7 @@ use Rattle.std.proofs.lemmas.Option.{slice_get_cases, get_or_from_slice_get}
 use Rattle.list_lemmas.proofs.ElementPositions.{slice_get-map_some}
 use Rattle.list_lemmas.proofs.ListOperations.{length-map_enumerate_from, same_from_places}
 use Rattle.pals_base.proofs.SettledStates.{map-same}
+use Rattle.pals_base.proofs.UpwardNumbers.{length-map_upwards}
 use Rattle.pals_base.specs.declared.values.PortValue.{PortValue}
 use Rattle.pals_base.specs.declared.values.PortValue.TheVariants.{Absent}
 use Rattle.pals_base.specs.declared.values.Frame.{Frame}
@@ -39,7 +40,7 @@ use Rattle.plant_fuse.specs.proof.RoundEquations.{frame_at, place_at, left_in, t
 use Rattle.plant_fuse.specs.proof.RoundEquations.{after_round}
 use Rattle.plant_fuse.specs.proof.RoundWork.{rows_of, AreRun}
 use Rattle.plant_fuse.specs.proof.FuseState.{FuseState, part_after, parts_after, IsAdvanced}
-use Rattle.plant_fuse.proofs.FunctionTables.{map_map, length_map_upwards}
+use Rattle.plant_fuse.proofs.FunctionTables.{map_map}
 use Rattle.plant_fuse.proofs.EquationsWithoutPairs.{by_place}
 use Rattle.sync_product.proofs.StepRoom.{count_of_stages}
 use Rattle.plant_fuse.proofs.ComponentPairs.{inside_goes, outside_back, outside_forth}
@@ -87,7 +88,7 @@ module _ (round : RoundInputs) (pairs : List Pair) (are : ArePairs round.design.
       ap length (rows_at_node round pairs are frames next stages run many node c is_c)
       ∙ length-outputs c.behaviour (frame_at at node) (inputs_to vs node)
       ∙ ap length (inputs_at round pairs are frames next stages run node c is_c)
-      ∙ length_map_upwards _ 0 c.rate
+      ∙ length-map_upwards _ 0 c.rate
 
   tuple_is : (node : ℕ) (c : Component) (port : ℕ) → slice_get design.components node ≡ Some c
       → tuple_from design at vs node port ≡ column port (rows node)

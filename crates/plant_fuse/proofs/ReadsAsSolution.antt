@@ -12,6 +12,7 @@ use Rattle.pals_base.specs.declared.values.PortValue.TheVariants.{Absent}
 use Rattle.pals_base.specs.declared.values.Frame.{Frame}
 use Rattle.pals_base.specs.declared.values.NodeNo.{NodeNo}
 use Rattle.pals_base.specs.StepSequences.{outputs, frame_after, column, upwards}
+use Rattle.pals_base.proofs.UpwardNumbers.{map_upwards_same}
 use Rattle.pals_model.specs.declared.design.Component.{Component}
 use Rattle.pals_model.specs.declared.design.Link.{Link}
 use Rattle.pals_model.specs.declared.design.DesignParts.{DesignParts}
@@ -33,7 +34,7 @@ use Rattle.plant_fuse.specs.proof.RoundEquations.{link_by, read_by, vector_by, r
 use Rattle.plant_fuse.specs.proof.PairSteps.{Work, from_partner, from_link, side_value, row_at, row_before}
 use Rattle.plant_fuse.specs.proof.PairSteps.{plant_vector, controller_vector}
 use Rattle.plant_fuse.specs.proof.RoundWork.{seat, rows_of, HasWork, IsRun, AreRun}
-use Rattle.plant_fuse.proofs.FunctionTables.{map_map, map_upwards_same, table, table_at, table_same}
+use Rattle.plant_fuse.proofs.FunctionTables.{map_map, table, table_at, table_same}
 use Rattle.plant_fuse.proofs.PairLinks.{read_from_target}
 use Rattle.plant_fuse.proofs.ComponentPairs.{some_stands, pair_at, to_plant_forth, to_plant_back, to_controller_back}
 use Rattle.plant_fuse.proofs.ComponentPairs.{to_controller_forth, to_alone_back, to_alone_forth}

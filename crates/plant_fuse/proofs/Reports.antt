@@ -1,10 +1,10 @@
 -- The report of fused composition, row by row.
-use Rattle.std.proofs.Common.{◌≡◌, ◌∙◌, ◌++◌, ℕ, zero, suc, ◌+◌, ◌<◌, ◌≤◌, List, [], ◌∷◌, refl, sym, ap, ap₂, slice_get}
-use Rattle.std.proofs.Common.{arith, append-nil, zero-add}
+use Rattle.std.proofs.Common.{◌≡◌, ◌∙◌, ◌++◌, ℕ, suc, ◌+◌, List, [], ◌∷◌, refl, sym, ap, ap₂, slice_get, arith}
+use Rattle.std.proofs.Common.{append-nil, zero-add}
 use Rattle.std.specs.Prelude.{flat_map}
 use Rattle.std.proofs.lemmas.Grind.{flat_map-append}
 use Rattle.pals_base.specs.StepSequences.{upwards}
-use Rattle.pals_base.proofs.UpwardNumbers.{upwards-more}
+use Rattle.pals_base.proofs.UpwardNumbers.{upwards-more, flat_map_upwards_same}
 use Rattle.pals_model.specs.declared.design.DesignParts.{DesignParts}
 use Rattle.pals_model.specs.declared.inputs_parts_and_delays.Env.{Env}
 use Rattle.pals_model.specs.declared.inputs_parts_and_delays.Part.{Part}
@@ -18,13 +18,6 @@ use Rattle.plant_fuse.specs.proof.FusedLaws.{ReportExists, ReportIsOne}
 use Rattle.plant_fuse.proofs.ExactlyOneSolution.{solution_exists, solution_is_one}
 use Rattle.plant_fuse.proofs.SolutionPrefixes.{solution_goes_on}
 use Rattle.plant_fuse.proofs.SolutionParts.{earlier_parts}
-
-pub rows_same : {X : Type 0} (f g : ℕ → List X) (from n : ℕ) → ((k : ℕ) → from ≤ k → k < from + n → f k ≡ g k)
-    → flat_map f (upwards from n) ≡ flat_map g (upwards from n)
-rows_same f g from zero same = refl
-rows_same f g from (suc n) same =
-    ap₂ (λ x xs. x ++ xs) (same from (omega arith) (omega arith))
-    (rows_same f g (suc from) n (λ k above below. same k (omega arith) (omega arith)))
 
 -- one row more
 more : (f : ℕ → List (List ℕ)) (rounds : ℕ)
@@ -45,7 +38,7 @@ module _ (design : DesignParts) (pairs : List Pair) (env : Env) (rounds : ℕ) (
   earlier_rows : freport design first rounds ≡ freport design ins rounds
   earlier_rows =
       ap text_of
-      (rows_same (fused_lines design first) (fused_lines design ins) 0 rounds
+      (flat_map_upwards_same (fused_lines design first) (fused_lines design ins) 0 rounds
       (λ round above below. ap (λ (parts : List Part). row_lines design (λ node. slice_get parts node) round)
       (earlier_parts design pairs env rounds ins sound are solves round (omega (arith, below)))))
 

@@ -13,6 +13,7 @@ use Rattle.pals_base.specs.declared.values.Frame.{Frame}
 use Rattle.pals_base.specs.SingleStep.{initial}
 use Rattle.pals_base.specs.StepSequences.{Stepped, frame_after, column}
 use Rattle.pals_base.proofs.StepSequences.{slice_get-columns}
+use Rattle.pals_base.proofs.UpwardNumbers.{flat_map_upwards_same}
 use Rattle.pals_model.specs.declared.design.Component.{Component}
 use Rattle.pals_model.specs.declared.design.Tap.{Tap}
 use Rattle.pals_model.specs.declared.design.DesignParts.{DesignParts}
@@ -31,7 +32,6 @@ use Rattle.plant_fuse.specs.FusedReport.{fused_part, fused_parts, fused_lines}
 use Rattle.plant_fuse.specs.proof.FusedLaws.{ReportWithoutPairs}
 use Rattle.plant_fuse.proofs.SolutionPrefixes.{take_upwards}
 use Rattle.plant_fuse.proofs.EquationsWithoutPairs as alone
-use Rattle.plant_fuse.proofs.Reports.{rows_same}
 
 -- ---- rows from the same parts
 components_same : (f g : ℕ → Option Part) (k : ℕ) (cs : List Component)
@@ -137,5 +137,5 @@ pub report_without_pairs : ReportWithoutPairs
 report_without_pairs design env rounds text sound is =
     is.says
     ∙ ap text_of
-    (rows_same (fused_lines design is.ins) (composed_lines design env) 0 rounds
+    (flat_map_upwards_same (fused_lines design is.ins) (composed_lines design env) 0 rounds
     (λ round above below. lines_are design env rounds is.ins sound is.solves round (omega (arith, below))))

@@ -6,6 +6,7 @@ use Rattle.pals_base.specs.declared.values.PortValue.{PortValue}
 use Rattle.pals_base.specs.declared.values.PortValue.TheVariants.{Absent}
 use Rattle.pals_base.specs.declared.values.Frame.{Frame}
 use Rattle.pals_base.specs.StepSequences.{upwards}
+use Rattle.pals_base.proofs.UpwardNumbers.{map_upwards_same}
 use Rattle.pals_model.specs.declared.design.Component.{Component}
 use Rattle.pals_model.specs.declared.design.Link.{Link}
 use Rattle.pals_model.specs.declared.design.DesignParts.{DesignParts}
@@ -18,7 +19,7 @@ use Rattle.plant_fuse.specs.FusedComposition.{ArePairs, is_back, is_forth, Input
 use Rattle.plant_fuse.specs.proof.RoundEquations.{frame_at, outputs_from, left_in, left_before_by, brought, link_by}
 use Rattle.plant_fuse.specs.proof.RoundEquations.{read_by, round_vector, IsFusedRound}
 use Rattle.plant_fuse.specs.proof.FusedLaws.{RoundIsOne}
-use Rattle.plant_fuse.proofs.FunctionTables.{map_upwards_same, get_upwards_same, table_at, table_past, table_same}
+use Rattle.plant_fuse.proofs.FunctionTables.{get_upwards_same, table_at, table_past, table_same}
 use Rattle.plant_fuse.proofs.StepRanks.{is_controller, bump}
 use Rattle.plant_fuse.proofs.PairLinks.{forth_is, read_from_target}
 use Rattle.plant_fuse.proofs.StepDependencies.{same_output}

@@ -1,13 +1,13 @@
 -- The steps of a solution can be made one after the other, each from the frame before it: the claim StepsAreMade.
-use Rattle.std.proofs.Common.{◌≡◌, ◌∙◌, ℕ, zero, suc, ◌+◌, ◌*◌, ◌<◌, List, [], ◌∷◌, map, take, Some, slice_get}
-use Rattle.std.proofs.Common.{slice_index_or, ap, arith}
+use Rattle.std.proofs.Common.{◌≡◌, ◌∙◌, ℕ, zero, suc, ◌*◌, List, [], ◌∷◌, take, Some, slice_get, slice_index_or, ap}
 use Rattle.std.proofs.lemmas.Option.{same_Some}
 use Rattle.pals_base.specs.declared.values.PortValue.{PortValue}
 use Rattle.pals_base.specs.declared.values.PortValue.TheVariants.{Absent}
 use Rattle.pals_base.specs.declared.values.Frame.{Frame}
 use Rattle.pals_base.specs.declared.behaviour.BehaviourParts.{BehaviourParts}
 use Rattle.pals_base.specs.SingleStep.{fire, initial}
-use Rattle.pals_base.specs.StepSequences.{frame_after, outputs, upwards}
+use Rattle.pals_base.specs.StepSequences.{frame_after, outputs}
+use Rattle.pals_base.proofs.UpwardNumbers.{slice_get-map_upwards}
 use Rattle.plant_fuse.specs.FusedComposition.{Inputs, inputs_to, outputs_in, vector_of}
 use Rattle.plant_fuse.specs.proof.FusedLaws.{StepsAreMade}
 use Rattle.plant_fuse.proofs.StepDependencies.{read_at}
@@ -26,19 +26,13 @@ left_next b frame [] step v is = absurd (cc)
 left_next b frame (x ∷ xs) zero v is = ap (λ w. (fire b frame w).outs) (same_Some x v is)
 left_next b frame (x ∷ xs) (suc step) v is = left_next b (fire b frame x).frame xs step v is
 
-got_from : {X : Type 0} (f : ℕ → X) (from n at place : ℕ) → place ≡ from + at → at < n
-    → slice_get (map f (upwards from n)) at ≡ Some (f place)
-got_from f from zero at place is within = absurd (omega arith)
-got_from f from (suc n) zero place is within = ap (λ k. Some (f k)) (let same : from ≡ place = omega arith in same)
-got_from f from (suc n) (suc at) place is within = got_from f (suc from) n at place (omega arith) (omega arith)
-
 pub steps_are_made : StepsAreMade
 steps_are_made design pairs env rounds ins node c step sound are is is_c within =
     let xs = inputs_to ins node in
     let read : slice_get xs step ≡ Some (vector_of design pairs env ins node c step) =
     ap (λ (v : Inputs). slice_get (inputs_to v node) step) is
     ∙ ap (λ (ys : List (List PortValue)). slice_get ys step) (read_at design pairs sound are env rounds ins node c is_c)
-    ∙ got_from (vector_of design pairs env ins node c) 0 (rounds * c.rate) step step (omega arith) within in (
+    ∙ slice_get-map_upwards (vector_of design pairs env ins node c) (rounds * c.rate) step within in (
       frame_next c.behaviour (initial c.behaviour) xs step (vector_of design pairs env ins node c step) read,
       λ port.
           ap (λ o. slice_index_or (slice_index_or (outputs_in o xs) step []) port Absent) is_c

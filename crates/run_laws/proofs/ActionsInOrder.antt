@@ -20,13 +20,14 @@ use Rattle.bus_machine.specs.Agreement.{PhaseAgrees, Agrees}
 use Rattle.bus_machine.specs.proof.AgreementLaws.{IsRunOf}
 use Rattle.bus_machine.specs.declared.node_action.NodeAction.TheVariants as action
 use Rattle.bus_machine.proofs.AgreementChanges.{node_stays}
+use Rattle.bus_machine.proofs.MessageAndRunAgreement.{node_opens}
 use Rattle.run_laws.specs.NodeActions.{Follows}
 use Rattle.pals_clock.specs.declared.clock.Clocks.{Clocks}
 use Rattle.pals_clock.specs.declared.clock.Clocks.TheVariants.{Lists}
 use Rattle.run_laws.specs.Runs.{Does, KeepsTo, Runs, opens, picks_for, goes_on}
 use Rattle.run_laws.proofs.ProgressByEvent.{next_is, starts_follow, steps_follow, sends_follow, finish_follows}
 use Rattle.run_laws.proofs.ProgressByEvent.{received_follows}
-use Rattle.run_laws.proofs.NodePicks.{runs_agree, node_opens, plan_rules, held_of, node_agrees, below_nodes}
+use Rattle.run_laws.proofs.NodePicks.{runs_agree, plan_rules, held_of, node_agrees, below_nodes}
 
 abbrev pub HasDone : Run → ℕ → NodeState → Type 0
 HasDone run k n = (done : ℕ) × Follows (plan_of run.design k) done n

@@ -11,6 +11,7 @@ use Rattle.pals_base.specs.declared.values.NodeNo.{NodeNo}
 use Rattle.pals_base.specs.declared.values.LinkNo.{LinkNo}
 use Rattle.pals_base.specs.declared.values.PortValue.{PortValue}
 use Rattle.pals_base.specs.StepSequences.{upwards}
+use Rattle.pals_base.proofs.UpwardNumbers.{length-upwards}
 use Rattle.pals_model.specs.ComponentInputs.{values_at}
 use Rattle.pals_runs.specs.declared.journal.Phase.{Phase}
 use Rattle.pals_runs.specs.declared.journal.Phase.TheVariants.{Waiting, Running, Between, Holding, Done}
@@ -33,11 +34,12 @@ use Rattle.bus_machine.specs.Agreement.{PhaseAgrees, Agrees}
 use Rattle.bus_machine.specs.proof.AgreementLaws.{IsRunOf}
 use Rattle.bus_machine.proofs.LoneNodeAgreement.{finish_keeps, MaySend, may_send_of}
 use Rattle.bus_machine.proofs.AgreementChanges.{is_component}
+use Rattle.bus_machine.proofs.MessageAndRunAgreement.{node_opens}
 use Rattle.run_laws.specs.JournalReadings.{listed, start_in, send_in, starts, sends}
 use Rattle.pals_clock.specs.declared.clock.Clocks.{Clocks}
 use Rattle.pals_clock.specs.declared.clock.Clocks.TheVariants.{Lists}
 use Rattle.run_laws.specs.Runs.{Runs, KeepsTo, opens, picks_for, goes_on}
-use Rattle.run_laws.proofs.NodePicks.{runs_agree, node_opens, length-upwards}
+use Rattle.run_laws.proofs.NodePicks.{runs_agree}
 
 -- ---- the two numbers
 abbrev rounds_of : ℕ → NodeState → ℕ

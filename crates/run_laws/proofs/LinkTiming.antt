@@ -45,12 +45,13 @@ use Rattle.bus_machine.specs.proof.AgreementLaws.{IsRunOf}
 use Rattle.bus_machine.proofs.ListsAndOldestCopies.{numbered_at}
 use Rattle.bus_machine.proofs.LoneNodeAgreement.{finish_keeps}
 use Rattle.bus_machine.proofs.AgreementChanges.{node_stays}
+use Rattle.bus_machine.proofs.MessageAndRunAgreement.{node_opens}
 use Rattle.run_laws.specs.JournalReadings.{if_at, start_in, send_in, starts, sends, latest}
 use Rattle.pals_clock.specs.declared.clock.Clocks.{Clocks}
 use Rattle.pals_clock.specs.declared.clock.Clocks.TheVariants.{Lists}
 use Rattle.run_laws.specs.Runs.{Takes, KeepsTo, Runs, opens, picks_for, goes_on}
 use Rattle.run_laws.specs.proof.LinkTiming.{early_on, view, LinksAreTimed}
-use Rattle.run_laws.proofs.NodePicks.{runs_agree, node_opens}
+use Rattle.run_laws.proofs.NodePicks.{runs_agree}
 use Rattle.run_laws.proofs.JournalStartsAndSends.{rounds_are_shown, sender_before}
 use Rattle.run_laws.proofs.LinkEventEffects.{goes_start, goes_send, goes_arrive, slot_after, taken_after, arrived_at}
 use Rattle.run_laws.proofs.MissedLinks.{full_slot}

@@ -1,11 +1,10 @@
 -- Counts, first elements, and lists by their places.
-use Rattle.std.proofs.Common.{◌≡◌, ℕ, zero, suc, ◌+◌, ◌<◌, ◌≤◌, Bool, true, false, cond, List, [], ◌∷◌, ◌++◌, map}
-use Rattle.std.proofs.Common.{slice_get, Option, Some, None, refl, sym, ap, ap₂, ◌∙◌, arith}
+use Rattle.std.proofs.Common.{◌≡◌, ℕ, zero, suc, ◌+◌, ◌≤◌, Bool, true, false, cond, List, [], ◌∷◌, ◌++◌, map, slice_get}
+use Rattle.std.proofs.Common.{Option, Some, None, refl, sym, ap, ap₂, ◌∙◌, arith}
 use Rattle.std.specs.Prelude.{find, zip, is_some, slice_index_or, count_by}
 use Rattle.std.specs.List.{enumerate_from, before_first, after_first, position_or_len}
 use Rattle.std.proofs.lemmas.List.Sums.{sum_by-cons, sum_by-append, sum_by_push, split_at_first}
 use Rattle.std.proofs.lemmas.List.Folds.{find_at}
-use Rattle.pals_base.specs.StepSequences.{upwards}
 use Rattle.pals_runs.specs.declared.events_and_faults.EventFault.{EventFault}
 use Rattle.run_laws.specs.EventFaults.{or_else, first_of}
 use Rattle.std.proofs.lemmas.Option.{slice_get_within, get_or_from_slice_get}
@@ -66,14 +65,6 @@ none_first f (y ∷ ys) zero x none is = let same : y ≡ x = cc in
 none_first f (y ∷ ys) (suc k) x none is = none_first f ys k x (both_none (f y) (first_of (map f ys)) none).1 is
 
 -- ---- places
-pub upwards_from : (from n k : ℕ) → k < n → slice_get (upwards from n) k ≡ Some (from + k)
-upwards_from from zero k within = absurd (omega arith)
-upwards_from from (suc n) zero within = ap Some (omega arith)
-upwards_from from (suc n) (suc k) within = upwards_from (suc from) n k (omega arith) ∙ ap Some (omega arith)
-
-pub upwards_at : (n k : ℕ) → k < n → slice_get (upwards 0 n) k ≡ Some k
-upwards_at n k within = upwards_from 0 n k within ∙ ap Some (omega arith)
-
 enumerated_from : {X : Type 0} (from : ℕ) (xs : List X) (k n : ℕ) (x : X) → n ≡ from + k → slice_get xs k ≡ Some x
     → slice_get (enumerate_from from xs) k ≡ Some (n, x)
 enumerated_from from [] k n x at is = absurd (cc)

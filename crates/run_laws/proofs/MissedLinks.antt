@@ -1,6 +1,6 @@
 -- The link whose message a start misses.
-use Rattle.std.proofs.Common.{◌≡◌, ◌≢◌, ℕ, zero, suc, ◌+◌, ◌<◌, ◌≤◌, nat_eq, Bool, true, false, List, length, map}
-use Rattle.std.proofs.Common.{slice_get, Option, Some, None, refl, sym, ap, ◌∙◌, subst, arith}
+use Rattle.std.proofs.Common.{◌≡◌, ◌≢◌, ℕ, ◌+◌, ◌<◌, ◌≤◌, nat_eq, Bool, true, false, List, length, map, slice_get}
+use Rattle.std.proofs.Common.{Option, Some, None, refl, sym, ap, ◌∙◌, subst, arith}
 use Rattle.std.specs.Prelude.{position, zip, is_none, is_some, if◌then◌else◌}
 use Rattle.std.specs.Option.{option_map, unwrap_or}
 use Rattle.std.proofs.lemmas.Bool.{and_parts, eqb-true, eqb-false, false≢true}
@@ -10,6 +10,7 @@ use Rattle.list_lemmas.proofs.Options.{option_map-parts, option_map-none}
 use Rattle.run_laws.proofs.Lists.{zipped_at}
 use Rattle.pals_base.specs.declared.values.PortValue.{PortValue}
 use Rattle.pals_base.specs.StepSequences.{upwards}
+use Rattle.pals_base.proofs.UpwardNumbers.{upwards_is, slice_get-upwards}
 use Rattle.pals_model.specs.declared.design.Link.{Link}
 use Rattle.pals_model.specs.declared.design.Feed.{Feed}
 use Rattle.pals_model.specs.declared.design.DesignParts.{DesignParts}
@@ -28,13 +29,6 @@ use Rattle.bus_machine.specs.MissedStarts.{link_into, missing_link}
 use Rattle.bus_machine.specs.Agreement.{Agrees}
 use Rattle.bus_machine.specs.proof.AgreementLaws.{IsRunOf}
 use Rattle.bus_machine.proofs.ListsAndOldestCopies.{none_found}
-
--- ---- lists
-
-upwards_at : (from n k p : ℕ) → slice_get (upwards from n) k ≡ Some p → p ≡ from + k
-upwards_at from zero k p is = absurd (cc)
-upwards_at from (suc n) zero p is = let same : from ≡ p = cc in omega arith
-upwards_at from (suc n) (suc k) p is = let later : p ≡ suc from + k = upwards_at (suc from) n k p is in omega arith
 
 -- ---- an in port that lacks a message
 is_empty : (slot : Option (List PortValue)) → is_none slot ≡ true → slot ≡ None
@@ -107,7 +101,7 @@ missed_link run s node link is =
     option_map-parts (λ p. source_of run.design node p) (slice_get ports port.0) src.0
     (sym (slice_get-map (λ p. source_of run.design node p) ports port.0) ∙ src.1) in
     let this : own.0 ≡ port.0 = let place : own.0 ≡ 0 + port.0 =
-    upwards_at 0 (length c.behaviour.ins) port.0 own.0 own.1 in omega arith in
+    (upwards_is 0 (length c.behaviour.ins) port.0 own.0 own.1).0 in omega arith in
     let reads : source_of run.design node port.0 ≡ source.Link lacking.0 = ap (source_of run.design node) (sym this)
     ∙ own.2 ∙ lacking.2 in
     let number : position (link_goes_to node port.0) run.design.links ≡ Some lacking.0 =
@@ -127,12 +121,6 @@ missed_link run s node link is =
     }
 
 -- ---- where none is missing, each slot is full
-
-pub upwards_get : (from n k : ℕ) → k < n → slice_get (upwards from n) k ≡ Some (from + k)
-upwards_get from zero k within = absurd (omega arith)
-upwards_get from (suc n) zero within = ap Some (omega arith)
-upwards_get from (suc n) (suc k) within = upwards_get (suc from) n k (omega arith) ∙ ap Some (omega arith)
-
 none_by : (count : ℕ) (o : Option ℕ) (b : Bool) → nat_eq count 0 ≡ b → 1 ≤ count
     → (if b then None else o) ≡ None → o ≡ None
 none_by count o true is some none = absurd (let zero' = eqb-true count 0 is in omega arith)
@@ -158,11 +146,9 @@ full_slot run s number link rules agree is none some =
     let ports = upwards 0 (length c.behaviour.ins) in
     let sources = sources_of run.design node c in
     let inputs = map (input_of run.design) sources in
-    let zero' : 0 + link.in_port ≡ link.in_port = omega arith in
     let is_src : slice_get sources link.in_port ≡ Some (source.Link number) =
     slice_get-map (λ p. source_of run.design node p) ports link.in_port
-    ∙ ap (option_map (λ p. source_of run.design node p)) (upwards_get 0 (length c.behaviour.ins) link.in_port port)
-    ∙ ap (λ p. Some (source_of run.design node p)) zero'
+    ∙ ap (option_map (λ p. source_of run.design node p)) (slice_get-upwards (length c.behaviour.ins) link.in_port port)
     ∙ ap Some (link_is_source run.design number link rules.design is) in
     let is_input : slice_get inputs link.in_port ≡ Some (input_from_link run.design (Some link)) =
     slice_get-map (input_of run.design) sources link.in_port ∙ ap (option_map (input_of run.design)) is_src

@@ -1,17 +1,15 @@
 -- With list clocks each node does its actions at its clock's picks.
-use Rattle.std.proofs.Common.{◌≡◌, ◌≢◌, inl, inr, ℕ, zero, suc, ◌+◌, ◌<◌, ◌≤◌, nat_eq, Bool, true, false, cond, List}
-use Rattle.std.proofs.Common.{[], ◌∷◌, ◌++◌, length, slice_get, Option, Some, None, refl, sym, ap, ◌∙◌, subst, arith}
-use Rattle.std.specs.Prelude.{slice_index_or}
+use Rattle.std.proofs.Common.{◌≡◌, ◌≢◌, inl, inr, ℕ, ◌+◌, ◌<◌, ◌≤◌, nat_eq, Bool, true, false, cond, List, [], ◌∷◌}
+use Rattle.std.proofs.Common.{◌++◌, length, slice_get, Option, Some, None, refl, sym, ap, ◌∙◌, subst, arith}
 use Rattle.std.specs.Option.{unwrap_or}
 use Rattle.std.proofs.lemmas.Bool.{cases_eq, eqb-true, eqb-false}
 use Rattle.std.proofs.lemmas.Grind.{get_or-set_at, flat_map-append}
-use Rattle.std.proofs.lemmas.List.{length-set, get_or-set_other, append-nil, get_or-map}
+use Rattle.std.proofs.lemmas.List.{length-set, get_or-set_other, append-nil}
 use Rattle.std.proofs.lemmas.Option.{slice_get-get_or}
 use Rattle.pals_base.specs.declared.values.NodeNo.{NodeNo}
 use Rattle.pals_base.specs.declared.values.Gamma.{Gamma}
 use Rattle.pals_base.specs.declared.values.LinkNo.{LinkNo}
 use Rattle.pals_base.specs.ClockPicks.{reached}
-use Rattle.pals_base.specs.StepSequences.{upwards}
 use Rattle.pals_base.specs.PeriodBound.{sent_steps}
 use Rattle.pals_clock.specs.ClockStates.{ClockState, standing_at}
 use Rattle.pals_model.specs.declared.design.Component.{Component}
@@ -25,7 +23,7 @@ use Rattle.pals_runs.specs.declared.journal.Stop.{Stop}
 use Rattle.pals_runs.specs.declared.journal.JournalEntry.{JournalEntry}
 use Rattle.pals_runs.specs.declared.journal.JournalEntry.TheVariants as entry
 use Rattle.bus_machine.specs.Plans.{plan_of, component_at, no_component}
-use Rattle.bus_machine.specs.Nodes.{NodeState, round_of, opening_node}
+use Rattle.bus_machine.specs.Nodes.{NodeState, round_of}
 use Rattle.bus_machine.specs.NodeEvents.{started, stepped, finished, sent_from, next_step, running_step, received}
 use Rattle.bus_machine.specs.NodeEvents.{arrived}
 use Rattle.bus_machine.specs.LinkEvents.{arriving}
@@ -41,7 +39,7 @@ use Rattle.bus_machine.specs.declared.node_action.NodeAction.{NodeAction}
 use Rattle.bus_machine.specs.declared.node_action.NodeAction.TheVariants as action
 use Rattle.bus_machine.specs.ActionsAndTargets.{target, targets, next_in}
 use Rattle.bus_machine.proofs.AgreementChanges.{node_stays}
-use Rattle.bus_machine.proofs.MessageAndRunAgreement.{replay_agrees}
+use Rattle.bus_machine.proofs.MessageAndRunAgreement.{replay_agrees, node_opens}
 use Rattle.run_laws.specs.JournalReadings.{listed, if_at, act_in, acts}
 use Rattle.run_laws.specs.NodeActions.{upcoming, Follows}
 use Rattle.pals_clock.specs.declared.clock.Clocks.{Clocks}
@@ -307,25 +305,6 @@ event_goes run clocks s (Drop link round) k shown rules agree keeps may = absurd
 event_goes run clocks s (Repeat link round) k shown rules agree keeps may = absurd keeps
 
 -- ---- the opening
-pub length-upwards : (from n : ℕ) → length (upwards from n) ≡ n
-length-upwards from zero = refl
-length-upwards from (suc n) = ap suc (length-upwards (suc from) n)
-
-upwards-from : (from n k at : ℕ) → at ≡ from + k → k < n → slice_index_or (upwards from n) k 0 ≡ at
-upwards-from from zero k at is within = absurd (omega arith)
-upwards-from from (suc n) zero at is within = omega arith
-upwards-from from (suc n) (suc k) at is within = upwards-from (suc from) n k at (omega arith) (omega arith)
-
-pub node_opens : (run : Run) (node : ℕ) → node < length run.design.components
-    → node_at (opening run) node ≡ opening_node (plan_of run.design node)
-node_opens run node within =
-    let count = length-upwards 0 (length run.design.components) in
-    let below : node < length (upwards 0 (length run.design.components)) = omega arith in
-    get_or-map (λ k. opening_node (plan_of run.design k)) (upwards 0 (length run.design.components)) node 0
-    no_node below
-    ∙ ap (λ k. opening_node (plan_of run.design k))
-    (upwards-from 0 (length run.design.components) node node (omega arith) within)
-
 opening_picks : (run : Run) (clocks : List ClockState) (node : ℕ) → AreFresh run clocks
     → node < length run.design.components → Has run clocks node (node_at (opening run) node) []
 opening_picks run clocks node fresh within =

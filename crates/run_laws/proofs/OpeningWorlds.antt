@@ -1,12 +1,11 @@
 -- The opening world: nothing has started, and nothing is sent.
 use Rattle.std.proofs.Common.{◌≡◌, ℕ, zero, suc, ◌+◌, ◌<◌, ◌≤◌, nat_eq, List, [], ◌∷◌, length, map, Option, Some, None}
 use Rattle.std.proofs.Common.{refl, sym, ap, ◌∙◌, subst, arith}
-use Rattle.std.specs.Prelude.{nat_lt, is_some, option_map, slice_index_or}
+use Rattle.std.specs.Prelude.{nat_lt, is_some, slice_index_or}
 use Rattle.std.proofs.lemmas.Bool.{and_right, le-ltb, false≢true}
 use Rattle.std.proofs.lemmas.List.{length-map}
-use Rattle.std.proofs.lemmas.Option.{slice_get-map, get_or_from_slice_get, none-some}
+use Rattle.std.proofs.lemmas.Option.{none-some}
 use Rattle.pals_base.specs.declared.values.PortValue.{PortValue}
-use Rattle.pals_base.specs.StepSequences.{upwards}
 use Rattle.pals_model.specs.declared.design.Component.{Component}
 use Rattle.pals_model.specs.declared.design.Link.{Link}
 use Rattle.pals_model.specs.declared.flight_copy.FlightCopy.{FlightCopy}
@@ -16,15 +15,14 @@ use Rattle.bus_machine.specs.Plans.{plan_of}
 use Rattle.bus_machine.specs.Nodes.{NodeState, opening_node}
 use Rattle.bus_machine.specs.NodeEvents.{slot_at}
 use Rattle.bus_machine.specs.EarliestReadings.{start_alarm}
-use Rattle.bus_machine.specs.States.{Run, opening, node_at, no_node, flight_at, link_at}
+use Rattle.bus_machine.specs.States.{Run, opening, node_at, flight_at, link_at}
 use Rattle.bus_machine.specs.MissedStarts.{rounds_sent_on, sent_rounds}
 use Rattle.bus_machine.specs.proof.AgreementLaws.{IsRunOf}
 use Rattle.run_laws.specs.Deadlines.{last_before}
 use Rattle.run_laws.specs.Worlds.{opening_world, reading_at, since_at, ready_at}
-use Rattle.bus_machine.proofs.MessageAndRunAgreement.{opening_agrees}
+use Rattle.bus_machine.proofs.MessageAndRunAgreement.{opening_agrees, node_opens}
 use Rattle.run_laws.specs.proof.WorldInvariant.{IsInTime, IsOnce, copies, waits, taken, one_if, KeepsLink}
 use Rattle.run_laws.specs.proof.WorldLaws.{OpeningKeepsTime}
-use Rattle.run_laws.proofs.Lists.{upwards_at}
 use Rattle.run_laws.proofs.WorldNodeTiming.{Stands, StandsAt, deadline_is, both_in_time, send_last}
 use Rattle.run_laws.proofs.WorldLinkTiming.{rule_of, one_of_false}
 
@@ -65,14 +63,6 @@ nothing_waits [] port = refl
 nothing_waits (i ∷ inputs) zero = refl
 nothing_waits (i ∷ inputs) (suc port) = nothing_waits inputs port
 
-pub opens_at : (run : Run) (node : ℕ) → node < length run.design.components
-    → node_at (opening run) node ≡ opening_node (plan_of run.design node)
-opens_at run node within =
-    let f : ℕ → NodeState = λ k. opening_node (plan_of run.design k) in
-    let nodes = upwards 0 (length run.design.components) in
-    get_or_from_slice_get (map f nodes) node (f node) no_node
-    (slice_get-map f nodes node ∙ ap (option_map f) (upwards_at (length run.design.components) node within))
-
 -- ---- a link
 none_once : (slot : Option (List PortValue)) (flight : List FlightCopy) (count sent round : ℕ) → slot ≡ None
     → flight ≡ [] → count ≡ 0 → sent ≡ 0 → IsOnce count slot sent flight round
@@ -111,7 +101,7 @@ module _ (run : Run) (rules : IsRunOf run) where
         sends = record { each = refl; sent = λ round is. absurd (omega arith) };
       } in
       let cs = run.design.components in
-      let one = subst (λ (m : NodeState). Stands g plan m 0 0 0 0 []) (sym (opens_at run node within)) stands in
+      let one = subst (λ (m : NodeState). Stands g plan m 0 0 0 0 []) (sym (node_opens run node within)) stands in
       let two = subst (λ k. Stands g plan (node_at (opening run) node) k 0 k k []) (sym (zero_at cs node)) one in
       subst (λ l. Stands g plan (node_at (opening run) node) (reading_at (opening_world run) node) 0
       (since_at (opening_world run) node) (ready_at (opening_world run) node) l)
@@ -124,8 +114,8 @@ module _ (run : Run) (rules : IsRunOf run) where
       let link = link_at run.design number in
       let s = opening run in
       let rule = rule_of run number rules within in
-      let to = opens_at run link.target.0 rule.target.node_is in
-      let from = opens_at run link.source.0 rule.source.node_is in
+      let to = node_opens run link.target.0 rule.target.node_is in
+      let from = node_opens run link.source.0 rule.source.node_is in
       let flies : flight_at s number ≡ [] = nothing_flies run.design.links number in
       record {
         once = λ round.

@@ -12,6 +12,7 @@ use Rattle.std.proofs.lemmas.List.Sums.{fold-append, prefix_len-le-length}
 use Rattle.std.proofs.lemmas.Option.{same_Some}
 use Rattle.std.proofs.lemmas.Slice.Eq.{bytes_eq-Decides}
 use Rattle.pals_base.specs.StepSequences.{upwards}
+use Rattle.pals_base.proofs.UpwardNumbers.{length-upwards}
 use Rattle.pals_model.specs.declared.design.DesignParts.{DesignParts}
 use Rattle.pals_model.specs.RoundTexts.{report_lines}
 use Rattle.pals_model.specs.DesignRules.{IsDesign}
@@ -111,10 +112,6 @@ pub record KeepsUp (run : Run) (front : List JournalEntry) (a : Audit) : Type 0 
   pub history : History run (front ++ listed a.owed) a.bus
   pub many : length a.readings ≡ length run.design.components
   pub last : AreLast run front a.readings
-
-length-upwards : (from n : ℕ) → length (upwards from n) ≡ n
-length-upwards from zero = refl
-length-upwards from (suc n) = let rest = length-upwards (suc from) n in omega arith
 
 abbrev no_reading : NodeState → ℕ
 no_reading n = 0

@@ -14,6 +14,7 @@ use Rattle.pals_base.specs.declared.values.NodeNo.{NodeNo}
 use Rattle.pals_base.specs.declared.values.PortValue.{PortValue}
 use Rattle.pals_base.specs.PeriodBound.{alarm}
 use Rattle.pals_base.specs.StepSequences.{upwards}
+use Rattle.pals_base.proofs.UpwardNumbers.{slice_get-upwards}
 use Rattle.pals_model.specs.declared.design.Component.{Component}
 use Rattle.pals_model.specs.declared.design.Link.{Link}
 use Rattle.pals_model.specs.declared.design.Feed.{Feed}
@@ -42,7 +43,7 @@ use Rattle.bus_machine.proofs.InputAgreement.{reads_link, length_sources}
 use Rattle.bus_machine.proofs.AgreementChanges.{node_set, node_stays}
 use Rattle.bus_machine.proofs.NodeEventAgreement.{start_keeps}
 use Rattle.run_laws.specs.proof.WorldInvariant.{IsOnce, copies, waits, taken, one_if, RunsSince, KeepsLink, KeepsTime}
-use Rattle.run_laws.proofs.Lists.{upwards_at, zipped_at}
+use Rattle.run_laws.proofs.Lists.{zipped_at}
 use Rattle.run_laws.proofs.WorldNodeTiming.{FitsAt, fits_at, may_is, Stands, stands_at, both_in_time, sends_in_time}
 use Rattle.run_laws.proofs.WorldNodeTiming.{late, phase_agrees}
 use Rattle.run_laws.proofs.WorldLinkTiming.{has_come, link_is, one_of_true, one_of_false}
@@ -86,7 +87,7 @@ source_at design node k c src is =
     option_map-parts (λ port. source_of design node port) (slice_get ports k) src
     (sym (slice_get-map (λ port. source_of design node port) ports k) ∙ is) in
     let same : k ≡ found.0 =
-    same_Some k found.0 (sym (upwards_at (length c.behaviour.ins) k (within_ports design node k c src is))
+    same_Some k found.0 (sym (slice_get-upwards (length c.behaviour.ins) k (within_ports design node k c src is))
     ∙ found.1) in
     ap (source_of design node) same ∙ found.2
 

@@ -8,6 +8,7 @@ use Rattle.std.proofs.lemmas.Option.{slice_get-get_or}
 use Rattle.std.proofs.lemmas.List.Folds.{find_at}
 use Rattle.list_lemmas.proofs.Elements.{find-passes}
 use Rattle.pals_base.specs.StepSequences.{upwards}
+use Rattle.pals_base.proofs.UpwardNumbers.{slice_get-upwards}
 use Rattle.pals_model.specs.declared.flight_copy.FlightCopy.{FlightCopy}
 use Rattle.pals_model.specs.Flights.{is_of, oldest}
 use Rattle.pals_runs.specs.declared.events_and_faults.Event.TheVariants as event
@@ -23,7 +24,7 @@ use Rattle.run_laws.specs.Deadlines.{node_deadline, message_deadline}
 use Rattle.run_laws.specs.EventFaults.{fault_of, found_if, first_of, apart, clock_back, clock_apart, past, node_past}
 use Rattle.run_laws.specs.EventFaults.{copy_past, link_past}
 use Rattle.run_laws.specs.proof.WorldInvariant.{IsInTime, KeepsNode, KeepsSends, KeepsTime}
-use Rattle.run_laws.proofs.Lists.{both_none, none_first, upwards_at, enumerated_at}
+use Rattle.run_laws.proofs.Lists.{both_none, none_first, enumerated_at}
 use Rattle.run_laws.proofs.WorldNodeTiming.{deadline_is}
 use Rattle.run_laws.proofs.FaultlessEventConditions.{named, none_if}
 
@@ -96,11 +97,11 @@ module _ (run : Run) (w : World) (time : ℕ) (readings : List ℕ) where
         in_time = λ node within.
             none_past time (which.Node (record { 0 = node })) (node_deadline run w node)
             (none_first (node_past run w time) nodes node node four.0
-            (upwards_at (length run.design.components) node within));
+            (slice_get-upwards (length run.design.components) node within));
         arrive = λ number round within flies.
             copy_in_time number round (oldest round (flight_at w.bus number)) refl flies
             (none_first (link_past run w time) links number number five.0
-            (upwards_at (length run.design.links) number within));
+            (slice_get-upwards (length run.design.links) number within));
       }
 
 -- ---- what it keeps

@@ -1,7 +1,7 @@
 -- Two runs of the design of two counters: one with a meeting, which is done, and one with lists, of which the first
 -- is too short.
-use Rattle.std.proofs.Common.{◌≡◌, inl, inr, ℕ, zero, suc, ◌+◌, ◌<◌, ◌≤◌, nat_le, nat_eq, Bool, true, false, not, cond}
-use Rattle.std.proofs.Common.{List, [], ◌∷◌, length, Option, Some, None, refl, sym, ap, ◌∙◌, subst, arith}
+use Rattle.std.proofs.Common.{◌≡◌, inl, inr, ℕ, zero, suc, ◌<◌, ◌≤◌, nat_le, nat_eq, Bool, true, false, not, cond, List}
+use Rattle.std.proofs.Common.{[], ◌∷◌, length, Option, Some, None, refl, sym, ap, ◌∙◌, subst, arith}
 use Rattle.std.specs.List.{list_all}
 use Rattle.std.specs.List.Sorted.{IsNonDecreasing}
 use Rattle.std.specs.Option.{option_map_or}
@@ -10,6 +10,7 @@ use Rattle.std.proofs.lemmas.Grind.{common_steps}
 use Rattle.std.proofs.lemmas.List.Elements.{All-weaker}
 use Rattle.std.proofs.lemmas.Option.{slice_get_within}
 use Rattle.pals_base.specs.StepSequences.{upwards}
+use Rattle.pals_base.proofs.UpwardNumbers.{slice_get-upwards}
 use Rattle.pals_clock.specs.ClockStates.{ClockState, unpicked, standing_at}
 use Rattle.pals_model.specs.declared.design.Link.{Link}
 use Rattle.pals_model.proofs.FirstMatches.{at_element}
@@ -25,7 +26,6 @@ use Rattle.pals_clock.specs.declared.clock.Clocks.TheVariants.{Meet, Lists}
 use Rattle.run_laws.specs.Runs.{clock_at, target_of, IsLeast, HasEnded, NoneDue, IsAwaited, Runs, opens, picks_for}
 use Rattle.run_laws.specs.Runs.{goes_on}
 use Rattle.run_laws.specs.proof.TwoCounterRuns.{counters_for, SomeMeetingEnds, SomeListEnds}
-use Rattle.run_laws.proofs.MissedLinks.{upwards_get}
 use Rattle.run_laws.proofs.MeetingStopsAndBounds.{link_is}
 
 -- ---- what a test tells
@@ -35,12 +35,11 @@ no_less run s at =
 
 least_by : (run : Run) (s : BusState) (at : ℕ) → no_less run s at ≡ true → IsLeast run s at
 least_by run s at passes = λ other least within is.
-    let here : 0 + other ≡ other = omega arith in
     let test =
     at_element (λ k. option_map_or (nat_le at) (target_of run s k) true ≡ true)
     (upwards 0 (length run.design.components)) other other
     (all_pass (λ k. option_map_or (nat_le at) (target_of run s k) true) (upwards 0 (length run.design.components))
-    passes) (upwards_get 0 (length run.design.components) other within ∙ ap Some here) in
+    passes) (slice_get-upwards (length run.design.components) other within) in
     leb-true at least (sym (ap (λ o. option_map_or (nat_le at) o true) is) ∙ test)
 
 abbrev none_on : BusState → Option ℕ → ℕ → Bool
@@ -59,12 +58,11 @@ none_by : (run : Run) (s : BusState) (node : ℕ) (reading : Option ℕ) → non
     → NoneDue run s node reading
 none_by run s node reading passes = λ link l is to.
     let within = slice_get_within run.design.links link l is in
-    let here : 0 + link ≡ link = omega arith in
     let each = λ (k : ℕ). cond (nat_eq (link_at run.design k).target.0 node) (none_on s reading k) true in
     let test =
     at_element (λ k. each k ≡ true) (upwards 0 (length run.design.links)) link link
     (all_pass each (upwards 0 (length run.design.links)) passes)
-    (upwards_get 0 (length run.design.links) link within ∙ ap Some here) in
+    (slice_get-upwards (length run.design.links) link within) in
     let target : (link_at run.design link).target.0 ≡ node =
     ap (λ (m : Link). m.target.0) (link_is run link l is) ∙ to in
     let own : nat_eq (link_at run.design link).target.0 node ≡ true = grind (arith, common_steps) in

@@ -7,7 +7,7 @@ use Rattle.std.proofs.lemmas.List.Folds.{list_any-append, list_all-append}
 use Rattle.std.proofs.Math.Bool.{or-false, and-true}
 use Rattle.list_lemmas.proofs.Booleans.{and_assoc_left}
 use Rattle.pals_base.specs.StepSequences.{upwards}
-use Rattle.pals_base.proofs.UpwardNumbers.{upwards-more}
+use Rattle.pals_base.proofs.UpwardNumbers.{upwards-more, list_all_upwards}
 use Rattle.run_monitor.specs.TemporalOperators.{rounds_to, rounds_after, previously, once, always, since}
 
 -- ---- tests
@@ -146,13 +146,6 @@ all_at p from (suc count) is m low high =
       | inr above ↦ all_at p (suc from) count halves.1 m (omega arith) (omega arith)
     ]
 
-at_all : (p : ℕ → Bool) (from count : ℕ) → ((m : ℕ) → from ≤ m → m < from + count → p m ≡ true)
-    → list_all p (upwards from count) ≡ true
-at_all p from zero each = refl
-at_all p from (suc count) each =
-    and_from (p from) (list_all p (upwards (suc from) count)) (each from (omega arith) (omega arith))
-    (at_all p (suc from) count (λ m low high. each m (omega arith) (omega arith)))
-
 pub previously-reads : (p : ℕ → Bool) (n : ℕ) → previously p n ≡ true ↔ ((m : ℕ) × (n ≡ suc m) × (p m ≡ true))
 previously-reads p zero = (λ is. absurd (cc), λ at. absurd (omega (arith, at.1)))
 previously-reads p (suc n) = (λ is. (n, refl, is), λ at. let same : n ≡ at.0 = omega (arith, at.1) in ap p same ∙ at.2)
@@ -166,7 +159,7 @@ once-reads p n = (
 pub always-reads : (p : ℕ → Bool) (n : ℕ) → always p n ≡ true ↔ ((m : ℕ) → m ≤ n → p m ≡ true)
 always-reads p n = (
   λ is. (λ m within. all_at p 0 (suc n) is m (omega arith) (omega arith)),
-  λ each. at_all p 0 (suc n) (λ m low high. each m (omega arith)),
+  λ each. list_all_upwards p 0 (suc n) (λ m low high. each m (omega arith)),
 )
 
 abbrev HoldsSince : (ℕ → Bool) → (ℕ → Bool) → ℕ → Type 0
@@ -189,4 +182,4 @@ since-reads p q n = (there, back)
         let within : m ≤ n = at.1 in
         at_some (held_since p q n) 0 (suc n) m (omega arith) (omega arith)
         (and_from (q m) (list_all p (rounds_after m n)) at.2
-        (at_all p (suc m) (n - m) (λ i low high. at.3 i (omega arith) (omega arith))))
+        (list_all_upwards p (suc m) (n - m) (λ i low high. at.3 i (omega arith) (omega arith))))

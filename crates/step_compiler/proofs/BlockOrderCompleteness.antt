@@ -12,13 +12,14 @@ use Rattle.pals_base.specs.StepSequences.{upwards}
 use Rattle.pals_base.specs.BehaviourRules.{is_edge, IsBehaviour}
 use Rattle.pals_base.specs.proof.SettledStates.{settles}
 use Rattle.pals_base.proofs.WaysAndCycles.{settled_unless_cycle}
+use Rattle.pals_base.proofs.UpwardNumbers.{length-upwards}
 use Rattle.step_code.specs.CodeLengths.{code_length}
 use Rattle.step_code.specs.proof.StackHeights.{Member}
 use Rattle.step_compiler.specs.LaidOutCode.{states_of, complete_states}
 use Rattle.step_compiler.specs.proof.BlockOrder.{is_placed, leads_from_outside, is_awaited, may_follow, next_state}
 use Rattle.step_compiler.specs.proof.BlockOrder.{with_next, ordered, block_order}
 use Rattle.step_compiler.specs.proof.BlockLengthsAndStarts.{order_length}
-use Rattle.step_compiler.proofs.NumbersFromZero.{found_is, none_is, member_upwards, length-upwards}
+use Rattle.step_compiler.proofs.NumbersFromZero.{found_is, none_is, member_upwards}
 use Rattle.step_compiler.proofs.OutsideTransitionMarks.{edge_has}
 use Rattle.step_compiler.proofs.BlockOrderInvariant.{placed_more, more_true, all_placed, IsBuilt, built_more}
 use Rattle.step_compiler.proofs.BlockOrderInvariant.{completes_first}

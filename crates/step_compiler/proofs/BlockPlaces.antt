@@ -7,6 +7,7 @@ use Rattle.pals_base.specs.declared.behaviour.BehaviourParts.{BehaviourParts}
 use Rattle.pals_base.specs.PlainTrees.{Edge, Trigger, Dispatch, Always, When}
 use Rattle.pals_base.specs.SingleStep.{is_complete, leaving, is_dispatch}
 use Rattle.pals_base.specs.BehaviourRules.{IsBehaviour}
+use Rattle.pals_base.proofs.UpwardNumbers.{get_or-map_upwards}
 use Rattle.step_code.specs.declared.instr.Instr.{Instr}
 use Rattle.step_code.specs.CodeLengths.{length_trigger, length_edge}
 use Rattle.step_compiler.specs.TreeInstructions.{code_acts}
@@ -14,7 +15,6 @@ use Rattle.step_compiler.specs.proof.BlockOrder.{is_placed, block_order}
 use Rattle.step_compiler.specs.BlockInstructions.{trigger_code, last_instr, past, edge_code, block_code, block_length}
 use Rattle.step_compiler.specs.BlockInstructions.{start_of, blocks_code, dispatch_offset}
 use Rattle.step_compiler.specs.proof.BlockLengthsAndStarts.{in_list, block_starts}
-use Rattle.step_compiler.proofs.NumbersFromZero.{listed}
 use Rattle.step_compiler.proofs.PlacedCodeLengths.{HasAt, has_front, has_back, edge-length, block-length}
 use Rattle.step_compiler.proofs.BlockOrderCompleteness.{order_full}
 
@@ -71,7 +71,7 @@ block_at whole b starts (t ∷ order) s p has placed =
 -- ---- the place of a block, as it is listed
 pub start_is : (b : BehaviourParts) (s : ℕ) → s < length b.states
     → in_list (block_starts b) s ≡ start_of b (block_order b) s
-start_is b s within = listed (start_of b (block_order b)) (length b.states) s 0 within
+start_is b s within = get_or-map_upwards (start_of b (block_order b)) (length b.states) s 0 within
 
 -- the block of a state of the whole code
 pub whole_block : (whole : List Instr) (b : BehaviourParts) (s : ℕ) → IsBehaviour b

@@ -25,6 +25,7 @@ use Rattle.pals_base.specs.proof.SettledStates.{settles}
 use Rattle.pals_base.proofs.SettledStates.{rule_at}
 use Rattle.pals_base.proofs.WaysAndCycles.{settled_unless_cycle}
 use Rattle.pals_base.proofs.StepTermination.{leaving_sound}
+use Rattle.pals_base.proofs.UpwardNumbers.{length-upwards, slice_get-map_upwards}
 use Rattle.step_code.specs.declared.instr.Instr.{Instr}
 use Rattle.step_code.specs.declared.instr.CodeParts.{CodeParts}
 use Rattle.step_code.specs.InstructionEffects.{Senses}
@@ -49,7 +50,6 @@ use Rattle.step_compiler.proofs.SoundAccesses.{Fitting, acts_seen, trigger_seen}
 use Rattle.step_compiler.proofs.PlacedCodeLengths.{HasAt, blocks-length}
 use Rattle.step_compiler.proofs.OutsideTransitionMarks.{edge_has}
 use Rattle.step_compiler.proofs.BlockOrderCompleteness.{all_member, order_sum}
-use Rattle.step_compiler.proofs.NumbersFromZero.{got, length-upwards}
 use Rattle.step_compiler.proofs.BlockPlaces.{whole_block, dispatch_at}
 use Rattle.step_compiler.proofs.ExpressionRuns.{At, at, runs}
 use Rattle.step_compiler.proofs.ActionAndLoopEffects.{Fits}
@@ -263,7 +263,7 @@ runs_from b c held inputs rules verified instrs entries vars loops outs within c
     let s = senses held.held inputs in
     let slots = held.vars ++ replicate (depth_edges b.transitions) (pos 0) in
     let entry : slice_get c.entries state ≡ Some (Some place) =
-    ap (λ xs. slice_get xs state) entries ∙ got (entry_of b starts) n state within
+    ap (λ xs. slice_get xs state) entries ∙ slice_get-map_upwards (entry_of b starts) n state within
     ∙ ap (λ x. Some (if x then Some place else None)) complete in
     let over = run_over c held inputs place verified (member_at c.entries state (Some place) entry) in
     let sound = all_member (is_edge b) (leaving b state) e (leaving_sound b state rules) d.among in
@@ -342,7 +342,7 @@ entry_by : (b : BehaviourParts) (c : CodeParts) (s : ℕ) (d : StateDecl)
 entry_by b c s d entries is =
     let starts = in_list (block_starts b) in
     ap (λ xs. has_entry (slice_get xs s)) entries
-    ∙ ap has_entry (got (entry_of b starts) (length b.states) s (slice_get_within b.states s d is))
+    ∙ ap has_entry (slice_get-map_upwards (entry_of b starts) (length b.states) s (slice_get_within b.states s d is))
     ∙ by d.complete (ap completes is)
   where
     by : (t : Bool) → is_complete b s ≡ t → has_entry (Some (entry_of b (in_list (block_starts b)) s)) ≡ t

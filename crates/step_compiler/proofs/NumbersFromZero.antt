@@ -1,34 +1,11 @@
--- Lists made of the numbers from 0 on: lengths, elements, and what is found first.
+-- The numbers from 0 on: which are members, which pass a test, and which is the first that does.
 use Rattle.std.proofs.Common.{◌≡◌, ◌∙◌, inl, inr, subst, None, ℕ, zero, suc, ◌+◌, ◌-◌, ◌<◌, Bool, true, false}
-use Rattle.std.proofs.Common.{if◌then◌else◌, List, [], ◌∷◌, ◌++◌, length, map, slice_index_or, Some, refl, sym, ap}
-use Rattle.std.proofs.Common.{arith, add-one, zero-add}
-use Rattle.std.specs.Prelude.{filter, find, slice_get}
+use Rattle.std.proofs.Common.{if◌then◌else◌, List, [], ◌∷◌, ◌++◌, Some, refl, sym, ap, arith, add-one, zero-add}
+use Rattle.std.specs.Prelude.{filter, find}
 use Rattle.std.proofs.lemmas.List.Elements.{filter-append}
 use Rattle.pals_base.specs.StepSequences.{upwards}
 use Rattle.step_code.specs.proof.StackHeights.{Member}
 use Rattle.pals_base.proofs.UpwardNumbers.{upwards-more, upwards_next}
-
-pub length-upwards : (from n : ℕ) → length (upwards from n) ≡ n
-length-upwards from zero = refl
-length-upwards from (suc n) = ap suc (length-upwards (suc from) n)
-
-listed_from : {A : Type 0} (f : ℕ → A) (from n s : ℕ) (d : A) → s < n
-    → slice_index_or (map f (upwards from n)) s d ≡ f (from + s)
-listed_from f from zero s d within = absurd (omega arith)
-listed_from f from (suc n) zero d within = ap f (omega arith)
-listed_from f from (suc n) (suc s) d within = listed_from f (suc from) n s d (omega arith) ∙ ap f (omega arith)
-
--- what is listed of all numbers below another, at one of them
-pub listed : {A : Type 0} (f : ℕ → A) (n s : ℕ) (d : A) → s < n → slice_index_or (map f (upwards 0 n)) s d ≡ f s
-listed f n s d within = listed_from f 0 n s d within ∙ ap f (zero-add s)
-
-got_from : {A : Type 0} (f : ℕ → A) (from n s : ℕ) → s < n → slice_get (map f (upwards from n)) s ≡ Some (f (from + s))
-got_from f from zero s within = absurd (omega arith)
-got_from f from (suc n) zero within = ap (λ k. Some (f k)) (omega arith)
-got_from f from (suc n) (suc s) within = got_from f (suc from) n s (omega arith) ∙ ap (λ k. Some (f k)) (omega arith)
-
-pub got : {A : Type 0} (f : ℕ → A) (n s : ℕ) → s < n → slice_get (map f (upwards 0 n)) s ≡ Some (f s)
-got f n s within = got_from f 0 n s within ∙ ap (λ k. Some (f k)) (zero-add s)
 
 -- ---- the first one for which a test holds
 cond_find : (f : ℕ → Bool) (s : ℕ) (rest : List ℕ) (t : Bool) → f s ≡ t

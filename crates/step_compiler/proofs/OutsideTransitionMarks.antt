@@ -12,8 +12,8 @@ use Rattle.pals_base.specs.StepSequences.{upwards}
 use Rattle.pals_base.specs.PlainTrees.{Edge}
 use Rattle.pals_base.specs.TypingRules.{are_sound}
 use Rattle.pals_base.specs.BehaviourRules.{has_condition, is_edge, IsBehaviour}
+use Rattle.pals_base.proofs.UpwardNumbers.{length-upwards, get_or-map_upwards}
 use Rattle.step_compiler.specs.proof.BlockOrder.{is_placed, leads_from_outside, is_awaited, states_outside, with_target}
-use Rattle.step_compiler.proofs.NumbersFromZero.{listed, length-upwards}
 
 -- ---- a transition's states, guard and actions
 pub record HasEdge (b : BehaviourParts) (e : Edge) : Type 0 where
@@ -71,7 +71,7 @@ if_size false marks at = refl
 
 outside_at : (order : List ℕ) (n s : ℕ) → s < n
     → slice_index_or (states_outside order n) s false ≡ not (is_placed order s)
-outside_at order n s within = listed (λ t. not (is_placed order t)) n s false within
+outside_at order n s within = get_or-map_upwards (λ t. not (is_placed order t)) n s false within
 
 targets : (b : BehaviourParts) (order : List ℕ) (s : ℕ) (es : List Edge) (marks : List Bool)
     → list_all (is_edge b) es ≡ true → s < length marks

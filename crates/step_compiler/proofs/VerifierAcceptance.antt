@@ -12,6 +12,7 @@ use Rattle.pals_base.specs.PlainTrees.{Edge, Trigger, Dispatch, Always, When}
 use Rattle.pals_base.specs.SingleStep.{is_complete, leaving, is_dispatch}
 use Rattle.pals_base.specs.StepSequences.{upwards}
 use Rattle.pals_base.specs.BehaviourRules.{is_edge, is_always, IsBehaviour}
+use Rattle.pals_base.proofs.UpwardNumbers.{slice_get-map_upwards}
 use Rattle.step_code.specs.declared.instr.Instr.{Instr}
 use Rattle.step_code.specs.declared.instr.Instr.TheVariants as code
 use Rattle.step_code.specs.declared.instr.CodeParts.{CodeParts}
@@ -40,7 +41,6 @@ use Rattle.step_compiler.proofs.PlacedCodeLengths.{edge-length, blocks-length}
 use Rattle.step_compiler.proofs.OutsideTransitionMarks.{edge_has}
 use Rattle.step_compiler.proofs.BlockOrderInvariant.{start_below}
 use Rattle.step_compiler.proofs.BlockOrderCompleteness.{all_member, some_member, order_full}
-use Rattle.step_compiler.proofs.NumbersFromZero.{got}
 use Rattle.step_compiler.proofs.BlockPlaces.{whole_at, start_is, whole_block}
 use Rattle.step_compiler.proofs.CompilerCorrectness.{sizes, fitting, onward_of, dispatch_of, compiled_length}
 use Rattle.step_compiler.proofs.JumpsWithinLoops.{Closed, jump_stays, closed_both, none_closed, expr_closed}
@@ -79,7 +79,8 @@ module _ (b : BehaviourParts) (c : CodeParts) (rules : IsBehaviour b)
 
   entry_there : (t : ℕ) → t < length b.states → is_complete b t ≡ true → has_entry (slice_get c.entries t) ≡ true
   entry_there t within complete =
-      ap (λ xs. has_entry (slice_get xs t)) entries ∙ ap has_entry (got (entry_of b starts) (length b.states) t within)
+      ap (λ xs. has_entry (slice_get xs t)) entries
+      ∙ ap has_entry (slice_get-map_upwards (entry_of b starts) (length b.states) t within)
       ∙ ap (λ x. has_entry (Some (if x then Some (starts t + dispatch_offset (leaving b t)) else None))) complete
 
   -- the end of a transition

@@ -13,6 +13,7 @@ use Rattle.pals_base.specs.declared.values.Frame.{Frame}
 use Rattle.pals_base.specs.PeriodBound.{sent_steps}
 use Rattle.pals_base.specs.StepSequences.{steps, Stepped, column, columns, cut, upwards}
 use Rattle.pals_base.proofs.StepSequences.{slice_get-columns}
+use Rattle.pals_base.proofs.UpwardNumbers.{length-upwards, slice_get-map_upwards}
 use Rattle.pals_model.specs.declared.design.Component.{Component}
 use Rattle.pals_model.specs.declared.design.Link.{Link}
 use Rattle.pals_model.specs.declared.design.Tap.{Tap}
@@ -27,18 +28,7 @@ use Rattle.sync_product.specs.declared.component_stage.Stage.{Stage}
 use Rattle.sync_product.specs.proof.ProductSizes.{StageSize, stage_size, stage_size_of, stage_sizes, tap_ports}
 use Rattle.sync_product.specs.proof.Rounds.{AreStepped, frames_of, own_part, own_rows, sent_by, sent_from}
 use Rattle.sync_product.specs.proof.ProductStates.{ProductState, advanced, parts_of}
-use Rattle.sync_product.proofs.TupleLengths.{length-upwards}
 use Rattle.sync_product.proofs.ComponentLists.{sized_at, count_of_sized}
-
--- ---- lists with equal elements
-
-counted-at : {A : Type 0} (f : ℕ → A) (from n k : ℕ) → k < n
-    → slice_get (map f (upwards from n)) k ≡ Some (f (from + k))
-counted-at f from zero k within = absurd (omega arith)
-counted-at f from (suc n) zero within = ap (λ m. Some (f m)) (omega arith)
-counted-at f from (suc n) (suc k) within =
-    let place : suc from + k ≡ from + suc k = omega arith in
-    counted-at f (suc from) n k (omega arith) ∙ ap (λ m. Some (f m)) place
 
 -- ---- the steps of the composition
 -- the steps of one component
@@ -139,7 +129,7 @@ standing_parts round frames parts stages rules size count stepped =
       | inl found ↦
           (stepped k found.0 found.2).part
           ∙ ap Some (own_part-is round frames k found.0 rules size found.2)
-          ∙ sym (counted-at made 0 (length design.components) k found.1 ∙ ap (λ n. Some (made n)) (omega arith))
+          ∙ sym (slice_get-map_upwards made (length design.components) k found.1)
       | inr past ↦ absurd (omega (arith, past.0))
     ])
 

@@ -5,6 +5,7 @@ use Rattle.list_lemmas.proofs.ListOperations.{length-map_enumerate_from}
 use Rattle.list_lemmas.proofs.ElementPositions.{slice_get-map_some}
 use Rattle.pals_base.specs.PeriodBound.{sent_steps}
 use Rattle.pals_base.specs.StepSequences.{upwards}
+use Rattle.pals_base.proofs.UpwardNumbers.{length-upwards}
 use Rattle.pals_model.specs.declared.design.Component.{Component}
 use Rattle.pals_model.specs.declared.design.DesignParts.{DesignParts}
 use Rattle.pals_model.specs.declared.inputs_parts_and_delays.Part.{Part}
@@ -15,7 +16,6 @@ use Rattle.sync_product.specs.proof.ProductSizes.{PartSize, StageSize, frame_siz
 use Rattle.sync_product.specs.proof.ProductSizes.{part_size_of, part_sizes, stage_size, stage_size_of, stage_sizes}
 use Rattle.sync_product.specs.proof.ProductSizes.{tap_ports}
 use Rattle.sync_product.specs.proof.ComponentWiring.{IsWired}
-use Rattle.sync_product.proofs.TupleLengths.{length-upwards}
 use Rattle.sync_product.proofs.ComponentLists.{numbered-at, sized_at, count_of_sized}
 
 -- ---- one for each component

@@ -1,16 +1,10 @@
 -- The lengths of the out tuples of a round, and of the lists of out values that its steps leave.
-use Rattle.std.proofs.Common.{◌≡◌, ◌∙◌, ℕ, zero, suc, ◌<◌, List, refl, length, map, replicate, slice_index_or, sym, ap}
-use Rattle.std.proofs.Common.{arith}
+use Rattle.std.proofs.Common.{◌≡◌, ◌∙◌, ℕ, ◌<◌, List, length, map, replicate, slice_index_or, sym, ap, arith}
 use Rattle.std.proofs.lemmas.List.{length-map, length-replicate, get_or-map, get_or-replicate}
 use Rattle.pals_base.specs.declared.values.PortValue.{PortValue}
-use Rattle.pals_base.specs.StepSequences.{upwards}
 
 abbrev pub lengths : List (List PortValue) → List ℕ
 lengths rows = map (λ (row : List PortValue). length row) rows
-
-pub length-upwards : (from n : ℕ) → length (upwards from n) ≡ n
-length-upwards from zero = refl
-length-upwards from (suc n) = ap suc (length-upwards (suc from) n)
 
 -- a tuple for each port, all of one length
 pub count_of_outs : (outs : List (List PortValue)) (ports : List ℕ) (n : ℕ) → lengths outs ≡ map (λ (port : ℕ). n) ports

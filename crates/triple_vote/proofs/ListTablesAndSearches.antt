@@ -1,21 +1,9 @@
 -- Lists that have an element for each number below one, and what a search through a list finds.
-use Rattle.std.proofs.Common.{◌≡◌, ◌∙◌, ℕ, zero, suc, ◌+◌, ◌<◌, Bool, true, false, cond, List, [], ◌∷◌, length, map}
-use Rattle.std.proofs.Common.{get_or, Some, find, Contains, refl, sym, ap, arith}
+use Rattle.std.proofs.Common.{◌≡◌, ◌∙◌, ℕ, suc, ◌<◌, Bool, true, false, cond, List, [], ◌∷◌, length, map, get_or, Some}
+use Rattle.std.proofs.Common.{find, Contains, refl, sym, ap, arith}
 use Rattle.std.proofs.lemmas.List.{length-map, ext_get_or}
 use Rattle.pals_base.specs.StepSequences.{upwards}
-
-pub length-upwards : (from n : ℕ) → length (upwards from n) ≡ n
-length-upwards from zero = refl
-length-upwards from (suc n) = ap suc (length-upwards (suc from) n)
-
-table-from : {A : Type 0} (f : ℕ → A) (from n k : ℕ) (d : A) → k < n
-    → get_or (map f (upwards from n)) k d ≡ f (from + k)
-table-from f from zero k d within = absurd (omega arith)
-table-from f from (suc n) zero d within = ap f (omega arith)
-table-from f from (suc n) (suc k) d within = table-from f (suc from) n k d (omega arith) ∙ ap f (omega arith)
-
-pub table-at : {A : Type 0} (f : ℕ → A) (n k : ℕ) (d : A) → k < n → get_or (map f (upwards 0 n)) k d ≡ f k
-table-at f n k d within = table-from f 0 n k d within ∙ ap f (omega arith)
+use Rattle.pals_base.proofs.UpwardNumbers.{length-upwards, get_or-map_upwards}
 
 -- a list whose elements are those
 pub table-is : {A : Type 0} (f : ℕ → A) (xs : List A) (d : A) → ((k : ℕ) → k < length xs → f k ≡ get_or xs k d)
@@ -25,7 +13,7 @@ table-is f xs d each =
     ∙ length-upwards 0 (length xs) in
     ext_get_or d (map f (upwards 0 (length xs))) xs size
     (λ k within. let below : k < length xs = omega (arith, within, size) in
-    table-at f (length xs) k d below ∙ each k below)
+    get_or-map_upwards f (length xs) k d below ∙ each k below)
 
 -- ---- what a search finds
 found_by : {A : Type 0} (test : A → Bool) (x : A) (xs : List A) (y : A) (b : Bool) → test x ≡ b

@@ -10,6 +10,7 @@ use Rattle.std.specs.Option.{option_map}
 use Rattle.pals_base.specs.declared.values.PortValue.{PortValue}
 use Rattle.pals_base.specs.declared.values.Frame.{Frame}
 use Rattle.pals_base.specs.StepSequences.{upwards}
+use Rattle.pals_base.proofs.UpwardNumbers.{map_upwards_same}
 use Rattle.pals_model.specs.declared.design.Component.{Component}
 use Rattle.pals_model.specs.declared.design.Tap.{Tap}
 use Rattle.pals_model.specs.declared.design.DesignParts.{DesignParts}
@@ -26,12 +27,6 @@ use Rattle.triple_vote.specs.proof.VoteLaws.{ReportIsThrice, ThriceWithoutReplic
 use Rattle.triple_vote.proofs.OutvotedFaults.{replicas_are_states, taps_show_tuples}
 
 -- ---- lists of equal elements
-upwards-same : {A : Type 0} (f g : ℕ → A) (from n : ℕ) → ((k : ℕ) → k < from + n → f k ≡ g k)
-    → map f (upwards from n) ≡ map g (upwards from n)
-upwards-same f g from zero each = refl
-upwards-same f g from (suc n) each =
-    ap₂ (λ x xs. x ∷ xs) (each from (omega arith)) (upwards-same f g (suc from) n (λ k below. each k (omega arith)))
-
 map-same : {A B : Type 0} (f g : A → B) (xs : List A) → ((k : ℕ) (x : A) → slice_get xs k ≡ Some x → f x ≡ g x)
     → map f xs ≡ map g xs
 map-same f g [] each = refl
@@ -74,11 +69,11 @@ row-same design replicated f g shown other round frames taps =
     (λ k n c at is.
     let within : n < length design.components =
     (let inside = slice_get_within design.components k c is in omega (arith, inside, at)) in
-    upwards-same (λ replica.
+    map_upwards_same (λ replica.
     component_line (replica_name c.path (is_replicated replicated n) replica) c.behaviour (f n replica))
     (λ replica. component_line (replica_name c.path (is_replicated replicated n) replica) c.behaviour (g n replica)) 0
     (copies_of replicated n)
-    (λ replica below. ap (component_line (replica_name c.path (is_replicated replicated n) replica) c.behaviour)
+    (λ replica above below. ap (component_line (replica_name c.path (is_replicated replicated n) replica) c.behaviour)
     (frames n replica within (omega arith)))))
     (map-same (shown_line design shown) (shown_line design other) design.taps
     (λ k tap is. ap (tap_line (out_kind (slice_get design.components tap.source.0) tap.out_port) tap) (taps k tap is)))

@@ -8,6 +8,7 @@ use Rattle.pals_base.specs.declared.values.PortValue.TheVariants.{Absent}
 use Rattle.pals_base.specs.declared.values.Frame.{Frame}
 use Rattle.pals_base.specs.PeriodBound.{sent_steps}
 use Rattle.pals_base.specs.StepSequences.{steps, cut, upwards, Stepped}
+use Rattle.pals_base.proofs.UpwardNumbers.{get_or-map_upwards}
 use Rattle.pals_model.specs.declared.design.Component.{Component}
 use Rattle.pals_model.specs.declared.design.Link.{Link}
 use Rattle.pals_model.specs.declared.design.Tap.{Tap}
@@ -27,7 +28,6 @@ use Rattle.triple_vote.specs.Replicas.{for_replicas, for_receivers, first_frame,
 use Rattle.triple_vote.specs.Replicas.{replica_steps, tuple_at, is_fault, fault_or, own_message, sent_to, vote_of}
 use Rattle.triple_vote.specs.Replicas.{receives_on, vnext, vcomp, vshown_by, vshown}
 use Rattle.triple_vote.proofs.MajorityVotes.{votes-first_two}
-use Rattle.triple_vote.proofs.ListTablesAndSearches.{table-at}
 use Rattle.triple_vote.proofs.ReplicaInputs.{same_inputs}
 
 -- ---- the places of the lists
@@ -36,8 +36,8 @@ pub replica_at : (design : DesignParts) (replicated : List Bool) (f : ℕ → �
     → slice_index_or (slice_index_or (for_replicas design replicated f) node []) replica no_frame ≡ f node replica
 replica_at design replicated f node replica within below =
     ap (λ (frames : List Frame). slice_index_or frames replica no_frame)
-    (table-at (λ n. map (f n) (upwards 0 (copies_of replicated n))) (length design.components) node [] within)
-    ∙ table-at (f node) (copies_of replicated node) replica no_frame below
+    (get_or-map_upwards (λ n. map (f n) (upwards 0 (copies_of replicated n))) (length design.components) node [] within)
+    ∙ get_or-map_upwards (f node) (copies_of replicated node) replica no_frame below
 
 pub receiver_at : (design : DesignParts) (replicated : List Bool) (f : ℕ → ℕ → List PortValue) (l target : ℕ)
     (link : Link) → slice_get design.links l ≡ Some link
@@ -45,9 +45,9 @@ pub receiver_at : (design : DesignParts) (replicated : List Bool) (f : ℕ → �
     → slice_index_or (slice_index_or (for_receivers design replicated f) l []) target [] ≡ f l target
 receiver_at design replicated f l target link is below =
     ap (λ (tuples : List (List PortValue)). slice_index_or tuples target [])
-    (table-at (λ n. map (f n) (upwards 0 (receivers_in replicated (slice_get design.links n)))) (length design.links) l
-    [] (slice_get_within design.links l link is))
-    ∙ table-at (f l) (receivers_in replicated (slice_get design.links l)) target []
+    (get_or-map_upwards (λ n. map (f n) (upwards 0 (receivers_in replicated (slice_get design.links n))))
+    (length design.links) l [] (slice_get_within design.links l link is))
+    ∙ get_or-map_upwards (f l) (receivers_in replicated (slice_get design.links l)) target []
     (subst (λ o. target < receivers_in replicated o) (sym is) below)
 
 -- there is a first replica

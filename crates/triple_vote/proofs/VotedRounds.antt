@@ -1,6 +1,6 @@
 -- What three layers made, and what is voted of it, is one round of *votes*.
-use Rattle.std.proofs.Common.{◌≡◌, ◌∙◌, ℕ, zero, suc, ◌+◌, ◌<◌, inl, inr, Bool, true, false, if◌then◌else◌, List, []}
-use Rattle.std.proofs.Common.{◌∷◌, length, map, find, slice_get, slice_index_or, Some, refl, sym, ap, ap₂, subst, arith}
+use Rattle.std.proofs.Common.{◌≡◌, ◌∙◌, ℕ, suc, ◌<◌, inl, inr, Bool, true, false, if◌then◌else◌, List, [], length, map}
+use Rattle.std.proofs.Common.{find, slice_get, slice_index_or, Some, refl, sym, ap, ap₂, subst, arith}
 use Rattle.std.proofs.lemmas.Bool.{lt-ltb}
 use Rattle.std.proofs.lemmas.List.{length-map, ext_get_or}
 use Rattle.std.proofs.lemmas.Option.{slice_get_within, slice_get_cases, get_or_from_slice_get}
@@ -10,6 +10,7 @@ use Rattle.pals_base.specs.declared.values.Frame.{Frame}
 use Rattle.pals_base.specs.PeriodBound.{sent_steps}
 use Rattle.pals_base.specs.StepSequences.{column, columns, cut, steps, upwards, Stepped}
 use Rattle.pals_base.proofs.StepSequences.{slice_get-columns}
+use Rattle.pals_base.proofs.UpwardNumbers.{map_upwards_same}
 use Rattle.pals_model.specs.declared.design.Component.{Component}
 use Rattle.pals_model.specs.declared.design.Link.{Link}
 use Rattle.pals_model.specs.declared.design.Tap.{Tap}
@@ -35,21 +36,15 @@ use Rattle.triple_vote.proofs.ReplicaInputs.{same_inputs}
 use Rattle.triple_vote.proofs.ReplicaRounds.{replica_at, receiver_at, has_first, has_three}
 
 -- ---- lists by numbers
-upwards-same : {A : Type 0} (f g : ℕ → A) (from n : ℕ) → ((k : ℕ) → k < from + n → f k ≡ g k)
-    → map f (upwards from n) ≡ map g (upwards from n)
-upwards-same f g from zero each = refl
-upwards-same f g from (suc n) each =
-    ap₂ (λ x xs. x ∷ xs) (each from (omega arith)) (upwards-same f g (suc from) n (λ k below. each k (omega arith)))
-
 pub replicas-same : (design : DesignParts) (replicated : List Bool) (f g : ℕ → ℕ → Frame)
     → ((node replica : ℕ) → node < length design.components → replica < copies_of replicated node
     → f node replica ≡ g node replica)
     → for_replicas design replicated f ≡ for_replicas design replicated g
 replicas-same design replicated f g each =
-    upwards-same (λ node. map (f node) (upwards 0 (copies_of replicated node)))
+    map_upwards_same (λ node. map (f node) (upwards 0 (copies_of replicated node)))
     (λ node. map (g node) (upwards 0 (copies_of replicated node))) 0 (length design.components)
-    (λ node within. upwards-same (f node) (g node) 0 (copies_of replicated node)
-    (λ replica below. each node replica (omega arith) (omega arith)))
+    (λ node above within. map_upwards_same (f node) (g node) 0 (copies_of replicated node)
+    (λ replica over below. each node replica (omega arith) (omega arith)))
 
 pub receivers-same : (design : DesignParts) (replicated : List Bool) (f g : ℕ → ℕ → List PortValue)
     → ((l target : ℕ) (link : Link) → slice_get design.links l ≡ Some link → target < copies_of replicated link.target.0
@@ -57,9 +52,10 @@ pub receivers-same : (design : DesignParts) (replicated : List Bool) (f g : ℕ 
     → for_receivers design replicated f ≡ for_receivers design replicated g
 receivers-same design replicated f g each =
     let count : ℕ → ℕ = λ l. receivers_in replicated (slice_get design.links l) in
-    upwards-same (λ l. map (f l) (upwards 0 (count l))) (λ l. map (g l) (upwards 0 (count l))) 0 (length design.links)
-    (λ l within. elim (slice_get_cases design.links l).1 [
-      | inl found ↦ upwards-same (f l) (g l) 0 (count l) (λ target below.
+    map_upwards_same (λ l. map (f l) (upwards 0 (count l))) (λ l. map (g l) (upwards 0 (count l))) 0
+    (length design.links)
+    (λ l above within. elim (slice_get_cases design.links l).1 [
+      | inl found ↦ map_upwards_same (f l) (g l) 0 (count l) (λ target over below.
           (let there : target < receivers_in replicated (Some found.0)
           = subst (λ o. target < receivers_in replicated o) found.2 (omega (arith, below)) in
           each l target found.0 found.2 there))

@@ -8,6 +8,7 @@ use Rattle.std.proofs.lemmas.Bool.{lt-ltb, le-ltb, lt-leb, eq-eqb}
 use Rattle.pals_base.specs.declared.values.NodeNo.{NodeNo}
 use Rattle.pals_base.specs.declared.values.LinkNo.{LinkNo}
 use Rattle.pals_base.specs.StepSequences.{upwards}
+use Rattle.pals_base.proofs.UpwardNumbers.{upwards_is}
 use Rattle.pals_model.specs.declared.flight_copy.FlightCopy.{FlightCopy}
 use Rattle.pals_runs.specs.declared.events_and_faults.Event.{Event}
 use Rattle.pals_runs.specs.declared.events_and_faults.Event.TheVariants as event
@@ -128,11 +129,6 @@ enumerated_is from (x ∷ xs) (suc k) at is =
     let place = later.0 in
     (omega arith, later.1)
 
-upwards_below : (from n k x : ℕ) → slice_get (upwards from n) k ≡ Some x → x < from + n
-upwards_below from zero k x is = absurd (cc)
-upwards_below from (suc n) zero x is = let same : from ≡ x = cc in omega arith
-upwards_below from (suc n) (suc k) x is = let later = upwards_below (suc from) n k x is in omega arith
-
 replicate_is : (n k time x : ℕ) → slice_get (replicate n time) k ≡ Some x → x ≡ time
 replicate_is zero k time x is = absurd (cc)
 replicate_is (suc n) zero time x is = let same : time ≡ x = cc in sym same
@@ -184,7 +180,7 @@ pass_is_fine run w time skew forward clocks nodes messages =
     (none_both pasts (first_of (carried ∷ []))
     (first_none (node_past run w time) numbers
     (λ k node is. none_past time (which.Node (record { 0 = node })) (node_deadline run w node)
-    (nodes node (let below = upwards_below 0 (length run.design.components) k node is in omega arith))))
+    (nodes node (let at = upwards_is 0 (length run.design.components) k node is in omega (arith, at.0, at.1)))))
     (none_both carried (first_of [])
     (first_none (link_past run w time) links
     (λ k number is.
@@ -192,5 +188,5 @@ pass_is_fine run w time skew forward clocks nodes messages =
     (λ place copy is_copy.
     none_past time (which.Message (record { 0 = number }) copy.round) (Some (message_deadline run w number copy.round))
     (messages number place copy
-    (let below = upwards_below 0 (length run.design.links) k number is in omega arith) is_copy))))
+    (let at = upwards_is 0 (length run.design.links) k number is in omega (arith, at.0, at.1)) is_copy))))
     refl)))))

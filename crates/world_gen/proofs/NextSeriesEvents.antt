@@ -8,19 +8,18 @@ use Rattle.std.proofs.lemmas.Grind.{div_ceil_times}
 use Rattle.std.proofs.lemmas.List.Quantifiers.{position-Some}
 use Rattle.std.proofs.lemmas.Option.{get_or_from_slice_get}
 use Rattle.pals_base.specs.StepSequences.{upwards}
+use Rattle.pals_base.proofs.UpwardNumbers.{slice_get-upwards, upwards_is}
 use Rattle.pals_model.proofs.FirstMatches.{first_at, found_at}
 use Rattle.bus_machine.proofs.ListsAndOldestCopies.{none_found}
-use Rattle.run_laws.proofs.Lists.{upwards_at}
 use Rattle.world_gen.specs.declared.event_series.EventSeries.{EventSeries}
 use Rattle.world_gen.specs.proof.Schedules.{which}
 use Rattle.world_gen.specs.proof.EventSeries.{time_of, next_of}
-use Rattle.world_gen.proofs.ScheduleTimes.{upwards_is}
 
 -- ---- the first number that passes a test
 pub first_number : (test : ℕ → Bool) (count n : ℕ) → n < count → test n ≡ true → ((k : ℕ) → k < n → test k ≡ false)
     → position test (upwards 0 count) ≡ Some n
 first_number test count n below passes before =
-    first_at test (upwards 0 count) n n (upwards_at count n below) passes
+    first_at test (upwards 0 count) n n (slice_get-upwards count n below) passes
     (λ k y less is_y. let at = upwards_is 0 count k y is_y in let same : k ≡ y = let one = at.0 in omega arith in
     ap test (sym same) ∙ before k less)
 
@@ -51,12 +50,13 @@ is_first test count n is =
       passes = ap test (sym same) ∙ found.2;
       before = λ k less.
           let fails = position-Some test (upwards 0 count) n 0 is in
-          let here : slice_get (upwards 0 count) k ≡ Some k = upwards_at count k (let few = at.1 in omega arith) in
+          let here : slice_get (upwards 0 count) k ≡ Some k =
+          slice_get-upwards count k (let few = at.1 in omega arith) in
           ap test (sym (get_or_from_slice_get (upwards 0 count) k k 0 here)) ∙ fails.2 k less;
     }
 
 pub is_nowhere : (test : ℕ → Bool) (count k : ℕ) → position test (upwards 0 count) ≡ None → k < count → test k ≡ false
-is_nowhere test count k none below = none_found test (upwards 0 count) k k none (upwards_at count k below)
+is_nowhere test count k none below = none_found test (upwards 0 count) k k none (slice_get-upwards count k below)
 
 -- ---- times of a course
 pub times_rise : (c : EventSeries) (j k : ℕ) → j ≤ k → time_of c j ≤ time_of c k

@@ -13,6 +13,7 @@ use Rattle.pals_base.specs.AllowedAdaptors.{divides_or_divided, is_allowed, suit
 use Rattle.pals_base.specs.SingleStep.{fire}
 use Rattle.pals_base.specs.StepSequences.{upwards}
 use Rattle.pals_base.specs.declared.behaviour.Kind.TheVariants.{Integer}
+use Rattle.pals_base.proofs.UpwardNumbers.{length-map_upwards, slice_get-map_upwards, slice_get-upwards}
 use Rattle.pals_model.specs.declared.design.Component.{Component}
 use Rattle.pals_model.specs.declared.design.Link.{Link}
 use Rattle.pals_model.specs.declared.design.Feed.{Feed}
@@ -25,11 +26,10 @@ use Rattle.pals_model.specs.DesignRules.{IsComponent, IsSource, IsTarget, IsLink
 use Rattle.pals_model.specs.DesignRules.{LinkPrecedes, FeedPrecedes, greatest_rate, IsDesign}
 use Rattle.pals_model.proofs.FirstMatches.{at_element}
 use Rattle.pals_model.proofs.WordBytes.{all_pass}
-use Rattle.run_laws.proofs.Lists.{upwards_at}
 use Rattle.world_gen.specs.Rings.{ring_rate, ring_path, rate_by, ring_adaptor, before_in, ring_component, ring_link}
 use Rattle.world_gen.specs.Rings.{ring_bounds, ring}
 use Rattle.world_gen.specs.proof.RingLaws.{RingsAreDesigns, RingsAddUp}
-use Rattle.world_gen.proofs.TabulatedLists.{length-numbered, numbered_get, numbered_all, numbered_pairs}
+use Rattle.world_gen.proofs.TabulatedLists.{numbered_all, numbered_pairs}
 use Rattle.world_gen.proofs.RingBehaviourRules.{ring_behaves}
 
 -- ---- rates
@@ -81,7 +81,7 @@ path_is number below =
     let all = all_pass (λ number. is_fine (ring_path number)) (upwards 0 COMPONENTS) fine_paths in
     let one =
     at_element (λ number. is_fine (ring_path number) ≡ true) (upwards 0 COMPONENTS) number number all
-    (upwards_at COMPONENTS number below) in
+    (slice_get-upwards COMPONENTS number below) in
     let parts = and_parts (is_path (ring_path number)) (nat_le (length (ring_path number)) PATH_BYTES) one in
     (parts.0, leb-true (length (ring_path number)) PATH_BYTES parts.1)
 
@@ -119,10 +119,10 @@ before_below n (suc number) some below = omega arith
 
 module _ (n : ℕ) (some : 2 ≤ n) (most : n ≤ COMPONENTS) where
   component_at : (node : ℕ) → node < n → slice_get (ring n).components node ≡ Some (ring_component node)
-  component_at node below = numbered_get ring_component n node below
+  component_at node below = slice_get-map_upwards ring_component n node below
 
   within : (node : ℕ) → node < n → node < length (ring n).components
-  within node below = let size = length-numbered ring_component n in omega arith
+  within node below = let size = length-map_upwards ring_component 0 n in omega arith
 
   rate_at : (node : ℕ) → node < n → rate_of (ring n) node ≡ ring_rate node
   rate_at node below = ap rate_in (component_at node below)
@@ -171,8 +171,8 @@ module _ (n : ℕ) (some : 2 ≤ n) (most : n ≤ COMPONENTS) where
 
   pub ring_is_design : IsDesign (ring n)
   ring_is_design =
-      let count = length-numbered ring_component n in
-      let links = length-numbered (ring_link n) n in
+      let count = length-map_upwards ring_component 0 n in
+      let links = length-map_upwards (ring_link n) 0 n in
       record {
         period = (omega arith, omega arith);
         gamma =

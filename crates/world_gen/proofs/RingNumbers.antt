@@ -1,7 +1,7 @@
 -- The numbers of a ring are small, and what those of a world come to in which all nodes are done.
 use Rattle.std.proofs.Common.{◌≡◌, ◌≢◌, ℕ, zero, suc, ◌+◌, ◌*◌, ◌<◌, ◌≤◌, nat_eq, ℤ, pos, ◌+ℤ◌, ◌≤ℤ◌, ◌<ℤ◌, inl, inr}
 use Rattle.std.proofs.Common.{Bool, true, false, cond, List, [], ◌∷◌, length, map, Option, Some, None, Ok, Err, All}
-use Rattle.std.proofs.Common.{refl, sym, ap, ap₂, ◌∙◌, subst, arith}
+use Rattle.std.proofs.Common.{refl, sym, ap, ◌∙◌, subst, arith}
 use Rattle.std.specs.Prelude.{Result, IfOk, find, fold, sum_by, slice_index_or, slice_set, if◌then◌else◌}
 use Rattle.std.proofs.lemmas.Int.{ints}
 use Rattle.std.proofs.lemmas.List.Elements.{All-nil, All-cons, All-head, All-tail, All-map}
@@ -19,6 +19,7 @@ use Rattle.pals_base.specs.SingleStep.{Fired, holding, is_present, silence, is_d
 use Rattle.pals_base.specs.SingleStep.{dispatched, reaction, unless_halted, fire, initial}
 use Rattle.pals_base.specs.StepSequences.{Stepped, frame_after, steps, upwards}
 use Rattle.pals_base.proofs.RemainderSigns.{modulus_of-is}
+use Rattle.pals_base.proofs.UpwardNumbers.{slice_get-map_upwards, get_or-map_upwards, map_upwards_same}
 use Rattle.pals_model.specs.declared.design.Component.{Component}
 use Rattle.pals_model.specs.declared.design.DesignParts.{DesignParts}
 use Rattle.pals_model.specs.ComponentInputs.{no_env, inputs_of, values_at}
@@ -33,7 +34,7 @@ use Rattle.bus_machine.specs.Agreement.{IsAtRest, PhaseAgrees, Agrees}
 use Rattle.world_gen.specs.Rings.{number_sum, next_number, ring_actions, ring_edge, ring_behaviour, before_in}
 use Rattle.world_gen.specs.Rings.{ring_component, ring_link, ring, ring_number}
 use Rattle.world_gen.specs.proof.RingLaws.{RingNumbersAreSmall, ring_run, number_at, IsRingDone, DoneRingsAddUp}
-use Rattle.world_gen.proofs.TabulatedLists.{numbered_get, numbered_at, numbered_all}
+use Rattle.world_gen.proofs.TabulatedLists.{numbered_all}
 use Rattle.world_gen.proofs.RingDesignsAndSums.{before_below}
 
 -- ---- what is left modulo 1000
@@ -182,13 +183,6 @@ ring_numbers_are_small n rounds node =
     ]
 
 -- ---- a ring in a world
-same_from : {X : Type 0} (f g : ℕ → X) (from n count : ℕ) → from + n ≡ count → ((j : ℕ) → j < count → f j ≡ g j)
-    → map f (upwards from n) ≡ map g (upwards from n)
-same_from f g from zero count is same = refl
-same_from {X} f g from (suc n) count is same =
-    ap₂ (λ (x : X) (xs : List X). x ∷ xs) (same from (omega arith))
-    (same_from f g (suc from) n count (omega arith) same)
-
 sum_from : (f : ℕ → ℕ) (each from n count : ℕ) → from + n ≡ count → ((j : ℕ) → j < count → f j ≡ each)
     → sum_by f (upwards from n) ≡ n * each
 sum_from f each from zero count is same = omega arith
@@ -215,7 +209,7 @@ module _ (n rounds : ℕ) (bus : BusState) (some : 2 ≤ n) (agrees : Agrees (ri
     (done : (node : ℕ) → node < n → (node_at bus node).phase ≡ Done) where
   node_ends : (node : ℕ) → node < n → IsAtEnd (ring_run n rounds) node (node_at bus node)
   node_ends node below =
-      let n_agrees = agrees.nodes node (ring_component node) (numbered_get ring_component n node below) in
+      let n_agrees = agrees.nodes node (ring_component node) (slice_get-map_upwards ring_component n node below) in
       at_end (ring_run n rounds) node (ring_component node) (node_at bus node) (node_at bus node).phase
       (done node below) n_agrees.phase
 
@@ -224,13 +218,14 @@ module _ (n rounds : ℕ) (bus : BusState) (some : 2 ≤ n) (agrees : Agrees (ri
 
   sent_on : (link : ℕ) → link < n → rounds_sent_on (ring_run n rounds) bus link ≡ rounds
   sent_on link below =
-      let is : link_at (ring n) link ≡ ring_link n link = numbered_at (ring_link n) n link no_link below in
+      let is : link_at (ring n) link ≡ ring_link n link = get_or-map_upwards (ring_link n) n link no_link below in
       ap (λ (l : Link). sent_rounds (node_at bus l.source.0)) is
       ∙ (node_ends (before_in n link) (before_below n link some below)).sent
 
   ring_is_done : IsRingDone n rounds bus
   ring_is_done = record {
-    sum = ap (fold ◌+ℤ◌ (pos 0)) (same_from (number_at bus) (ring_number n rounds) 0 n n (omega arith) number_is);
+    sum = ap (fold ◌+ℤ◌ (pos 0)) (map_upwards_same (number_at bus) (ring_number n rounds) 0 n
+        (λ node above below. number_is node (omega arith)));
     messages = sum_from (rounds_sent_on (ring_run n rounds) bus) rounds 0 n n (omega arith) sent_on;
   }
 

@@ -1,10 +1,11 @@
 -- When the events of a schedule come, as numbers, and which of them comes at a moment.
-use Rattle.std.proofs.Common.{◌≡◌, inl, inr, ℕ, zero, suc, ◌+◌, ◌*◌, ◌/◌, ◌%◌, ◌<◌, ◌≤◌, nat_eq, length, slice_get}
-use Rattle.std.proofs.Common.{Option, Some, None, refl, sym, ap, ap₂, ◌∙◌, arith}
+use Rattle.std.proofs.Common.{◌≡◌, inl, inr, ℕ, suc, ◌+◌, ◌*◌, ◌/◌, ◌%◌, ◌<◌, ◌≤◌, nat_eq, length, Option, Some, None}
+use Rattle.std.proofs.Common.{refl, sym, ap, ap₂, ◌∙◌, arith}
 use Rattle.std.proofs.lemmas.Bool.{cases_lt, cases_order, eqb-true, eq-eqb, false≢true}
 use Rattle.std.proofs.lemmas.Nat.{mul-le, div-mul-add, mod-mul-add, div-add-mod'}
 use Rattle.pals_base.specs.PeriodBound.{alarm}
 use Rattle.pals_base.specs.StepSequences.{upwards}
+use Rattle.pals_base.proofs.UpwardNumbers.{slice_get-upwards, upwards_is}
 use Rattle.pals_model.specs.DesignRules.{IsComponent}
 use Rattle.pals_model.proofs.FirstMatches.{at_element, found_at}
 use Rattle.bus_machine.specs.Plans.{plan_of, component_at}
@@ -12,16 +13,9 @@ use Rattle.bus_machine.specs.States.{Run}
 use Rattle.bus_machine.specs.proof.AgreementLaws.{IsRunOf}
 use Rattle.bus_machine.proofs.ListsAndOldestCopies.{none_found}
 use Rattle.world_gen.specs.proof.Schedules.{step_time, finish_time, send_time, which}
-use Rattle.run_laws.proofs.Lists.{upwards_at}
 use Rattle.run_laws.proofs.WorldNodeTiming.{FitsAt, fits_at, component_is}
 
 -- ---- which one
-pub upwards_is : (from n k x : ℕ) → slice_get (upwards from n) k ≡ Some x → (x ≡ from + k) × (k < n)
-upwards_is from zero k x is = absurd (cc)
-upwards_is from (suc n) zero x is = let same : from ≡ x = cc in (omega arith, omega arith)
-upwards_is from (suc n) (suc k) x is = let later = upwards_is (suc from) n k x is in let a = later.0 in
-    let b = later.1 in (omega arith, omega arith)
-
 pub which_is : (time : ℕ → ℕ) (count moment number : ℕ) → which time count moment ≡ Some number
     → (number < count) × (time number ≡ moment)
 which_is time count moment number is =
@@ -34,7 +28,8 @@ pub which_none : (time : ℕ → ℕ) (count moment : ℕ) → which time count 
     → time number ≡ moment → ⊥
 which_none time count moment none number below is =
     let fails =
-    none_found (λ k. nat_eq (time k) moment) (upwards 0 count) number number none (upwards_at count number below) in
+    none_found (λ k. nat_eq (time k) moment) (upwards 0 count) number number none
+    (slice_get-upwards count number below) in
     false≢true (sym fails ∙ eq-eqb (time number) moment is)
 
 -- ---- one after another, each later than the one before

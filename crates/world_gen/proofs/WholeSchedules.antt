@@ -14,6 +14,7 @@ use Rattle.bus_machine.specs.States.{Run, node_at, flight_at, link_at}
 use Rattle.bus_machine.specs.MissedStarts.{sent_rounds, rounds_sent_on}
 use Rattle.bus_machine.specs.Agreement.{PhaseAgrees}
 use Rattle.bus_machine.specs.proof.AgreementLaws.{IsRunOf}
+use Rattle.bus_machine.proofs.MessageAndRunAgreement.{node_opens}
 use Rattle.run_laws.specs.Worlds.{World, opening_world, since_at, ready_at, sendings, world_after}
 use Rattle.run_laws.specs.EventLists.{world_left}
 use Rattle.world_gen.specs.proof.ScheduleLaws.{SchedulesAreWhole}
@@ -22,8 +23,7 @@ use Rattle.world_gen.specs.proof.Schedules.{begins, starts_at, finishes_at, send
 use Rattle.world_gen.specs.proof.Schedules.{AreMoments, schedule_at}
 use Rattle.run_laws.proofs.WorldNodeTiming.{phase_agrees, rounds_at_most}
 use Rattle.run_laws.proofs.WorldLinkTiming.{rule_of}
-use Rattle.run_laws.proofs.OpeningWorlds.{opening_keeps_time, opens_at, zero_at, nothing_sent, nothing_flies}
-use Rattle.run_laws.proofs.OpeningWorlds.{not_running}
+use Rattle.run_laws.proofs.OpeningWorlds.{opening_keeps_time, zero_at, nothing_sent, nothing_flies, not_running}
 use Rattle.world_gen.proofs.ScheduleTimes.{Made, which_none, some_rate, some_step, least_step}
 use Rattle.world_gen.proofs.WorldsOnSchedule.{begun_by, ended_by, NodeFollows, Follows, Runs, runs_none, runs_on}
 use Rattle.world_gen.proofs.WorldsOnSchedule.{runs_all, runs_event, bump, bump_done, bump_left, bump_other}
@@ -331,13 +331,14 @@ opening_follows run rules =
             ready_is = λ may. absurd (false≢true may);
             moments_are = λ round is. absurd (omega arith);
           } in
-          let one = subst (λ (m : NodeState). NodeFollows run j m 0 0 [] 0 0 0) (sym (opens_at run j below)) follows in
+          let one =
+          subst (λ (m : NodeState). NodeFollows run j m 0 0 [] 0 0 0) (sym (node_opens run j below)) follows in
           let two = subst (λ x. NodeFollows run j (node_at w.bus j) x x [] 0 0 0) (sym (zero_at cs j)) one in
           subst (λ l. NodeFollows run j (node_at w.bus j) (since_at w j) (ready_at w j) l 0 0 0)
           (sym (nothing_sent cs j)) two;
       links = λ l below.
           let flies : flight_at w.bus l ≡ [] = nothing_flies run.design.links l in
-          let from = opens_at run (link_at run.design l).source.0 (rule_of run l rules below).source.node_is in
+          let from = node_opens run (link_at run.design l).source.0 (rule_of run l rules below).source.node_is in
           let sent : rounds_sent_on run w.bus l ≡ 0 = ap (λ (n : NodeState). sent_rounds n) from in
           record {
             waits = λ round some. omega arith;

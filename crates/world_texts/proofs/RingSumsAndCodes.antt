@@ -10,7 +10,8 @@ use Rattle.std.proofs.lemmas.List.Sums.{fold-append}
 use Rattle.pals_base.specs.declared.limits.TheConstants.{COMPONENTS, INSTRUCTIONS}
 use Rattle.pals_base.specs.declared.values.Frame.{Frame}
 use Rattle.pals_base.specs.StepSequences.{upwards}
-use Rattle.pals_base.proofs.UpwardNumbers.{map_upwards_more}
+use Rattle.pals_base.proofs.UpwardNumbers.{map_upwards_more, length-map_upwards, slice_get-map_upwards}
+use Rattle.pals_base.proofs.UpwardNumbers.{get_or-map_upwards}
 use Rattle.pals_model.specs.declared.design.Component.{Component}
 use Rattle.pals_model.specs.declared.design.DesignParts.{DesignParts}
 use Rattle.pals_model.specs.declared.inputs_parts_and_delays.Env.{Env}
@@ -34,14 +35,13 @@ use Rattle.design_codes.specs.OverlongCodes.{length_of, IsFirstTooLong}
 use Rattle.loose_world.proofs.FinishedRows.{part_is}
 use Rattle.world_gen.specs.proof.ScheduleLaws.{IsWhole}
 use Rattle.world_gen.specs.Rings.{ring, ring_component, ring_behaviour, ring_number}
-use Rattle.world_gen.proofs.TabulatedLists.{length-numbered, numbered_at, numbered_get}
 use Rattle.world_gen.proofs.RingNumbers.{ring_numbers_are_small}
 use Rattle.world_texts.specs.RingResultLines.{number_in, IsDoneRing}
 
 -- ---- codes
 code_is_short : (n node : ℕ) → node < n → length_of (ring n) node ≤ INSTRUCTIONS
 code_is_short n node within =
-    let is = numbered_at ring_component n node no_component within in
+    let is = get_or-map_upwards ring_component n node no_component within in
     let short : code_length ring_behaviour ≤ INSTRUCTIONS = lit≤ tt in
     subst (λ (c : Component). code_length c.behaviour ≤ INSTRUCTIONS) (sym is) short
 
@@ -49,7 +49,7 @@ pub never_too_long : (design : DesignParts) (n node size : ℕ) → design ≡ r
 never_too_long design n node size is long =
     let here : IsFirstTooLong (ring n) node size = subst (λ (d : DesignParts). IsFirstTooLong d node size) is long in
     let within = here.within in
-    let count = length-numbered ring_component n in
+    let count = length-map_upwards ring_component 0 n in
     let short = code_is_short n node (omega (arith, within, count)) in
     let over = here.over in
     omega (arith, short, over)
@@ -104,10 +104,10 @@ last_part : (n rounds node : ℕ) (bus : BusValue) → IsDoneRing n rounds bus �
 last_part n rounds node bus ring_done agrees some within =
     let run : Run = world_run (ring n) no_env rounds in
     let agree : Agrees run bus.state = subst (λ (r : Run). Agrees r bus.state) ring_done.run agrees in
-    let count : length (ring n).components ≡ n = length-numbered ring_component n in
+    let count : length (ring n).components ≡ n = length-map_upwards ring_component 0 n in
     let there : node < length (ring n).components = omega (arith, count, within) in
     let c = ring_component node in
-    let is_c : slice_get (ring n).components node ≡ Some c = numbered_get ring_component n node within in
+    let is_c : slice_get (ring n).components node ≡ Some c = slice_get-map_upwards ring_component n node within in
     let here = node_at bus.state node in
     let all : length here.parts ≡ rounds =
     all_finished run node c here here.phase refl (ring_done.done node within) (agree.nodes node c is_c).phase in
@@ -160,5 +160,5 @@ all_done n rounds design codes env events old new is_ring is_env opens whole lea
       run = ap (λ (b : BusValue). b.run) here.others;
       done = λ node within.
           ap (λ (w : World). (node_at w.bus node).phase) here.left
-          ∙ all.done node (let count = length-numbered ring_component n in omega (arith, count, within));
+          ∙ all.done node (let count = length-map_upwards ring_component 0 n in omega (arith, count, within));
     }

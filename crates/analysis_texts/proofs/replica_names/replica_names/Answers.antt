@@ -1,17 +1,17 @@
 use Rattle.std.proofs.Common.{◌≡◌, ◌∙◌, List, length, map, ap, ap₂}
 use Rattle.std.proofs.lemmas.Result.{IfOk-weaker}
 use Rattle.pals_base.specs.StepSequences.{upwards}
+use Rattle.pals_base.proofs.UpwardNumbers.{length-map_upwards}
 use Rattle.pals_model.specs.declared.design.Component.{Component}
 use Rattle.analysis_fields.specs.ReplicasAndFaults.{is_among}
 use Rattle.analysis_texts.specs.VoteInputs.{replicated_in}
 use Rattle.analysis_texts.specs.proof.ReplicaNamesAndLines.{all_names}
-use Rattle.analysis_texts.proofs.FaultAndReplicaTables.{length-table}
 use Rattle.analysis_texts.proofs.replica_names.replica_names.Goals as goal
 
 pub all_names-requires : goal.all_names-requires
 all_names-requires c =
     ap length (c.as_slice.ensures.value ∙ c.in_ok-replicated.ensures)
-    ∙ length-table (is_among c.args.replicas.now) (length c.components-components.result.now)
+    ∙ length-map_upwards (is_among c.args.replicas.now) 0 (length c.components-components.result.now)
 
 pub returns : goal.returns
 returns c =

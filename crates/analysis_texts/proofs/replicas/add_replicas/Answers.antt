@@ -3,13 +3,12 @@ use Rattle.std.specs.Prelude.{slice_index_or}
 use Rattle.pals_base.specs.StepSequences.{upwards}
 use Rattle.pals_base.specs.declared.behaviour.BehaviourParts.{BehaviourParts}
 use Rattle.pals_base.specs.declared.values.Frame.{Frame}
+use Rattle.pals_base.proofs.UpwardNumbers.{get_or-map_upwards, length-map_upwards}
 use Rattle.pals_model.specs.RoundTexts.{line_end, text_of, component_line}
 use Rattle.triple_vote.specs.Replicas.{is_replicated, copies_of, frame_at}
 use Rattle.triple_vote.specs.VotedText.{replica_name}
-use Rattle.triple_vote.proofs.ListTablesAndSearches.{table-at}
 use Rattle.analysis_texts.specs.proof.ReplicaNamesAndLines.{names_of}
 use Rattle.analysis_texts.proofs.LineBlocks.{counted_turn}
-use Rattle.analysis_texts.proofs.FaultAndReplicaTables.{length-table}
 use Rattle.analysis_texts.proofs.VotedRows.{replica_line, copies_few}
 use Rattle.analysis_texts.proofs.replicas.add_replicas.Goals as goal
 
@@ -19,7 +18,8 @@ few : (path : List ℕ) (replicated : List Bool) (node : ℕ) (names : List (Lis
     → (length names ≡ copies_of replicated node) × (length names ≤ 3)
 few path replicated node names are =
     let same : length names ≡ copies_of replicated node
-    = ap length are ∙ length-table (replica_name path (is_replicated replicated node)) (copies_of replicated node) in
+    = ap length are
+    ∙ length-map_upwards (replica_name path (is_replicated replicated node)) 0 (copies_of replicated node) in
     (same, omega (arith, same, copies_few replicated node))
 
 pub overflow_cast-at : goal.overflow_cast-at
@@ -55,7 +55,7 @@ loop-at-preserved c =
     let named : name ≡ naming at
     =
     c.index-names-at.is ∙ ap (λ (ns : List (List ℕ)). slice_index_or ns at name) c.requires.names
-    ∙ table-at naming copies at name below in
+    ∙ get_or-map_upwards naming copies at name below in
     let place : at + 1 - 1 ≡ at = omega arith in
     let framed : c.frame-frame.result.now ≡ frame_at product.voted node at = c.frame-frame.ensures
     ∙ ap (frame_at product.voted node) place in

@@ -2,17 +2,18 @@ use Rattle.std.proofs.Common.{◌≡◌, ◌∙◌, List, length, map, sym, ap, 
 use Rattle.std.specs.Arc.{arc_value}
 use Rattle.std.proofs.lemmas.Result.{IfOk-weaker}
 use Rattle.pals_base.specs.StepSequences.{upwards}
+use Rattle.pals_base.proofs.UpwardNumbers.{length-map_upwards}
 use Rattle.pals_model.specs.declared.design.Component.{Component}
 use Rattle.pals_model.specs.declared.design.DesignParts.{DesignParts}
 use Rattle.analysis_fields.specs.ReplicasAndFaults.{is_among}
 use Rattle.triple_vote.specs.proof.VotedStates.{VotedState, vbegun}
 use Rattle.analysis_texts.specs.VoteInputs.{replicated_in}
-use Rattle.analysis_texts.proofs.FaultAndReplicaTables.{length-table}
 use Rattle.analysis_texts.proofs.replicas.product_of.Goals as goal
 
 pub new-requires-2 : goal.new-requires-2
 new-requires-2 c =
-    ap length c.in_ok-replicated.ensures ∙ length-table (is_among c.args.replicas.now) (length c.components.result.now)
+    ap length c.in_ok-replicated.ensures
+    ∙ length-map_upwards (is_among c.args.replicas.now) 0 (length c.components.result.now)
     ∙ ap length c.components.ensures.value
     ∙ ap (λ (d : DesignParts). length d.components) (sym c.in_ok-new.ensures.ok)
 

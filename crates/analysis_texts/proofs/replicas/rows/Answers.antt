@@ -3,6 +3,7 @@ use Rattle.std.proofs.Common.{arith}
 use Rattle.std.specs.Prelude.{slice_index_or}
 use Rattle.std.proofs.lemmas.List.{length-map}
 use Rattle.list_lemmas.proofs.ListOperations.{take-written_whole}
+use Rattle.pals_base.proofs.UpwardNumbers.{get_or-map_upwards}
 use Rattle.pals_model.specs.declared.design.DesignParts.{DesignParts}
 use Rattle.pals_model.specs.ComponentInputs.{values_at}
 use Rattle.pals_runs.specs.declared.vote_faults_and_pairs.VoteFault.{VoteFault}
@@ -10,7 +11,6 @@ use Rattle.triple_vote.specs.proof.VoteLaws.{IsFault}
 use Rattle.triple_vote.specs.Replicas.{vcomp, vshown_by}
 use Rattle.triple_vote.specs.proof.VotedStates.{VotedState, vadvanced}
 use Rattle.triple_vote.specs.VotedText.{vreport}
-use Rattle.triple_vote.proofs.ListTablesAndSearches.{table-at}
 use Rattle.analysis_texts.specs.proof.ReplicaNamesAndLines.{all_names}
 use Rattle.analysis_texts.proofs.ProductRoundsAndRows.{length_values_at}
 use Rattle.analysis_texts.proofs.VotedRows.{MakesRound, voted_more}
@@ -79,7 +79,8 @@ loop-round-preserved c =
           =
           c.as_slice-in-loop-round.ensures.value ∙ c.index-faults-round.is
           ∙ ap (λ (t : List (List VoteFault)). slice_index_or t round c.index-faults-round.result) are
-          ∙ table-at all (length c.args.faults.now) round c.index-faults-round.result c.loop-round-test.true in
+          ∙ get_or-map_upwards all (length c.args.faults.now) round c.index-faults-round.result
+          c.loop-round-test.true in
           let makes : MakesRound design env replicated all round old new
           = record {
             design_is = c.loop-round.invariant.design;

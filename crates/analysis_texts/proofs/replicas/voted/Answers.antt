@@ -1,13 +1,13 @@
 use Rattle.std.proofs.Common.{◌≡◌, ◌∙◌, Bool, List, length, map, sym, ap, arith}
 use Rattle.std.proofs.lemmas.Result.{IfOk-weaker}
 use Rattle.pals_base.specs.StepSequences.{upwards}
+use Rattle.pals_base.proofs.UpwardNumbers.{length-map_upwards}
 use Rattle.pals_model.specs.declared.design.DesignParts.{DesignParts}
 use Rattle.triple_vote.specs.Replicas.{vopening}
 use Rattle.triple_vote.specs.proof.VotedStates.{VotedState}
 use Rattle.triple_vote.specs.VotedText.{vreport}
 use Rattle.analysis_texts.specs.VoteInputs.{replicated_in, faults_of}
 use Rattle.analysis_texts.specs.proof.ReplicaNamesAndLines.{all_names}
-use Rattle.analysis_texts.proofs.FaultAndReplicaTables.{length-table}
 use Rattle.analysis_texts.proofs.WellFormedVoteFaults.{rounds_keep}
 use Rattle.analysis_texts.proofs.replicas.voted.Goals as goal
 
@@ -26,7 +26,12 @@ rows-requires c =
           ∙ ap (λ (d : DesignParts). all_names d.components (replicated_in d replicas)) c.design.ensures
           ∙ ap (all_names design.components) (sym marked);
       count =
-          omega (arith, ap length listed, length-table (faults_of c.args.faults) c.args.rounds, c.ranges.rounds.fits);
+          omega (
+            arith,
+            ap length listed,
+            length-map_upwards (faults_of c.args.faults) 0 c.args.rounds,
+            c.ranges.rounds.fits,
+          );
       faults = rounds_keep design replicas c.args.faults c.args.rounds c.as_slice-2.result.now c.requires.faults listed;
     }
 
@@ -41,7 +46,7 @@ returns c =
     let marked : product.replicated ≡ replicated_in design replicas =
     ap (λ (s : VotedState). s.replicated) c.requires.product in
     let listed : table ≡ map faults (upwards 0 c.args.rounds) = c.as_slice-2.ensures.value ∙ c.in_ok-faults.ensures in
-    let count : length table ≡ c.args.rounds = ap length listed ∙ length-table faults c.args.rounds in
+    let count : length table ≡ c.args.rounds = ap length listed ∙ length-map_upwards faults 0 c.args.rounds in
     IfOk-weaker c.rows.result (λ text. text.items ≡ vreport design env product.replicated faults (length table))
     (λ text. text.items ≡ vreport design env (replicated_in design replicas) faults c.args.rounds)
     (λ text is.

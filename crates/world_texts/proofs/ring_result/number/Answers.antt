@@ -2,9 +2,9 @@ use Rattle.std.proofs.Common.{◌∙◌, length, None, refl, ap, arith, rules}
 use Rattle.std.proofs.lemmas.Int.{to_z-of_z}
 use mir.Syntax.{w64}
 use mir.Val.{SFits}
+use Rattle.pals_base.proofs.UpwardNumbers.{length-map_upwards}
 use Rattle.bus_machine.specs.States.{Run}
 use Rattle.world_gen.specs.Rings.{ring_component}
-use Rattle.world_gen.proofs.TabulatedLists.{length-numbered}
 use Rattle.world_texts.proofs.RingSumsAndCodes.{part_is_there, last_number}
 use Rattle.world_texts.proofs.ring_result.number.Goals as goal
 
@@ -12,7 +12,7 @@ pub part-requires : goal.part-requires
 part-requires c =
     let count =
     ap (λ (r : Run). length r.design.components) c.requires.done.run
-    ∙ length-numbered ring_component c.args.nodes in
+    ∙ length-map_upwards ring_component 0 c.args.nodes in
     let within = c.requires.within in
     omega (arith, count, within)
 
