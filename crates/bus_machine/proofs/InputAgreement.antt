@@ -1,27 +1,26 @@
 -- What a round's start reads is what the composition feeds to the component.
-use Rattle.std.proofs.Common.{◌≡◌, ℕ, zero, suc, ◌+◌, ◌<◌, nat_eq, true, false, List, [], ◌∷◌, length, map, replicate}
+use Rattle.std.proofs.Common.{◌≡◌, ℕ, zero, suc, ◌<◌, nat_eq, true, false, List, [], ◌∷◌, length, map, replicate}
 use Rattle.std.proofs.Common.{slice_get, Option, Some, None, refl, sym, ap, ap₂, ◌∙◌, subst, arith}
 use Rattle.std.specs.Prelude.{position, zip, slice_index_or, if◌then◌else◌, option_map}
 use Rattle.std.proofs.lemmas.List.{length-map}
-use Rattle.std.proofs.lemmas.Bool.{and_parts, eqb-true, ne_eqb, false≢true}
+use Rattle.std.proofs.lemmas.Bool.{ne_eqb, false≢true}
 use Rattle.std.proofs.lemmas.Option.{slice_get-map, get_or_from_slice_get, slice_get_within, slice_get-get_or}
 use Rattle.list_lemmas.proofs.ElementPositions.{slice_get-zip}
-use Rattle.list_lemmas.proofs.Options.{option_map-parts}
 use Rattle.pals_base.specs.declared.values.PortValue.{PortValue}
 use Rattle.pals_base.specs.declared.values.PortValue.TheVariants.{Absent}
 use Rattle.pals_base.specs.Adaptors.{adapt}
 use Rattle.pals_base.specs.StepSequences.{upwards, columns}
-use Rattle.pals_base.proofs.UpwardNumbers.{length-upwards, upwards_is}
+use Rattle.pals_base.proofs.UpwardNumbers.{length-upwards}
 use Rattle.pals_model.specs.declared.design.Component.{Component}
 use Rattle.pals_model.specs.declared.design.Link.{Link}
 use Rattle.pals_model.specs.declared.design.Feed.{Feed}
 use Rattle.pals_model.specs.declared.design.DesignParts.{DesignParts}
 use Rattle.pals_model.specs.declared.port_sources.PortSource.{PortSource}
 use Rattle.pals_model.specs.declared.port_sources.PortSource.TheVariants as source
-use Rattle.pals_model.specs.ComponentInputs.{rate_of, values_at, feed, inputs_in, source_of, sources_of, from_feed}
-use Rattle.pals_model.specs.ComponentInputs.{from_link, link_goes_to, feed_goes_to, reading, read_feed, read_link}
+use Rattle.pals_model.specs.ComponentInputs.{rate_of, values_at, feed, inputs_in, source_of, sources_of, reading}
+use Rattle.pals_model.specs.ComponentInputs.{read_feed, read_link}
 use Rattle.pals_model.specs.Composition.{comp, msg}
-use Rattle.pals_model.proofs.FirstMatches.{found_at}
+use Rattle.pals_model.proofs.SourceLaws.{source_at, reads_link}
 use Rattle.bus_machine.specs.declared.plan.Input.{Input}
 use Rattle.bus_machine.specs.Plans.{plan_for, input_of, input_from_feed, input_from_link}
 use Rattle.bus_machine.specs.declared.plan.Plan.{Plan}
@@ -79,39 +78,6 @@ pub length_sources : (design : DesignParts) (node : ℕ) (c : Component)
 length_sources design node c =
     length-map (upwards 0 (length c.behaviour.ins)) (λ port. source_of design node port)
     ∙ length-upwards 0 (length c.behaviour.ins)
-
-source_at : (design : DesignParts) (node k : ℕ) (c : Component) (src : PortSource)
-    → slice_get (sources_of design node c) k ≡ Some src → source_of design node k ≡ src
-source_at design node k c src is =
-    let ports = upwards 0 (length c.behaviour.ins) in
-    let found =
-    option_map-parts (λ port. source_of design node port) (slice_get ports k) src
-    (sym (slice_get-map (λ port. source_of design node port) ports k) ∙ is) in
-    let place : found.0 ≡ 0 + k = (upwards_is 0 (length c.behaviour.ins) k found.0 found.1).0 in
-    let same : k ≡ found.0 = omega arith in
-    ap (source_of design node) same ∙ found.2
-
-feed_is_no_link : (design : DesignParts) (o : Option ℕ) (number : ℕ) → from_feed design o ≡ source.Link number → ⊥
-feed_is_no_link design None number is = absurd (cc)
-feed_is_no_link design (Some f) number is = absurd (cc)
-
-from_link_is : (design : DesignParts) (o feed : Option ℕ) (number : ℕ)
-    → from_link o (from_feed design feed) ≡ source.Link number → o ≡ Some number
-from_link_is design None feed number is = absurd (feed_is_no_link design feed number is)
-from_link_is design (Some l) feed number is = let same : l ≡ number = cc in ap Some same
-
--- a link that an in port reads goes to that in port
-pub reads_link : (design : DesignParts) (node k number : ℕ) (link : Link) → source_of design node k ≡ source.Link number
-    → slice_get design.links number ≡ Some link → (link.target.0 ≡ node) × (link.in_port ≡ k)
-reads_link design node k number link reads is =
-    let found =
-    found_at (link_goes_to node k) design.links number
-    (from_link_is design (position (link_goes_to node k) design.links) (position (feed_goes_to node k) design.feeds)
-    number reads) in
-    let same : found.0 ≡ link = let both : Some found.0 ≡ Some link = sym found.1 ∙ is in cc in
-    let goes =
-    and_parts (nat_eq link.target.0 node) (nat_eq link.in_port k) (sym (ap (link_goes_to node k) same) ∙ found.2) in
-    (eqb-true link.target.0 node goes.0, eqb-true link.in_port k goes.1)
 
 -- ---- what waits in the slots
 message_stands : (run : Run) (number count : ℕ) (link : Link) (slot : Option (List PortValue))

@@ -1,15 +1,15 @@
 -- The last part of the proof that runs agree with the composition: arrivals, losses and repeats keep the agreement,
 -- and so do each step, the opening and each journal.
-use Rattle.std.proofs.Common.{◌≡◌, inl, inr, ℕ, zero, suc, ◌+◌, ◌<◌, ◌≤◌, nat_eq, Bool, true, false, List, [], ◌∷◌}
-use Rattle.std.proofs.Common.{◌++◌, length, map, slice_get, Option, Some, None, All, refl, sym, ap, ap₂, ◌∙◌, subst}
-use Rattle.std.proofs.Common.{arith}
-use Rattle.std.specs.Prelude.{nat_le, ◌&&◌, is_some, is_none, slice_index_or, slice_set, if◌then◌else◌}
-use Rattle.std.proofs.lemmas.Bool.{cases_eq, cases_lt, cases_order, eqb-true, and_parts, false≢true}
+use Rattle.std.proofs.Common.{◌≡◌, inl, inr, ℕ, suc, ◌+◌, ◌<◌, ◌≤◌, nat_eq, Bool, true, false, List, [], ◌∷◌, ◌++◌}
+use Rattle.std.proofs.Common.{length, slice_get, Option, Some, None, All, refl, sym, ap, ◌∙◌, subst, arith}
+use Rattle.std.specs.Prelude.{nat_le, ◌&&◌, is_none, slice_set, if◌then◌else◌}
+use Rattle.std.proofs.lemmas.Bool.{cases_eq, cases_lt, eqb-true, and_parts, false≢true}
 use Rattle.std.proofs.lemmas.Grind.{get_or-set_at}
 use Rattle.std.proofs.lemmas.List.{length-set, length-map, get_or-set_other, get_or_past}
 use Rattle.std.proofs.lemmas.List.Elements.{All-append}
 use Rattle.std.proofs.lemmas.Option.{slice_get_within, slice_get-get_or, get_or_from_slice_get}
-use Rattle.list_lemmas.proofs.PairwiseProperties.{AllPairs-slice_get}
+use Rattle.list_lemmas.proofs.Options.{some_by_test}
+use Rattle.list_lemmas.proofs.ElementPositions.{get_or-map_constant}
 use Rattle.pals_base.specs.declared.values.PortValue.{PortValue}
 use Rattle.pals_base.specs.declared.values.LinkNo.{LinkNo}
 use Rattle.pals_base.specs.StepSequences.{upwards}
@@ -20,15 +20,15 @@ use Rattle.pals_model.specs.declared.flight_copy.FlightCopy.{FlightCopy}
 use Rattle.pals_model.specs.Flights.{oldest, without_oldest}
 use Rattle.pals_model.specs.PortKinds.{ins_in}
 use Rattle.pals_model.specs.Composition.{msg}
-use Rattle.pals_model.specs.DesignRules.{IsLink, LinkPrecedes, port_place}
+use Rattle.pals_model.specs.DesignRules.{IsLink}
 use Rattle.pals_model.proofs.FirstMatches.{at_element}
 use Rattle.pals_model.proofs.CompositionLaws.{state_begins}
+use Rattle.pals_model.proofs.SourceLaws.{same_link}
 use Rattle.pals_runs.specs.declared.journal.Phase.{Phase}
 use Rattle.pals_runs.specs.declared.journal.Phase.TheVariants.{Waiting, Running, Between, Holding, Done}
 use Rattle.pals_runs.specs.declared.journal.Arrived.{Arrived}
 use Rattle.pals_runs.specs.declared.journal.Arrived.TheVariants.{Kept, Ignored, Early}
 use Rattle.pals_model.specs.ComponentInputs.{sources_of}
-use Rattle.bus_machine.specs.declared.plan.Input.{Input}
 use Rattle.bus_machine.specs.Plans.{input_of, component_at, no_component, plan_of, plan_for}
 use Rattle.bus_machine.specs.Nodes.{NodeState, opening_node}
 use Rattle.bus_machine.specs.NodeEvents.{slot_at, arrived, with_message, received}
@@ -57,10 +57,6 @@ link_is run s number round agree flies =
       | inr past ↦ absurd (false≢true (sym (ap (is_in_flight round) (get_or_past s.flights number [] past)) ∙ flies))
     ]
 
-oldest_some : (round : ℕ) (o : Option FlightCopy) → is_some o ≡ true → (copy : FlightCopy) × (o ≡ Some copy)
-oldest_some round None is = absurd (false≢true is)
-oldest_some round (Some copy) is = (copy, refl)
-
 -- ---- Drop and Repeat
 drop_keeps : (run : Run) (s : BusState) (number round : ℕ) → Agrees run s
     → is_in_flight round (flight_at s number) ≡ true
@@ -77,7 +73,7 @@ repeat_keeps run s number round agree flies =
     let flight = flight_at s number in
     let sent = rounds_sent_on run s number in
     let copies = (agree.links number (link_at run.design number) (link_is run s number round agree flies)).flight in
-    let old = oldest_some round (oldest round flight) flies in
+    let old = some_by_test (oldest round flight) flies in
     let copy : IsCopy run number sent old.0 =
     (oldest_is_one (IsCopy run number sent) round flight old.0 copies old.1).0 in
     with_flight_agrees run s number (repeated round flight) agree
@@ -97,23 +93,6 @@ kept_round n port round is =
     let parts = and_parts (nat_eq (round + 1) n.count) (is_none (slot_at n port)) fits in
     let same : round + 1 ≡ n.count = eqb-true (round + 1) n.count parts.0 in
     omega arith
-
--- no two links go to one in port
-same_link : (run : Run) (one two : ℕ) (a b : Link) → IsRunOf run → slice_get run.design.links one ≡ Some a
-    → slice_get run.design.links two ≡ Some b → a.target.0 ≡ b.target.0 → a.in_port ≡ b.in_port → one ≡ two
-same_link run one two a b rules is_a is_b node port =
-    let same : port_place a.target.0 a.in_port ≡ port_place b.target.0 b.in_port = ap₂ port_place node port in
-    elim (cases_order one two) [
-      | inl same_number ↦ same_number
-      | inr apart ↦ elim apart [
-        | inl before ↦ let less : port_place a.target.0 a.in_port < port_place b.target.0 b.in_port =
-            AllPairs-slice_get LinkPrecedes run.design.links one two a b rules.design.links.order before is_a is_b in
-            absurd (omega arith)
-        | inr after ↦ let less : port_place b.target.0 b.in_port < port_place a.target.0 a.in_port =
-            AllPairs-slice_get LinkPrecedes run.design.links two one b a rules.design.links.order after is_b is_a in
-            absurd (omega arith)
-      ]
-    ]
 
 -- a phase does not look at slots
 same_round : (run : Run) (node : ℕ) (c : Component) (n : NodeState) (held : List (Option (List PortValue))) (steps : ℕ)
@@ -174,7 +153,7 @@ receives run s number round link c tuple Kept rules agree is is_c port told kept
           };
       slots = λ other l is_l same. elim (cases_eq l.in_port link.in_port) [
         | inl port_same ↦
-            let one : other ≡ number = same_link run other number l link rules is_l is same port_same in
+            let one : other ≡ number = same_link run.design other number l link rules.design is_l is same port_same in
             subst (λ slot. SlotAgrees run other n.count slot)
             (sym (get_or-set_at n.slots link.in_port l.in_port (Some tuple) None port_same within))
             (round, kept_round n link.in_port round kept, told ∙ ap (λ k. msg run.design run.env k round) (sym one))
@@ -201,7 +180,7 @@ arrive_keeps run s link round reading rules agree flies =
     let port : l.in_port < length c.behaviour.ins = subst (λ o. l.in_port < ins_in o) is_c rule.target.port_is in
     let sent = rounds_sent_on run s number in
     let copies = (agree.links number l is).flight in
-    let old = oldest_some round (oldest round flight) flies in
+    let old = some_by_test (oldest round flight) flies in
     let copy = oldest_is_one (IsCopy run number sent) round flight old.0 copies old.1 in
     let of_round : old.0.round ≡ round = eqb-true old.0.round round copy.1 in
     let told : arriving round flight ≡ msg run.design run.env number round = ap tuple_in old.1 ∙ copy.0.tuple
@@ -238,24 +217,6 @@ step_keeps_agreement run s t e rules agree step =
     subst (Agrees run) (sym step.state) (keeps run s e rules agree step.allowed)
 
 -- ---- the opening
-abbrev no_slot : Option (List PortValue)
-no_slot = None
-
-empty_slot : (inputs : List Input) (port : ℕ)
-    → slice_index_or (map (λ (_ : Input). no_slot) inputs) port no_slot ≡ no_slot
-empty_slot [] port = refl
-empty_slot (input ∷ inputs) zero = refl
-empty_slot (input ∷ inputs) (suc port) = empty_slot inputs port
-
-abbrev no_copies : List FlightCopy
-no_copies = []
-
-empty_flight : (links : List Link) (number : ℕ)
-    → slice_index_or (map (λ (_ : Link). no_copies) links) number no_copies ≡ no_copies
-empty_flight [] number = refl
-empty_flight (link ∷ links) zero = refl
-empty_flight (link ∷ links) (suc number) = empty_flight links number
-
 opens_node : (run : Run) (node : ℕ) (c : Component) → IsRunOf run → slice_get run.design.components node ≡ Some c
     → NodeAgrees run node c (opening_node (plan_for run.design node c))
 opens_node run node c rules is_c = record {
@@ -293,10 +254,12 @@ opening_agrees run rules = record {
         slot =
             subst (λ slot. SlotAgrees run number (node_at (opening run) link.target.0).count slot)
             (sym (ap (λ (n : NodeState). slot_at n link.in_port) (node_opens run link.target.0 rule.target.node_is)
-            ∙ empty_slot (plan_of run.design link.target.0).inputs link.in_port)) tt;
+            ∙ get_or-map_constant {Y = Option (List PortValue)} None
+            (plan_of run.design link.target.0).inputs link.in_port)) tt;
         flight =
             subst (All (IsCopy run number (rounds_sent_on run (opening run) number)))
-            (sym (empty_flight run.design.links number)) (λ k d none. absurd (omega arith));
+            (sym (get_or-map_constant {Y = List FlightCopy} [] run.design.links number))
+            (λ k d none. absurd (omega arith));
       };
 }
 

@@ -1,6 +1,6 @@
 -- For the agreement with the composition: a node's start, step, finish or send, on the whole bus, keeps it.
-use Rattle.std.proofs.Common.{◌≡◌, ℕ, zero, suc, ◌+◌, ◌-◌, ◌<◌, ◌≤◌, nat_eq, Bool, true, false, List, [], ◌∷◌, ◌++◌}
-use Rattle.std.proofs.Common.{length, map, slice_get, Option, Some, None, All, refl, sym, ap, ap₂, ◌∙◌, subst, arith}
+use Rattle.std.proofs.Common.{◌≡◌, ℕ, suc, ◌+◌, ◌-◌, ◌<◌, ◌≤◌, nat_eq, Bool, true, false, List, [], ◌∷◌, ◌++◌, length}
+use Rattle.std.proofs.Common.{map, slice_get, Option, Some, None, All, refl, sym, ap, ap₂, ◌∙◌, subst, arith}
 use Rattle.std.specs.Prelude.{slice_index_or, if◌then◌else◌}
 use Rattle.std.specs.List.{enumerate_from}
 use Rattle.std.proofs.lemmas.Bool.{eqb-true, false≢true}
@@ -9,6 +9,7 @@ use Rattle.std.proofs.lemmas.Option.{slice_get_within, get_or_from_slice_get}
 use Rattle.list_lemmas.proofs.ListOperations.{length-map_enumerate_from}
 use Rattle.bus_machine.proofs.QuantitiesAndSentRounds.{sent_most}
 use Rattle.list_lemmas.proofs.Options.{option_map-none}
+use Rattle.list_lemmas.proofs.ElementPositions.{get_or-map_constant}
 use Rattle.pals_base.specs.declared.values.PortValue.{PortValue}
 use Rattle.pals_base.specs.declared.values.NodeNo.{NodeNo}
 use Rattle.pals_model.specs.declared.design.Component.{Component}
@@ -45,16 +46,7 @@ component_rate run node c rules is_c =
 
 -- ---- Start
 
-abbrev no_slot : Option (List PortValue)
-no_slot = None
-
-emptied : (slots : List (Option (List PortValue))) (port : ℕ)
-    → slice_index_or (map (λ (_ : Option (List PortValue)). no_slot) slots) port no_slot ≡ no_slot
-emptied [] port = refl
-emptied (slot ∷ slots) zero = refl
-emptied (slot ∷ slots) (suc port) = emptied slots port
-
-is_waiting_phase : (p : Phase) → is_waiting p ≡ true → p ≡ Waiting
+pub is_waiting_phase : (p : Phase) → is_waiting p ≡ true → p ≡ Waiting
 is_waiting_phase Waiting is = refl
 is_waiting_phase (Running step) is = absurd (false≢true is)
 is_waiting_phase (Between steps) is = absurd (false≢true is)
@@ -78,9 +70,14 @@ start_keeps run s node reading None rules agree waits none =
     (option_map-none (link_into run.design node.0) (missing (plan_of run.design node.0) n) none))
     (omega arith)
     (λ number link is same. subst (λ slot. SlotAgrees run number (n.count + 1) slot)
-    (sym (emptied n.slots link.in_port)) tt)
+    (sym (get_or-map_constant {Y = Option (List PortValue)} None n.slots link.in_port)) tt)
 
 -- ---- Step
+pub on_step_stop : (step : Option ℕ) (s : BusState) (go : ℕ → BusState) → ((i : ℕ) → (go i).stop ≡ s.stop)
+    → (on_step step s go).stop ≡ s.stop
+on_step_stop None s go same = refl
+on_step_stop (Some i) s go same = same i
+
 pub step_keeps : (run : Run) (s : BusState) (node : NodeNo) (p : Phase) → Agrees run s → (node_at s node.0).phase ≡ p
     → Agrees run (on_step (next_step p) s (λ step. with_node s node.0 (stepped step (node_at s node.0))))
 step_keeps run s node Waiting agree is = agree
@@ -135,6 +132,17 @@ flight_grows : (run : Run) (number sent : ℕ) (flight : List FlightCopy) (copy 
 flight_grows run number sent flight copy true all is =
     All-append (IsCopy run number sent) flight (copy ∷ []) all (one_copy run number sent copy (is refl))
 flight_grows run number sent flight copy false all is = all
+
+-- the node of a send, before it
+pub sender_before : (run : Run) (s : BusState) (node : NodeNo) → Agrees run s
+    → may_send (plan_of run.design node.0) (node_at s node.0) ≡ true
+    → MaySend run node.0 (component_at run.design node.0) (node_at s node.0)
+sender_before run s node agree may =
+    let is_c =
+    is_component run s node.0 agree
+    (λ gone. false≢true (sym (ap (may_send (plan_of run.design node.0)) gone) ∙ may)) in
+    may_send_of run node.0 (component_at run.design node.0) (node_at s node.0)
+    (agree.nodes node.0 (component_at run.design node.0) is_c) may
 
 pub send_keeps : (run : Run) (s : BusState) (node : NodeNo) (reading : Option ℕ) → IsRunOf run → Agrees run s
     → may_send (plan_of run.design node.0) (node_at s node.0) ≡ true → Agrees run (after_send run s node reading)

@@ -43,6 +43,22 @@ stays_at f s node k n same = elim (cases_eq k node) [
   | inr other ↦ ap (f k) (node_stays s node k n other)
 ]
 
+-- what the new state of a node keeps of the old one is kept at every node
+pub keeps_at : {X : Type 0} (f : NodeState → X) (s : BusState) (node k : ℕ) (m : NodeState) → f m ≡ f (node_at s node)
+    → f (node_at (with_node s node m) k) ≡ f (node_at s k)
+keeps_at f s node k m same = elim (cases_eq k node) [
+  | inl here ↦
+      subst (λ j. f (node_at (with_node s node m) j) ≡ f (node_at s j)) (sym here)
+      (elim (cases_lt node (length s.nodes)) [
+        | inl within ↦ ap f (node_set s node m within) ∙ same
+        | inr past ↦
+            let size = length-set s.nodes node m in
+            ap f (get_or_past (with_node s node m).nodes node no_node (omega arith)
+            ∙ sym (get_or_past s.nodes node no_node past))
+      ])
+  | inr other ↦ ap f (node_stays s node k m other)
+]
+
 -- ---- rounds that are sent: as many as are counted, or one less until that of the round in hand is sent
 pub sent_most : (sent : Bool) (count : ℕ) → (if sent then count else (count - 1)) ≤ count
 sent_most true count = omega arith

@@ -7,7 +7,7 @@ use Rattle.std.proofs.lemmas.Bool.{false≢true}
 use Rattle.std.proofs.lemmas.Option.{option_and_then_some}
 use Rattle.list_lemmas.proofs.ElementPositions.{flat_map-nil_at}
 use Rattle.list_lemmas.proofs.ListOperations.{append_is_nil_right, append_is_nil_left}
-use Rattle.list_lemmas.proofs.Options.{option_map-parts}
+use Rattle.list_lemmas.proofs.Options.{option_map-parts, some_by_test}
 use Rattle.pals_base.specs.declared.behaviour.Kind.{Kind}
 use Rattle.pals_base.specs.declared.behaviour.Kind.TheVariants.{Integer, Boolean}
 use Rattle.aadl_tree.specs.Names.{Identifier, same_name}
@@ -125,10 +125,6 @@ same_kinds None b k l first second e = absurd (cc first)
 same_kinds (Some a) None k l first second e = absurd (cc second)
 same_kinds (Some a) (Some b) k l first second e = ap Some (same_by a b e)
 
-some_kind : (o : Option Kind) → is_some o ≡ true → (k : Kind) × (o ≡ Some k)
-some_kind None is = absurd (false≢true is)
-some_kind (Some k) is = (k, refl)
-
 -- ---- along a chain
 module _ {tree : PackageTree ℕ} {name : List ℕ} {parts : Parts} (flat : IsFlat tree name parts) (used : ℕ → Bool)
     (is_use : IsUse tree parts.root used) (none : used_findings tree (shown_by tree parts) used ≡ []) where
@@ -141,7 +137,7 @@ module _ {tree : PackageTree ℕ} {name : List ℕ} {parts : Parts} (flat : IsFl
       let clean =
       ports_clean flat used is_use none at.number x (is_used tree parts.root used is_use path at.number at.stands)
       (declared_at tree at.number x at.is) in
-      some_kind (kind_in f.data_type) (is_right (is_some (kind_in f.data_type)) f.name.at BAD_TYPE []
+      some_by_test (kind_in f.data_type) (is_right (is_some (kind_in f.data_type)) f.name.at BAD_TYPE []
       (flat_map-nil_at port_findings (ports_of tree x) p f clean is))
 
   -- each port of the design has a type

@@ -12,6 +12,7 @@ use Rattle.list_lemmas.proofs.Elements.{AllByRecursion-append}
 use Rattle.list_lemmas.proofs.ElementPositions.{flat_map-nil_at}
 use Rattle.list_lemmas.proofs.ListOperations.{append_is_nil_right, append_is_nil_left}
 use Rattle.list_lemmas.proofs.Numbers.{nat_eq-swapped, nat_eq-self}
+use Rattle.list_lemmas.proofs.Options.{some_by_test}
 use Rattle.pals_base.specs.declared.values.Gamma.{Gamma}
 use Rattle.pals_base.specs.PeriodBound.{least_period}
 use Rattle.pals_model.specs.DesignRules.{IsGamma}
@@ -118,10 +119,6 @@ type_properties tree root m t none is =
     (append_is_nil_right _ l front)
 
 -- ---- some association
-pub some_from : {X : Type 0} (o : Option X) → is_some o ≡ true → (x : X) × (o ≡ Some x)
-some_from None is = absurd (false≢true is)
-some_from (Some x) is = (x, refl)
-
 module _ {tree : PackageTree ℕ} {name : List ℕ} {parts : Parts} (flat : IsFlat tree name parts) (used : ℕ → Bool)
     (is_use : IsUse tree parts.root used) (none : used_findings tree (shown_by tree parts) used ≡ []) where
   -- ---- what an implementation in use, and its type, give
@@ -275,7 +272,7 @@ module _ {tree : PackageTree ℕ} {name : List ℕ} {parts : Parts} (flat : IsFl
       → is_some (at_root tree parts.root p) ≡ true
       → Gives p
   gives p known some =
-      let a = some_from (at_root tree parts.root p) some in
+      let a = some_by_test (at_root tree parts.root p) some in
       record {
         association = a.0;
         is = a.1;
@@ -434,7 +431,7 @@ module _ {tree : PackageTree ℕ} {name : List ℕ} {parts : Parts} (flat : IsFl
         (root_lists tree parts.root)
         (along_good path n stands) (root_good Period (λ c. period_at c true)) in
         let a =
-        some_from (first_in Period lists)
+        some_by_test (first_in Period lists)
         (first_behind Period (flat_map (lists_at tree) (subs_along tree parts.root path))
         (root_lists tree parts.root) has_period) in
         let t = period_good a.0 (first_good Period lists a.0 good a.1) in

@@ -10,6 +10,7 @@ use Rattle.std.proofs.lemmas.Option.{slice_get-get_or}
 use Rattle.std.proofs.lemmas.List.{length-replicate, get_or-replicate, get_or-set_same, get_or-set_other}
 use Rattle.std.proofs.lemmas.List.{get_or_append_left, get_or-append_right, get_or_past}
 use Rattle.std.proofs.Math.Nat.{div-add-mod, mod-lt}
+use Rattle.list_lemmas.proofs.ElementPositions.{get_or-replicate_constant}
 use Rattle.pals_base.specs.declared.values.PortValue.{PortValue}
 use Rattle.pals_base.specs.declared.values.PortValue.TheVariants.{Absent}
 use Rattle.pals_base.specs.declared.values.Adaptor.{Adaptor}
@@ -59,28 +60,24 @@ spread_absent Min m j v can below elsewhere = cc
 spread_absent Average m j v can below elsewhere = cc
 
 -- ---- an absent value
-replicate_silent : (m j : ℕ) → slice_index_or (replicate m Absent) j Absent ≡ Absent
-replicate_silent zero j = refl
-replicate_silent (suc m) zero = refl
-replicate_silent (suc m) (suc j) = replicate_silent m j
-
 set_silent : (m k : ℕ) → slice_set (replicate m Absent) k Absent ≡ replicate m Absent
 set_silent zero k = refl
 set_silent (suc m) zero = refl
 set_silent (suc m) (suc k) = ap (λ list. Absent ∷ list) (set_silent m k)
 
 placed_silent : (n m j : ℕ) → slice_index_or (placed n m Absent) j Absent ≡ Absent
-placed_silent n m j = ap (λ list. slice_index_or list j Absent) (set_silent m (n - 1)) ∙ replicate_silent m j
+placed_silent n m j =
+    ap (λ list. slice_index_or list j Absent) (set_silent m (n - 1)) ∙ get_or-replicate_constant Absent m j
 
 spread_silent : (a : Adaptor) (m j : ℕ) → slice_index_or (spread a m Absent) j Absent ≡ Absent
-spread_silent Repeat m j = replicate_silent m j
+spread_silent Repeat m j = get_or-replicate_constant Absent m j
 spread_silent First m j = placed_silent 1 m j
 spread_silent Last m j = placed_silent m m j
 spread_silent (At n) m j = placed_silent n m j
-spread_silent Latest m j = replicate_silent m j
-spread_silent Max m j = replicate_silent m j
-spread_silent Min m j = replicate_silent m j
-spread_silent Average m j = replicate_silent m j
+spread_silent Latest m j = get_or-replicate_constant Absent m j
+spread_silent Max m j = get_or-replicate_constant Absent m j
+spread_silent Min m j = get_or-replicate_constant Absent m j
+spread_silent Average m j = get_or-replicate_constant Absent m j
 
 -- ---- all values
 at_spread : (a : Adaptor) (m i j : ℕ) (tuple : List PortValue) → j < m

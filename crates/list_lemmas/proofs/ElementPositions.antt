@@ -1,7 +1,7 @@
 -- The elements of a list by their positions: of joined, mapped and paired lists, and the first position that passes
 -- a test.
 use Rattle.std.proofs.Common.{◌≡◌, ◌∙◌, ℕ, zero, suc, ◌+◌, ◌-◌, ◌<◌, Bool, true, false, cond, List, [], ◌∷◌, ◌++◌, map}
-use Rattle.std.proofs.Common.{length, slice_get, Contains, Option, Some, None, refl, ap, ap₂, subst, arith}
+use Rattle.std.proofs.Common.{length, slice_get, get_or, replicate, Contains, Option, Some, refl, ap, ap₂, subst, arith}
 use Rattle.std.specs.Prelude.{flat_map, zip, option_map}
 use Rattle.std.specs.List.{position_from}
 use Rattle.std.proofs.lemmas.List.{length_push}
@@ -57,6 +57,17 @@ flat_map-nil_at f (y ∷ xs) zero x none is =
     subst (λ z. f z ≡ []) same (append_is_nil_left (f y) (flat_map f xs) none)
 flat_map-nil_at f (y ∷ xs) (suc n) x none is =
     flat_map-nil_at f xs n x (append_is_nil_right (f y) (flat_map f xs) none) is
+
+-- ---- the same element at each place, and past the last
+pub get_or-map_constant : {X Y : Type 0} (y : Y) (xs : List X) (k : ℕ) → get_or (map (λ (_ : X). y) xs) k y ≡ y
+get_or-map_constant y [] k = refl
+get_or-map_constant y (x ∷ xs) zero = refl
+get_or-map_constant y (x ∷ xs) (suc k) = get_or-map_constant y xs k
+
+pub get_or-replicate_constant : {X : Type 0} (x : X) (n k : ℕ) → get_or (replicate n x) k x ≡ x
+get_or-replicate_constant x zero k = refl
+get_or-replicate_constant x (suc n) zero = refl
+get_or-replicate_constant x (suc n) (suc k) = get_or-replicate_constant x n k
 
 -- ---- two lists side by side
 pub slice_get-zip : {X Y : Type 0} (xs : List X) (ys : List Y) (k : ℕ) (x : X) (y : Y) → slice_get xs k ≡ Some x

@@ -1,7 +1,8 @@
--- Options that are mapped, chained and joined.
+-- Options that are mapped, chained, joined and tested.
 use Rattle.std.proofs.Common.{◌≡◌, Bool, true, false, cond, Option, Some, None, refl}
-use Rattle.std.specs.Prelude.{option_map}
+use Rattle.std.specs.Prelude.{option_map, is_some, is_none}
 use Rattle.std.specs.Option.{option_and_then, option_or}
+use Rattle.std.proofs.lemmas.Bool.{false≢true}
 
 pub option_map-parts : {X Y : Type 0} (f : X → Y) (o : Option X) (y : Y) → option_map f o ≡ Some y
     → (x : X) × (o ≡ Some x) × (f x ≡ y)
@@ -29,3 +30,12 @@ pub option_or-cond : {X : Type 0} (b : Bool) (n : X) (old new more : Option X) �
     → cond b (Some n) new ≡ option_or (cond b (Some n) old) more
 option_or-cond true n old new more is = refl
 option_or-cond false n old new more is = is
+
+-- ---- what a test tells
+pub some_by_test : {X : Type 0} (o : Option X) → is_some o ≡ true → (x : X) × (o ≡ Some x)
+some_by_test None is = absurd (false≢true is)
+some_by_test (Some x) is = (x, refl)
+
+pub none_by_test : {X : Type 0} (o : Option X) → is_none o ≡ true → o ≡ None
+none_by_test None is = refl
+none_by_test (Some x) is = absurd (false≢true is)

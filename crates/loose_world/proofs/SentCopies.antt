@@ -32,6 +32,7 @@ use Rattle.bus_machine.proofs.MessageAndRunAgreement.{step_keeps_agreement}
 use Rattle.bus_machine.proofs.ListsAndOldestCopies.{numbered_at, oldest_is_one}
 use Rattle.bus_machine.proofs.LoneNodeAgreement.{MaySend}
 use Rattle.bus_machine.proofs.AgreementChanges.{node_set}
+use Rattle.bus_machine.proofs.NodeEventAgreement.{sender_before}
 use Rattle.pals_report.specs.SentLines.{sent_line as line}
 use Rattle.pals_bus.specs.BusValues.{BusValue, Happens}
 use Rattle.pals_bus.specs.proof.NodeAndCodeValues.{opening_bus}
@@ -41,7 +42,7 @@ use Rattle.loose_world.specs.proof.UndergoneEvents.{Undergoes, IsLeftBy, IsRepla
 use Rattle.loose_world.specs.proof.SendersAndSentCopies.{senders, HasSent}
 use Rattle.loose_world.proofs.RoundCounts.{sent_more, nothing_sent, rounds_are_sent}
 use Rattle.loose_world.proofs.SentLines.{round_lines, event_lines, and_sender, one_event}
-use Rattle.loose_world.proofs.StepAndSendCounts.{sender_before, sender_is_there}
+use Rattle.loose_world.proofs.StepAndSendCounts.{sender_is_there}
 use Rattle.loose_world.proofs.UndergoneEvents.{makes_send, stays_replayed, opens_replayed, events_replay}
 
 -- ---- the links from a node

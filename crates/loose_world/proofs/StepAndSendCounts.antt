@@ -28,8 +28,9 @@ use Rattle.bus_machine.specs.Machine.{BusEvent, Start, Step, Finish, Send, Arriv
 use Rattle.bus_machine.specs.Machine.{after_start, after_send, after_arrive, on_step, is_allowed}
 use Rattle.bus_machine.specs.Agreement.{PhaseAgrees, Agrees}
 use Rattle.bus_machine.specs.proof.AgreementLaws.{IsRunOf}
-use Rattle.bus_machine.proofs.LoneNodeAgreement.{finish_keeps, MaySend, may_send_of}
+use Rattle.bus_machine.proofs.LoneNodeAgreement.{finish_keeps, MaySend}
 use Rattle.bus_machine.proofs.AgreementChanges.{is_component}
+use Rattle.bus_machine.proofs.NodeEventAgreement.{is_waiting_phase, sender_before}
 use Rattle.loose_world.specs.proof.StepAndSendCounts.{steps_in_hand, steps_finished, IsCounted}
 use Rattle.loose_world.specs.proof.UndergoneEvents.{event_of}
 
@@ -49,13 +50,6 @@ stay : (run : Run) (s : BusState) (node k : ℕ) (n : NodeState)
 stay run s node k n steps sends = (stays_at (steps_of run) s node k n steps, stays_at rounds_of s node k n sends)
 
 -- ---- Start
-is_waiting_phase : (p : Phase) → is_waiting p ≡ true → p ≡ Waiting
-is_waiting_phase Waiting is = refl
-is_waiting_phase (Running step) is = absurd (false≢true is)
-is_waiting_phase (Between steps) is = absurd (false≢true is)
-is_waiting_phase Holding is = absurd (false≢true is)
-is_waiting_phase Done is = absurd (false≢true is)
-
 counts_start : (run : Run) (s : BusState) (node : NodeNo) (reading m : Option ℕ) (k : ℕ) → Agrees run s
     → is_waiting (node_at s node.0).phase ≡ true
     → IsCounted run s (event.Start node) (after_start run s node reading m) k
@@ -158,17 +152,6 @@ send_keeps_hand count rounds (Running step) = refl
 send_keeps_hand count rounds (Between steps) = refl
 send_keeps_hand count rounds Holding = no_hand true (nat_eq count rounds)
 send_keeps_hand count rounds Done = refl
-
--- the node of a send, before it
-pub sender_before : (run : Run) (s : BusState) (node : NodeNo) → Agrees run s
-    → may_send (plan_of run.design node.0) (node_at s node.0) ≡ true
-    → MaySend run node.0 (component_at run.design node.0) (node_at s node.0)
-sender_before run s node agree may =
-    let is_c =
-    is_component run s node.0 agree
-    (λ gone. false≢true (sym (ap (may_send (plan_of run.design node.0)) gone) ∙ may)) in
-    may_send_of run node.0 (component_at run.design node.0) (node_at s node.0)
-    (agree.nodes node.0 (component_at run.design node.0) is_c) may
 
 pub sender_is_there : (run : Run) (s : BusState) (node : NodeNo) → Agrees run s
     → may_send (plan_of run.design node.0) (node_at s node.0) ≡ true → node.0 < length run.design.components

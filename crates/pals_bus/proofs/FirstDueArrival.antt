@@ -1,6 +1,6 @@
 -- For `take_due`: the first due entry's message arrives, the others are left, and so on until none is due.
 use Rattle.std.proofs.Common.{◌≡◌, ◌∙◌, inl, inr, ◌⊎◌, ℕ, zero, suc, ◌+◌, ◌<◌, ◌≤◌, nat_eq, Bool, true, false, cond}
-use Rattle.std.proofs.Common.{List, [], ◌∷◌, length, Option, Some, None, is_some, refl, sym, ap, ap₂, arith}
+use Rattle.std.proofs.Common.{List, [], ◌∷◌, length, Option, Some, refl, sym, ap, ap₂, arith}
 use Rattle.std.specs.Prelude.{count_by, slice_index_or, slice_set, if◌then◌else◌}
 use Rattle.std.specs.List.{position_or_len}
 use Rattle.std.proofs.lemmas.Bool.{cases_eq}
@@ -9,6 +9,7 @@ use Rattle.std.proofs.lemmas.List.Folds.{find_at}
 use Rattle.std.proofs.lemmas.List.Sums.{sum_by-cons}
 use Rattle.std.proofs.lemmas.Grind.{get_or-set_at}
 use Rattle.std.proofs.lemmas.Option.{slice_get_within, get_or_from_slice_get}
+use Rattle.list_lemmas.proofs.Options.{some_by_test}
 use Rattle.pals_base.specs.declared.values.LinkNo.{LinkNo}
 use Rattle.pals_model.specs.declared.flight_copy.FlightCopy.{FlightCopy}
 use Rattle.pals_model.specs.Flights.{is_of, oldest, without_oldest}
@@ -97,10 +98,6 @@ run_after : (b c : BusValue) (link : LinkNo) (round : ℕ) (reading : Option ℕ
     → c.run ≡ b.run
 run_after b c link round reading happens = ap (λ (v : BusValue). v.run) happens.others
 
-oldest_there : (o : Option FlightCopy) → is_some o ≡ true → (copy : FlightCopy) × (o ≡ Some copy)
-oldest_there None flies = absurd (cc)
-oldest_there (Some copy) flies = (copy, refl)
-
 -- the oldest copy of its round has its due reading, as all of that round do
 first_oldest : (b : BusValue) (node reading : ℕ) (x : DueEntry) (rest : List DueEntry)
     → SameDue (flight_at b.state x.link.0) → AreLeft b node reading (x ∷ rest)
@@ -112,7 +109,7 @@ first_oldest b node reading x rest same left =
     let parts = if_some (nat_eq (link_at b.run.design x.link.0).target.0 node) (count_by (is_copy_of x) copies) some in
     let found = copy_there copies x parts.1 in
     let like = copy_parts x found.1 found.3 in
-    let first = oldest_there (oldest x.round copies) (first_in_flight b node reading x rest left) in
+    let first = some_by_test (oldest x.round copies) (first_in_flight b node reading x rest left) in
     let copy = first.0 in
     let round = oldest_round x.round copies copy first.1 in
     let here : slice_index_or copies found.0 copy ≡ found.1 =

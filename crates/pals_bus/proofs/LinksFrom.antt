@@ -9,6 +9,7 @@ use Rattle.std.proofs.lemmas.List.Elements.{All-nil, All-cons, All-head, All-tai
 use Rattle.std.proofs.lemmas.Grind.{get_or-set_at}
 use Rattle.std.proofs.lemmas.Option.{slice_get_within, get_or_from_slice_get}
 use Rattle.list_lemmas.proofs.ListOperations.{enumerate_from-append}
+use Rattle.list_lemmas.proofs.ElementPositions.{get_or-map_constant}
 use Rattle.pals_base.specs.declared.limits.TheConstants.{PORTS}
 use Rattle.pals_base.specs.declared.values.LinkNo.{LinkNo}
 use Rattle.pals_model.specs.declared.design.Link.{Link}
@@ -21,7 +22,6 @@ use Rattle.pals_bus.specs.proof.OutOfRangeDefaults.{no_flight, no_queue}
 use Rattle.pals_bus.specs.proof.RoundMessages.{is_from, HasRoomFor, HasRoomOn}
 use Rattle.pals_bus.specs.proof.DueQueues.{HasQueueRoomFor, HasQueueRoomOn}
 use Rattle.pals_bus.specs.proof.LinksFrom.{AreOutgoing, links_from, no_numbers, number_of}
-use Rattle.pals_bus.proofs.QueueOpeningsAndSends.{all_the_same}
 
 -- those of the links from a node, where the first has this number
 abbrev pub numbers_from : ℕ → ℕ → List Link → List LinkNo
@@ -78,7 +78,7 @@ pub outgoing_none : {X : Type 0} (xs : List X) (links : List Link) (lists : List
     → lists ≡ map (λ (_ : X). no_numbers) xs → AreOutgoing (length xs) (take 0 links) lists
 outgoing_none {X = X} xs links lists is = record {
   count = ap length is ∙ length-map xs (λ (_ : X). no_numbers);
-  each = λ node lt. ap (λ ls. slice_index_or ls node no_numbers) is ∙ all_the_same no_numbers xs node;
+  each = λ node lt. ap (λ ls. slice_index_or ls node no_numbers) is ∙ get_or-map_constant no_numbers xs node;
 }
 
 pub outgoing_more : (nodes k source : ℕ) (links : List Link) (lists : List (List LinkNo)) (list : List LinkNo)

@@ -8,12 +8,13 @@ use Rattle.pals_runs.specs.declared.journal.Phase.{Phase}
 use Rattle.pals_runs.specs.declared.journal.Phase.TheVariants.{Waiting, Running, Between, Holding, Done}
 use Rattle.bus_machine.specs.NodeEvents.{is_waiting, next_step, running_step}
 use Rattle.bus_machine.specs.States.{BusState, node_at, flight_at}
-use Rattle.bus_machine.specs.Machine.{BusEvent, Start, Step, Finish, Send, Drop, Repeat, is_allowed, on_step}
+use Rattle.bus_machine.specs.Machine.{BusEvent, Start, Step, Finish, Send, Drop, Repeat, is_allowed}
 use Rattle.pals_node.specs.proof.NodeValues.{JobValue}
 use Rattle.pals_node.specs.proof.Answers.{is_busy}
 use Rattle.pals_runs.specs.declared.events_and_faults.Event.{Event}
 use Rattle.pals_runs.specs.declared.events_and_faults.Event.TheVariants as event
 use Rattle.bus_machine.specs.LinkEvents.{is_in_flight}
+use Rattle.bus_machine.proofs.NodeEventAgreement.{on_step_stop}
 use Rattle.pals_node.specs.declared.answers.StartEnd.{StartEnd}
 use Rattle.pals_node.specs.declared.answers.StartEnd.TheVariants as start
 use Rattle.pals_node.specs.declared.answers.StepEnd.{StepEnd}
@@ -40,21 +41,16 @@ start_goes old new node reading job starts =
     (starts.happens.step.state ∙ start_after old.run old.state node reading starts.node_starts.full)
     ∙ starts.happens.step.going
 
-on_step_goes : (o : Option ℕ) (s : BusState) (go : ℕ → BusState) → ((step : ℕ) → (go step).stop ≡ s.stop)
-    → (on_step o s go).stop ≡ s.stop
-on_step_goes None s go same = refl
-on_step_goes (Some step) s go same = same step
-
 pub step_goes : (old new : BusValue) (node : NodeNo) (reading : Option ℕ) → Happens old (Step node reading) new
     → new.state.stop ≡ None
 step_goes old new node reading happens =
     ap (λ (s : BusState). s.stop) happens.step.state
-    ∙ on_step_goes (next_step (node_at old.state node.0).phase) old.state _ (λ step. refl) ∙ happens.step.going
+    ∙ on_step_stop (next_step (node_at old.state node.0).phase) old.state _ (λ step. refl) ∙ happens.step.going
 
 pub finish_goes : (old new : BusValue) (node : NodeNo) → Happens old (Finish node) new → new.state.stop ≡ None
 finish_goes old new node happens =
     ap (λ (s : BusState). s.stop) happens.step.state
-    ∙ on_step_goes (running_step (node_at old.state node.0).phase) old.state _ (λ step. refl) ∙ happens.step.going
+    ∙ on_step_stop (running_step (node_at old.state node.0).phase) old.state _ (λ step. refl) ∙ happens.step.going
 
 pub send_goes : (old new : BusValue) (node : NodeNo) (reading : Option ℕ) → Happens old (Send node reading) new
     → new.state.stop ≡ None

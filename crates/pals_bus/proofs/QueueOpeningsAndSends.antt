@@ -1,11 +1,12 @@
 -- The queues of due messages before the first event, and where a message is sent.
-use Rattle.std.proofs.Common.{◌≡◌, ◌∙◌, inl, inr, ℕ, zero, suc, ◌+◌, ◌<◌, ◌≤◌, nat_eq, Bool, true, false, cond, List}
-use Rattle.std.proofs.Common.{[], ◌∷◌, ◌++◌, length, map, Option, Some, None, refl, sym, ap, arith}
+use Rattle.std.proofs.Common.{◌≡◌, ◌∙◌, inl, inr, ℕ, ◌+◌, ◌<◌, ◌≤◌, nat_eq, Bool, true, false, cond, List, [], ◌∷◌}
+use Rattle.std.proofs.Common.{◌++◌, length, map, Option, Some, None, refl, sym, ap, arith}
 use Rattle.std.specs.Prelude.{count_by, slice_set, slice_index_or, not, if◌then◌else◌}
 use Rattle.std.proofs.lemmas.Bool.{cases_eq, and_from, eq-eqb, and_right}
 use Rattle.std.proofs.lemmas.List.{length-map, length-set, get_or-set_other}
 use Rattle.std.proofs.lemmas.List.Sums.{sum_by-drop_more}
 use Rattle.std.proofs.lemmas.Grind.{get_or-set_at}
+use Rattle.list_lemmas.proofs.ElementPositions.{get_or-map_constant}
 use Rattle.pals_base.specs.declared.values.LinkNo.{LinkNo}
 use Rattle.pals_model.specs.declared.design.Link.{Link}
 use Rattle.pals_model.specs.declared.flight_copy.FlightCopy.{FlightCopy}
@@ -62,11 +63,6 @@ amid_one source links nodes flights queues link copy flight queue are within fli
     }
 
 -- ---- before the first event
-pub all_the_same : {X Y : Type 0} (y : Y) (xs : List X) (k : ℕ) → slice_index_or (map (λ (_ : X). y) xs) k y ≡ y
-all_the_same y [] k = refl
-all_the_same y (x ∷ xs) zero = refl
-all_the_same y (x ∷ xs) (suc k) = all_the_same y xs k
-
 none_either : (b : Bool) → ◌≡◌ {A = ℕ} (if b then 0 else 0) 0
 none_either true = refl
 none_either false = refl
@@ -77,10 +73,10 @@ pub queues_open : (links : List Link) (nodes : List NodeValue)
 queues_open links nodes sent = record {
   count = length-map nodes (λ (_ : NodeValue). no_queue);
   entries = λ node e.
-      ap (λ (q : QueueState). count_by (is_entry e) q.entries) (all_the_same no_queue nodes node)
+      ap (λ (q : QueueState). count_by (is_entry e) q.entries) (get_or-map_constant no_queue nodes node)
       ∙ sym (ap (λ (f : FlightState).
       if nat_eq (slice_index_or links e.link.0 no_link).target.0 node then count_by (is_copy_of e) f.copies else 0)
-      (all_the_same no_flight links e.link.0)
+      (get_or-map_constant no_flight links e.link.0)
       ∙ none_either (nat_eq (slice_index_or links e.link.0 no_link).target.0 node));
   room = λ node.
       let none =

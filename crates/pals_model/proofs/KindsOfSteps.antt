@@ -4,6 +4,7 @@ use Rattle.std.proofs.Common.{if◌then◌else◌, List, [], ◌∷◌, length, 
 use Rattle.std.proofs.Common.{refl, sym, subst, arith}
 use Rattle.std.specs.Prelude.{Result, Ok, Err, IfOk, slice_index_or}
 use Rattle.std.proofs.lemmas.List.Elements.{All-head, All-tail, All-filter, All-nil, All-cons}
+use Rattle.list_lemmas.proofs.ElementPositions.{get_or-replicate_constant}
 use Rattle.pals_model.proofs.FirstMatches.{at_element}
 use Rattle.pals_base.specs.declared.values.Trap.{Trap}
 use Rattle.pals_base.specs.declared.values.Frame.{Frame}
@@ -44,13 +45,8 @@ holding_fits kind (v ∷ held) [] p old new = old
 holding_fits kind (v ∷ held) (input ∷ inputs) zero old new = held_fits kind v input old new
 holding_fits kind (v ∷ held) (input ∷ inputs) (suc p) old new = holding_fits kind held inputs p old new
 
-absent_at : (n p : ℕ) → slice_index_or (replicate n Absent) p Absent ≡ Absent
-absent_at zero p = refl
-absent_at (suc n) zero = refl
-absent_at (suc n) (suc p) = absent_at n p
-
 silence_fits : (b : BehaviourParts) → PortsFit b.outs (silence b)
-silence_fits b = λ p port is. subst (PortFits port.kind) (sym (absent_at (length b.outs) p)) tt
+silence_fits b = λ p port is. subst (PortFits port.kind) (sym (get_or-replicate_constant Absent (length b.outs) p)) tt
 
 -- ---- transitions
 abbrev IsTyped : BehaviourParts → Edge → Type 0

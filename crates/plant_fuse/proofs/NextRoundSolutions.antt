@@ -8,6 +8,7 @@ use Rattle.std.proofs.lemmas.Nat.{div-mul-add, mod-mul-add}
 use Rattle.std.proofs.lemmas.List.{take-append-drop, length-take-le}
 use Rattle.std.proofs.lemmas.Option.{slice_get-map, get_or_from_slice_get}
 use Rattle.std.specs.Option.{option_map}
+use Rattle.list_lemmas.proofs.ElementPositions.{get_or-replicate_constant}
 use Rattle.pals_base.proofs.SettledStates.{map-same}
 use Rattle.pals_base.specs.declared.values.PortValue.{PortValue}
 use Rattle.pals_base.specs.declared.values.PortValue.TheVariants.{Absent}
@@ -53,11 +54,6 @@ drop_upwards f from zero m place is =
 drop_upwards f from (suc n) m place is =
     let size : suc n + m ≡ suc (n + m) = omega arith in
     ap (λ k. drop (suc n) (map f (upwards from k))) size ∙ drop_upwards f (suc from) n m place (omega arith)
-
-absent_at : (n i : ℕ) → slice_index_or (replicate n Absent) i Absent ≡ Absent
-absent_at zero i = refl
-absent_at (suc n) zero = refl
-absent_at (suc n) (suc i) = absent_at n i
 
 at_link : (f : Link → List PortValue) (links : List Link) (number : ℕ) (link : Link)
     → slice_get links number ≡ Some link → slice_index_or (map f links) number [] ≡ f link
@@ -191,7 +187,7 @@ module _ (design : DesignParts) (pairs : List Pair) (env : Env) (rounds : ℕ) (
           ap (left_before design ins link.source.0 link.out_port) none
           ∙ sym (ap (λ (m : List PortValue). slice_index_or m (rate_of design link.source.0 - 1) Absent)
           (at_link (λ (l : Link). replicate (rate_of design l.source.0) Absent) design.links number link is_link)
-          ∙ absent_at (rate_of design link.source.0) (rate_of design link.source.0 - 1))
+          ∙ get_or-replicate_constant Absent (rate_of design link.source.0) (rate_of design link.source.0 - 1))
       last_message (suc n) at back rate =
           let some = (small node c is_c).some in
           let k = rate_of design link.source.0 in

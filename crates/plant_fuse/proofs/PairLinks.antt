@@ -1,16 +1,15 @@
 -- Links between the two components of a pair, and the link that an in port reads.
-use Rattle.std.proofs.Common.{◌≡◌, ◌≢◌, ◌∙◌, inl, inr, ℕ, ◌<◌, true, false, List, length, Option, Some, None, slice_get}
-use Rattle.std.proofs.Common.{slice_index_or, refl, sym, ap, subst}
-use Rattle.std.specs.Prelude.{nat_eq, position}
+use Rattle.std.proofs.Common.{◌≡◌, ◌≢◌, ◌∙◌, inl, inr, ℕ, ◌<◌, true, false, List, length, Some, slice_get}
+use Rattle.std.proofs.Common.{slice_index_or, sym, ap, subst}
+use Rattle.std.specs.Prelude.{nat_eq}
 use Rattle.std.proofs.lemmas.Bool.{eqb-true, eq-eqb, ne_eqb, and_parts, cases_order}
 use Rattle.std.proofs.lemmas.List.Folds.{Any-from_list_any, list_any_at, list_any_none}
-use Rattle.std.proofs.lemmas.List.Quantifiers.{position-Some}
 use Rattle.std.proofs.lemmas.List.{get_or_default}
-use Rattle.std.proofs.lemmas.Option.{get_or_from_slice_get}
 use Rattle.pals_model.specs.declared.design.Link.{Link}
 use Rattle.pals_model.specs.declared.design.DesignParts.{DesignParts}
 use Rattle.pals_model.specs.declared.port_sources.PortSource.TheVariants as source
-use Rattle.pals_model.specs.ComponentInputs.{rate_of, source_of, from_link, from_feed, link_goes_to, feed_goes_to}
+use Rattle.pals_model.specs.ComponentInputs.{rate_of, source_of}
+use Rattle.pals_model.proofs.SourceLaws.{reads_link}
 use Rattle.pals_runs.specs.declared.vote_faults_and_pairs.Pair.{Pair}
 use Rattle.plant_fuse.specs.FusedComposition.{goes, is_back, is_forth, IsPair, ArePairs}
 use Rattle.plant_fuse.proofs.StepRanks.{is_controller}
@@ -80,24 +79,6 @@ module _ (design : DesignParts) (pairs : List Pair) (are : ArePairs design pairs
       }
 
 -- ---- the link that an in port reads goes there
-feed_is_no_link : (design : DesignParts) (o : Option ℕ) (number : ℕ) → from_feed design o ≡ source.Link number → ⊥
-feed_is_no_link design None number is = absurd (cc)
-feed_is_no_link design (Some feed) number is = absurd (cc)
-
-target_by : (design : DesignParts) (node port number : ℕ) (link : Link) (o : Option ℕ)
-    → position (link_goes_to node port) design.links ≡ o
-    → from_link o (from_feed design (position (feed_goes_to node port) design.feeds)) ≡ source.Link number
-    → slice_get design.links number ≡ Some link → link.target.0 ≡ node
-target_by design node port number link None at is there = absurd (feed_is_no_link design _ number is)
-target_by design node port number link (Some k) at is there =
-    let same : k ≡ number = cc in
-    let found = position-Some (link_goes_to node port) design.links k link at in
-    let here : slice_index_or design.links k link ≡ link = ap (λ n. slice_index_or design.links n link) same
-    ∙ get_or_from_slice_get design.links number link link there in
-    let test : link_goes_to node port link ≡ true = sym (ap (link_goes_to node port) here) ∙ found.1 in
-    eqb-true link.target.0 node (and_parts (nat_eq link.target.0 node) (nat_eq link.in_port port) test).0
-
 pub read_from_target : (design : DesignParts) (node port number : ℕ) (link : Link)
     → source_of design node port ≡ source.Link number → slice_get design.links number ≡ Some link → link.target.0 ≡ node
-read_from_target design node port number link is there =
-    target_by design node port number link (position (link_goes_to node port) design.links) refl is there
+read_from_target design node port number link is there = (reads_link design node port number link is there).0

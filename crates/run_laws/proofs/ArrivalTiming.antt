@@ -1,20 +1,18 @@
 -- An arrival without a fault leaves its message in the slot, and keeps what a world keeps of its time.
-use Rattle.std.proofs.Common.{◌≡◌, ◌≢◌, inl, inr, ℕ, suc, ◌+◌, ◌<◌, nat_eq, true, false, List, [], length, slice_get}
-use Rattle.std.proofs.Common.{Option, Some, None, refl, sym, ap, ap₂, ◌∙◌, subst, arith}
-use Rattle.std.specs.Prelude.{nat_lt, is_some}
-use Rattle.std.proofs.lemmas.Bool.{and_left, and_right, and_from, eqb-true, eq-eqb, ne_eqb, cases_eq, cases_order}
-use Rattle.std.proofs.lemmas.Bool.{false≢true}
+use Rattle.std.proofs.Common.{◌≡◌, ◌≢◌, inl, inr, ℕ, suc, ◌+◌, ◌<◌, nat_eq, true, false, List, [], length, Some, None}
+use Rattle.std.proofs.Common.{refl, sym, ap, ◌∙◌, subst, arith}
+use Rattle.std.specs.Prelude.{nat_lt}
+use Rattle.std.proofs.lemmas.Bool.{and_left, and_right, and_from, eqb-true, eq-eqb, ne_eqb, cases_eq}
 use Rattle.std.proofs.lemmas.Grind.{get_or-set_at}
 use Rattle.std.proofs.lemmas.List.{get_or-set_other}
 use Rattle.list_lemmas.proofs.Elements.{find-passes}
-use Rattle.list_lemmas.proofs.PairwiseProperties.{AllPairs-slice_get}
+use Rattle.list_lemmas.proofs.Options.{some_by_test}
 use Rattle.pals_base.specs.declared.values.LinkNo.{LinkNo}
 use Rattle.pals_base.specs.declared.values.PortValue.{PortValue}
-use Rattle.pals_model.specs.declared.design.Link.{Link}
 use Rattle.pals_model.specs.declared.flight_copy.FlightCopy.{FlightCopy}
 use Rattle.pals_model.specs.Flights.{is_of, oldest, without_oldest}
 use Rattle.pals_model.specs.PortKinds.{ins_in}
-use Rattle.pals_model.specs.DesignRules.{LinkPrecedes, port_place}
+use Rattle.pals_model.proofs.SourceLaws.{same_link}
 use Rattle.pals_runs.specs.declared.events_and_faults.Event.TheVariants as event
 use Rattle.pals_runs.specs.declared.journal.Arrived.{Arrived}
 use Rattle.pals_runs.specs.declared.journal.Arrived.TheVariants.{Kept}
@@ -30,12 +28,13 @@ use Rattle.bus_machine.specs.proof.AgreementLaws.{IsRunOf}
 use Rattle.run_laws.specs.Worlds.{World, reading_at, since_at, ready_at, sendings, world_after}
 use Rattle.bus_machine.proofs.MessageAndRunAgreement.{step_keeps_agreement}
 use Rattle.bus_machine.proofs.AgreementChanges.{node_set, node_stays}
+use Rattle.bus_machine.proofs.QuantitiesAndSentRounds.{keeps_at}
 use Rattle.run_laws.specs.proof.WorldInvariant.{IsOnce, copies, waits, taken, one_if, KeepsLink, KeepsTime}
 use Rattle.run_laws.proofs.Lists.{count_without}
 use Rattle.run_laws.proofs.WorldNodeTiming.{Stands, stands_at, component_is}
 use Rattle.run_laws.proofs.WorldLinkTiming.{comes_in_time, ComesInTime, is_kept, link_is, rule_of, one_of_true}
 use Rattle.run_laws.proofs.WorldLinkTiming.{one_of_false, in_flight_counts, counts_in_flight}
-use Rattle.run_laws.proofs.LocalWorldChanges.{same_at, changed, stands_put, keeps_again}
+use Rattle.run_laws.proofs.LocalWorldChanges.{changed, stands_put, keeps_again}
 use Rattle.run_laws.proofs.FaultlessEventConditions.{ArrivesInTime}
 
 -- ---- a round of the link
@@ -75,27 +74,6 @@ fewer_in_flight round r flight copy found flies =
     let fewer : copies r (without_oldest round flight) + one_if (is_of r copy) ≡ copies r flight =
     count_without (is_of round) (is_of r) flight copy found in
     counts_in_flight r flight (omega arith)
-
-pub the_oldest : (o : Option FlightCopy) → is_some o ≡ true → (copy : FlightCopy) × (o ≡ Some copy)
-the_oldest None is = absurd (false≢true is)
-the_oldest (Some copy) is = (copy, refl)
-
--- no two links go to one in port
-same_link : (run : Run) (one two : ℕ) (a b : Link) → IsRunOf run → slice_get run.design.links one ≡ Some a
-    → slice_get run.design.links two ≡ Some b → a.target.0 ≡ b.target.0 → a.in_port ≡ b.in_port → one ≡ two
-same_link run one two a b rules is_a is_b node port =
-    let same : port_place a.target.0 a.in_port ≡ port_place b.target.0 b.in_port = ap₂ port_place node port in
-    elim (cases_order one two) [
-      | inl same_number ↦ same_number
-      | inr apart ↦ elim apart [
-        | inl before ↦ let less : port_place a.target.0 a.in_port < port_place b.target.0 b.in_port =
-            AllPairs-slice_get LinkPrecedes run.design.links one two a b rules.design.links.order before is_a is_b in
-            absurd (omega arith)
-        | inr after ↦ let less : port_place b.target.0 b.in_port < port_place a.target.0 a.in_port =
-            AllPairs-slice_get LinkPrecedes run.design.links two one b a rules.design.links.order after is_b is_a in
-            absurd (omega arith)
-      ]
-    ]
 
 module _ (run : Run) (w : World) (rules : IsRunOf run) (keeps : KeepsTime run w) (link : LinkNo) (round : ℕ)
     (fine : ArrivesInTime run w link round) where
@@ -172,10 +150,10 @@ module _ (run : Run) (w : World) (rules : IsRunOf run) (keeps : KeepsTime run w)
 
   -- ---- the links
   pub sent_stays : (k : ℕ) → sent_rounds (node_at (bus_arrived Kept) k) ≡ sent_rounds (node_at w.bus k)
-  sent_stays k = same_at (λ (n : NodeState). sent_rounds n) w.bus target k holds refl
+  sent_stays k = keeps_at (λ (n : NodeState). sent_rounds n) w.bus target k holds refl
 
   count_stays : (k : ℕ) → (node_at (bus_arrived Kept) k).count ≡ (node_at w.bus k).count
-  count_stays k = same_at (λ (n : NodeState). n.count) w.bus target k holds refl
+  count_stays k = keeps_at (λ (n : NodeState). n.count) w.bus target k holds refl
 
   abbrev pub world_arrived : Arrived → World
   world_arrived a = changed w (bus_arrived a) w.since w.ready w.sent_at
@@ -184,7 +162,7 @@ module _ (run : Run) (w : World) (rules : IsRunOf run) (keeps : KeepsTime run w)
   this_link =
       let source = (link_at run.design link.0).source.0 in
       let before = keeps.links link.0 fine.within in
-      let old = the_oldest (oldest round flight) fine.flies in
+      let old = some_by_test (oldest round flight) fine.flies in
       let of_round : old.0.round ≡ round = eqb-true old.0.round round (find-passes (is_of round) flight old.0 old.1) in
       let flies : flight_at (bus_arrived Kept) link.0 ≡ without_oldest round flight =
       get_or-set_at w.bus.flights link.0 link.0 (without_oldest round flight) [] refl in_flights in
@@ -224,8 +202,8 @@ module _ (run : Run) (w : World) (rules : IsRunOf run) (keeps : KeepsTime run w)
       elim (cases_eq l.target.0 target) [
         | inl same ↦
             let apart : l.in_port ≢ port =
-            λ e. other (same_link run number link.0 l (link_at run.design link.0) rules (link_is run number within)
-            (link_is run link.0 fine.within) same e) in
+            λ e. other (same_link run.design number link.0 l (link_at run.design link.0) rules.design
+            (link_is run number within) (link_is run link.0 fine.within) same e) in
             ap (λ k. slot_at (node_at (bus_arrived Kept) k) l.in_port) same
             ∙ ap (λ (n : NodeState). slot_at n l.in_port) (node_set w.bus target holds in_bus)
             ∙ get_or-set_other here.slots port l.in_port (Some tuple) None apart

@@ -24,6 +24,8 @@ use Rattle.bus_machine.specs.MissedStarts.{sent_rounds}
 use Rattle.bus_machine.specs.Machine.{BusEvent, Arrive}
 use Rattle.bus_machine.specs.ActionsAndTargets.{next_in, target}
 use Rattle.bus_machine.specs.proof.AgreementLaws.{IsRunOf}
+use Rattle.bus_machine.proofs.NodeEventAgreement.{is_waiting_phase}
+use Rattle.bus_machine.proofs.QuantitiesAndSentRounds.{keeps_at}
 use Rattle.pals_clock.specs.ClockStates.{ClockState}
 use Rattle.pals_clock.specs.declared.clock.Clocks.{Clocks}
 use Rattle.pals_clock.specs.declared.clock.Clocks.TheVariants.{Meet, Lists}
@@ -32,10 +34,8 @@ use Rattle.run_laws.specs.proof.LinkTiming.{view}
 use Rattle.run_laws.specs.proof.StepsUnderLock.{ListPicks, ListEnds, IsToStart, IsDueAt, DueArrives}
 use Rattle.run_laws.proofs.MeetingStopsAndBounds.{link_is}
 use Rattle.run_laws.proofs.EndedListClocks.{stays_ended}
-use Rattle.run_laws.proofs.JournalStartsAndSends.{is_waiting_phase}
 use Rattle.run_laws.proofs.ActionsInOrder.{follows_in}
 use Rattle.run_laws.proofs.MeetingReadings.{event_aims}
-use Rattle.run_laws.proofs.LinkViews.{keeps_at}
 use Rattle.run_laws.proofs.LinkTiming.{links_timed}
 use Rattle.run_laws.proofs.OldestCopies.{due_is_oldest}
 use Rattle.run_laws.proofs.NodePicks.{runs_agree}

@@ -16,8 +16,9 @@ use Rattle.bus_machine.specs.NodeEvents.{next_step, running_step, stepped, finis
 use Rattle.bus_machine.specs.States.{Run, BusState, node_at, with_node}
 use Rattle.bus_machine.specs.MissedStarts.{missing_link}
 use Rattle.bus_machine.specs.Machine.{BusEvent, Start, Step, Finish, Send, Arrive, Drop, Repeat, after, after_start}
-use Rattle.bus_machine.specs.Machine.{on_step, arrival, early_stop}
+use Rattle.bus_machine.specs.Machine.{arrival, early_stop}
 use Rattle.bus_machine.specs.Replay.{Replays, opens, goes_on, entries, start_entry, stop_entry}
+use Rattle.bus_machine.proofs.NodeEventAgreement.{on_step_stop}
 
 -- ---- entries that tell no stop
 abbrev stop_told : JournalEntry → Option Stop
@@ -80,11 +81,6 @@ start_ends : (run : Run) (s : BusState) (node : NodeNo) (reading m : Option ℕ)
 start_ends run s node reading None going = goes s.stop (start_entry run s node reading None) refl going
 start_ends run s node reading (Some link) going = ([], All-nil IsNoStop, refl)
 
-step_keeps : (step : Option ℕ) (s : BusState) (go : ℕ → BusState) → ((n : ℕ) → (go n).stop ≡ s.stop)
-    → (on_step step s go).stop ≡ s.stop
-step_keeps None s go keeps = refl
-step_keeps (Some step) s go keeps = keeps step
-
 arrive_ends : (link : LinkNo) (round : ℕ) (reading : Option ℕ) (a : Arrived)
     → EndAt (early_stop link round reading a)
     (entry.Arrive link round reading a ∷ stop_entry (early_stop link round reading a))
@@ -97,12 +93,12 @@ event_ends : (run : Run) (s : BusState) (e : BusEvent) → s.stop ≡ None → E
 event_ends run s (Start node reading) going = start_ends run s node reading (missing_link run s node.0) going
 event_ends run s (Step node reading) going =
     let n = node_at s node.0 in
-    goes _ _ refl (step_keeps (next_step n.phase) s (λ step. with_node s node.0 (stepped step n))
+    goes _ _ refl (on_step_stop (next_step n.phase) s (λ step. with_node s node.0 (stepped step n))
     (λ step. refl) ∙ going)
 event_ends run s (Finish node) going =
     let n = node_at s node.0 in
     let go = λ (step : ℕ). with_node s node.0 (finished (plan_of run.design node.0) run.rounds step n) in
-    goes _ _ refl (step_keeps (running_step n.phase) s go (λ step. refl) ∙ going)
+    goes _ _ refl (on_step_stop (running_step n.phase) s go (λ step. refl) ∙ going)
 event_ends run s (Send node reading) going = goes _ _ refl going
 event_ends run s (Arrive link round reading) going = arrive_ends link round reading (arrival run s link round)
 event_ends run s (Drop link round) going = goes _ _ refl going

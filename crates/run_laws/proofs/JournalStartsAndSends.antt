@@ -32,9 +32,10 @@ use Rattle.bus_machine.specs.Machine.{after_send, after_arrive, on_step, is_allo
 use Rattle.bus_machine.specs.Replay.{entries, start_entry, stop_entry}
 use Rattle.bus_machine.specs.Agreement.{PhaseAgrees, Agrees}
 use Rattle.bus_machine.specs.proof.AgreementLaws.{IsRunOf}
-use Rattle.bus_machine.proofs.LoneNodeAgreement.{finish_keeps, MaySend, may_send_of}
+use Rattle.bus_machine.proofs.LoneNodeAgreement.{finish_keeps, MaySend}
 use Rattle.bus_machine.proofs.AgreementChanges.{is_component}
 use Rattle.bus_machine.proofs.MessageAndRunAgreement.{node_opens}
+use Rattle.bus_machine.proofs.NodeEventAgreement.{is_waiting_phase, sender_before}
 use Rattle.run_laws.specs.JournalReadings.{listed, start_in, send_in, starts, sends}
 use Rattle.pals_clock.specs.declared.clock.Clocks.{Clocks}
 use Rattle.pals_clock.specs.declared.clock.Clocks.TheVariants.{Lists}
@@ -84,13 +85,6 @@ one_start : (s t : BusState) (k n : ℕ) (reading : Option ℕ) (at : ℕ) (b : 
 one_start s t k n reading at b is grows = subst (λ x. Grow s t k x 0) (shows_one reading at b is) grows
 
 -- ---- Start
-pub is_waiting_phase : (p : Phase) → is_waiting p ≡ true → p ≡ Waiting
-is_waiting_phase Waiting is = refl
-is_waiting_phase (Running step) is = absurd (false≢true is)
-is_waiting_phase (Between steps) is = absurd (false≢true is)
-is_waiting_phase Holding is = absurd (false≢true is)
-is_waiting_phase Done is = absurd (false≢true is)
-
 below : (run : Run) (s : BusState) (j : ℕ) → Agrees run s → j < length run.design.components → j < length s.nodes
 below run s j agree within = let count = agree.node_count in omega arith
 
@@ -135,18 +129,6 @@ counts_finish run s node Holding k = nothing s s k refl
 counts_finish run s node Done k = nothing s s k refl
 
 -- ---- Send
-
--- the node of a send, before it
-pub sender_before : (run : Run) (s : BusState) (node : NodeNo) → Agrees run s
-    → may_send (plan_of run.design node.0) (node_at s node.0) ≡ true
-    → MaySend run node.0 (component_at run.design node.0) (node_at s node.0)
-sender_before run s node agree may =
-    let is_c =
-    is_component run s node.0 agree
-    (λ gone. false≢true (sym (ap (may_send (plan_of run.design node.0)) gone) ∙ may)) in
-    may_send_of run node.0 (component_at run.design node.0) (node_at s node.0)
-    (agree.nodes node.0 (component_at run.design node.0) is_c) may
-
 one_send : (s t : BusState) (k : ℕ) (reading : Option ℕ) (at : ℕ) (b : Bool) → reading ≡ Some at
     → Grow s t k 0 (cond b 1 0) → Grow s t k 0 (length (cond b (listed reading) [] ++ []))
 one_send s t k reading at b is grows = subst (λ x. Grow s t k 0 x) (shows_one reading at b is) grows

@@ -11,6 +11,7 @@ use Rattle.std.proofs.lemmas.Grind.{common_steps}
 use Rattle.std.proofs.lemmas.List.Elements.{All-nil, All-cons, All-head, All-tail, All-append, All-weaker}
 use Rattle.std.proofs.lemmas.Option.{same_Some, slice_get_within, slice_get-get_or}
 use Rattle.list_lemmas.proofs.ElementPositions.{slice_get-push}
+use Rattle.list_lemmas.proofs.Options.{none_by_test}
 use Rattle.pals_base.specs.declared.values.PortValue.{PortValue}
 use Rattle.pals_model.specs.declared.flight_copy.FlightCopy.{FlightCopy}
 use Rattle.pals_model.specs.Flights.{is_of, oldest, without_oldest}
@@ -320,10 +321,6 @@ kept_or_early round count flying slot taken false next is other going some (was_
 kept_or_early round count flying slot taken false next is other going some (came_early none early) =
     absurd (let both : None ≡ Some round = sym going ∙ early in cc)
 
-is_empty : (slot : Option (List PortValue)) → is_none slot ≡ true → slot ≡ None
-is_empty None is = refl
-is_empty (Some tuple) is = absurd (false≢true is)
-
 fits_by : (late next empty : Bool) → (if late then Early else if next && empty then Kept else Ignored) ≡ Kept
     → (next ≡ true) × (empty ≡ true)
 fits_by true next empty is = absurd (cc)
@@ -335,7 +332,7 @@ kept_when : (round count : ℕ) (slot : Option (List PortValue)) → arrived_at 
     → (round + 1 ≡ count) × (slot ≡ None)
 kept_when round count slot is =
     let fits = fits_by (nat_le count round) (nat_eq (round + 1) count) (is_none slot) is in
-    (eqb-true (round + 1) count fits.0, is_empty slot fits.1)
+    (eqb-true (round + 1) count fits.0, none_by_test slot fits.1)
 
 none_left : (flying left : ℕ) (round count : ℕ) (slot : Option (List PortValue)) (taken : Option ℕ) → taken ≡ None
     → flying ≡ left + 1 → Whereabouts round count slot flying taken → left ≡ 0

@@ -1,14 +1,14 @@
 -- In each run the facts of each link about when its messages come due and where they are hold, event by event: the
 -- claim LinksAreTimed.
-use Rattle.std.proofs.Common.{◌≡◌, ◌≢◌, inl, inr, ℕ, zero, suc, ◌+◌, ◌<◌, ◌≤◌, nat_eq, true, false, cond, List, [], ◌∷◌}
-use Rattle.std.proofs.Common.{◌++◌, length, map, slice_get, Option, Some, None, refl, sym, ap, ap₂, ◌∙◌, subst, arith}
+use Rattle.std.proofs.Common.{◌≡◌, ◌≢◌, inl, inr, ℕ, ◌+◌, ◌<◌, ◌≤◌, nat_eq, true, false, cond, List, [], ◌∷◌, ◌++◌}
+use Rattle.std.proofs.Common.{length, slice_get, Option, Some, None, refl, sym, ap, ◌∙◌, subst, arith}
 use Rattle.std.specs.Prelude.{slice_index_or, if◌then◌else◌}
 use Rattle.std.specs.Option.{option_map}
-use Rattle.std.proofs.lemmas.Bool.{cases_eq, cases_order, false≢true, eq-eqb, ne_eqb}
+use Rattle.std.proofs.lemmas.Bool.{cases_eq, false≢true, eq-eqb, ne_eqb}
 use Rattle.std.proofs.lemmas.Grind.{get_or-set_at}
 use Rattle.std.proofs.lemmas.List.{get_or-set_other, append-nil}
 use Rattle.std.proofs.lemmas.Option.{slice_get-get_or}
-use Rattle.list_lemmas.proofs.PairwiseProperties.{AllPairs-slice_get}
+use Rattle.list_lemmas.proofs.ElementPositions.{get_or-map_constant}
 use Rattle.pals_base.specs.declared.values.NodeNo.{NodeNo}
 use Rattle.pals_base.specs.declared.values.LinkNo.{LinkNo}
 use Rattle.pals_base.specs.declared.values.PortValue.{PortValue}
@@ -18,8 +18,9 @@ use Rattle.pals_model.specs.ComponentInputs.{values_at}
 use Rattle.pals_model.specs.Delays.{delay_of}
 use Rattle.pals_model.specs.Flights.{oldest, without_oldest}
 use Rattle.pals_model.specs.PortKinds.{ins_in}
-use Rattle.pals_model.specs.DesignRules.{IsLink, LinkPrecedes, port_place}
+use Rattle.pals_model.specs.DesignRules.{IsLink}
 use Rattle.pals_model.proofs.FirstMatches.{at_element}
+use Rattle.pals_model.proofs.SourceLaws.{same_link}
 use Rattle.pals_runs.specs.declared.journal.Phase.{Phase}
 use Rattle.pals_runs.specs.declared.journal.Phase.TheVariants.{Waiting, Running, Between, Holding, Done}
 use Rattle.pals_runs.specs.declared.journal.Arrived.{Arrived}
@@ -37,7 +38,6 @@ use Rattle.bus_machine.specs.MissedStarts.{missing_link, sent_rounds}
 use Rattle.bus_machine.specs.Machine.{BusEvent, Start, Step, Finish, Send, Arrive, Drop, Repeat, is_allowed, after}
 use Rattle.bus_machine.specs.Machine.{after_start, after_send, after_arrive, on_step, arrival, early_stop}
 use Rattle.bus_machine.specs.Machine.{flight_after_send}
-use Rattle.bus_machine.specs.declared.plan.Input.{Input}
 use Rattle.run_laws.specs.TraceRules.{is_due}
 use Rattle.bus_machine.specs.Replay.{entries, start_entry, stop_entry}
 use Rattle.bus_machine.specs.Agreement.{Agrees}
@@ -46,31 +46,24 @@ use Rattle.bus_machine.proofs.ListsAndOldestCopies.{numbered_at}
 use Rattle.bus_machine.proofs.LoneNodeAgreement.{finish_keeps}
 use Rattle.bus_machine.proofs.AgreementChanges.{node_stays}
 use Rattle.bus_machine.proofs.MessageAndRunAgreement.{node_opens}
+use Rattle.bus_machine.proofs.QuantitiesAndSentRounds.{keeps_at}
+use Rattle.bus_machine.proofs.NodeEventAgreement.{sender_before}
 use Rattle.run_laws.specs.JournalReadings.{if_at, start_in, send_in, starts, sends, latest}
 use Rattle.pals_clock.specs.declared.clock.Clocks.{Clocks}
 use Rattle.pals_clock.specs.declared.clock.Clocks.TheVariants.{Lists}
 use Rattle.run_laws.specs.Runs.{Takes, KeepsTo, Runs, opens, picks_for, goes_on}
 use Rattle.run_laws.specs.proof.LinkTiming.{early_on, view, LinksAreTimed}
 use Rattle.run_laws.proofs.NodePicks.{runs_agree}
-use Rattle.run_laws.proofs.JournalStartsAndSends.{rounds_are_shown, sender_before}
+use Rattle.run_laws.proofs.JournalStartsAndSends.{rounds_are_shown}
 use Rattle.run_laws.proofs.LinkEventEffects.{goes_start, goes_send, goes_arrive, slot_after, taken_after, arrived_at}
 use Rattle.run_laws.proofs.MissedLinks.{full_slot}
 use Rattle.run_laws.proofs.MeetingReadings.{no_fall}
 use Rattle.run_laws.proofs.EventReadings.{does_read, start_tells, arrive_tells, event_tells, later, latest_after}
 use Rattle.run_laws.proofs.EventReadings.{NoFall}
-use Rattle.run_laws.proofs.LinkViews.{same_view, send_at, none_at, sends_more, starts_more, grows_by, keeps_at, TimedIn}
+use Rattle.run_laws.proofs.LinkViews.{same_view, send_at, none_at, sends_more, starts_more, grows_by, TimedIn}
 use Rattle.run_laws.proofs.LinkViews.{stays_timed}
 
 -- ---- Start
-abbrev no_slot : Option (List PortValue)
-no_slot = None
-
-emptied : (slots : List (Option (List PortValue))) (port : ℕ)
-    → slice_index_or (map (λ (_ : Option (List PortValue)). no_slot) slots) port no_slot ≡ no_slot
-emptied [] port = refl
-emptied (slot ∷ slots) zero = refl
-emptied (slot ∷ slots) (suc port) = emptied slots port
-
 start_timed : (run : Run) (s : BusState) (node : NodeNo) (reading m : Option ℕ) (at : ℕ) (journal : List JournalEntry)
     (number : ℕ) (link : Link) → IsRunOf run → Agrees run s → slice_get run.design.links number ≡ Some link
     → node.0 < length run.design.components → reading ≡ Some at → TimedIn run s journal number link → s.stop ≡ None
@@ -103,7 +96,8 @@ start_timed run s node reading None at journal number link rules agree is within
           (send_at node.0 link.target.0 node at reading refl (sym same) shows))
           latest'
           (ap (λ (k : NodeState). k.count) here ∙ ap (λ j. (node_at s j).count + 1) (sym same))
-          (ap (λ (k : NodeState). slot_at k link.in_port) here ∙ emptied n.slots link.in_port)
+          (ap (λ (k : NodeState). slot_at k link.in_port) here
+          ∙ get_or-map_constant {Y = Option (List PortValue)} None n.slots link.in_port)
           refl refl
           (goes_start (delay_of run.delays number) v at timed (ap (early_on number) going) (omega arith)
           (full_slot run s number link rules agree is (ap (missing_link run s) same ∙ misses)))
@@ -233,23 +227,6 @@ send_timed run s node reading at journal number link rules agree is may shows ti
     ]
 
 -- ---- Arrive
--- no two links go to one in port
-same_link : (run : Run) (one two : ℕ) (a b : Link) → IsRunOf run → slice_get run.design.links one ≡ Some a
-    → slice_get run.design.links two ≡ Some b → a.target.0 ≡ b.target.0 → a.in_port ≡ b.in_port → one ≡ two
-same_link run one two a b rules is_a is_b node port =
-    let same : port_place a.target.0 a.in_port ≡ port_place b.target.0 b.in_port = ap₂ port_place node port in
-    elim (cases_order one two) [
-      | inl same_number ↦ same_number
-      | inr apart ↦ elim apart [
-        | inl before ↦ let less : port_place a.target.0 a.in_port < port_place b.target.0 b.in_port =
-            AllPairs-slice_get LinkPrecedes run.design.links one two a b rules.design.links.order before is_a is_b in
-            absurd (omega arith)
-        | inr after' ↦ let less : port_place b.target.0 b.in_port < port_place a.target.0 a.in_port =
-            AllPairs-slice_get LinkPrecedes run.design.links two one b a rules.design.links.order after' is_b is_a in
-            absurd (omega arith)
-      ]
-    ]
-
 pub with_message_count : (n : NodeState) (port : ℕ) (tuple : List PortValue) (a : Arrived)
     → (with_message n port tuple a).count ≡ n.count
 with_message_count n port tuple Kept = refl
@@ -297,7 +274,7 @@ arrives_elsewhere run s other number l link tuple a rules is_l is apart =
       | inl same ↦
           keeps_at (λ (k : NodeState). slot_at k link.in_port) s l.target.0 link.target.0 m
           (other_slot n l.in_port link.in_port tuple a
-          (λ port. apart (same_link run other number l link rules is_l is (sym same) (sym port))))
+          (λ port. apart (same_link run.design other number l link rules.design is_l is (sym same) (sym port))))
       | inr elsewhere ↦ ap (λ (k : NodeState). slot_at k link.in_port)
           (node_stays s l.target.0 link.target.0 m elsewhere)
     ]
@@ -430,21 +407,6 @@ event_timed run clocks s (Repeat from round) journal number link rules agree is 
     absurd keeps
 
 -- ---- the opening
-abbrev no_copies : List FlightCopy
-no_copies = []
-
-empty_flight : (links : List Link) (number : ℕ)
-    → slice_index_or (map (λ (_ : Link). no_copies) links) number no_copies ≡ no_copies
-empty_flight [] number = refl
-empty_flight (link ∷ links) zero = refl
-empty_flight (link ∷ links) (suc number) = empty_flight links number
-
-empty_slot : (inputs : List Input) (port : ℕ)
-    → slice_index_or (map (λ (_ : Input). no_slot) inputs) port no_slot ≡ no_slot
-empty_slot [] port = refl
-empty_slot (input ∷ inputs) zero = refl
-empty_slot (input ∷ inputs) (suc port) = empty_slot inputs port
-
 opening_timed : (run : Run) (number : ℕ) (link : Link) → IsRunOf run → slice_get run.design.links number ≡ Some link
     → TimedIn run (opening run) [] number link
 opening_timed run number link rules is =
@@ -454,8 +416,8 @@ opening_timed run number link rules is =
     (record { sends = []; starts = []; latest = 0; count = 0; slot = None; flight = []; taken = None })
     refl refl refl (ap (λ (n : NodeState). n.count) here)
     (ap (λ (n : NodeState). slot_at n link.in_port) here
-    ∙ empty_slot (plan_of run.design link.target.0).inputs link.in_port)
-    (empty_flight run.design.links number) refl
+    ∙ get_or-map_constant {Y = Option (List PortValue)} None (plan_of run.design link.target.0).inputs link.in_port)
+    (get_or-map_constant {Y = List FlightCopy} [] run.design.links number) refl
     (record {
       flights = λ k d none. absurd (omega arith);
       places = λ round none. absurd (omega arith);

@@ -1,19 +1,17 @@
 -- What entries of a journal add to what is shown of a link.
-use Rattle.std.proofs.Common.{◌≡◌, ◌≢◌, inl, inr, ℕ, ◌+◌, ◌≤◌, nat_eq, Bool, true, false, cond, List, [], ◌∷◌, ◌++◌}
-use Rattle.std.proofs.Common.{length, Option, Some, None, refl, sym, ap, ap₂, ◌∙◌, subst, arith}
-use Rattle.std.proofs.lemmas.Bool.{cases_eq, cases_lt, eqb-true, eq-eqb, ne_eqb}
-use Rattle.std.proofs.lemmas.Grind.{get_or-set_at, flat_map-append}
-use Rattle.std.proofs.lemmas.List.{length-set, get_or_past, append-nil}
+use Rattle.std.proofs.Common.{◌≡◌, ◌≢◌, ℕ, ◌+◌, ◌≤◌, nat_eq, Bool, true, false, cond, List, [], ◌∷◌, ◌++◌, Option, Some}
+use Rattle.std.proofs.Common.{None, refl, sym, ap, ap₂, ◌∙◌, subst, arith}
+use Rattle.std.proofs.lemmas.Bool.{eqb-true, eq-eqb, ne_eqb}
+use Rattle.std.proofs.lemmas.Grind.{flat_map-append}
+use Rattle.std.proofs.lemmas.List.{append-nil}
 use Rattle.pals_base.specs.declared.values.NodeNo.{NodeNo}
 use Rattle.pals_model.specs.declared.design.Link.{Link}
 use Rattle.pals_model.specs.Delays.{delay_of}
 use Rattle.pals_runs.specs.declared.journal.JournalEntry.{JournalEntry}
-use Rattle.bus_machine.specs.Nodes.{NodeState}
 use Rattle.bus_machine.specs.NodeEvents.{slot_at}
-use Rattle.bus_machine.specs.States.{Run, BusState, node_at, no_node, flight_at, with_node}
+use Rattle.bus_machine.specs.States.{Run, BusState, node_at, flight_at}
 use Rattle.bus_machine.specs.Machine.{BusEvent}
 use Rattle.bus_machine.specs.Replay.{entries}
-use Rattle.bus_machine.proofs.AgreementChanges.{node_stays}
 use Rattle.run_laws.specs.JournalReadings.{listed, if_at, start_in, send_in, starts, sends, latest}
 use Rattle.pals_clock.specs.declared.clock.Clocks.{Clocks}
 use Rattle.run_laws.specs.proof.LinkTiming.{LinkView, early_on, view, IsTimed}
@@ -75,21 +73,6 @@ grows_by run clocks s e journal k falls (is_told j at reads tells) =
     by false is new = omega arith
 
 -- ---- a quantity of a node that an event keeps
-pub keeps_at : {X : Type 0} (f : NodeState → X) (s : BusState) (j k : ℕ) (m : NodeState) → f m ≡ f (node_at s j)
-    → f (node_at (with_node s j m) k) ≡ f (node_at s k)
-keeps_at f s j k m same = elim (cases_eq k j) [
-  | inl here ↦
-      subst (λ i. f (node_at (with_node s j m) i) ≡ f (node_at s i)) (sym here)
-      (elim (cases_lt j (length s.nodes)) [
-        | inl within ↦ ap f (get_or-set_at s.nodes j j m no_node refl within) ∙ same
-        | inr past ↦
-            let size = length-set s.nodes j m in
-            ap f (get_or_past (with_node s j m).nodes j no_node (omega arith)
-            ∙ sym (get_or_past s.nodes j no_node past))
-      ])
-  | inr other ↦ ap f (node_stays s j k m other)
-]
-
 abbrev pub TimedIn : Run → BusState → List JournalEntry → ℕ → Link → Type 0
 TimedIn run s journal number link = IsTimed (delay_of run.delays number) (view run s journal number link)
 

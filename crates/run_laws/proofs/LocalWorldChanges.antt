@@ -1,37 +1,20 @@
 -- What is left of a world where one node, its moments or a flight changes.
-use Rattle.std.proofs.Common.{◌≡◌, ◌≢◌, inl, inr, ℕ, ◌<◌, Bool, true, false, List, [], length, None, refl, sym, ap, ◌∙◌}
-use Rattle.std.proofs.Common.{subst, arith}
+use Rattle.std.proofs.Common.{◌≡◌, ◌≢◌, inl, inr, ℕ, ◌<◌, Bool, true, false, List, [], length, None, refl, sym, ap}
+use Rattle.std.proofs.Common.{subst}
 use Rattle.std.specs.Prelude.{slice_index_or, if◌then◌else◌}
-use Rattle.std.proofs.lemmas.Bool.{cases_eq, cases_lt}
+use Rattle.std.proofs.lemmas.Bool.{cases_eq}
 use Rattle.std.proofs.lemmas.Grind.{get_or-set_at}
-use Rattle.std.proofs.lemmas.List.{length-set, get_or-set_other, get_or_past}
+use Rattle.std.proofs.lemmas.List.{length-set, get_or-set_other}
 use Rattle.bus_machine.specs.Plans.{plan_of}
 use Rattle.bus_machine.specs.Nodes.{NodeState}
 use Rattle.bus_machine.specs.NodeEvents.{slot_at}
-use Rattle.bus_machine.specs.States.{Run, BusState, node_at, no_node, flight_at, link_at, with_node}
+use Rattle.bus_machine.specs.States.{Run, BusState, node_at, flight_at, link_at, with_node}
 use Rattle.bus_machine.specs.MissedStarts.{sent_rounds}
 use Rattle.bus_machine.specs.Agreement.{Agrees}
 use Rattle.run_laws.specs.Worlds.{World, reading_at, since_at, ready_at, sendings, moved}
-use Rattle.bus_machine.proofs.AgreementChanges.{node_set, node_stays}
+use Rattle.bus_machine.proofs.QuantitiesAndSentRounds.{keeps_at}
 use Rattle.run_laws.specs.proof.WorldInvariant.{IsInTime, IsOnce, HasMoments, KeepsLink, KeepsTime}
 use Rattle.run_laws.proofs.WorldNodeTiming.{Stands, StandsAt, stands_at, deadline_is}
-
--- ---- nodes
--- what the new state of a node keeps of the old one is kept at every node
-pub same_at : {X : Type 0} (f : NodeState → X) (s : BusState) (node k : ℕ) (m : NodeState) → f m ≡ f (node_at s node)
-    → f (node_at (with_node s node m) k) ≡ f (node_at s k)
-same_at f s node k m same = elim (cases_eq k node) [
-  | inl here ↦
-      subst (λ j. f (node_at (with_node s node m) j) ≡ f (node_at s j)) (sym here)
-      (elim (cases_lt node (length s.nodes)) [
-        | inl within ↦ ap f (node_set s node m within) ∙ same
-        | inr past ↦
-            let size = length-set s.nodes node m in
-            ap f (get_or_past (with_node s node m).nodes node no_node (omega arith)
-            ∙ sym (get_or_past s.nodes node no_node past))
-      ])
-  | inr other ↦ ap f (node_stays s node k m other)
-]
 
 -- ---- moments
 pub moved_other : (b : Bool) (moments : List ℕ) (node k time : ℕ) → k ≢ node
@@ -147,13 +130,13 @@ same_links run w node m since ready keeps same number within =
     let flight = flight_at s number in
     let before = keeps.links number within in
     let count : (node_at bus target).count ≡ (node_at s target).count =
-    same_at (λ (n : NodeState). n.count) s node target m same.count in
+    keeps_at (λ (n : NodeState). n.count) s node target m same.count in
     let slots : (node_at bus target).slots ≡ (node_at s target).slots =
-    same_at (λ (n : NodeState). n.slots) s node target m same.slots in
+    keeps_at (λ (n : NodeState). n.slots) s node target m same.slots in
     let slot : slot_at (node_at bus target) port ≡ slot_at (node_at s target) port =
     ap (λ held. slice_index_or held port None) slots in
     let sent : sent_rounds (node_at bus source) ≡ sent_rounds (node_at s source) =
-    same_at (λ (n : NodeState). sent_rounds n) s node source m same.sent in
+    keeps_at (λ (n : NodeState). sent_rounds n) s node source m same.sent in
     record {
       once = λ round.
           subst (λ k. IsOnce k (slot_at (node_at bus target) port) (sent_rounds (node_at bus source)) flight

@@ -30,6 +30,7 @@ use Rattle.bus_machine.specs.declared.node_action.NodeAction.{NodeAction}
 use Rattle.bus_machine.specs.declared.node_action.NodeAction.TheVariants as action
 use Rattle.bus_machine.specs.ActionsAndTargets.{target, action_in, next_in}
 use Rattle.bus_machine.proofs.AgreementChanges.{node_stays}
+use Rattle.bus_machine.proofs.NodeEventAgreement.{is_waiting_phase}
 use Rattle.run_laws.specs.JournalReadings.{latest}
 use Rattle.pals_clock.specs.declared.clock.Clocks.{Clocks}
 use Rattle.pals_clock.specs.declared.clock.Clocks.TheVariants.{Meet, Lists}
@@ -39,7 +40,6 @@ use Rattle.run_laws.proofs.ActionsInOrder.{HasDone, follows_in}
 use Rattle.run_laws.proofs.RisingTargets.{IsTimedPlan, plan_times, step_was, aim_in, aim, Rises, same_aim, start_rises}
 use Rattle.run_laws.proofs.RisingTargets.{step_rises, send_rises, finish_rises, Steps}
 use Rattle.run_laws.proofs.EventReadings.{Told, none_told, is_told, event_tells, latest_after, NoFall, lists_no_fall}
-use Rattle.run_laws.proofs.JournalStartsAndSends.{is_waiting_phase}
 
 -- ---- each event raises targets
 one_aim : (run : Run) (s : BusState) (j k : ℕ) (m : NodeState) → j < length s.nodes

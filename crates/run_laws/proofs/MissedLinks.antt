@@ -6,7 +6,7 @@ use Rattle.std.specs.Option.{option_map, unwrap_or}
 use Rattle.std.proofs.lemmas.Bool.{and_parts, eqb-true, eqb-false, false≢true}
 use Rattle.std.proofs.lemmas.Option.{slice_get-map, get_or_from_slice_get, slice_get-get_or}
 use Rattle.list_lemmas.proofs.ElementPositions.{slice_get-zip}
-use Rattle.list_lemmas.proofs.Options.{option_map-parts, option_map-none}
+use Rattle.list_lemmas.proofs.Options.{option_map-parts, option_map-none, none_by_test}
 use Rattle.run_laws.proofs.Lists.{zipped_at}
 use Rattle.pals_base.specs.declared.values.PortValue.{PortValue}
 use Rattle.pals_base.specs.StepSequences.{upwards}
@@ -16,11 +16,11 @@ use Rattle.pals_model.specs.declared.design.Feed.{Feed}
 use Rattle.pals_model.specs.declared.design.DesignParts.{DesignParts}
 use Rattle.pals_model.specs.declared.port_sources.PortSource.{PortSource}
 use Rattle.pals_model.specs.declared.port_sources.PortSource.TheVariants as source
-use Rattle.pals_model.specs.ComponentInputs.{source_of, sources_of, from_feed, from_link, link_goes_to, feed_goes_to}
+use Rattle.pals_model.specs.ComponentInputs.{source_of, sources_of, link_goes_to, feed_goes_to}
 use Rattle.pals_model.specs.PortKinds.{ins_in}
 use Rattle.pals_model.specs.DesignRules.{IsLink}
 use Rattle.pals_model.proofs.FirstMatches.{found_at, at_element}
-use Rattle.pals_model.proofs.SourceLaws.{link_is_source}
+use Rattle.pals_model.proofs.SourceLaws.{link_is_source, from_link_is}
 use Rattle.bus_machine.specs.declared.plan.Input.{Input}
 use Rattle.bus_machine.specs.Plans.{plan_of, component_at, no_component, input_of, input_from_feed, input_from_link}
 use Rattle.bus_machine.specs.NodeEvents.{lacks, missing, slot_at}
@@ -31,10 +31,6 @@ use Rattle.bus_machine.specs.proof.AgreementLaws.{IsRunOf}
 use Rattle.bus_machine.proofs.ListsAndOldestCopies.{none_found}
 
 -- ---- an in port that lacks a message
-is_empty : (slot : Option (List PortValue)) → is_none slot ≡ true → slot ≡ None
-is_empty None is = refl
-is_empty (Some tuple) is = absurd (false≢true is)
-
 feed_lacks : (root : ℕ) (feed : Option Feed) (slot : Option (List PortValue))
     → lacks (input_from_feed root feed) slot ≡ true → ⊥
 feed_lacks root None slot is = false≢true is
@@ -43,7 +39,7 @@ feed_lacks root (Some feed) slot is = false≢true is
 link_lacks : (design : DesignParts) (l : Option Link) (slot : Option (List PortValue))
     → lacks (input_from_link design l) slot ≡ true → (link : Link) × (l ≡ Some link) × (slot ≡ None)
 link_lacks design None slot is = absurd (false≢true is)
-link_lacks design (Some link) slot is = (link, refl, is_empty slot is)
+link_lacks design (Some link) slot is = (link, refl, none_by_test slot is)
 
 abbrev Lacking : DesignParts → PortSource → Option (List PortValue) → Type 0
 Lacking design src slot =
@@ -56,15 +52,6 @@ port_lacks design source.Nothing slot is = absurd (false≢true is)
 port_lacks design (source.Feed feed root) slot is = absurd (feed_lacks root (slice_get design.feeds feed) slot is)
 port_lacks design (source.Link number) slot is = let l = link_lacks design (slice_get design.links number) slot is in
     (number, l.0, refl, l.1, l.2)
-
-feed_is_no_link : (design : DesignParts) (o : Option ℕ) (number : ℕ) → from_feed design o ≡ source.Link number → ⊥
-feed_is_no_link design None number is = absurd (cc)
-feed_is_no_link design (Some f) number is = absurd (cc)
-
-from_link_is : (design : DesignParts) (o feed : Option ℕ) (number : ℕ)
-    → from_link o (from_feed design feed) ≡ source.Link number → o ≡ Some number
-from_link_is design None feed number is = absurd (feed_is_no_link design feed number is)
-from_link_is design (Some l) feed number is = let same : l ≡ number = cc in ap Some same
 
 -- ---- the link that is missing
 pub record IsMissed (run : Run) (s : BusState) (node link : ℕ) : Type 0 where

@@ -1,16 +1,15 @@
 -- The opening world: nothing has started, and nothing is sent.
-use Rattle.std.proofs.Common.{◌≡◌, ℕ, zero, suc, ◌+◌, ◌<◌, ◌≤◌, nat_eq, List, [], ◌∷◌, length, map, Option, Some, None}
-use Rattle.std.proofs.Common.{refl, sym, ap, ◌∙◌, subst, arith}
-use Rattle.std.specs.Prelude.{nat_lt, is_some, slice_index_or}
+use Rattle.std.proofs.Common.{◌≡◌, ℕ, suc, ◌+◌, ◌<◌, ◌≤◌, nat_eq, List, [], length, Option, Some, None, refl, sym, ap}
+use Rattle.std.proofs.Common.{◌∙◌, subst, arith}
+use Rattle.std.specs.Prelude.{nat_lt, is_some}
 use Rattle.std.proofs.lemmas.Bool.{and_right, le-ltb, false≢true}
 use Rattle.std.proofs.lemmas.List.{length-map}
 use Rattle.std.proofs.lemmas.Option.{none-some}
+use Rattle.list_lemmas.proofs.ElementPositions.{get_or-map_constant}
 use Rattle.pals_base.specs.declared.values.PortValue.{PortValue}
 use Rattle.pals_model.specs.declared.design.Component.{Component}
-use Rattle.pals_model.specs.declared.design.Link.{Link}
 use Rattle.pals_model.specs.declared.flight_copy.FlightCopy.{FlightCopy}
 use Rattle.pals_runs.specs.declared.journal.Phase.TheVariants.{Waiting, Running}
-use Rattle.bus_machine.specs.declared.plan.Input.{Input}
 use Rattle.bus_machine.specs.Plans.{plan_of}
 use Rattle.bus_machine.specs.Nodes.{NodeState, opening_node}
 use Rattle.bus_machine.specs.NodeEvents.{slot_at}
@@ -30,38 +29,8 @@ use Rattle.run_laws.proofs.WorldLinkTiming.{rule_of, one_of_false}
 abbrev pub no_time : ℕ
 no_time = 0
 
-pub zero_at : (cs : List Component) (node : ℕ)
-    → slice_index_or (map (λ (_ : Component). no_time) cs) node no_time ≡ no_time
-zero_at [] node = refl
-zero_at (c ∷ cs) zero = refl
-zero_at (c ∷ cs) (suc node) = zero_at cs node
-
 abbrev pub no_moments : List ℕ
 no_moments = []
-
-pub nothing_sent : (cs : List Component) (node : ℕ)
-    → slice_index_or (map (λ (_ : Component). no_moments) cs) node no_moments ≡ no_moments
-nothing_sent [] node = refl
-nothing_sent (c ∷ cs) zero = refl
-nothing_sent (c ∷ cs) (suc node) = nothing_sent cs node
-
-abbrev pub no_copies : List FlightCopy
-no_copies = []
-
-pub nothing_flies : (ls : List Link) (number : ℕ)
-    → slice_index_or (map (λ (_ : Link). no_copies) ls) number no_copies ≡ no_copies
-nothing_flies [] number = refl
-nothing_flies (l ∷ ls) zero = refl
-nothing_flies (l ∷ ls) (suc number) = nothing_flies ls number
-
-abbrev no_slot : Option (List PortValue)
-no_slot = None
-
-nothing_waits : (inputs : List Input) (port : ℕ)
-    → slice_index_or (map (λ (_ : Input). no_slot) inputs) port no_slot ≡ no_slot
-nothing_waits [] port = refl
-nothing_waits (i ∷ inputs) zero = refl
-nothing_waits (i ∷ inputs) (suc port) = nothing_waits inputs port
 
 -- ---- a link
 none_once : (slot : Option (List PortValue)) (flight : List FlightCopy) (count sent round : ℕ) → slot ≡ None
@@ -102,10 +71,11 @@ module _ (run : Run) (rules : IsRunOf run) where
       } in
       let cs = run.design.components in
       let one = subst (λ (m : NodeState). Stands g plan m 0 0 0 0 []) (sym (node_opens run node within)) stands in
-      let two = subst (λ k. Stands g plan (node_at (opening run) node) k 0 k k []) (sym (zero_at cs node)) one in
+      let two =
+      subst (λ k. Stands g plan (node_at (opening run) node) k 0 k k []) (sym (get_or-map_constant 0 cs node)) one in
       subst (λ l. Stands g plan (node_at (opening run) node) (reading_at (opening_world run) node) 0
       (since_at (opening_world run) node) (ready_at (opening_world run) node) l)
-      (sym (nothing_sent cs node)) two
+      (sym (get_or-map_constant {Y = List ℕ} [] cs node)) two
 
   opening_link : (number : ℕ) → number < length run.design.links
       → KeepsLink run (opening_world run) number (link_at run.design number).target.0
@@ -116,13 +86,14 @@ module _ (run : Run) (rules : IsRunOf run) where
       let rule = rule_of run number rules within in
       let to = node_opens run link.target.0 rule.target.node_is in
       let from = node_opens run link.source.0 rule.source.node_is in
-      let flies : flight_at s number ≡ [] = nothing_flies run.design.links number in
+      let flies : flight_at s number ≡ [] = get_or-map_constant {Y = List FlightCopy} [] run.design.links number in
       record {
         once = λ round.
             none_once (slot_at (node_at s link.target.0) link.in_port) (flight_at s number)
             (node_at s link.target.0).count (rounds_sent_on run s number) round
             (ap (λ (n : NodeState). slot_at n link.in_port) to
-            ∙ nothing_waits (plan_of run.design link.target.0).inputs link.in_port)
+            ∙ get_or-map_constant {Y = Option (List PortValue)} None (plan_of run.design link.target.0).inputs
+            link.in_port)
             flies (ap (λ (n : NodeState). n.count) to) (ap (λ (n : NodeState). sent_rounds n) from);
         in_time = λ round is. omega arith;
       }

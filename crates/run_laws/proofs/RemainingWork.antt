@@ -41,12 +41,12 @@ use Rattle.bus_machine.specs.proof.AgreementLaws.{IsRunOf}
 use Rattle.bus_machine.proofs.ListsAndOldestCopies.{numbered_at}
 use Rattle.bus_machine.proofs.AgreementChanges.{node_set, node_stays}
 use Rattle.bus_machine.proofs.MessageAndRunAgreement.{node_opens}
+use Rattle.bus_machine.proofs.NodeEventAgreement.{is_waiting_phase}
 use Rattle.pals_clock.specs.declared.clock.Clocks.{Clocks}
 use Rattle.run_laws.specs.Runs.{KeepsTo}
 use Rattle.run_laws.specs.proof.LinkTiming.{one_if}
 use Rattle.run_laws.specs.proof.RunTermination.{most_lines}
 use Rattle.run_laws.proofs.NodePicks.{node_agrees, below_nodes, plan_rules}
-use Rattle.run_laws.proofs.JournalStartsAndSends.{is_waiting_phase}
 use Rattle.run_laws.proofs.LinkEventEffects.{without_by}
 use Rattle.run_laws.proofs.DueArrivalsAndListPicks.{message_keeps}
 use Rattle.run_laws.proofs.Sums.{sum_below, sum_stays, sum_rises, sum_falls, sum_none, sum_scale, sum_both, sum_columns}

@@ -36,6 +36,7 @@ use Rattle.bus_machine.proofs.ListsAndOldestCopies.{numbered_at}
 use Rattle.bus_machine.proofs.LoneNodeAgreement.{MaySend, may_send_of}
 use Rattle.bus_machine.proofs.AgreementChanges.{node_set, node_stays}
 use Rattle.bus_machine.proofs.NodeEventAgreement.{send_keeps}
+use Rattle.bus_machine.proofs.QuantitiesAndSentRounds.{keeps_at}
 use Rattle.run_laws.specs.proof.WorldInvariant.{IsInTime, RunsSince, IsSentAt, IsOnce, copies, waits, taken, one_if}
 use Rattle.run_laws.specs.proof.WorldInvariant.{KeepsLink, KeepsTime}
 use Rattle.run_laws.proofs.TimeArithmetic.{sent_prompt}
@@ -44,8 +45,7 @@ use Rattle.run_laws.proofs.WorldNodeTiming.{fits_at, component_is, MayBe, may_is
 use Rattle.run_laws.proofs.WorldNodeTiming.{both_in_time, send_in_time, phase_last, send_last, late}
 use Rattle.run_laws.proofs.WorldLinkTiming.{link_is, one_of_true, one_of_false, in_flight_counts, counts_in_flight}
 use Rattle.run_laws.proofs.WorldLinkTiming.{under_way}
-use Rattle.run_laws.proofs.LocalWorldChanges.{same_at, changed, stands_put, keeps_again, moved_here, moved_length}
-use Rattle.run_laws.proofs.LocalWorldChanges.{moved_other}
+use Rattle.run_laws.proofs.LocalWorldChanges.{changed, stands_put, keeps_again, moved_here, moved_length, moved_other}
 use Rattle.run_laws.proofs.FaultlessEventConditions.{SendsInTime}
 
 -- ---- a round of a link from the node
@@ -291,10 +291,10 @@ module _ (run : Run) (w : World) (rules : IsRunOf run) (keeps : KeepsTime run w)
       (ne_eqb (link_at run.design number).source.0 node.0 from)
 
   count_stays : (k : ℕ) → (node_at bus_sent k).count ≡ (node_at w.bus k).count
-  count_stays k = same_at (λ (n : NodeState). n.count) w.bus node.0 k after refl
+  count_stays k = keeps_at (λ (n : NodeState). n.count) w.bus node.0 k after refl
 
   slots_stay : (k port : ℕ) → slot_at (node_at bus_sent k) port ≡ slot_at (node_at w.bus k) port
-  slots_stay k port = same_at (λ (n : NodeState). slot_at n port) w.bus node.0 k after refl
+  slots_stay k port = keeps_at (λ (n : NodeState). slot_at n port) w.bus node.0 k after refl
 
   pub long_sent : node.0 < length w.sent_at
   long_sent = let size = keeps.moments.sent_at in let within = fine.within in omega arith

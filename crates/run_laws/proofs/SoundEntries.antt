@@ -8,6 +8,7 @@ use Rattle.std.proofs.lemmas.List.Elements.{All-nil, All-cons}
 use Rattle.std.proofs.lemmas.Option.{slice_get_within, slice_get-get_or}
 use Rattle.std.proofs.lemmas.Slice.Eq.{bytes_eq-Decides}
 use Rattle.list_lemmas.proofs.Booleans.{and_three_parts}
+use Rattle.list_lemmas.proofs.Options.{none_by_test}
 use Rattle.pals_base.specs.declared.limits.TheConstants.{ROUNDS}
 use Rattle.pals_base.specs.declared.values.NodeNo.{NodeNo}
 use Rattle.pals_base.specs.declared.values.LinkNo.{LinkNo}
@@ -65,10 +66,6 @@ AreLast run front readings =
     (k : ℕ) → k < length run.design.components → slice_index_or readings k 0 ≡ latest run.design k front
 
 -- ---- parts
-going : (o : Option Stop) → is_none o ≡ true → o ≡ None
-going None is = refl
-going (Some why) is = absurd (false≢true is)
-
 read_at : (run : Run) (front : List JournalEntry) (readings : List ℕ) (node at least : ℕ) → AreLast run front readings
     → node < length run.design.components
     → nat_lt at (slice_index_or readings node 0) ≡ false → least ≤ at → IsRead run front node (Some at) least
@@ -138,7 +135,7 @@ start_next run front s readings node round (Some at) are of has none =
     record {
       event = Start node (Some at);
       is_event = refl;
-      step = record { going = going s.stop order.0; allowed = order.1; state = refl };
+      step = record { going = none_by_test s.stop order.0; allowed = order.1; state = refl };
       more = None;
       tells = ap (λ x. x ∷ []) (start_told run s node round at (missing_link run s node.0) same kept.4);
       more_in = All-nil (IsEntryIn run.design);
@@ -176,7 +173,7 @@ step_next run front s readings node round step (Some at) are of has none =
     record {
       event = Step node (Some at);
       is_event = refl;
-      step = record { going = going s.stop order.0; allowed = order.1; state = refl };
+      step = record { going = none_by_test s.stop order.0; allowed = order.1; state = refl };
       more = None;
       tells = ap₂ (λ r i. entry.Step node r i (Some at) ∷ []) (sym same_round) (sym same_step);
       more_in = All-nil (IsEntryIn run.design);
@@ -201,7 +198,7 @@ finish_next run front s readings node round none =
     record {
       event = Finish node;
       is_event = refl;
-      step = record { going = going s.stop order.0; allowed = order.1; state = refl };
+      step = record { going = none_by_test s.stop order.0; allowed = order.1; state = refl };
       more = None;
       tells = ap (λ r. entry.Finish node r ∷ []) (sym (eqb-true round (round_of n) order.2));
       more_in = All-nil (IsEntryIn run.design);
@@ -226,7 +223,7 @@ send_next run front s readings node round (Some at) are of has none =
     record {
       event = Send node (Some at);
       is_event = refl;
-      step = record { going = going s.stop order.0; allowed = order.1; state = refl };
+      step = record { going = none_by_test s.stop order.0; allowed = order.1; state = refl };
       more = None;
       tells = ap (λ r. entry.Send node r (Some at) ∷ []) (sym (eqb-true round (round_of n) order.2));
       more_in = All-nil (IsEntryIn run.design);
@@ -293,7 +290,7 @@ arrive_next run front s readings link round (Some at) result rules are of has no
     record {
       event = Arrive link round (Some at);
       is_event = refl;
-      step = record { going = going s.stop order.0; allowed = order.1; state = refl };
+      step = record { going = none_by_test s.stop order.0; allowed = order.1; state = refl };
       more = stop_told link round (Some at) a;
       tells = ap₂ (λ r es. entry.Arrive link round (Some at) r ∷ es) (sym same) (stop_listed link round (Some at) a);
       more_in = stop_in run.design link round (Some at) a result of;
@@ -349,7 +346,7 @@ missed_next run front s readings link round (Some at) cause rules are of has non
     record {
       event = Start node (Some at);
       is_event = refl;
-      step = record { going = going s.stop order.0; allowed = order.1; state = refl };
+      step = record { going = none_by_test s.stop order.0; allowed = order.1; state = refl };
       more = None;
       tells =
           ap (λ x. x ∷ []) (missed_told run s link round at cause (missing_link run s node.0) rules of

@@ -24,13 +24,14 @@ use Rattle.bus_machine.specs.Agreement.{Agrees}
 use Rattle.bus_machine.specs.proof.AgreementLaws.{IsRunOf}
 use Rattle.bus_machine.specs.declared.node_action.NodeAction.TheVariants as action
 use Rattle.bus_machine.specs.ActionsAndTargets.{Progress, send_is_next, next_in}
+use Rattle.bus_machine.proofs.NodeEventAgreement.{sender_before}
 use Rattle.run_laws.specs.JournalReadings.{listed, start_in, send_in, starts, sends}
 use Rattle.pals_clock.specs.declared.clock.Clocks.{Clocks}
 use Rattle.pals_clock.specs.declared.clock.Clocks.TheVariants.{Meet, Lists}
 use Rattle.run_laws.specs.Runs.{Shows, Does, KeepsTo, Runs, opens, picks_for, goes_on}
 use Rattle.run_laws.specs.proof.ReadingsAndStops.{IsFor, TimesFit}
 use Rattle.run_laws.proofs.NodePicks.{runs_agree}
-use Rattle.run_laws.proofs.JournalStartsAndSends.{rounds_are_shown, sender_before}
+use Rattle.run_laws.proofs.JournalStartsAndSends.{rounds_are_shown}
 use Rattle.run_laws.proofs.LinkTiming.{unsent_round}
 
 -- ---- lists

@@ -22,12 +22,14 @@ use Rattle.bus_machine.specs.LinkEvents.{arriving}
 use Rattle.bus_machine.specs.States.{Run, BusState, node_at, flight_at, link_at, with_node}
 use Rattle.bus_machine.specs.MissedStarts.{missing_link, sent_rounds}
 use Rattle.bus_machine.specs.Machine.{BusEvent, Start, Step, Finish, Send, Arrive, Drop, Repeat, is_allowed, after}
-use Rattle.bus_machine.specs.Machine.{after_start, after_arrive, on_step, arrival, early_stop}
+use Rattle.bus_machine.specs.Machine.{after_start, after_arrive, arrival, early_stop}
 use Rattle.bus_machine.specs.Replay.{entries, start_entry, stop_entry}
 use Rattle.bus_machine.specs.proof.AgreementLaws.{IsRunOf}
 use Rattle.bus_machine.specs.declared.node_action.NodeAction.{NodeAction}
 use Rattle.bus_machine.specs.declared.node_action.NodeAction.TheVariants as action
 use Rattle.bus_machine.specs.ActionsAndTargets.{target, targets, actions}
+use Rattle.bus_machine.proofs.NodeEventAgreement.{on_step_stop, sender_before}
+use Rattle.bus_machine.proofs.QuantitiesAndSentRounds.{keeps_at}
 use Rattle.run_laws.specs.JournalReadings.{listed, start_in, send_in, starts, sends, acts}
 use Rattle.pals_clock.specs.declared.clock.Clocks.{Clocks}
 use Rattle.pals_clock.specs.declared.clock.Clocks.TheVariants.{Meet, Lists}
@@ -37,9 +39,8 @@ use Rattle.run_laws.proofs.TargetPicks.{pick_at}
 use Rattle.run_laws.proofs.ProgressByEvent.{action_is}
 use Rattle.run_laws.proofs.NodePicks.{runs_agree, many_clocks, nodes_pick, next_target, acting_by, plan_rules, held_of}
 use Rattle.run_laws.proofs.NodePicks.{node_agrees}
-use Rattle.run_laws.proofs.JournalStartsAndSends.{rounds_are_shown, sender_before}
+use Rattle.run_laws.proofs.JournalStartsAndSends.{rounds_are_shown}
 use Rattle.run_laws.proofs.MissedLinks.{missed_link}
-use Rattle.run_laws.proofs.LinkViews.{keeps_at}
 use Rattle.run_laws.proofs.LinkTiming.{unsent_round, with_message_count}
 use Rattle.run_laws.proofs.StartAndSendReadings.{got_more, send_round}
 use Rattle.run_laws.proofs.MeetingStopsAndBounds.{link_is}
@@ -302,11 +303,6 @@ arrive_stops run clocks journal s link round reading Early rules runs takes =
       subst (λ c. IsPickFor run clocks l.target.0 (action.Start c) takes.does.at) (sym count)
           (does_pick run clocks journal s l.target reading (action.Start n.count) rules runs takes.does),
     )
-
-on_step_stop : (step : Option ℕ) (s : BusState) (go : ℕ → BusState) → ((i : ℕ) → (go i).stop ≡ s.stop)
-    → (on_step step s go).stop ≡ s.stop
-on_step_stop None s go same = refl
-on_step_stop (Some i) s go same = same i
 
 event_stops : (run : Run) (clocks : Clocks) (journal : List JournalEntry) (s : BusState) (e : BusEvent) → IsRunOf run
     → Runs run clocks journal s → KeepsTo run clocks s e → s.stop ≡ None

@@ -1,6 +1,6 @@
 -- A start without a fault misses no message, and keeps what a world keeps of its time.
-use Rattle.std.proofs.Common.{◌≡◌, inl, inr, ℕ, zero, suc, ◌+◌, ◌-◌, ◌<◌, ◌≤◌, nat_eq, Bool, true, false, List, [], ◌∷◌}
-use Rattle.std.proofs.Common.{length, map, slice_get, Option, Some, None, refl, sym, ap, ap₂, ◌∙◌, subst, arith}
+use Rattle.std.proofs.Common.{◌≡◌, inl, inr, ℕ, ◌+◌, ◌-◌, ◌<◌, ◌≤◌, nat_eq, Bool, true, false, List, length, slice_get}
+use Rattle.std.proofs.Common.{Option, Some, None, refl, sym, ap, ap₂, ◌∙◌, subst, arith}
 use Rattle.std.specs.Prelude.{nat_lt, is_some, is_none, position, zip, option_map, if◌then◌else◌, slice_index_or}
 use Rattle.std.specs.Prelude.{slice_set}
 use Rattle.std.proofs.lemmas.Bool.{and_right, and_left, and_from, eqb-false, eq-eqb, ne_eqb, lt-ltb, le-ltb}
@@ -10,28 +10,26 @@ use Rattle.std.proofs.lemmas.List.{length-set, get_or-set_other}
 use Rattle.std.proofs.lemmas.Option.{slice_get-get_or, slice_get_within, slice_get-map, get_or_from_slice_get}
 use Rattle.std.proofs.lemmas.Option.{same_Some}
 use Rattle.list_lemmas.proofs.Options.{option_map-parts}
+use Rattle.list_lemmas.proofs.ElementPositions.{get_or-map_constant}
 use Rattle.pals_base.specs.declared.values.NodeNo.{NodeNo}
 use Rattle.pals_base.specs.declared.values.PortValue.{PortValue}
 use Rattle.pals_base.specs.PeriodBound.{alarm}
-use Rattle.pals_base.specs.StepSequences.{upwards}
-use Rattle.pals_base.proofs.UpwardNumbers.{slice_get-upwards}
-use Rattle.pals_model.specs.declared.design.Component.{Component}
 use Rattle.pals_model.specs.declared.design.Link.{Link}
 use Rattle.pals_model.specs.declared.design.Feed.{Feed}
 use Rattle.pals_model.specs.declared.design.DesignParts.{DesignParts}
 use Rattle.pals_model.specs.declared.flight_copy.FlightCopy.{FlightCopy}
 use Rattle.pals_model.specs.declared.port_sources.PortSource.{PortSource}
 use Rattle.pals_model.specs.declared.port_sources.PortSource.TheVariants as source
-use Rattle.pals_model.specs.ComponentInputs.{source_of, sources_of, values_at}
+use Rattle.pals_model.specs.ComponentInputs.{sources_of, values_at}
 use Rattle.pals_model.proofs.FirstMatches.{none_passes}
+use Rattle.pals_model.proofs.SourceLaws.{reads_link, source_at}
 use Rattle.pals_runs.specs.declared.events_and_faults.Event.TheVariants as event
-use Rattle.pals_runs.specs.declared.journal.Phase.{Phase}
-use Rattle.pals_runs.specs.declared.journal.Phase.TheVariants.{Waiting, Running, Between, Holding, Done}
+use Rattle.pals_runs.specs.declared.journal.Phase.TheVariants.{Waiting, Running, Done}
 use Rattle.bus_machine.specs.declared.plan.Input.{Input}
 use Rattle.bus_machine.specs.declared.plan.Plan.{Plan}
 use Rattle.bus_machine.specs.Plans.{plan_of, component_at, input_of, input_from_feed, input_from_link}
 use Rattle.bus_machine.specs.Nodes.{NodeState}
-use Rattle.bus_machine.specs.NodeEvents.{is_waiting, lacks, missing, started, slot_at, may_send}
+use Rattle.bus_machine.specs.NodeEvents.{lacks, missing, started, slot_at, may_send}
 use Rattle.bus_machine.specs.EarliestReadings.{step_alarm}
 use Rattle.bus_machine.specs.States.{Run, BusState, node_at, flight_at, link_at, with_node}
 use Rattle.bus_machine.specs.MissedStarts.{missing_link, link_into, sent_rounds}
@@ -39,15 +37,15 @@ use Rattle.bus_machine.specs.Machine.{after_start}
 use Rattle.bus_machine.specs.proof.AgreementLaws.{IsRunOf}
 use Rattle.run_laws.specs.Worlds.{World, reading_at, ready_at, sendings, moved, world_after}
 use Rattle.bus_machine.specs.Agreement.{PhaseAgrees, SlotAgrees}
-use Rattle.bus_machine.proofs.InputAgreement.{reads_link, length_sources}
 use Rattle.bus_machine.proofs.AgreementChanges.{node_set, node_stays}
-use Rattle.bus_machine.proofs.NodeEventAgreement.{start_keeps}
+use Rattle.bus_machine.proofs.NodeEventAgreement.{start_keeps, is_waiting_phase}
+use Rattle.bus_machine.proofs.QuantitiesAndSentRounds.{keeps_at}
 use Rattle.run_laws.specs.proof.WorldInvariant.{IsOnce, copies, waits, taken, one_if, RunsSince, KeepsLink, KeepsTime}
 use Rattle.run_laws.proofs.Lists.{zipped_at}
 use Rattle.run_laws.proofs.WorldNodeTiming.{FitsAt, fits_at, may_is, Stands, stands_at, both_in_time, sends_in_time}
 use Rattle.run_laws.proofs.WorldNodeTiming.{late, phase_agrees}
 use Rattle.run_laws.proofs.WorldLinkTiming.{has_come, link_is, one_of_true, one_of_false}
-use Rattle.run_laws.proofs.LocalWorldChanges.{same_at, changed, stands_put, keeps_again}
+use Rattle.run_laws.proofs.LocalWorldChanges.{changed, stands_put, keeps_again}
 use Rattle.run_laws.proofs.FaultlessEventConditions.{StartsInTime}
 
 -- ---- no in port lacks its message
@@ -71,25 +69,6 @@ source_lacks design source.Nothing slot full = refl
 source_lacks design (source.Feed f root) slot full = feed_lacks root (slice_get design.feeds f) slot
 source_lacks design (source.Link number) slot full =
     link_lacks design (slice_get design.links number) slot (λ link is. full number link refl is)
-
-within_ports : (design : DesignParts) (node k : ℕ) (c : Component) (src : PortSource)
-    → slice_get (sources_of design node c) k ≡ Some src → k < length c.behaviour.ins
-within_ports design node k c src is =
-    let below : k < length (sources_of design node c) = slice_get_within (sources_of design node c) k src is in
-    let one : length (sources_of design node c) ≡ length c.behaviour.ins = length_sources design node c in
-    omega arith
-
-source_at : (design : DesignParts) (node k : ℕ) (c : Component) (src : PortSource)
-    → slice_get (sources_of design node c) k ≡ Some src → source_of design node k ≡ src
-source_at design node k c src is =
-    let ports = upwards 0 (length c.behaviour.ins) in
-    let found =
-    option_map-parts (λ port. source_of design node port) (slice_get ports k) src
-    (sym (slice_get-map (λ port. source_of design node port) ports k) ∙ is) in
-    let same : k ≡ found.0 =
-    same_Some k found.0 (sym (slice_get-upwards (length c.behaviour.ins) k (within_ports design node k c src is))
-    ∙ found.1) in
-    ap (source_of design node) same ∙ found.2
 
 missing_by : (b first : Bool) (o : Option ℕ) → b ≡ first → (first ≡ false → o ≡ None) → (if b then None else o) ≡ None
 missing_by true first o is none = refl
@@ -201,27 +180,11 @@ start_once count slot sent flight round full empty once =
           ]
     ]
 
-abbrev no_slot : Option (List PortValue)
-no_slot = None
-
-emptied : (slots : List (Option (List PortValue))) (port : ℕ)
-    → slice_index_or (map (λ (_ : Option (List PortValue)). no_slot) slots) port no_slot ≡ no_slot
-emptied [] port = refl
-emptied (slot ∷ slots) zero = refl
-emptied (slot ∷ slots) (suc port) = emptied slots port
-
 -- before its first round a node has no message
 slot_empty : (run : Run) (link count : ℕ) (slot : Option (List PortValue)) → SlotAgrees run link count slot → count ≡ 0
     → slot ≡ None
 slot_empty run link count None agrees first = refl
 slot_empty run link count (Some tuple) agrees first = let last = agrees.1 in absurd (omega arith)
-
-waiting_is : (p : Phase) → is_waiting p ≡ true → p ≡ Waiting
-waiting_is Waiting is = refl
-waiting_is (Running step) is = absurd (false≢true is)
-waiting_is (Between steps) is = absurd (false≢true is)
-waiting_is Holding is = absurd (false≢true is)
-waiting_is Done is = absurd (false≢true is)
 
 -- ---- the node that starts
 module _ (run : Run) (w : World) (rules : IsRunOf run) (keeps : KeepsTime run w) (node : NodeNo)
@@ -233,7 +196,7 @@ module _ (run : Run) (w : World) (rules : IsRunOf run) (keeps : KeepsTime run w)
   begun = started (plan_of run.design node.0) (values_at run.env here.count) here
 
   waits_here : here.phase ≡ Waiting
-  waits_here = waiting_is here.phase fine.waits
+  waits_here = is_waiting_phase here.phase fine.waits
 
   rests : PhaseAgrees run node.0 (component_at run.design node.0) here Waiting
   rests =
@@ -312,7 +275,7 @@ module _ (run : Run) (w : World) (rules : IsRunOf run) (keeps : KeepsTime run w)
       let n = node_at w.bus target in
       let before = keeps.links number within in
       let sent : sent_rounds (node_at bus_begun source) ≡ sent_rounds (node_at w.bus source) =
-      same_at (λ (n : NodeState). sent_rounds n) w.bus node.0 source begun sent_as_before in
+      keeps_at (λ (n : NodeState). sent_rounds n) w.bus node.0 source begun sent_as_before in
       record {
         once = λ round.
             subst (λ k. IsOnce (node_at bus_begun target).count (slot_at (node_at bus_begun target) port) k flight
@@ -337,7 +300,7 @@ module _ (run : Run) (w : World) (rules : IsRunOf run) (keeps : KeepsTime run w)
                   subst (λ (m : NodeState).
                   IsOnce m.count (slot_at m port) (sent_rounds (node_at w.bus source)) flight round) (sym is)
                   (subst (λ o. IsOnce (here.count + 1) o (sent_rounds (node_at w.bus source)) flight round)
-                  (sym (emptied here.slots port))
+                  (sym (get_or-map_constant {Y = Option (List PortValue)} None here.slots port))
                   (start_once here.count (slot_at n port) (sent_rounds (node_at w.bus source)) flight round
                   full empty one))
               | inr other ↦

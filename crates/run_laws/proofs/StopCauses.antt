@@ -11,6 +11,7 @@ use Rattle.std.proofs.lemmas.Bool.{cases_eq, cases_lt, ltb-true, ltb-false, leb-
 use Rattle.std.proofs.lemmas.Grind.{common_steps, flat_map-append, get_or-set_at}
 use Rattle.std.proofs.lemmas.List.{append-nil, get_or-set_other}
 use Rattle.std.proofs.lemmas.Option.{same_Some, slice_get_past, get_or_from_slice_get, slice_get-get_or}
+use Rattle.list_lemmas.proofs.Options.{some_by_test}
 use Rattle.pals_base.specs.declared.values.NodeNo.{NodeNo}
 use Rattle.pals_base.specs.declared.values.LinkNo.{LinkNo}
 use Rattle.pals_base.specs.declared.values.PortValue.{PortValue}
@@ -39,7 +40,7 @@ use Rattle.bus_machine.specs.LinkEvents.{is_in_flight, arriving}
 use Rattle.bus_machine.specs.States.{Run, BusState, node_at, flight_at, link_at, no_link, with_node}
 use Rattle.bus_machine.specs.MissedStarts.{missing_link, sent_rounds, cause_of}
 use Rattle.bus_machine.specs.Machine.{BusEvent, Start, Step, Finish, Send, Arrive, Drop, Repeat, is_allowed, after}
-use Rattle.bus_machine.specs.Machine.{after_start, after_arrive, on_step, arrival, early_stop, missed_stop}
+use Rattle.bus_machine.specs.Machine.{after_start, after_arrive, arrival, early_stop, missed_stop}
 use Rattle.bus_machine.specs.Replay.{entries, start_entry, stop_entry}
 use Rattle.bus_machine.specs.Agreement.{PhaseAgrees, Agrees}
 use Rattle.bus_machine.specs.proof.AgreementLaws.{IsRunOf}
@@ -47,6 +48,8 @@ use Rattle.bus_machine.specs.declared.node_action.NodeAction.TheVariants as acti
 use Rattle.bus_machine.specs.ActionsAndTargets.{target}
 use Rattle.run_laws.specs.TraceRules.{is_due}
 use Rattle.bus_machine.proofs.ListsAndOldestCopies.{oldest_is_one}
+use Rattle.bus_machine.proofs.NodeEventAgreement.{is_waiting_phase, on_step_stop}
+use Rattle.bus_machine.proofs.QuantitiesAndSentRounds.{keeps_at}
 use Rattle.run_laws.specs.JournalReadings.{send_in, sends}
 use Rattle.run_laws.specs.NodeActions.{upcoming}
 use Rattle.pals_clock.specs.declared.clock.Clocks.{Clocks}
@@ -57,10 +60,10 @@ use Rattle.run_laws.specs.proof.LinkTiming.{view, early_on, due_of, one_if, copi
 use Rattle.run_laws.specs.proof.LinkTiming.{was_taken, came_early, IsDueCopy}
 use Rattle.run_laws.specs.proof.ReadingsAndStops.{IsFor, StopsAt, NeverSent, CauseFits, StopFits, StopsFit}
 use Rattle.run_laws.proofs.NodePicks.{runs_agree, node_agrees, many_clocks}
-use Rattle.run_laws.proofs.JournalStartsAndSends.{rounds_are_shown, is_waiting_phase}
+use Rattle.run_laws.proofs.JournalStartsAndSends.{rounds_are_shown}
 use Rattle.run_laws.proofs.LinkEventEffects.{arriving_tells, due_if_sent}
 use Rattle.run_laws.proofs.MissedLinks.{missed_link}
-use Rattle.run_laws.proofs.LinkViews.{TimedIn, keeps_at}
+use Rattle.run_laws.proofs.LinkViews.{TimedIn}
 use Rattle.run_laws.proofs.LinkTiming.{links_timed, with_message_count}
 use Rattle.run_laws.proofs.TargetPicks.{reached_again}
 use Rattle.run_laws.proofs.StartAndSendReadings.{shown_for}
@@ -98,10 +101,6 @@ not_due due at d is same =
           (sym here ∙ (let yes' : nat_le d at ≡ true = grind (arith, common_steps) in yes')))
     ]
 
-found_copy : (round : ℕ) (o : Option FlightCopy) → is_some o ≡ true → (copy : FlightCopy) × (o ≡ Some copy)
-found_copy round None is = absurd (false≢true is)
-found_copy round (Some copy) is = (copy, refl)
-
 none_copy : (o : Option FlightCopy) → is_some o ≡ false → o ≡ None
 none_copy None is = refl
 none_copy (Some copy) is = absurd (false≢true (sym is))
@@ -130,7 +129,7 @@ cause_by run clocks journal s number l round at false flies going timed size mis
       missing.never few,
     )
 cause_by run clocks journal s number l round at true true going timed size missing is_sent flying =
-    let copy = found_copy round (oldest round (flight_at s number)) flying in
+    let copy = some_by_test (oldest round (flight_at s number)) flying in
     let one =
     oldest_is_one (IsDueCopy (delay_of run.delays number) (sends l.source.0 journal)) round (flight_at s number)
     copy.0 timed.flights copy.1 in
@@ -380,11 +379,6 @@ start_stop run clocks journal s node reading (Some link) rules runs begins waits
     told_fits run clocks journal (start_entry run s node reading (Some link) ∷ [])
     (after_start run s node reading (Some link)) (Some (missed_stop run s node reading link)) (λ k. refl)
     (missed_fits run clocks journal s node reading link rules runs begins waits going misses)
-
-on_step_stop : (step : Option ℕ) (s : BusState) (go : ℕ → BusState) → ((i : ℕ) → (go i).stop ≡ s.stop)
-    → (on_step step s go).stop ≡ s.stop
-on_step_stop None s go same = refl
-on_step_stop (Some i) s go same = same i
 
 arrive_stop : (run : Run) (clocks : Clocks) (journal : List JournalEntry) (s : BusState) (link : LinkNo) (round : ℕ)
     (reading : Option ℕ) (a : Arrived) → IsRunOf run → Runs run clocks journal s → Takes run clocks s link round reading

@@ -5,6 +5,7 @@ use Rattle.std.proofs.lemmas.Bool.{eqb-true, eq-eqb, ne_eqb, cases_eq, cases_lt,
 use Rattle.std.proofs.lemmas.Grind.{get_or-set_at}
 use Rattle.std.proofs.lemmas.List.{get_or-set_other}
 use Rattle.list_lemmas.proofs.Elements.{find-passes}
+use Rattle.list_lemmas.proofs.Options.{some_by_test}
 use Rattle.pals_base.specs.declared.values.LinkNo.{LinkNo}
 use Rattle.pals_model.specs.declared.flight_copy.FlightCopy.{FlightCopy}
 use Rattle.pals_model.specs.Flights.{is_of, oldest, without_oldest}
@@ -24,7 +25,6 @@ use Rattle.run_laws.proofs.Lists.{count_without}
 use Rattle.run_laws.proofs.WorldLinkTiming.{rule_of, under_way, counts_in_flight, one_of_true, one_of_false}
 use Rattle.run_laws.proofs.FaultlessEventConditions.{ArrivesInTime, arrives_in_time}
 use Rattle.world_gen.proofs.FaultlessEvents.{arrival_is_fine}
-use Rattle.run_laws.proofs.ArrivalTiming.{the_oldest}
 use Rattle.run_laws.proofs.ArrivalTiming as arrive
 use Rattle.world_gen.proofs.ScheduleTimes.{which_is, sends_rise}
 use Rattle.world_gen.proofs.WorldsOnSchedule.{NodeFollows, LinkFollows, Follows, nodes_follow, follows_put}
@@ -93,7 +93,7 @@ module _ (run : Run) (rules : IsRunOf run) (w : World) (moment : ℕ) (fin st se
 
   module _ (later : ℕ → ℕ) (now : later l ≡ suc moment) (others : (i : ℕ) → i ≢ l → later i ≡ ar i) where
     copy_is : (copy : FlightCopy) × (oldest round flight ≡ Some copy)
-    copy_is = the_oldest (oldest round flight) (counts_in_flight round flight some)
+    copy_is = some_by_test (oldest round flight) (counts_in_flight round flight some)
 
     this_link : LinkFollows run l (rounds_sent_on run w.bus l) (without_oldest round flight) (later l)
     this_link =

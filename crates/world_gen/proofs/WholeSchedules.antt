@@ -4,6 +4,8 @@ use Rattle.std.proofs.Common.{length, refl, sym, ap, ◌∙◌, subst, arith}
 use Rattle.std.specs.Prelude.{replicate, if◌then◌else◌}
 use Rattle.std.proofs.lemmas.Bool.{eqb-true, eqb-false, false≢true}
 use Rattle.std.proofs.lemmas.Nat.{mul-le}
+use Rattle.list_lemmas.proofs.ElementPositions.{get_or-map_constant}
+use Rattle.pals_model.specs.declared.flight_copy.FlightCopy.{FlightCopy}
 use Rattle.pals_runs.specs.declared.events_and_faults.Event.{Event}
 use Rattle.pals_runs.specs.declared.events_and_faults.Event.TheVariants as event
 use Rattle.pals_runs.specs.declared.journal.Phase.{Phase}
@@ -23,7 +25,7 @@ use Rattle.world_gen.specs.proof.Schedules.{begins, starts_at, finishes_at, send
 use Rattle.world_gen.specs.proof.Schedules.{AreMoments, schedule_at}
 use Rattle.run_laws.proofs.WorldNodeTiming.{phase_agrees, rounds_at_most}
 use Rattle.run_laws.proofs.WorldLinkTiming.{rule_of}
-use Rattle.run_laws.proofs.OpeningWorlds.{opening_keeps_time, zero_at, nothing_sent, nothing_flies, not_running}
+use Rattle.run_laws.proofs.OpeningWorlds.{opening_keeps_time, not_running}
 use Rattle.world_gen.proofs.ScheduleTimes.{Made, which_none, some_rate, some_step, least_step}
 use Rattle.world_gen.proofs.WorldsOnSchedule.{begun_by, ended_by, NodeFollows, Follows, Runs, runs_none, runs_on}
 use Rattle.world_gen.proofs.WorldsOnSchedule.{runs_all, runs_event, bump, bump_done, bump_left, bump_other}
@@ -318,7 +320,7 @@ opening_follows run rules =
     record {
       keeps = opening_keeps_time run rules;
       time = refl;
-      readings = λ j below. zero_at cs j;
+      readings = λ j below. get_or-map_constant 0 cs j;
       nodes = λ j below.
           let plan = plan_of run.design j in
           let n = opening_node plan in
@@ -333,11 +335,12 @@ opening_follows run rules =
           } in
           let one =
           subst (λ (m : NodeState). NodeFollows run j m 0 0 [] 0 0 0) (sym (node_opens run j below)) follows in
-          let two = subst (λ x. NodeFollows run j (node_at w.bus j) x x [] 0 0 0) (sym (zero_at cs j)) one in
+          let two =
+          subst (λ x. NodeFollows run j (node_at w.bus j) x x [] 0 0 0) (sym (get_or-map_constant 0 cs j)) one in
           subst (λ l. NodeFollows run j (node_at w.bus j) (since_at w j) (ready_at w j) l 0 0 0)
-          (sym (nothing_sent cs j)) two;
+          (sym (get_or-map_constant {Y = List ℕ} [] cs j)) two;
       links = λ l below.
-          let flies : flight_at w.bus l ≡ [] = nothing_flies run.design.links l in
+          let flies : flight_at w.bus l ≡ [] = get_or-map_constant {Y = List FlightCopy} [] run.design.links l in
           let from = node_opens run (link_at run.design l).source.0 (rule_of run l rules below).source.node_is in
           let sent : rounds_sent_on run w.bus l ≡ 0 = ap (λ (n : NodeState). sent_rounds n) from in
           record {

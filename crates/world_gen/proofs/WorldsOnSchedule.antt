@@ -15,13 +15,14 @@ use Rattle.bus_machine.specs.NodeEvents.{may_send}
 use Rattle.pals_base.specs.StepSequences.{upwards}
 use Rattle.bus_machine.specs.States.{Run, BusState, node_at, flight_at, link_at, with_node}
 use Rattle.bus_machine.specs.MissedStarts.{sent_rounds, rounds_sent_on}
+use Rattle.bus_machine.proofs.QuantitiesAndSentRounds.{keeps_at}
 use Rattle.run_laws.specs.Worlds.{World, reading_at, since_at, ready_at, sendings, world_after}
 use Rattle.run_laws.specs.EventFaults.{fault_of, IsWithin}
 use Rattle.run_laws.specs.proof.WorldInvariant.{copies, KeepsTime}
 use Rattle.run_laws.specs.EventLists.{world_left}
 use Rattle.world_gen.specs.proof.Schedules.{step_time, finish_time, send_time, arrive_time, step_count, event_of}
 use Rattle.world_gen.specs.proof.Schedules.{all_of}
-use Rattle.run_laws.proofs.LocalWorldChanges.{same_at, changed, ChangesAt}
+use Rattle.run_laws.proofs.LocalWorldChanges.{changed, ChangesAt}
 use Rattle.world_gen.proofs.ScheduleTimes.{Made}
 
 -- ---- how many steps a node has begun, and how many it has finished, through all rounds
@@ -203,7 +204,7 @@ pub links_follow : (run : Run) (w : World) (node moment : ℕ) (m : NodeState) (
     (flight_at (with_node w.bus node m) number) (arrivals number)
 links_follow run w node moment m finishes starts sends arrivals follows same number within =
     subst (λ k. LinkFollows run number k (flight_at w.bus number) (arrivals number))
-    (sym (same_at (λ (n : NodeState). sent_rounds n) w.bus node (link_at run.design number).source.0 m same))
+    (sym (keeps_at (λ (n : NodeState). sent_rounds n) w.bus node (link_at run.design number).source.0 m same))
     (follows.links number within)
 
 -- ---- one after another
