@@ -1,28 +1,12 @@
 -- Blocks of lines, one for each item of a list.
-use Rattle.std.proofs.Common.{◌≡◌, ℕ, ◌+◌, ◌<◌, ◌≤◌, List, [], ◌∷◌, ◌++◌, length, take, get_or, map, sym, ap, ◌∙◌}
-use Rattle.std.proofs.Common.{append_assoc}
+use Rattle.std.proofs.Common.{◌≡◌, ℕ, ◌+◌, ◌≤◌, List, [], ◌∷◌, ◌++◌, length, take, map, sym, ap, ◌∙◌, append_assoc}
 use Rattle.std.specs.List.{flat_map}
 use Rattle.std.proofs.lemmas.List.{append-nil, take_all}
-use Rattle.std.proofs.lemmas.Grind.{flat_map-append}
-use Rattle.list_lemmas.proofs.ListOperations.{flat_map-take_more}
 use Rattle.pals_base.specs.StepSequences.{upwards}
 use Rattle.pals_base.proofs.UpwardNumbers.{map_upwards_more}
 use Rattle.pals_model.specs.RoundTexts.{line_end, text_of}
+use Rattle.pals_model.proofs.LineLaws.{text_of-append}
 
-pub text_of-append : (xs ys : List (List ℕ)) → text_of (xs ++ ys) ≡ text_of xs ++ text_of ys
-text_of-append xs ys = flat_map-append (λ line. line ++ line_end) xs ys
-
--- the block of one more item
-pub blocks_turn : {X : Type 0} (f : X → List (List ℕ)) (xs : List X) (i : ℕ) (x : X) (old out new : List ℕ)
-    → i < length xs → x ≡ get_or xs i x
-    → out ≡ old ++ text_of (flat_map f (take i xs)) → new ≡ out ++ text_of (f x)
-    → new ≡ old ++ text_of (flat_map f (take (i + 1) xs))
-blocks_turn f xs i x old out new within is before added =
-    added ∙ ap (λ t. t ++ text_of (f x)) before ∙ append_assoc old (text_of (flat_map f (take i xs))) (text_of (f x))
-    ∙ ap (λ t. old ++ t) (sym
-    (ap text_of (flat_map-take_more f xs i x within is) ∙ text_of-append (flat_map f (take i xs)) (f x)))
-
--- those of all items
 pub blocks_all : {X : Type 0} (f : X → List (List ℕ)) (xs : List X) (i : ℕ) → length xs ≤ i
     → text_of (flat_map f (take i xs)) ≡ text_of (flat_map f xs)
 blocks_all f xs i behind = ap (λ ys. text_of (flat_map f ys)) (take_all i xs behind)

@@ -1,13 +1,11 @@
 -- What a product has after one more round, and the row that the round adds to the text.
 use Rattle.std.proofs.Common.{◌≡◌, ℕ, zero, suc, ◌+◌, ◌<◌, List, [], ◌∷◌, ◌++◌, length, map, sym, ap, ◌∙◌, arith}
 use Rattle.std.proofs.Common.{get_or, refl, ap₂, add-one, add-zero, zero-add, append-nil}
-use Rattle.std.proofs.lemmas.List.{length-map}
 use Rattle.std.proofs.lemmas.Grind.{flat_map-append}
-use Rattle.std.specs.Prelude.{flat_map, slice_get, slice_index_or}
+use Rattle.std.specs.Prelude.{flat_map, slice_get}
 use Rattle.std.proofs.lemmas.Simd.{map-map}
 use Rattle.pals_base.specs.declared.values.PortValue.{PortValue}
 use Rattle.pals_base.specs.declared.values.Frame.{Frame}
-use Rattle.pals_base.specs.declared.values.PortValue.TheVariants.{Absent}
 use Rattle.pals_base.specs.StepSequences.{Stepped, upwards}
 use Rattle.pals_base.proofs.UpwardNumbers.{upwards-more, slice_get-map_upwards}
 use Rattle.pals_model.specs.declared.design.DesignParts.{DesignParts}
@@ -20,11 +18,6 @@ use Rattle.pals_model.proofs.CompositionLaws.{one_frame_each}
 use Rattle.pals_report.specs.proof.RowLines.{ArePartsOf}
 use Rattle.run_monitor.specs.proof.FormBits.{row_of}
 use Rattle.sync_product.specs.proof.ProductStates.{ProductState, advanced, parts_of}
-
--- ---- values that are written over others
-
-pub length_values_at : (env : Env) (round : ℕ) → length (values_at env round) ≡ length env.lists
-length_values_at env round = length-map env.lists (λ list. slice_index_or list round Absent)
 
 -- ---- what a round leaves
 -- a product that stood at a round has the round's parts after it

@@ -9,12 +9,13 @@ use Rattle.pals_model.specs.declared.design.DesignParts.{DesignParts}
 use Rattle.pals_model.specs.declared.inputs_parts_and_delays.Env.{Env}
 use Rattle.pals_model.specs.ComponentInputs.{values_at}
 use Rattle.pals_model.specs.RoundTexts.{line_end, text_of, round_line, component_line}
+use Rattle.pals_model.proofs.LineLaws.{text_of-append}
 use Rattle.pals_runs.specs.declared.vote_faults_and_pairs.VoteFault.{VoteFault}
 use Rattle.triple_vote.specs.Replicas.{Voted, is_replicated, copies_of, frame_at, vcomp, vshown}
 use Rattle.triple_vote.specs.proof.VotedStates.{VotedState, vadvanced}
 use Rattle.triple_vote.specs.VotedText.{replica_name, shown_line, vrow_lines, voted_lines, vreport}
 use Rattle.analysis_texts.specs.proof.ReplicaNamesAndLines.{all_lines}
-use Rattle.analysis_texts.proofs.LineBlocks.{text_of-append, line_before}
+use Rattle.analysis_texts.proofs.LineBlocks.{line_before}
 use Rattle.analysis_texts.proofs.ProductRoundsAndRows.{rows_more}
 
 -- the line of a replica

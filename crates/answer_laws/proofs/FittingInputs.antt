@@ -13,6 +13,7 @@ use Rattle.pals_base.specs.declared.behaviour.Kind.TheVariants.{Integer, Boolean
 use Rattle.pals_base.specs.declared.values.PortValue.{PortValue}
 use Rattle.pals_base.specs.declared.values.PortValue.TheVariants.{Absent, Present}
 use Rattle.pals_base.specs.Expressions.{truth}
+use Rattle.pals_base.proofs.StepSequences.{get_or-column}
 use Rattle.pals_model.specs.declared.design.DesignParts.{DesignParts}
 use Rattle.pals_model.specs.declared.inputs_parts_and_delays.Env.{Env}
 use Rattle.pals_model.specs.ComponentInputs.{root_inputs}
@@ -29,7 +30,6 @@ use Rattle.scenario_json.specs.Scenarios.{field}
 use Rattle.pals_model.specs.proof.FittingValues.{PortFits, TupleFits, EnvFits}
 use Rattle.pals_model.proofs.AllElements.{index_fits, set_keeps}
 use Rattle.pals_model.proofs.KindsOfExpressions.{truth_fits}
-use Rattle.pals_model.proofs.KindsOfRounds.{place_of_column}
 
 -- ---- values
 present_fits : (kind : Kind) (place : List ℕ) (d : Data) (v : PortValue) → present kind place d ≡ Ok v → PortFits kind v
@@ -132,6 +132,6 @@ inputs_field_fit design (Some d) lists e = inputs_fit design d lists e
 -- ---- their environment
 pub lists_to_env : (design : DesignParts) (env : Env) → ListsFit design env.lists → EnvFits design env
 lists_to_env design env fit = λ round number name is.
-    subst (PortFits (root_kind design name)) (sym (place_of_column env.lists round number))
+    subst (PortFits (root_kind design name)) (sym (get_or-column env.lists round number))
     (index_fits (PortFits (root_kind design name)) (slice_index_or env.lists number []) round Absent
     (fit number name is) tt)

@@ -6,10 +6,10 @@ use Rattle.std.proofs.lemmas.List.{append-nil, take_all}
 use Rattle.std.proofs.lemmas.List.Elements.{All-more}
 use Rattle.std.proofs.lemmas.List.FromFn.{length-enumerate_from, get_or-enumerate_from}
 use Rattle.std.proofs.lemmas.Slice.Zip.{length-zip, get_or-zip}
-use Rattle.std.proofs.lemmas.Grind.{flat_map-append}
 use Rattle.list_lemmas.proofs.ListOperations.{flat_map-take_more}
 use Rattle.pals_base.specs.declared.behaviour.BehaviourParts.{BehaviourParts}
 use Rattle.pals_model.specs.RoundTexts.{line_end, text_of}
+use Rattle.pals_model.proofs.LineLaws.{text_of-append}
 use Rattle.pals_report.specs.proof.PartialWrites.{BeginsWith}
 use Rattle.pals_report.proofs.TextPrefixes.{last_on_err}
 use Rattle.step_code.specs.declared.instr.Instr.{Instr}
@@ -17,9 +17,6 @@ use Rattle.step_code.specs.declared.instr.CodeParts.{CodeParts}
 use Rattle.code_listing.specs.NumberRanges.{NumberFits, InstrFits, EntriesFit, CodeFits}
 
 -- ---- lines behind others
-text_of-append : (first rest : List (List ℕ)) → text_of (first ++ rest) ≡ text_of first ++ text_of rest
-text_of-append first rest = flat_map-append (λ line. line ++ line_end) first rest
-
 -- a text with these lines behind it
 pub record Adds (old : List ℕ) (lines : List (List ℕ)) (new : List ℕ) : Type 0 where
   pub is : new ≡ old ++ text_of lines

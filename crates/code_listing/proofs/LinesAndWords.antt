@@ -1,19 +1,17 @@
 -- Lines of words with a space between each two: which lines a text has, and which words a line has.
-use Rattle.std.proofs.Common.{◌≡◌, ◌≢◌, ℕ, zero, suc, ◌/◌, ◌%◌, nat_eq, nat_lt, Bool, true, false, not, ◌&&◌, ◌==◌}
-use Rattle.std.proofs.Common.{if◌then◌else◌, ℤ, pos, negsuc, List, [], ◌∷◌, All, refl, sym, ap, ap₂, ◌∙◌, arith, ne_eqb}
+use Rattle.std.proofs.Common.{◌≡◌, ◌≢◌, ℕ, zero, suc, ◌/◌, ◌%◌, nat_eq, nat_lt, Bool, true, false, ◌&&◌, ◌==◌}
+use Rattle.std.proofs.Common.{if◌then◌else◌, ℤ, pos, negsuc, List, [], ◌∷◌, All, refl, sym, ap, ap₂, ◌∙◌, arith}
 use Rattle.std.specs.Prelude.{decimal}
 use Rattle.std.specs.List.{list_all, slice_split, join_with_byte}
 use Rattle.std.specs.Fmt.{digits, digits_onto, digit_glyph, signed_decimal}
-use Rattle.std.proofs.lemmas.Bool.{and_parts, eqb-false, not-true}
 use Rattle.std.proofs.lemmas.List.{append_cancel_right}
-use Rattle.std.proofs.lemmas.List.Elements.{All-nil, All-cons, All-append, All-head, All-tail, All-weaker}
+use Rattle.std.proofs.lemmas.List.Elements.{All-nil, All-cons, All-append}
 use Rattle.std.proofs.lemmas.List.Splits.{slice_split_none, slice_split_at}
 use Rattle.list_lemmas.proofs.Numbers.{digit-at_least}
-use Rattle.pals_base.specs.Names.{is_word, is_path}
 use Rattle.pals_model.specs.RoundTexts.{text_of, is_line_feed}
 use Rattle.pals_model.specs.proof.CompositionLaws.Lines.{IsLine}
 use Rattle.pals_model.proofs.LineLaws.{text_splits}
-use Rattle.pals_model.proofs.WordBytes.{IsWithout, all_pass, word_without, path_without}
+use Rattle.pals_model.proofs.WordBytes.{is_inner, inner, no_space, no_feed}
 use Rattle.pals_runs.specs.JournalLines.{spaced}
 
 -- ---- lines
@@ -25,32 +23,9 @@ same_lines lines others each_line each_other same =
     (sym (text_splits lines each_line) ∙ ap (slice_split is_line_feed) same ∙ text_splits others each_other)
 
 -- ---- words
--- a byte that is neither a space nor a line feed
-abbrev pub is_inner : ℕ → Bool
-is_inner byte = not (nat_eq 32 byte) && not (nat_eq 10 byte)
-
-inner : (byte : ℕ) → byte ≢ 32 → byte ≢ 10 → is_inner byte ≡ true
-inner byte space feed =
-    ap₂ (λ a b. not a && not b) (ne_eqb 32 byte (λ same. space (sym same))) (ne_eqb 10 byte (λ same. feed (sym same)))
-
-not_space : (byte : ℕ) → is_inner byte ≡ true → nat_eq 32 byte ≡ false
-not_space byte passes = not-true (nat_eq 32 byte) (and_parts (not (nat_eq 32 byte)) (not (nat_eq 10 byte)) passes).0
-
-not_feed : (byte : ℕ) → is_inner byte ≡ true → byte ≢ 10
-not_feed byte passes same =
-    eqb-false 10 byte (not-true (nat_eq 10 byte)
-    (and_parts (not (nat_eq 32 byte)) (not (nat_eq 10 byte)) passes).1) (sym same)
-
 -- a word of such bytes; it may be empty
 abbrev pub is_plain : List ℕ → Bool
 is_plain word = list_all is_inner word
-
-no_space : (word : List ℕ) → is_plain word ≡ true → All (λ byte. nat_eq 32 byte ≡ false) word
-no_space word plain =
-    All-weaker (λ b. is_inner b ≡ true) (λ b. nat_eq 32 b ≡ false) not_space word (all_pass is_inner word plain)
-
-no_feed : (word : List ℕ) → is_plain word ≡ true → IsLine word
-no_feed word plain = All-weaker (λ b. is_inner b ≡ true) (λ b. b ≢ 10) not_feed word (all_pass is_inner word plain)
 
 abbrev pub ArePlain : List (List ℕ) → Type 0
 ArePlain [] = Unit {0}
@@ -78,21 +53,6 @@ is_one_line (word ∷ next ∷ words) plain =
     All-append (λ b. b ≢ 10) word (32 ∷ join_with_byte 32 (next ∷ words)) (no_feed word plain.0)
     (All-cons (λ b. b ≢ 10) 32 (join_with_byte 32 (next ∷ words)) (λ same. absurd (omega (arith, same)))
     (is_one_line (next ∷ words) plain.1))
-
--- ---- names
-all_inner : (word : List ℕ) → IsWithout 32 word → IsWithout 10 word → is_plain word ≡ true
-all_inner [] spaces feeds = refl
-all_inner (byte ∷ word) spaces feeds =
-    ap₂ (λ a b. a && b) (inner byte (All-head (λ b. b ≢ 32) byte word spaces) (All-head (λ b. b ≢ 10) byte word feeds))
-    (all_inner word (All-tail (λ b. b ≢ 32) byte word spaces) (All-tail (λ b. b ≢ 10) byte word feeds))
-
-pub word_plain : (word : List ℕ) → is_word word ≡ true → is_plain word ≡ true
-word_plain word is = all_inner word (word_without 32 word refl is) (word_without 10 word refl is)
-
-pub path_plain : (path : List ℕ) → is_path path ≡ true → is_plain path ≡ true
-path_plain path is =
-    all_inner path (path_without 32 path (λ same. absurd (omega (arith, same))) refl is)
-    (path_without 10 path (λ same. absurd (omega (arith, same))) refl is)
 
 -- ---- numbers
 

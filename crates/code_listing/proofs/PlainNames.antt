@@ -14,9 +14,9 @@ use Rattle.pals_base.specs.BehaviourRules.{IsBehaviour, has_word}
 use Rattle.pals_model.specs.NamesInTexts.{port_name}
 use Rattle.pals_model.specs.RoundTexts.{state_name}
 use Rattle.pals_model.proofs.FirstMatches.{at_element}
-use Rattle.pals_model.proofs.WordBytes.{all_pass}
+use Rattle.pals_model.proofs.WordBytes.{all_pass, word_inner}
 use Rattle.code_listing.specs.Listings.{slot_word, slot_name}
-use Rattle.code_listing.proofs.LinesAndWords.{is_plain, word_plain, decimal_plain}
+use Rattle.code_listing.proofs.LinesAndWords.{is_plain, decimal_plain}
 
 -- ---- names that a behaviour declares
 pub record HasPlainNames (b : BehaviourParts) : Type 0 where
@@ -28,7 +28,7 @@ pub record HasPlainNames (b : BehaviourParts) : Type 0 where
 plain_in : {X : Type 0} (name : X → List ℕ) (xs : List X) → list_all is_word (map name xs) ≡ true
     → All (λ x. is_plain (name x) ≡ true) xs
 plain_in name xs words =
-    All-weaker (λ x. is_word (name x) ≡ true) (λ x. is_plain (name x) ≡ true) (λ x is. word_plain (name x) is) xs
+    All-weaker (λ x. is_word (name x) ≡ true) (λ x. is_plain (name x) ≡ true) (λ x is. word_inner (name x) is) xs
     (all_pass (λ x. is_word (name x)) xs (sym (list_all-map is_word name xs) ∙ words))
 
 pub names_are_plain : (b : BehaviourParts) → IsBehaviour b → HasPlainNames b
@@ -47,7 +47,7 @@ names_are_plain b rules =
       vars = plain_in (λ (v : VarDecl). v.name) b.vars values.1;
       states =
           All-weaker (λ (s : StateDecl). has_word s ≡ true) (λ (s : StateDecl). is_plain s.name ≡ true)
-          (λ s is. word_plain s.name is) b.states (all_pass has_word b.states rules.names.states);
+          (λ s is. word_inner s.name is) b.states (all_pass has_word b.states rules.names.states);
     }
 
 -- ---- names that numbers have

@@ -19,6 +19,7 @@ use Rattle.pals_model.specs.declared.design.Component.{Component}
 use Rattle.pals_model.specs.declared.design.DesignParts.{DesignParts}
 use Rattle.pals_model.specs.RoundTexts.{state_name}
 use Rattle.pals_model.specs.DesignRules.{IsComponent}
+use Rattle.pals_model.proofs.WordBytes.{path_inner}
 use Rattle.pals_runs.specs.JournalLines.{spaced}
 use Rattle.step_code.specs.declared.instr.CodeParts.{CodeParts}
 use Rattle.step_code.specs.PathWeights.{weight_of}
@@ -27,7 +28,7 @@ use Rattle.code_listing.specs.Listings.{number_line, port_line, variable_line, s
 use Rattle.code_listing.specs.Listings.{instr_lines, initial_line, component_lines, lines_of_all}
 use Rattle.code_listing.specs.NumberRanges.{NumbersFit}
 use Rattle.code_listing.specs.proof.ToldDesigns.{state_names, told_component, told_components, IsCodeOf}
-use Rattle.code_listing.proofs.LinesAndWords.{is_plain, same_words, path_plain}
+use Rattle.code_listing.proofs.LinesAndWords.{is_plain, same_words}
 use Rattle.code_listing.proofs.PlainNames.{HasPlainNames, names_are_plain, state_plain}
 use Rattle.code_listing.proofs.LineGroups.{begins, EndsAt, no_end, parted, all_begin, none_begins, run_parted}
 use Rattle.code_listing.proofs.LineGroups.{items_told, cons_told}
@@ -122,7 +123,7 @@ component_told design other c d code program sound sound_other first same =
     let a = d.behaviour in
     let plain = names_are_plain b sound.rule.behaviour in
     let plain_other = names_are_plain a sound_other.rule.behaviour in
-    let path = path_told c d (path_plain c.path sound.rule.path) (path_plain d.path sound_other.rule.path) first in
+    let path = path_told c d (path_inner c.path sound.rule.path) (path_inner d.path sound_other.rule.path) first in
     let with_rate = cons_told _ _ _ _ same in
     let rate =
     number_told (codes "rate") c.rate d.rate refl (omega (arith, sound.rule.rate.1))

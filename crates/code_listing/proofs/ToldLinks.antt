@@ -20,10 +20,11 @@ use Rattle.pals_model.specs.ComponentInputs.{rate_of, rate_in}
 use Rattle.pals_model.specs.NamesInTexts.{port_name, in_port_name, target_name, link_name}
 use Rattle.pals_model.specs.DesignRules.{IsDesign, IsComponent, IsSource, IsTarget, IsLink, IsFeed, IsTap}
 use Rattle.pals_model.proofs.FirstMatches.{at_element}
+use Rattle.pals_model.proofs.WordBytes.{word_inner, path_inner}
 use Rattle.pals_runs.specs.JournalLines.{spaced}
 use Rattle.pals_report.specs.CheckReports.{adaptor_text, and_adaptor, out_port_name, source_name, link_line, feed_line}
 use Rattle.pals_report.specs.CheckReports.{tap_line}
-use Rattle.code_listing.proofs.LinesAndWords.{is_plain, ArePlain, same_words, word_plain, path_plain, decimal_plain}
+use Rattle.code_listing.proofs.LinesAndWords.{is_plain, ArePlain, same_words, decimal_plain}
 use Rattle.code_listing.proofs.PlainNames.{names_are_plain, port_plain}
 use Rattle.code_listing.proofs.PortNames.{outs_of, ins_of, ported, full_name, source_named, target_named, outs_apart}
 use Rattle.code_listing.proofs.PortNames.{ins_apart, IsThere, source_there, target_there, ports_told}
@@ -146,7 +147,7 @@ source_plain design node port rules = by (slice_get design.components node) refl
     by None is = refl
     by (Some c) is =
         let rule = at_element (IsComponent design.period) design.components node c rules.components.each is in
-        joined_plain c.path (port_name (slice_get c.behaviour.outs port)) (path_plain c.path rule.path)
+        joined_plain c.path (port_name (slice_get c.behaviour.outs port)) (path_inner c.path rule.path)
         (port_plain c.behaviour.outs port (names_are_plain c.behaviour rule.behaviour).outs)
 
 target_plain : (design : DesignParts) (node port : ℕ) → IsDesign design → is_plain (target_name design node port) ≡ true
@@ -156,7 +157,7 @@ target_plain design node port rules = by (slice_get design.components node) refl
     by None is = refl
     by (Some c) is =
         let rule = at_element (IsComponent design.period) design.components node c rules.components.each is in
-        joined_plain c.path (port_name (slice_get c.behaviour.ins port)) (path_plain c.path rule.path)
+        joined_plain c.path (port_name (slice_get c.behaviour.ins port)) (path_inner c.path rule.path)
         (port_plain c.behaviour.ins port (names_are_plain c.behaviour rule.behaviour).ins)
 
 pub link_plain : (design : DesignParts) (link : Link) → IsDesign design
@@ -174,7 +175,7 @@ pub feed_plain : (design : DesignParts) (feed : Feed) → IsDesign design → Is
 feed_plain design feed rules rule = (
   refl,
   (
-    word_plain feed.name rule.name,
+    word_inner feed.name rule.name,
     (refl, (target_plain design feed.target.0 feed.in_port rules, adaptor_plain feed.adaptor)),
   ),
 )
@@ -182,7 +183,7 @@ feed_plain design feed rules rule = (
 pub tap_plain : (design : DesignParts) (tap : Tap) → IsDesign design → IsTap design tap
     → ArePlain (codes "output" ∷ tap_words design tap)
 tap_plain design tap rules rule =
-    (refl, (source_plain design tap.source.0 tap.out_port rules, (refl, (word_plain tap.name rule.name, tt))))
+    (refl, (source_plain design tap.source.0 tap.out_port rules, (refl, (word_inner tap.name rule.name, tt))))
 
 -- ---- the names that stand in two designs
 -- their components have the same paths and ports

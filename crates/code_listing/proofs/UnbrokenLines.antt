@@ -18,6 +18,7 @@ use Rattle.pals_model.specs.declared.design.DesignParts.{DesignParts}
 use Rattle.pals_model.specs.RoundTexts.{state_name}
 use Rattle.pals_model.specs.DesignRules.{IsDesign, IsComponent, IsFeed, IsTap}
 use Rattle.pals_model.specs.proof.CompositionLaws.Lines.{IsLine}
+use Rattle.pals_model.proofs.WordBytes.{path_inner}
 use Rattle.pals_runs.specs.JournalLines.{spaced}
 use Rattle.step_code.specs.declared.instr.Instr.{Instr}
 use Rattle.step_code.specs.declared.instr.CodeParts.{CodeParts}
@@ -27,7 +28,7 @@ use Rattle.pals_report.specs.CheckReports.{link_line, feed_line, tap_line}
 use Rattle.code_listing.specs.Listings.{kind_word, number_line, port_line, variable_line, state_line, state_lines}
 use Rattle.code_listing.specs.Listings.{mnemonic, operands, instr_line, instr_lines, initial_line, component_lines}
 use Rattle.code_listing.specs.Listings.{lines_of_all, listing_lines, range_line, design_lines}
-use Rattle.code_listing.proofs.LinesAndWords.{is_plain, is_one_line, path_plain, decimal_plain, signed_plain}
+use Rattle.code_listing.proofs.LinesAndWords.{is_plain, is_one_line, decimal_plain, signed_plain}
 use Rattle.code_listing.proofs.PlainNames.{HasPlainNames, names_are_plain, state_plain}
 use Rattle.code_listing.proofs.ToldComponentBlocks.{behind_states, behind_vars, behind_outs, behind_ins, path_line}
 use Rattle.code_listing.proofs.ToldComponentBlocks.{tail_lines, lines_are}
@@ -118,7 +119,7 @@ component design c code rule =
     (number_line (codes "release") release ∷ (map (port_line (codes "in")) b.ins ++ behind_ins b code))
     with_release in
     All-cons IsLine (path_line c) (tail_lines design c code)
-    (is_one_line (codes "component" ∷ c.path ∷ []) (refl, (path_plain c.path rule.path, tt)))
+    (is_one_line (codes "component" ∷ c.path ∷ []) (refl, (path_inner c.path rule.path, tt)))
     (a_number (codes "rate") c.rate refl
     (number_line (codes "sent") sent ∷ number_line (codes "release") release
     ∷ (map (port_line (codes "in")) b.ins ++ behind_ins b code)) with_sent)

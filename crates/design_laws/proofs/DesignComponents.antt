@@ -9,6 +9,7 @@ use Rattle.std.proofs.lemmas.List.{length-map}
 use Rattle.std.proofs.lemmas.List.Elements.{recursion_from_All}
 use Rattle.std.proofs.lemmas.Option.{same_Some}
 use Rattle.list_lemmas.proofs.Numbers.{le_from_not_lt}
+use Rattle.list_lemmas.proofs.PairwiseProperties.{pairs_from}
 use Rattle.pals_base.specs.declared.limits.TheConstants.{PORTS, VARIABLES, STATES, COMPONENTS, PATH_BYTES}
 use Rattle.pals_base.specs.declared.behaviour.BehaviourParts.{BehaviourParts}
 use Rattle.pals_base.specs.Names.{is_path}
@@ -34,7 +35,7 @@ use Rattle.model_violations.specs.PortsAndVariables.{named_of, var_of, values_of
 use Rattle.model_violations.specs.ThreadBehaviours.{first_annex, behaviour_by, behaviour_in}
 use Rattle.model_violations.proofs.FilteredAndFirstItems.{ports_both}
 use Rattle.design_laws.specs.proof.PackageNames.{AreNamed}
-use Rattle.design_laws.proofs.PartitionedPairs.{pairs_from, all_unmapped}
+use Rattle.design_laws.proofs.PartitionedPairs.{all_unmapped}
 use Rattle.design_laws.proofs.PairwiseDistinctNames.{all_none}
 use Rattle.design_laws.proofs.BoundsAndRates.{IsRateOf}
 use Rattle.model_violations.specs.UsedDeclarations.{IsUse}

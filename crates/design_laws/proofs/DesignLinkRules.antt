@@ -7,6 +7,7 @@ use Rattle.std.proofs.lemmas.List.Elements.{recursion_from_All}
 use Rattle.std.proofs.lemmas.Option.{same_Some}
 use Rattle.std.proofs.lemmas.Bool.{ltb-true}
 use Rattle.list_lemmas.proofs.Numbers.{le_from_not_lt}
+use Rattle.list_lemmas.proofs.PairwiseProperties.{pairs_from}
 use Rattle.pals_base.specs.declared.limits.TheConstants.{LINKS}
 use Rattle.pals_base.specs.declared.values.Gamma.{Gamma}
 use Rattle.pals_model.specs.declared.design.Component.{Component}
@@ -27,7 +28,7 @@ use Rattle.annex_resolve.specs.ExpressionTypesAndFindings.{kind_in}
 use Rattle.model_violations.specs.ChainFindings.{link_findings, feed_findings}
 use Rattle.design_laws.specs.proof.PackageNames.{AreNamed}
 use Rattle.design_laws.proofs.PairwiseDistinctNames.{all_none}
-use Rattle.design_laws.proofs.PartitionedPairs.{pairs_from, all_unmapped}
+use Rattle.design_laws.proofs.PartitionedPairs.{all_unmapped}
 use Rattle.model_violations.specs.UsedDeclarations.{IsUse}
 use Rattle.model_violations.specs.Violations.{shown_by, rates_of, used_findings}
 use Rattle.design_laws.specs.InstanceDesigns.{link_in, feed_in, tap_in}

@@ -1,16 +1,15 @@
 -- The names of a package in which nothing is declared twice differ.
 use Rattle.std.proofs.Common.{◌≡◌, ◌≢◌, ◌∙◌, ◌⊎◌, inl, inr, ℕ, zero, suc, ◌<◌, true, List, [], ◌∷◌, ◌++◌, map, Option}
-use Rattle.std.proofs.Common.{Some, None, Contains, AllPairs, refl, ap, subst, arith}
+use Rattle.std.proofs.Common.{Some, None, Contains, refl, ap, subst, arith}
 use Rattle.std.specs.Prelude.{flat_map, slice_get}
 use Rattle.std.specs.List.{AllByRecursion, filter_map}
 use Rattle.std.proofs.lemmas.Bool.{cases_order}
 use Rattle.std.proofs.lemmas.List.{map-append}
-use Rattle.std.proofs.lemmas.List.Kept.{AllPairs-cons}
-use Rattle.std.proofs.lemmas.List.Elements.{All-from_recursion}
 use Rattle.list_lemmas.proofs.Elements.{AllByRecursion-weaker}
 use Rattle.list_lemmas.proofs.ListOperations.{append_is_nil_right, append_is_nil_left}
 use Rattle.list_lemmas.proofs.ElementPositions.{flat_map-nil_at}
 use Rattle.list_lemmas.proofs.Numbers.{ne_from_lt}
+use Rattle.list_lemmas.proofs.PairwiseProperties.{Pairs, pairs_append, pairs_weaker, all_pairs_from}
 use Rattle.aadl_tree.specs.SpellingParts.{Part}
 use Rattle.aadl_tree.specs.Names.{Identifier}
 use Rattle.aadl_tree.specs.Annexes.{AnnexTree}
@@ -30,16 +29,10 @@ use Rattle.aadl_names.specs.PackageFaults.{wrong_names, package_faults}
 use Rattle.aadl_names.specs.proof.PlaceOrder.{places_of}
 use Rattle.aadl_names.proofs.RisingPlaces.{places_rise}
 use Rattle.design_laws.specs.proof.PackageNames.{NamesDiffer}
-use Rattle.design_laws.proofs.PlacedNames.{Pairs, pairs_append, pairs_weaker, Rise, rise_back, in_front, in_back, IsIn}
-use Rattle.design_laws.proofs.PlacedNames.{Placed}
+use Rattle.design_laws.proofs.PlacedNames.{Rise, rise_back, in_front, in_back, IsIn, Placed}
 use Rattle.design_laws.proofs.PairwiseDistinctNames.{where_true, Apart, Differs, names_differ}
 use Rattle.design_laws.proofs.DeclaredNameOrder.{type_names, member_names, first_variables, first_states}
 use Rattle.design_laws.proofs.DeclaredNameOrder.{rise_declarations, rise_one}
-
--- ---- pairs by their numbers
-pub pairs_all : {X : Type 0} (R : X → X → Type 0) (xs : List X) → Pairs R xs → AllPairs R xs
-pairs_all R [] h = λ i j d lt within. absurd (omega arith)
-pairs_all R (x ∷ xs) h = AllPairs-cons R x xs (All-from_recursion (R x) xs h.0) (pairs_all R xs h.1)
 
 -- ---- entries in the order of their names
 abbrev Earlier : SpelledName → SpelledName → Type 0
@@ -223,19 +216,19 @@ differ tree root n x rise none is =
     (twice_in_first tree x (behaviours x.annexes)) here in
     record {
       members =
-          pairs_all Differs _ (names_differ _ members
+          all_pairs_from Differs _ (names_differ _ members
           (ports_with tree rise n x is (type_number tree x) (member_entries x)
           (members_entered tree rise n x is)));
       values = λ b first_is thread.
           let both = first_twice tree x (behaviours x.annexes) b first_is thread first in
-          pairs_all Differs _ (names_differ _
+          all_pairs_from Differs _ (names_differ _
           (append_is_nil_left (twice (port_entries (ports_of tree x) ++ variable_entries b.1))
           (twice (state_entries b.1)) both)
           (ports_with tree rise n x is (type_number tree x) (variable_entries b.1)
           (variables_entered tree rise n x is b first_is)));
       states = λ b first_is thread.
           let both = first_twice tree x (behaviours x.annexes) b first_is thread first in
-          pairs_all Differs _ (names_differ _
+          all_pairs_from Differs _ (names_differ _
           (append_is_nil_right (twice (port_entries (ports_of tree x) ++ variable_entries b.1))
           (twice (state_entries b.1)) both)
           (pairs_weaker Earlier Apart (λ y z. ne_from_lt y.at z.at) (state_entries b.1)

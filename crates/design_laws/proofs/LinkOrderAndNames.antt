@@ -7,6 +7,7 @@ use Rattle.std.proofs.lemmas.Bool.{cases_order, ltb-true}
 use Rattle.std.proofs.lemmas.Option.{same_Some, slice_get_within}
 use Rattle.list_lemmas.proofs.Numbers.{ne_from_lt}
 use Rattle.list_lemmas.proofs.Booleans.{or_and_cases}
+use Rattle.list_lemmas.proofs.PairwiseProperties.{Pairs, pairs_from}
 use Rattle.pals_base.specs.declared.limits.TheConstants.{PORTS}
 use Rattle.pals_model.specs.declared.design.DesignParts.{DesignParts}
 use Rattle.pals_model.specs.DesignRules as model
@@ -22,9 +23,8 @@ use Rattle.aadl_instance.specs.FlattenedDesign.{Parts, IsFlat}
 use Rattle.aadl_instance.specs.Instances.{node_at, port_number}
 use Rattle.component_checks.specs.TypeFindings as types
 use Rattle.design_laws.specs.proof.PackageNames.{NamesDiffer}
-use Rattle.design_laws.proofs.PlacedNames.{Pairs}
 use Rattle.design_laws.proofs.PairwiseDistinctNames.{one_name, Differs}
-use Rattle.design_laws.proofs.PartitionedPairs.{pairs_at, pairs_from, pairs_first, pairs_unmapped}
+use Rattle.design_laws.proofs.PartitionedPairs.{pairs_at, pairs_first, pairs_unmapped}
 use Rattle.design_laws.proofs.MatchedLists.{Zipped}
 use Rattle.design_laws.proofs.PathTexts.{before_other}
 use Rattle.design_laws.proofs.PortAndThreadNumbers.{count_less, one_path, numbers_rise}

@@ -5,8 +5,7 @@ use Rattle.std.specs.Prelude.{slice_get, All}
 use Rattle.std.specs.List.{AllByRecursion}
 use Rattle.std.proofs.lemmas.List.Elements.{All-from_recursion}
 use Rattle.std.proofs.lemmas.Option.{same_Some}
-use Rattle.design_laws.proofs.PlacedNames.{Pairs}
-use Rattle.design_laws.proofs.DistinctPackageNames.{pairs_all}
+use Rattle.list_lemmas.proofs.PairwiseProperties.{Pairs, all_pairs_from}
 use Rattle.design_laws.specs.InstanceDesigns.{put_first, all_of}
 
 -- one list goes with another, one by one
@@ -73,7 +72,7 @@ module _ {X Y : Type 0} (R : X → Y → Type 0) where
     pairs_of (x ∷ xs) (y ∷ ys) a h = (pairs_by x y h.0 xs ys a.0 h.1, pairs_of xs ys a.1 h.1)
 
     pub pairs_zipped : (xs : List X) (ys : List Y) → Pairs S xs → Zipped R xs ys → AllPairs T ys
-    pairs_zipped xs ys a h = pairs_all T ys (pairs_of xs ys a h)
+    pairs_zipped xs ys a h = all_pairs_from T ys (pairs_of xs ys a h)
 
 pub zipped_weaker : {X Y : Type 0} (R S : X → Y → Type 0) → ((x : X) (y : Y) → R x y → S x y)
     → (xs : List X) (ys : List Y) → Zipped R xs ys

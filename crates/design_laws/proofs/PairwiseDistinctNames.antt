@@ -11,11 +11,11 @@ use Rattle.std.proofs.lemmas.Slice.Eq.{bytes_eq-Decides}
 use Rattle.list_lemmas.proofs.Elements.{AllByRecursion-weaker}
 use Rattle.list_lemmas.proofs.Booleans.{or_false_left, or_false_right}
 use Rattle.list_lemmas.proofs.ListOperations.{append_is_nil_left, append_is_nil_right}
+use Rattle.list_lemmas.proofs.PairwiseProperties.{Pairs}
 use Rattle.aadl_names.specs.declared.fault.PackageFault.{PackageFault}
 use Rattle.aadl_names.specs.declared.fault.PackageFault.TheVariants.{Twice}
 use Rattle.aadl_names.specs.declared.spelled_name.SpelledName.{SpelledName}
 use Rattle.aadl_names.specs.DuplicateNames.{again, twice}
-use Rattle.design_laws.proofs.PlacedNames.{Pairs}
 
 -- ---- names compare as equal both ways
 pub same_turned : (a b : List ℕ) → same_name a b ≡ true → same_name b a ≡ true

@@ -1,22 +1,12 @@
 -- What holds of all pairs of a list holds of its images and of the two halves that a test makes.
 use Rattle.std.proofs.Common.{◌≡◌, ◌∙◌, ℕ, zero, suc, ◌+◌, ◌<◌, Bool, true, false, not, cond, List, [], ◌∷◌, ◌++◌, map}
-use Rattle.std.proofs.Common.{AllPairs, Option, Some, refl, sym, ap, subst, arith}
+use Rattle.std.proofs.Common.{Option, Some, refl, sym, ap, subst, arith}
 use Rattle.std.specs.Prelude.{filter, slice_get, find}
 use Rattle.std.specs.List.{AllByRecursion, list_all, enumerate_from}
-use Rattle.std.proofs.lemmas.List.Elements.{recursion_from_All}
 use Rattle.std.proofs.lemmas.Option.{same_Some}
 use Rattle.std.proofs.lemmas.Bool.{and_from}
-use Rattle.list_lemmas.proofs.Elements.{AllByRecursion-map, found_either, AllByRecursion-append}
-use Rattle.design_laws.proofs.PlacedNames.{Pairs}
-
--- ---- from the words of std
-pub pairs_from : {X : Type 0} (R : X → X → Type 0) (xs : List X) → AllPairs R xs → Pairs R xs
-pairs_from R [] h = tt
-pairs_from R (x ∷ xs) h = (
-  recursion_from_All (R x) xs (λ k d within. h zero (suc k) d (omega arith) (omega arith)),
-  pairs_from R xs
-      (λ i j d lt within. h (suc i) (suc j) d (omega arith) (omega arith)),
-)
+use Rattle.list_lemmas.proofs.Elements.{found_either, AllByRecursion-append}
+use Rattle.list_lemmas.proofs.PairwiseProperties.{Pairs}
 
 -- ---- what is made of a list
 
@@ -24,11 +14,6 @@ pub all_unmapped : {X Y : Type 0} (P : Y → Type 0) (f : X → Y) (xs : List X)
     → AllByRecursion (λ x. P (f x)) xs
 all_unmapped P f [] h = tt
 all_unmapped P f (x ∷ xs) h = (h.0, all_unmapped P f xs h.1)
-
-pub pairs_mapped : {X Y : Type 0} (R : Y → Y → Type 0) (f : X → Y) (xs : List X) → Pairs (λ x y. R (f x) (f y)) xs
-    → Pairs R (map f xs)
-pairs_mapped R f [] h = tt
-pairs_mapped R f (x ∷ xs) h = (AllByRecursion-map (R (f x)) f xs h.0, pairs_mapped R f xs h.1)
 
 pub pairs_unmapped : {X Y : Type 0} (R : Y → Y → Type 0) (f : X → Y) (xs : List X) → Pairs R (map f xs)
     → Pairs (λ x y. R (f x) (f y)) xs

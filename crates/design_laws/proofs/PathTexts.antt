@@ -12,6 +12,7 @@ use Rattle.std.proofs.lemmas.List.{reverse-append, reverse-reverse}
 use Rattle.std.proofs.lemmas.List.Elements.{recursion_from_All}
 use Rattle.std.proofs.lemmas.Option.{same_Some, option_and_then_some}
 use Rattle.list_lemmas.proofs.Elements.{AllByRecursion-append}
+use Rattle.list_lemmas.proofs.PairwiseProperties.{Pairs, pairs_from}
 use Rattle.pals_base.specs.declared.limits.TheConstants.{NAME_BYTES}
 use Rattle.pals_base.specs.Names.{is_word_byte, is_led_by_letter, is_word, is_dot, is_path}
 use Rattle.aadl_tree.specs.Declarations.{Subcomponent, Connection, Implementation, PackageTree}
@@ -22,10 +23,8 @@ use Rattle.aadl_uses.specs.Uses.{sub_at, below, standing}
 use Rattle.aadl_uses.specs.ThreadsBelow.{path_before}
 use Rattle.aadl_uses.specs.ThreadLocations.{name_at, names_along, dotted_names, spelled_path}
 use Rattle.design_laws.specs.proof.PackageNames.{IsNamed, HasWords, NamesDiffer}
-use Rattle.design_laws.proofs.PlacedNames.{Pairs}
 use Rattle.design_laws.proofs.PairwiseDistinctNames.{one_name, Differs}
-use Rattle.design_laws.proofs.PartitionedPairs.{pairs_at, pairs_from, pairs_first, pairs_second, pairs_unmapped, all_at}
-use Rattle.design_laws.proofs.PartitionedPairs.{all_true}
+use Rattle.design_laws.proofs.PartitionedPairs.{pairs_at, pairs_first, pairs_second, pairs_unmapped, all_at, all_true}
 use Rattle.design_laws.proofs.SoundInstanceParts.{declared_at}
 
 -- ---- words have no dots

@@ -6,6 +6,7 @@ use Rattle.std.specs.List.{AllByRecursion}
 use Rattle.std.proofs.lemmas.List.Concat.{flat_map-append}
 use Rattle.std.proofs.lemmas.List.Elements.{Contains-append_left, Contains-append_right}
 use Rattle.list_lemmas.proofs.Elements.{AllByRecursion-append, AllByRecursion-weaker}
+use Rattle.list_lemmas.proofs.PairwiseProperties.{Pairs, pairs_append}
 use Rattle.aadl_tree.specs.declared.mark.Mark.{Mark}
 use Rattle.aadl_tree.specs.declared.mark.Mark.TheVariants as k
 use Rattle.aadl_tree.specs.SpellingParts.{Part, Section, section_mark, empty_section, plain, may, behind, parts_if}
@@ -13,21 +14,6 @@ use Rattle.aadl_tree.specs.Names.{Identifier, Identifiers, identifier_parts, ide
 use Rattle.aadl_tree.specs.Annexes.{declared_parts}
 use Rattle.aadl_tree.specs.Declarations.{section_parts}
 use Rattle.aadl_names.specs.proof.PlaceOrder.{places_in, places_of, StandsBefore}
-
--- ---- all of a list, and all pairs of it
-abbrev pub Pairs : {X : Type 0} → (X → X → Type 0) → List X → Type 0
-Pairs R [] = Unit {0}
-Pairs R (x ∷ xs) = AllByRecursion (R x) xs × Pairs R xs
-
-pub pairs_append : {X : Type 0} (R : X → X → Type 0) (xs ys : List X) → Pairs R xs → Pairs R ys
-    → AllByRecursion (λ x. AllByRecursion (R x) ys) xs → Pairs R (xs ++ ys)
-pairs_append R [] ys a b c = b
-pairs_append R (x ∷ xs) ys a b c = (AllByRecursion-append (R x) xs ys a.0 c.0, pairs_append R xs ys a.1 b c.1)
-
-pub pairs_weaker : {X : Type 0} (R S : X → X → Type 0) → ((x y : X) → R x y → S x y) → (xs : List X) → Pairs R xs
-    → Pairs S xs
-pairs_weaker R S f [] a = tt
-pairs_weaker R S f (x ∷ xs) a = (AllByRecursion-weaker (R x) (S x) (f x) xs a.0, pairs_weaker R S f xs a.1)
 
 -- ---- parts along which places rise
 pub record Rise (parts : List (Part ℕ)) : Type 0 where

@@ -7,6 +7,8 @@ use Rattle.std.proofs.lemmas.Bool.{false≢true}
 use Rattle.std.proofs.lemmas.List.{map-append}
 use Rattle.std.proofs.lemmas.List.Elements.{recursion_from_All}
 use Rattle.list_lemmas.proofs.Elements.{AllByRecursion-weaker, AllByRecursion-append, AllByRecursion-map}
+use Rattle.list_lemmas.proofs.PairwiseProperties.{Pairs, pairs_append, pairs_weaker, pairs_map, all_pairs_from}
+use Rattle.list_lemmas.proofs.PairwiseProperties.{pairs_from}
 use Rattle.pals_base.specs.declared.behaviour.PortDecl.{PortDecl}
 use Rattle.pals_base.specs.declared.behaviour.VarDecl.{VarDecl}
 use Rattle.pals_base.specs.declared.behaviour.StateDecl.{StateDecl}
@@ -26,11 +28,9 @@ use Rattle.model_violations.specs.declared.declared_ports.Declared.{Declared}
 use Rattle.model_violations.specs.PortsAndVariables.{port_of, ins_in, outs_in, variables_in, variables_of, named_of}
 use Rattle.model_violations.specs.PortsAndVariables.{var_of}
 use Rattle.design_laws.specs.proof.PackageNames.{IsNamed, Differ}
-use Rattle.design_laws.proofs.PlacedNames.{Pairs, pairs_append, pairs_weaker}
 use Rattle.design_laws.proofs.PairwiseDistinctNames.{same_turned, same_itself, Differs}
-use Rattle.design_laws.proofs.DistinctPackageNames.{pairs_all}
-use Rattle.design_laws.proofs.PartitionedPairs.{pairs_from, all_unmapped, pairs_mapped, pairs_unmapped, pairs_first}
-use Rattle.design_laws.proofs.PartitionedPairs.{pairs_second, pairs_across, all_kept, split, all_true}
+use Rattle.design_laws.proofs.PartitionedPairs.{all_unmapped, pairs_unmapped, pairs_first, pairs_second, pairs_across}
+use Rattle.design_laws.proofs.PartitionedPairs.{all_kept, split, all_true}
 
 -- ---- names that differ
 abbrev Apart : List ℕ → List ℕ → Type 0
@@ -163,8 +163,8 @@ module _ (ports : List (Feature ℕ)) (annex : AnnexTree ℕ) where
       let fs = filter is_in ports ++ filter (λ f. not (is_in f)) ports in
       let P = λ (f : Feature ℕ). AllByRecursion (Apart (port_name f)) (map spelling (names.variables_of annex)) in
       pairs_append Apart (map port_name fs) (map spelling (names.variables_of annex))
-      (pairs_mapped Apart port_name fs halves)
-      (pairs_mapped Apart spelling (names.variables_of annex) of_variables)
+      (pairs_map Apart port_name fs halves)
+      (pairs_map Apart spelling (names.variables_of annex) of_variables)
       (AllByRecursion-map (λ n. AllByRecursion (Apart n) (map spelling (names.variables_of annex))) port_name fs
       (AllByRecursion-append P (filter is_in ports) (filter (λ f. not (is_in f)) ports) (all_kept P is_in ports cross)
       (all_kept P (λ f. not (is_in f)) ports cross)))
@@ -183,7 +183,7 @@ module _ (ports : List (Feature ℕ)) (annex : AnnexTree ℕ) where
       (recursion_from_All IsNamed (names.variables_of annex) of_variables))
 
   pub values_apart : Differ (port_entries ports ++ variable_entries annex) → AreDistinct value_list
-  values_apart differ = pairs_all (λ a b. a ≢ b) value_list (pairs_weaker Apart (λ a b. a ≢ b) other value_list
+  values_apart differ = all_pairs_from (λ a b. a ≢ b) value_list (pairs_weaker Apart (λ a b. a ≢ b) other value_list
       (subst (Pairs Apart) (sym same_values) (text_apart differ)))
 
   pub values_words : All IsPort ports → All IsNamed (names.variables_of annex) → IsTrue (list_all is_word value_list)
@@ -202,14 +202,14 @@ module _ (annex : AnnexTree ℕ) where
   apart_names : Differ (state_entries annex) → Pairs Apart (map state_name (states_of annex))
   apart_names differ =
       subst (Pairs Apart) (sym (same_states annex.states))
-      (pairs_mapped Apart spelling (names.states_of annex) (pairs_unmapped Differs entry_of (names.states_of annex)
+      (pairs_map Apart spelling (names.states_of annex) (pairs_unmapped Differs entry_of (names.states_of annex)
       (pairs_from Differs (state_entries annex) differ)))
 
   pub states_apart : Differ (state_entries annex)
       → AllPairs (λ (s t : StateDecl). s.name ≢ t.name) (map declared (states_of annex))
   states_apart differ =
-      pairs_all (λ (s t : StateDecl). s.name ≢ t.name) (map declared (states_of annex))
-      (pairs_mapped (λ (s t : StateDecl). s.name ≢ t.name) declared (states_of annex)
+      all_pairs_from (λ (s t : StateDecl). s.name ≢ t.name) (map declared (states_of annex))
+      (pairs_map (λ (s t : StateDecl). s.name ≢ t.name) declared (states_of annex)
       (pairs_weaker (λ (s t : StateAt). Apart s.name t.name) (λ (s t : StateAt). s.name ≢ t.name)
       (λ s t. other s.name t.name) (states_of annex)
       (pairs_unmapped Apart state_name (states_of annex) (apart_names differ))))

@@ -32,6 +32,7 @@ use Rattle.pals_model.proofs.ShapeLaws.{is_behaviour}
 use Rattle.pals_model.proofs.AllElements.{index_fits}
 use Rattle.pals_model.proofs.KindsOfSteps.{frames_fit, initial_fits}
 use Rattle.pals_model.proofs.KindsOfAdaptors.{absent_fits}
+use Rattle.pals_model.proofs.KindsOfRounds.{cut_fits}
 use Rattle.pals_runs.specs.declared.vote_faults_and_pairs.Pair.{Pair}
 use Rattle.plant_fuse.specs.FusedComposition.{ArePairs, is_back, is_forth, Inputs, inputs_to, outputs_in, left_by}
 use Rattle.plant_fuse.specs.FusedComposition.{left_before, round_tuple, message_on, messages_before, from_round}
@@ -45,7 +46,7 @@ use Rattle.plant_fuse.proofs.StepDependencies.{read_at}
 use Rattle.kind_laws.specs.proof.FusedKinds.{SolutionsFit}
 use Rattle.kind_laws.proofs.ElementsByIndex.{upwards_all, upwards_at, places_all, either_fits}
 use Rattle.kind_laws.proofs.InPortKinds.{MessagesFit, link_read, reading_fits}
-use Rattle.kind_laws.proofs.OutPortKinds.{port_fits, output_fits, cut_fits}
+use Rattle.kind_laws.proofs.OutPortKinds.{port_fits, output_fits}
 
 module _ (design : DesignParts) (pairs : List Pair) (env : Env) (ins : Inputs) (rules : IsDesign design)
     (are : ArePairs design pairs) (given : EnvFits design env) where

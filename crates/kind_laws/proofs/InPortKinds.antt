@@ -12,6 +12,7 @@ use Rattle.pals_base.specs.declared.behaviour.PortDecl.{PortDecl}
 use Rattle.pals_base.specs.AllowedAdaptors.{suits_kind}
 use Rattle.pals_base.specs.StepSequences.{upwards, column}
 use Rattle.pals_base.proofs.UpwardNumbers.{get_or-map_upwards}
+use Rattle.pals_base.proofs.StepSequences.{get_or-column}
 use Rattle.pals_model.specs.declared.design.Component.{Component}
 use Rattle.pals_model.specs.declared.design.Link.{Link}
 use Rattle.pals_model.specs.declared.design.DesignParts.{DesignParts}
@@ -26,7 +27,6 @@ use Rattle.pals_model.proofs.FirstMatches.{found_at, at_element}
 use Rattle.pals_model.proofs.RootInputLaws.{feed_has_root, feeds_have_root_kind}
 use Rattle.pals_model.proofs.AllElements.{index_fits}
 use Rattle.pals_model.proofs.KindsOfAdaptors.{absent_fits, adapt_fits}
-use Rattle.pals_model.proofs.KindsOfRounds.{place_of_column}
 use Rattle.plant_fuse.proofs.FunctionTables.{map_map}
 use Rattle.kind_laws.proofs.ElementsByIndex.{upwards_all}
 
@@ -122,5 +122,5 @@ vectors_fit design env round messages node c rules given sent is_c =
     subst (TupleFits port.kind) (sym here)
     (reading_fits design rules node p c port is_c is env round messages given sent
     (position (link_goes_to node p) design.links) (position (feed_goes_to node p) design.feeds) refl refl) in
-    subst (PortFits port.kind) (sym (place_of_column lists at p))
+    subst (PortFits port.kind) (sym (get_or-column lists at p))
     (index_fits (PortFits port.kind) (slice_index_or lists p []) at Absent fits tt))

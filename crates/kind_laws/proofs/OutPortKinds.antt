@@ -1,37 +1,30 @@
 -- For the laws of fused and of voted rounds: the values that steps leave on out ports fit the kinds of these ports.
-use Rattle.std.proofs.Common.{◌≡◌, ℕ, zero, suc, ◌-◌, ◌≤◌, List, [], ◌∷◌, length, take, replicate, slice_get, All}
-use Rattle.std.proofs.Common.{Option, Some, None, refl, sym, subst, arith}
+use Rattle.std.proofs.Common.{◌≡◌, ℕ, zero, suc, ◌≤◌, List, [], ◌∷◌, length, slice_get, All, Option, Some, None, refl}
+use Rattle.std.proofs.Common.{sym, subst, arith}
 use Rattle.std.specs.Prelude.{slice_index_or}
-use Rattle.std.proofs.lemmas.List.Elements.{All-append, All-take}
 use Rattle.std.proofs.lemmas.Option.{slice_get_within}
 use Rattle.pals_base.specs.declared.values.Frame.{Frame}
 use Rattle.pals_base.specs.declared.values.PortValue.{PortValue}
-use Rattle.pals_base.specs.declared.values.PortValue.TheVariants.{Absent, Present}
-use Rattle.pals_base.specs.declared.behaviour.Kind.{Kind}
+use Rattle.pals_base.specs.declared.values.PortValue.TheVariants.{Absent}
 use Rattle.pals_base.specs.declared.behaviour.Kind.TheVariants.{Integer}
 use Rattle.pals_base.specs.declared.behaviour.PortDecl.{PortDecl}
 use Rattle.pals_base.specs.declared.behaviour.BehaviourParts.{BehaviourParts}
 use Rattle.pals_base.specs.SingleStep.{fire, HasShape}
 use Rattle.pals_base.specs.BehaviourRules.{IsBehaviour}
-use Rattle.pals_base.specs.StepSequences.{outputs, column, cut, steps}
+use Rattle.pals_base.specs.StepSequences.{outputs, column, steps}
 use Rattle.pals_base.proofs.StepTermination.{fires_well}
 use Rattle.pals_base.proofs.UpwardNumbers.{get_or-map_upwards}
 use Rattle.pals_model.specs.PortKinds.{kind_of}
 use Rattle.pals_model.specs.proof.FittingValues.{PortFits, TupleFits, PortsFit, FrameFits}
 use Rattle.pals_model.proofs.AllElements.{map_all, every}
 use Rattle.pals_model.proofs.KindsOfSteps.{firing_fits, outputs_fit}
-use Rattle.pals_model.proofs.KindsOfAdaptors.{absent_fits}
+use Rattle.pals_model.proofs.KindsOfAdaptors.{integer_fits}
 
 -- ---- a port
--- each value is a number
-any_number : (value : PortValue) → PortFits Integer value
-any_number Absent = tt
-any_number (Present v) = tt
-
 port_by : (ports : List PortDecl) (values : List PortValue) (p : ℕ) (o : Option PortDecl) → PortsFit ports values
     → slice_get ports p ≡ o
     → PortFits (kind_of o) (slice_index_or values p Absent)
-port_by ports values p None fits is = any_number (slice_index_or values p Absent)
+port_by ports values p None fits is = integer_fits (slice_index_or values p Absent)
 port_by ports values p (Some port) fits is = fits p port is
 
 pub port_fits : (ports : List PortDecl) (values : List PortValue) (p : ℕ) → PortsFit ports values
@@ -56,7 +49,7 @@ tuple_by : (b : BehaviourParts) (frame : Frame) (vectors : List (List PortValue)
     → All (PortsFit b.outs) (outputs b frame vectors) → slice_get b.outs port ≡ o
     → TupleFits (kind_of o) (slice_index_or (steps b frame vectors).tuples port [])
 tuple_by b frame vectors port None all is =
-    every (PortFits Integer) (slice_index_or (steps b frame vectors).tuples port []) any_number
+    every (PortFits Integer) (slice_index_or (steps b frame vectors).tuples port []) integer_fits
 tuple_by b frame vectors port (Some named) all is =
     let rows = outputs b frame vectors in
     let here =
@@ -71,9 +64,3 @@ pub tuple_fits : (b : BehaviourParts) (frame : Frame) (vectors : List (List Port
     → TupleFits (kind_of (slice_get b.outs port)) (slice_index_or (steps b frame vectors).tuples port [])
 tuple_fits b frame vectors port rules shape fits all =
     tuple_by b frame vectors port (slice_get b.outs port) (outputs_fit b frame vectors rules shape fits all) refl
-
-pub cut_fits : (kind : Kind) (n : ℕ) (tuple : List PortValue) → TupleFits kind tuple → TupleFits kind (cut n tuple)
-cut_fits kind n tuple fits =
-    All-append (PortFits kind) (take n tuple) (replicate (length tuple - n) Absent)
-    (All-take (PortFits kind) n tuple fits)
-    (absent_fits kind (length tuple - n))

@@ -32,6 +32,7 @@ use Rattle.pals_model.proofs.ShapeLaws.{is_behaviour, steps_keep_shape}
 use Rattle.pals_model.proofs.AllElements.{index_fits, find_fits}
 use Rattle.pals_model.proofs.KindsOfSteps.{frames_fit, initial_fits}
 use Rattle.pals_model.proofs.KindsOfAdaptors.{absent_fits}
+use Rattle.pals_model.proofs.KindsOfRounds.{cut_fits}
 use Rattle.pals_runs.specs.declared.vote_faults_and_pairs.VoteFault.{VoteFault}
 use Rattle.triple_vote.specs.Votes.{same_port, vote, votes}
 use Rattle.triple_vote.specs.Replicas.{is_replicated, copies_of, receivers_in, Voted, frame_at, heard_by, first_frame}
@@ -42,7 +43,7 @@ use Rattle.triple_vote.proofs.ReplicaRounds.{has_first, has_three}
 use Rattle.kind_laws.specs.proof.VotedKinds.{FaultFits, FaultsFit, VotesFit, ShownFit}
 use Rattle.kind_laws.proofs.ElementsByIndex.{upwards_all, either_fits}
 use Rattle.kind_laws.proofs.InPortKinds.{MessagesFit, vectors_fit}
-use Rattle.kind_laws.proofs.OutPortKinds.{tuple_fits, cut_fits}
+use Rattle.kind_laws.proofs.OutPortKinds.{tuple_fits}
 
 -- ---- the vote of three
 vote_fits : (kind : Kind) (x y z : PortValue) → PortFits kind x → PortFits kind y → PortFits kind (vote x y z)

@@ -4,8 +4,8 @@ use Rattle.std.proofs.Common.{◌≡◌, ◌∙◌, ℕ, ◌+◌, ◌<◌, List,
 use Rattle.std.proofs.Common.{append_assoc, append-nil}
 use Rattle.std.specs.Prelude.{slice_index_or}
 use Rattle.std.proofs.lemmas.List.{take_more}
-use Rattle.std.proofs.lemmas.List.Concat.{flat_map-append}
-use Rattle.pals_model.specs.RoundTexts.{line_end, text_of}
+use Rattle.pals_model.specs.RoundTexts.{text_of}
+use Rattle.pals_model.proofs.LineLaws.{text_of-append}
 use Rattle.pals_runs.specs.declared.events_and_faults.Event.{Event}
 use Rattle.pals_bus.specs.BusValues.{BusValue}
 use Rattle.loose_world.specs.LooseRuns.{InTurn, told_by}
@@ -48,9 +48,6 @@ turns_next R s t u events first d lines within turns leads =
     subst (λ (es : List Event). InTurn R s es u (lines ++ told_by u e)) (sym (take_more events first d within))
     (turns_more R s t u (take first events) e lines turns leads)
 
-pub text_more : (lines more : List (List ℕ)) → text_of (lines ++ more) ≡ text_of lines ++ text_of more
-text_more lines more = flat_map-append (λ (line : List ℕ). line ++ line_end) lines more
-
 -- a text that has been told, and more lines
 pub told_more : (old mid new : List ℕ) (lines more : List (List ℕ)) → mid ≡ old ++ text_of lines
     → new ≡ mid ++ text_of more
@@ -59,4 +56,4 @@ told_more old mid new lines more so_far is =
     is
     ∙ ap (λ (xs : List ℕ). xs ++ text_of more) so_far
     ∙ append_assoc old (text_of lines) (text_of more)
-    ∙ ap (λ (xs : List ℕ). old ++ xs) (sym (text_more lines more))
+    ∙ ap (λ (xs : List ℕ). old ++ xs) (sym (text_of-append lines more))

@@ -2,6 +2,7 @@
 use Rattle.std.proofs.Common.{◌≡◌, ℕ, List, [], ◌++◌, false, sym, ap, ap₂, ◌∙◌, subst}
 use Rattle.step_code.specs.declared.instr.CodeParts.{CodeParts}
 use Rattle.pals_model.specs.RoundTexts.{text_of, report}
+use Rattle.pals_model.proofs.LineLaws.{text_of-append}
 use Rattle.pals_runs.specs.declared.events_and_faults.Event.{Event}
 use Rattle.pals_runs.specs.declared.journal.Stop.{Stop}
 use Rattle.bus_machine.specs.States.{Run, finished_by_all}
@@ -14,7 +15,6 @@ use Rattle.loose_world.specs.proof.FinishedRows.{finished_lines, common_lines}
 use Rattle.loose_world.specs.declared.loose_run.LooseEnd.TheVariants as end
 use Rattle.loose_world.specs.LooseRuns.{Tells}
 use Rattle.loose_world.specs.proof.UndergoneEvents.{IsLeftBy, IsReplayed}
-use Rattle.loose_world.proofs.EventsAndLines.{text_more}
 use Rattle.loose_world.proofs.UndergoneEvents.{left_by_loose}
 use Rattle.loose_world.proofs.JournalReplays.{journal_replays}
 use Rattle.loose_world.proofs.FinishedRows.{finished_rows, common_rows}
@@ -26,7 +26,7 @@ pub world_is_told : (run : Run) (events : List Event) (t : BusValue) (lines : Li
 world_is_told run events t lines rules left =
     ap₂ (λ rows sent. text_of rows ++ text_of sent) (finished_rows run events t lines rules left)
     (lines_are_told run events t lines rules left)
-    ∙ sym (text_more (world_rows run.design run.env events) (sent_lines run.design run.env events []))
+    ∙ sym (text_of-append (world_rows run.design run.env events) (sent_lines run.design run.env events []))
 
 pub text_is_told : (run : Run) (programs : List CodeParts) (events : List Event) (t : BusValue) (sent : List ℕ)
     → IsRunOf run

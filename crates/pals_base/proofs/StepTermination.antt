@@ -117,7 +117,7 @@ one_opens (e ∷ es) frame fresh before unguarded none =
     (sym (ap (λ r. on_value r (λ open'. if open' then Ok (Some e) else rest)) here) ∙ none)))
 
 -- ---- a place of a step
-then_ok : {A B : Type 0} (P : A → Type 0) (Q : B → Type 0) (r : Result A Trap) (go : A → Result B Trap) → IfOk r P
+pub then_ok : {A B : Type 0} (P : A → Type 0) (Q : B → Type 0) (r : Result A Trap) (go : A → Result B Trap) → IfOk r P
     → ((x : A) → P x → IfOk (go x) Q) → IfOk (on_value r go) Q
 then_ok P Q (Ok x) go has keeps = keeps x has
 then_ok P Q (Err trap) go has keeps = tt

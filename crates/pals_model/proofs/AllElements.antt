@@ -55,11 +55,6 @@ pub any_ok : {A : Type 0} (P : A → Type 0) (r : Result A Trap) → ((x : A) �
 any_ok P (Ok x) each = each x
 any_ok P (Err trap) each = tt
 
-pub then_ok : {A B : Type 0} (P : A → Type 0) (Q : B → Type 0) (r : Result A Trap) (go : A → Result B Trap) → IfOk r P
-    → ((x : A) → P x → IfOk (go x) Q) → IfOk (on_value r go) Q
-then_ok P Q (Ok x) go has keeps = keeps x has
-then_ok P Q (Err trap) go has keeps = tt
-
 pub on_ok : {A B : Type 0} (Q : B → Type 0) (r : Result A Trap) (go : A → Result B Trap) → ((x : A) → IfOk (go x) Q)
     → IfOk (on_value r go) Q
 on_ok Q (Ok x) go keeps = keeps x

@@ -34,7 +34,7 @@ use Rattle.pals_model.specs.proof.CompositionLaws.{LinksBeginAbsent, StateGoesOn
 use Rattle.pals_model.specs.proof.CompositionLaws.{RunsAlone, DependsOnPast}
 
 -- ---- lengths
-length-steps_from : (design : DesignParts) (values : List PortValue) (messages : List (List PortValue)) (node : ℕ)
+pub length-steps_from : (design : DesignParts) (values : List PortValue) (messages : List (List PortValue)) (node : ℕ)
     (cs : List Component) (frames : List Frame) → length frames ≡ length cs
     → length (steps_from design values messages node cs frames) ≡ length cs
 length-steps_from design values messages node [] frames same = refl
@@ -72,8 +72,17 @@ links_begin_absent design env =
     (λ (link : Link). replicate (rate_of design link.source.0) Absent) design.links
     (λ k d within. All-replicate (λ port. port ≡ Absent) _ Absent refl)
 
+-- before the first round a link is absent throughout
+pub link_begins : (design : DesignParts) (env : Env) (l : ℕ) (link : Link) → slice_get design.links l ≡ Some link
+    → slice_index_or (comp design env 0).messages l [] ≡ replicate (rate_of design link.source.0) Absent
+unfolding comp
+link_begins design env l link is =
+    let begins : Link → List PortValue = λ (x : Link). replicate (rate_of design x.source.0) Absent in
+    get_or_from_slice_get (map begins design.links) l (begins link) []
+    (slice_get-map begins design.links l ∙ ap (option_map begins) is)
+
 -- ---- a round
-steps_from-at : (design : DesignParts) (values : List PortValue) (messages : List (List PortValue)) (first : ℕ)
+pub steps_from-at : (design : DesignParts) (values : List PortValue) (messages : List (List PortValue)) (first : ℕ)
     (cs : List Component) (frames : List Frame) (k node : ℕ) (c : Component) → node ≡ first + k
     → slice_get cs k ≡ Some c → length frames ≡ length cs
     → slice_get (steps_from design values messages first cs frames) k

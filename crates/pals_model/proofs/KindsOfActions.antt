@@ -19,8 +19,9 @@ use Rattle.pals_base.specs.Expressions.{is_true, eval}
 use Rattle.pals_base.specs.TypingRules.{suits_variable, suits_port, kinds_of, turns, is_short, is_sound, are_sound}
 use Rattle.pals_base.specs.TypingRules.{branches_are_sound}
 use Rattle.pals_base.specs.PlainTrees.{Action, Assign, Emit, If, For, Actions, Nothing, Do, Branches, NoBranch, Where}
+use Rattle.pals_base.proofs.StepTermination.{then_ok}
 use Rattle.pals_model.specs.proof.FittingValues.{Fits, PortFits, VarsFit, HeldFit, PortsFit}
-use Rattle.pals_model.proofs.AllElements.{set_keeps, then_ok, on_ok, if_ok}
+use Rattle.pals_model.proofs.AllElements.{set_keeps, on_ok, if_ok}
 use Rattle.pals_model.proofs.KindsOfExpressions.{MayBe, allowed_fits, eval_may}
 
 -- the variables that are declared are there and fit, and so do the outputs

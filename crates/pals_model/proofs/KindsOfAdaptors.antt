@@ -16,29 +16,26 @@ use Rattle.pals_model.specs.proof.FittingValues.{Fits, PortFits, TupleFits}
 use Rattle.pals_model.proofs.AllElements.{index_fits, set_all, map_all, flat_all, every}
 
 -- ---- numbers: each fits
-integer_fits : (p : PortValue) → PortFits Integer p
+pub integer_fits : (p : PortValue) → PortFits Integer p
 integer_fits Absent = tt
 integer_fits (Present v) = tt
 
 -- ---- to a higher rate
-absents : (kind : Kind) (n : ℕ) → TupleFits kind (replicate n Absent)
-absents kind n = All-replicate (PortFits kind) n Absent tt
-
 pub absent_fits : (kind : Kind) (n : ℕ) → TupleFits kind (replicate n Absent)
-absent_fits kind n = absents kind n
+absent_fits kind n = All-replicate (PortFits kind) n Absent tt
 
 placed_fits : (kind : Kind) (n m : ℕ) (p : PortValue) → PortFits kind p → TupleFits kind (placed n m p)
-placed_fits kind n m p fits = set_all (PortFits kind) (replicate m Absent) (n - 1) p (absents kind m) fits
+placed_fits kind n m p fits = set_all (PortFits kind) (replicate m Absent) (n - 1) p (absent_fits kind m) fits
 
 spread_fits : (a : Adaptor) (kind : Kind) (m : ℕ) (p : PortValue) → PortFits kind p → TupleFits kind (spread a m p)
 spread_fits Repeat kind m p fits = All-replicate (PortFits kind) m p fits
 spread_fits First kind m p fits = placed_fits kind 1 m p fits
 spread_fits Last kind m p fits = placed_fits kind m m p fits
 spread_fits (At n) kind m p fits = placed_fits kind n m p fits
-spread_fits Latest kind m p fits = absents kind m
-spread_fits Max kind m p fits = absents kind m
-spread_fits Min kind m p fits = absents kind m
-spread_fits Average kind m p fits = absents kind m
+spread_fits Latest kind m p fits = absent_fits kind m
+spread_fits Max kind m p fits = absent_fits kind m
+spread_fits Min kind m p fits = absent_fits kind m
+spread_fits Average kind m p fits = absent_fits kind m
 
 -- ---- to a lower rate
 present_fits : (kind : Kind) (tuple : List PortValue) → TupleFits kind tuple → All (Fits kind) (present tuple)

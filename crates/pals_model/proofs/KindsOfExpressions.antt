@@ -20,8 +20,9 @@ use Rattle.pals_base.specs.TypingRules.{only, allows, literal_kinds, declared_or
 use Rattle.pals_base.specs.TypingRules.{kinds_along}
 use Rattle.pals_base.specs.PlainTrees.{Expression, Literal, Variable, PortRead, Fresh, Neg, Abs, Not, Chain, Operands}
 use Rattle.pals_base.specs.PlainTrees.{NoMore, Then}
+use Rattle.pals_base.proofs.StepTermination.{then_ok}
 use Rattle.pals_model.specs.proof.FittingValues.{Fits, VarsFit, HeldFit}
-use Rattle.pals_model.proofs.AllElements.{any_ok, then_ok, on_ok, if_ok, weaker_ok}
+use Rattle.pals_model.proofs.AllElements.{any_ok, on_ok, if_ok, weaker_ok}
 
 -- ---- numbers
 -- a value that may be a Boolean is 0 or 1

@@ -16,6 +16,8 @@ use Rattle.pals_base.specs.declared.behaviour.PortDecl.{PortDecl}
 use Rattle.pals_base.specs.AllowedAdaptors.{suits_kind}
 use Rattle.pals_base.specs.PeriodBound.{sent_steps}
 use Rattle.pals_base.specs.StepSequences.{upwards, column, columns, outputs, cut}
+use Rattle.pals_base.proofs.UpwardNumbers.{get_or-map_upwards}
+use Rattle.pals_base.proofs.StepSequences.{get_or-column}
 use Rattle.pals_model.specs.declared.design.Component.{Component}
 use Rattle.pals_model.specs.declared.design.Link.{Link}
 use Rattle.pals_model.specs.declared.design.Tap.{Tap}
@@ -40,20 +42,6 @@ use Rattle.pals_model.proofs.KindsOfSteps.{frames_fit, outputs_fit, initial_fits
 use Rattle.pals_model.proofs.KindsOfAdaptors.{absent_fits, adapt_fits}
 
 -- ---- columns
-column_at : (lists : List (List PortValue)) (from n p : ℕ) → p < n
-    → slice_index_or (map (λ at. column at lists) (upwards from n)) p [] ≡ column (from + p) lists
-column_at lists from zero p within = absurd (omega arith)
-column_at lists from (suc n) zero within = let here : from ≡ from + 0 = omega arith in ap (λ k. column k lists) here
-column_at lists from (suc n) (suc p) within =
-    let next : suc from + p ≡ from + suc p = omega arith in
-    column_at lists (suc from) n p (omega arith) ∙ ap (λ k. column k lists) next
-
-pub place_of_column : (lists : List (List PortValue)) (at p : ℕ)
-    → slice_index_or (column at lists) p Absent ≡ slice_index_or (slice_index_or lists p []) at Absent
-place_of_column [] at p = refl
-place_of_column (list ∷ lists) at zero = refl
-place_of_column (list ∷ lists) at (suc p) = place_of_column lists at p
-
 twice_at : {S : Type 0} (R : S → List PortValue) (source : ℕ → S) (from n p : ℕ) → p < n
     → slice_index_or (map R (map source (upwards from n))) p [] ≡ R (source (from + p))
 twice_at R source from zero p within = absurd (omega arith)
@@ -136,7 +124,7 @@ vectors_fit design env round messages node c rules given sent is_c =
     subst (TupleFits port.kind) (sym here)
     (source_fits design env round messages node p c port (position (link_goes_to node p) design.links)
     (position (feed_goes_to node p) design.feeds) rules given sent is_c is refl refl) in
-    subst (PortFits port.kind) (sym (place_of_column lists at p))
+    subst (PortFits port.kind) (sym (get_or-column lists at p))
     (index_fits (PortFits port.kind) (slice_index_or lists p []) at Absent fits tt))
     (every (λ (at : ℕ). Unit {0}) (upwards 0 c.rate) (λ at. tt))
 
@@ -177,16 +165,15 @@ tuple_fits design env node round out_port c rules given before is_c within =
     (state_has_shape design env node round c rules is_c) (before.frames node c is_c)
     (feed_fits design env (comp design env round).messages node round c rules given before.messages is_c) in
     let port = slice_get-some c.behaviour.outs out_port within in
-    let zero' : 0 + out_port ≡ out_port = omega arith in
     let here : slice_index_or (columns (length c.behaviour.outs) outs) out_port [] ≡ column out_port outs =
-    column_at outs 0 (length c.behaviour.outs) out_port within ∙ ap (λ k. column k outs) zero' in
+    get_or-map_upwards (λ at. column at outs) (length c.behaviour.outs) out_port [] within in
     subst (λ k. TupleFits k (slice_index_or (columns (length c.behaviour.outs) outs) out_port []))
     (sym (ap kind_of port.1))
     (subst (TupleFits port.0.kind) (sym here)
     (map_all (PortsFit c.behaviour.outs) (PortFits port.0.kind) (λ list. slice_index_or list out_port Absent) outs
     (λ list fits. fits out_port port.0 port.1) all))
 
-cut_fits : (kind : Kind) (n : ℕ) (tuple : List PortValue) → TupleFits kind tuple → TupleFits kind (cut n tuple)
+pub cut_fits : (kind : Kind) (n : ℕ) (tuple : List PortValue) → TupleFits kind tuple → TupleFits kind (cut n tuple)
 cut_fits kind n tuple fits =
     All-append (PortFits kind) (take n tuple) (replicate (length tuple - n) Absent)
     (All-take (PortFits kind) n tuple fits) (absent_fits kind (length tuple - n))

@@ -23,11 +23,11 @@ use Rattle.pals_base.specs.TypingRules.{literal_kinds, are_sound}
 use Rattle.pals_base.specs.BehaviourRules.{has_first, has_condition, is_edge, IsBehaviour}
 use Rattle.pals_base.specs.StepSequences.{frame_after, outputs}
 use Rattle.pals_base.specs.PlainTrees.{Edge}
-use Rattle.pals_base.proofs.StepTermination.{fires_well}
+use Rattle.pals_base.proofs.StepTermination.{fires_well, then_ok}
 use Rattle.pals_model.proofs.WordBytes.{all_pass}
 use Rattle.pals_model.specs.proof.FittingValues.{Fits, PortFits, VarsFit, HeldFit, PortsFit, FrameFits}
 use Rattle.pals_model.specs.proof.CompositionLaws.Kinds.{FiringFits}
-use Rattle.pals_model.proofs.AllElements.{find_fits, then_ok, if_ok}
+use Rattle.pals_model.proofs.AllElements.{find_fits, if_ok}
 use Rattle.pals_model.proofs.KindsOfExpressions.{allowed_fits, literal_may}
 use Rattle.pals_model.proofs.KindsOfActions.{EffectFits, acts_fit}
 

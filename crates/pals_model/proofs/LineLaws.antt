@@ -9,6 +9,7 @@ use Rattle.std.proofs.lemmas.Bool.{and_parts}
 use Rattle.std.proofs.lemmas.List.Elements.{All-nil, All-cons, All-append, All-head, All-tail, All-weaker}
 use Rattle.std.proofs.lemmas.List.Folds.{list_all-append, list_all-map}
 use Rattle.std.proofs.lemmas.List.Splits.{slice_split_at}
+use Rattle.std.proofs.lemmas.Grind.{flat_map-append}
 use Rattle.list_lemmas.proofs.Numbers.{digit-at_least}
 use Rattle.pals_base.specs.declared.values.PortValue.{PortValue}
 use Rattle.pals_base.specs.declared.values.PortValue.TheVariants.{Absent, Present}
@@ -33,7 +34,7 @@ use Rattle.pals_model.specs.declared.inputs_parts_and_delays.Part.{Part}
 use Rattle.pals_model.specs.Composition.{part}
 use Rattle.pals_model.specs.RoundTexts.{text_of, value_text, port_text, with_commas, tuple_text, state_name, state_text}
 use Rattle.pals_model.specs.RoundTexts.{variable_text, vars_text, component_line, tap_line, round_line, part_lines}
-use Rattle.pals_model.specs.RoundTexts.{tap_lines, composed_lines, report_lines, is_line_feed}
+use Rattle.pals_model.specs.RoundTexts.{tap_lines, composed_lines, report_lines, is_line_feed, line_end}
 use Rattle.pals_model.specs.DesignRules.{IsDesign, IsComponent, IsTap}
 use Rattle.pals_model.specs.proof.CompositionLaws.Lines.{IsLine, RowHasLines, ReportHasLines, TextSplits, RowSplits}
 use Rattle.pals_model.specs.proof.CompositionLaws.Lines.{ReportSplits}
@@ -221,6 +222,9 @@ pub report_has_lines : ReportHasLines
 report_has_lines design env n rules = rows_have_lines design env (upwards 0 n) rules
 
 -- ---- texts
+pub text_of-append : (xs ys : List (List ℕ)) → text_of (xs ++ ys) ≡ text_of xs ++ text_of ys
+text_of-append xs ys = flat_map-append (λ line. line ++ line_end) xs ys
+
 pub text_splits : TextSplits
 text_splits [] each = refl
 text_splits (line ∷ lines) each =

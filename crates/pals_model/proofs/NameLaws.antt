@@ -1,11 +1,11 @@
 -- Why the laws of names hold.
-use Rattle.std.proofs.Common.{◌≡◌, ◌≢◌, append_assoc, ℕ, ◌<◌, true, List, [], ◌∷◌, ◌++◌, length, map, Some, slice_get}
-use Rattle.std.proofs.Common.{IsSomeAnd, refl, sym, ap, ap₂, ◌∙◌, subst, arith, inl, inr, ne_of_lt}
+use Rattle.std.proofs.Common.{◌≡◌, ◌≢◌, append_assoc, ℕ, ◌<◌, true, [], ◌∷◌, ◌++◌, length, map, Some, slice_get}
+use Rattle.std.proofs.Common.{IsSomeAnd, refl, sym, ap, ap₂, ◌∙◌, subst, ne_of_lt}
 use Rattle.std.specs.Prelude.{bytes_eq, codes}
 use Rattle.std.specs.Option.{option_map}
 use Rattle.std.proofs.lemmas.Slice.Eq.{bytes_eq-Decides}
-use Rattle.std.proofs.lemmas.Option.{slice_get_cases, slice_get-map}
-use Rattle.list_lemmas.proofs.ElementPositions.{slice_get-append_left}
+use Rattle.std.proofs.lemmas.Option.{slice_get-map}
+use Rattle.list_lemmas.proofs.ElementPositions.{slice_get-append_left, slice_get-some}
 use Rattle.list_lemmas.proofs.PairwiseProperties.{same_place, AllPairs-slice_get}
 use Rattle.pals_base.specs.declared.behaviour.PortDecl.{PortDecl}
 use Rattle.pals_base.specs.declared.behaviour.VarDecl.{VarDecl}
@@ -42,13 +42,6 @@ found_node_has_path design node path found =
     (sym ((bytes_eq-Decides path at.0.path).0 at.2))
 
 -- ---- in ports
-port_at : (ins : List PortDecl) (port : ℕ) → port < length ins → (p : PortDecl) × (slice_get ins port ≡ Some p)
-port_at ins port within =
-    elim (slice_get_cases ins port).1 [
-      | inl there ↦ (there.0, there.2)
-      | inr past ↦ absurd (omega (arith, past.0))
-    ]
-
 -- the name of an in port, among those of a behaviour's values
 name_at : (b : BehaviourParts) (port : ℕ) (p : PortDecl) → slice_get b.ins port ≡ Some p
     → slice_get (value_names b) port ≡ Some p.name
@@ -81,7 +74,7 @@ named_by : (design : DesignParts) (node port : ℕ) → IsDesign design → IsTa
 named_by design node port rules target =
     let c = component_at design node target.node_is in
     let within : port < length c.0.behaviour.ins = subst (λ o. port < ins_in o) c.1 target.port_is in
-    let p = port_at c.0.behaviour.ins port within in (
+    let p = slice_get-some c.0.behaviour.ins port within in (
       c.0,
       p.0,
       c.1,

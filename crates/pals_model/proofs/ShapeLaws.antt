@@ -2,7 +2,6 @@
 use Rattle.std.proofs.Common.{◌≡◌, ℕ, zero, suc, ◌<◌, nat_eq, List, [], ◌∷◌, length, map, get_or, replicate, Some}
 use Rattle.std.proofs.Common.{slice_get, slice_index_or, All, inl, inr, refl, sym, ap, ◌∙◌, subst, arith}
 use Rattle.std.proofs.lemmas.Bool.{eqb-true}
-use Rattle.std.proofs.lemmas.Grind.{common_steps}
 use Rattle.std.proofs.lemmas.List.{length-map, length-replicate}
 use Rattle.std.proofs.lemmas.List.Elements.{All-weaker, All-map, All-filter, All-get_or, filter_passes}
 use Rattle.std.proofs.lemmas.Option.{slice_get-map, slice_get_cases, get_or_from_slice_get}
@@ -13,9 +12,9 @@ use Rattle.pals_base.specs.declared.values.Frame.{Frame}
 use Rattle.pals_base.specs.declared.behaviour.BehaviourParts.{BehaviourParts}
 use Rattle.pals_base.specs.SingleStep.{fire, HasShape}
 use Rattle.pals_base.specs.BehaviourRules.{IsBehaviour}
-use Rattle.pals_base.specs.StepSequences.{frame_after, outputs, columns, cut, upwards}
+use Rattle.pals_base.specs.StepSequences.{frame_after, outputs, columns, upwards}
 use Rattle.pals_base.proofs.StepTermination.{fires_well, starts_well}
-use Rattle.pals_base.proofs.StepSequences.{length-columns, length-each_column}
+use Rattle.pals_base.proofs.StepSequences.{length-columns, length-each_column, length-cut}
 use Rattle.pals_base.proofs.UpwardNumbers.{length-upwards}
 use Rattle.pals_model.specs.declared.design.Component.{Component}
 use Rattle.pals_model.specs.declared.design.Link.{Link}
@@ -45,6 +44,9 @@ pub length-outputs : (b : BehaviourParts) (frame : Frame) (vectors : List (List 
     → length (outputs b frame vectors) ≡ length vectors
 length-outputs b frame [] = refl
 length-outputs b frame (inputs ∷ vectors) = ap suc (length-outputs b (fire b frame inputs).frame vectors)
+
+pub length-values_at : (env : Env) (round : ℕ) → length (values_at env round) ≡ length env.lists
+length-values_at env round = length-map env.lists (λ list. slice_index_or list round Absent)
 
 -- ---- inputs
 inputs_are_vectors : (design : DesignParts) (values : List PortValue) (messages : List (List PortValue)) (node : ℕ)
@@ -93,9 +95,6 @@ state_has_shape design env node (suc round) c rules is_c =
     (state_has_shape design env node round c rules is_c))
 
 -- ---- outputs
-pub length-cut : (n : ℕ) (tuple : List PortValue) → length (cut n tuple) ≡ length tuple
-length-cut n tuple = grind (arith, common_steps)
-
 pub steps_give_tuples : StepsGiveTuples
 steps_give_tuples design env node round c is_c =
     let frame = state design env node round in

@@ -1,53 +1,25 @@
 -- For the functions of `written_tuples` and `slots_and_input_vectors`: tuples that are written place by place or
 -- cut, two lists that are gone through in pairs, and empty slots.
-use Rattle.std.proofs.Common.{◌≡◌, ◌∙◌, ℕ, zero, suc, ◌+◌, ◌-◌, ◌<◌, ◌≤◌, inl, inr, Bool, cond, if◌then◌else◌, nat_lt}
-use Rattle.std.proofs.Common.{List, [], ◌∷◌, ◌++◌, length, map, take, drop, replicate, All, Option, Some, None}
-use Rattle.std.proofs.Common.{slice_index_or, refl, sym, ap, ap₂, arith, add-one}
+use Rattle.std.proofs.Common.{◌≡◌, ◌∙◌, ℕ, zero, suc, ◌+◌, ◌<◌, ◌≤◌, Bool, cond, if◌then◌else◌, nat_lt, List, [], ◌∷◌}
+use Rattle.std.proofs.Common.{◌++◌, length, map, take, drop, All, Option, Some, None, slice_index_or, refl, sym, ap}
+use Rattle.std.proofs.Common.{ap₂, arith, add-one}
 use Rattle.std.specs.Prelude.{slice_set, zip}
 use Rattle.std.specs.List.{position_from}
-use Rattle.std.proofs.lemmas.Bool.{lt-ltb, le-ltb, cases_lt}
-use Rattle.std.proofs.lemmas.List.{drop_all, length-set, append-nil, take_all, length-append, length-take}
-use Rattle.std.proofs.lemmas.List.{length-take-le, length-replicate, get_or-take, get_or-replicate, get_or_append_left}
-use Rattle.std.proofs.lemmas.List.{get_or-append_right}
+use Rattle.std.proofs.lemmas.List.{drop_all, length-set, take_all}
 use Rattle.std.proofs.lemmas.List.Elements.{All-head, All-tail, All-cons}
 use Rattle.std.proofs.lemmas.Option.{slice_get-get_or, get_or_from_slice_get}
 use Rattle.pals_base.specs.declared.values.PortValue.{PortValue}
 use Rattle.pals_base.specs.declared.values.PortValue.TheVariants.{Absent}
 use Rattle.pals_base.specs.StepSequences.{column, cut, with_places}
+use Rattle.pals_base.proofs.StepSequences.{cut-at}
 
 -- ---- cut tuples
-pub length-cut : (count : ℕ) (tuple : List PortValue) → length (cut count tuple) ≡ length tuple
-length-cut count tuple =
-    length-append (take count tuple) (replicate (length tuple - count) Absent)
-    ∙ omega (arith, length-take count tuple, length-replicate (length tuple - count) Absent)
-
-pub cut-at : (count at : ℕ) (tuple : List PortValue) (d : PortValue) → at < length tuple
-    → slice_index_or (cut count tuple) at d ≡ (if nat_lt at count then slice_index_or tuple at d else Absent)
-cut-at count at tuple d within =
-    elim (cases_lt at count) [
-      | inl below ↦
-          get_or_append_left (take count tuple) (replicate (length tuple - count) Absent) d at
-          (omega (arith, length-take count tuple))
-          ∙ get_or-take count tuple at d below
-          ∙ sym (ap (λ (b : Bool). if b then slice_index_or tuple at d else Absent) (lt-ltb at count below))
-      | inr past ↦
-          get_or-append_right (take count tuple) (replicate (length tuple - count) Absent) count at d
-          (length-take-le count tuple (omega arith)) past
-          ∙ get_or-replicate (length tuple - count) (at - count) Absent d (omega arith)
-          ∙ sym (ap (λ (b : Bool). if b then slice_index_or tuple at d else Absent) (le-ltb at count past))
-    ]
-
 pub cut_place : (count at : ℕ) (tuple : List PortValue) (d : PortValue) → at < length tuple
     → (if nat_lt at count then slice_index_or tuple at Absent else Absent) ≡ slice_index_or (cut count tuple) at d
 cut_place count at tuple d within =
     let same : slice_index_or tuple at Absent ≡ slice_index_or tuple at d =
     get_or_from_slice_get tuple at (slice_index_or tuple at d) Absent (slice_get-get_or tuple at d within) in
     ap (λ p. if nat_lt at count then p else Absent) same ∙ sym (cut-at count at tuple d within)
-
-pub cut_whole : (count : ℕ) (tuple : List PortValue) → length tuple ≤ count → cut count tuple ≡ tuple
-cut_whole count tuple within =
-    let none : length tuple - count ≡ 0 = omega arith in
-    ap (λ n. take count tuple ++ replicate n Absent) none ∙ append-nil (take count tuple) ∙ take_all count tuple within
 
 -- ---- a place of each tuple
 pub length-with_places : (at : ℕ) (values : List PortValue) (tuples : List (List PortValue))

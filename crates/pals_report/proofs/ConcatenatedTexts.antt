@@ -1,12 +1,9 @@
 -- A text of several lines, and a text that grows by one part after the other, are their parts joined in order.
 use Rattle.std.proofs.Common.{◌≡◌, ℕ, List, [], ◌∷◌, ◌++◌, sym, ap, ◌∙◌, append_assoc}
 use Rattle.std.proofs.lemmas.List.{append-nil}
-use Rattle.std.proofs.lemmas.Grind.{flat_map-append}
 use Rattle.pals_model.specs.RoundTexts.{text_of, line_end}
+use Rattle.pals_model.proofs.LineLaws.{text_of-append}
 use Rattle.pals_report.specs.CheckReports.{time_line}
-
-text_of-append : (xs ys : List (List ℕ)) → text_of (xs ++ ys) ≡ text_of xs ++ text_of ys
-text_of-append xs ys = flat_map-append (λ line. line ++ line_end) xs ys
 
 -- four texts, one behind the other
 pub four_behind : (old a b c d m n o p : List ℕ) → m ≡ old ++ a → n ≡ m ++ b → o ≡ n ++ c → p ≡ o ++ d

@@ -1,7 +1,6 @@
 -- The lines of rows as one more component or tap is written, and the parts that rows are made of.
 use Rattle.std.proofs.Common.{◌≡◌, ℕ, suc, ◌<◌, ◌+◌, List, [], ◌∷◌, ◌++◌, length, All, Option, Some, None, refl, sym}
 use Rattle.std.proofs.Common.{ap, ap₂, ◌∙◌, arith, append_assoc}
-use Rattle.std.proofs.lemmas.Grind.{flat_map-append}
 use Rattle.pals_model.specs.declared.design.Component.{Component}
 use Rattle.pals_model.specs.declared.design.Tap.{Tap}
 use Rattle.pals_model.specs.declared.design.DesignParts.{DesignParts}
@@ -9,12 +8,10 @@ use Rattle.pals_model.specs.declared.inputs_parts_and_delays.Env.{Env}
 use Rattle.pals_model.specs.declared.inputs_parts_and_delays.Part.{Part}
 use Rattle.pals_model.specs.Composition.{part}
 use Rattle.pals_model.specs.DesignRules.{IsTap}
-use Rattle.pals_model.specs.RoundTexts.{text_of, line_end, round_line, part_lines, tap_lines, taps_before, row_lines}
+use Rattle.pals_model.specs.RoundTexts.{text_of, round_line, part_lines, tap_lines, taps_before, row_lines}
 use Rattle.pals_model.specs.RoundTexts.{composed_lines}
+use Rattle.pals_model.proofs.LineLaws.{text_of-append}
 use Rattle.pals_report.specs.proof.RowLines.{lines_at_place, components_from, taps_from, ArePartsOf}
-
-text_of-append : (first rest : List (List ℕ)) → text_of (first ++ rest) ≡ text_of first ++ text_of rest
-text_of-append first rest = flat_map-append (λ line. line ++ line_end) first rest
 
 -- lines behind those before them, where others are left
 pub lines_turn : (out new total : List ℕ) (shown first rest : List (List ℕ)) → new ≡ out ++ text_of shown

@@ -12,6 +12,7 @@ use Rattle.list_lemmas.proofs.ElementPositions.{slice_get-map_some}
 use Rattle.list_lemmas.proofs.ListOperations.{length-map_enumerate_from, same_from_places}
 use Rattle.pals_base.proofs.SettledStates.{map-same}
 use Rattle.pals_base.proofs.UpwardNumbers.{length-map_upwards}
+use Rattle.pals_base.proofs.StepSequences.{cut_whole}
 use Rattle.pals_base.specs.declared.values.PortValue.{PortValue}
 use Rattle.pals_base.specs.declared.values.PortValue.TheVariants.{Absent}
 use Rattle.pals_base.specs.declared.values.Frame.{Frame}
@@ -31,7 +32,7 @@ use Rattle.sync_product.specs.declared.round_inputs.RoundInputs.{RoundInputs}
 use Rattle.sync_product.specs.declared.component_stage.Stage.{Stage}
 use Rattle.sync_product.specs.proof.ProductSizes.{StageSize, stage_size, stage_size_of, stage_sizes}
 use Rattle.sync_product.specs.proof.Rounds.{frames_of}
-use Rattle.sync_product.proofs.PortColumns.{cut_whole, length-column}
+use Rattle.sync_product.proofs.PortColumns.{length-column}
 use Rattle.sync_product.proofs.ComponentLists.{numbered-at, sized_at}
 use Rattle.plant_fuse.specs.FusedComposition.{is_back, is_forth, ArePairs, Inputs, inputs_to}
 use Rattle.plant_fuse.specs.proof.Partners.{partner_of, is_inside}

@@ -7,6 +7,7 @@ use Rattle.std.proofs.lemmas.List.Sums.{sum_by-cons}
 use Rattle.std.proofs.lemmas.List.Elements.{All-from_recursion}
 use Rattle.std.proofs.lemmas.Bool.{cases_lt}
 use Rattle.list_lemmas.proofs.Elements.{AllByRecursion-weaker}
+use Rattle.list_lemmas.proofs.PairwiseProperties.{Pairs, pairs_weaker, all_pairs_from}
 use Rattle.pals_base.specs.declared.values.Frame.{Frame}
 use Rattle.pals_base.specs.declared.values.PortValue.{PortValue}
 use Rattle.pals_base.specs.declared.limits.TheConstants.{HOUR}
@@ -14,6 +15,7 @@ use Rattle.pals_base.specs.PeriodBound.{alarm}
 use Rattle.step_code.specs.declared.instr.CodeParts.{CodeParts}
 use Rattle.step_code.specs.CappedWeights.{capped}
 use Rattle.step_code.specs.PathWeights.{weight_of}
+use Rattle.step_code.specs.proof.StackHeights.{Member}
 use Rattle.step_code.proofs.HeaviestPaths.{made_within}
 use Rattle.pals_model.specs.declared.design.DesignParts.{DesignParts}
 use Rattle.pals_model.specs.declared.inputs_parts_and_delays.Env.{Env}
@@ -23,8 +25,7 @@ use Rattle.round_budget.specs.Responses.{response, AreAtMost, made_in, frame_bef
 use Rattle.round_budget.specs.proof.BudgetLaws.{AreMembers, IsWithinBudget, EachIsServed, ServedOnce, ServedInOrder}
 use Rattle.round_budget.specs.proof.BudgetLaws.{NoneBeginsEarly, OneAtATime, ResponsesFit, MostResponsesFit}
 use Rattle.round_budget.specs.proof.BudgetLaws.{ExecResponsesFit, RoundsAreApart}
-use Rattle.round_budget.proofs.ListQuantifiers.{every_both, Pairs, pairs_weaker, pairs_both, all_pairs_from, Member}
-use Rattle.round_budget.proofs.ListQuantifiers.{member_of, contains_of}
+use Rattle.round_budget.proofs.ListQuantifiers.{every_both, pairs_both, member_of, contains_of}
 use Rattle.round_budget.proofs.ReleaseOrders.{NotAfter, every_in_order, pairs_in_order, sorted_in_order}
 use Rattle.round_budget.proofs.ReleaseOrders.{length_in_order, member_in_order, in_order_member, strict_numbers}
 use Rattle.round_budget.proofs.FilteredSums.{one_le}

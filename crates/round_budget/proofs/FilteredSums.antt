@@ -4,7 +4,7 @@ use Rattle.std.specs.Prelude.{nat_eq, ◌||◌}
 use Rattle.std.specs.List.{sum_by}
 use Rattle.std.proofs.lemmas.Bool.{eq-eqb}
 use Rattle.std.proofs.lemmas.List.Sums.{sum_by-cons}
-use Rattle.round_budget.proofs.ListQuantifiers.{Member}
+use Rattle.step_code.specs.proof.StackHeights.{Member}
 
 -- what the picked members weigh
 abbrev pub part : (ℕ → ℕ) → (ℕ → Bool) → List ℕ → ℕ

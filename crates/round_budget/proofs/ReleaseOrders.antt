@@ -5,8 +5,9 @@ use Rattle.std.specs.Prelude.{nat_eq, nat_lt, ◌&&◌, ◌||◌, if◌then◌el
 use Rattle.std.specs.List.{AllByRecursion as Every}
 use Rattle.std.proofs.lemmas.Bool.Decides.{nat_tests}
 use Rattle.list_lemmas.proofs.Elements.{AllByRecursion-weaker}
+use Rattle.list_lemmas.proofs.PairwiseProperties.{Pairs}
+use Rattle.step_code.specs.proof.StackHeights.{Member}
 use Rattle.round_budget.specs.Budgets.{Release, precedes, put, in_order}
-use Rattle.round_budget.proofs.ListQuantifiers.{Pairs, Member}
 
 -- ---- all elements
 every_put : (P : Release → Type 0) (x : Release) (ys : List Release) → P x → Every P ys → Every P (put x ys)
@@ -58,7 +59,7 @@ not_after_other : (x y : Release) → precedes y x ≡ false → NotAfter x y
 not_after_other x y is = let both = after_numbers y.time x.time y.node x.node is in
     record { time = both.0; node = both.1 }
 
-not_after_both : (x y z : Release) → NotAfter x y → NotAfter y z → NotAfter x z
+pub not_after_both : (x y z : Release) → NotAfter x y → NotAfter y z → NotAfter x z
 not_after_both x y z first second = record {
   time = omega (arith, first.time, second.time);
   node = λ same. (let a = first.node in let b = second.node in omega (arith, first.time, second.time, a, b, same));

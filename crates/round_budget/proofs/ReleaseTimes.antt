@@ -7,6 +7,7 @@ use Rattle.std.proofs.lemmas.Nat.{mul-le, le-div, div-add-mod'}
 use Rattle.std.proofs.lemmas.List.Elements.{recursion_from_All, All-contains_itself}
 use Rattle.std.proofs.lemmas.List.Kept.{AllPairs-from_increasing}
 use Rattle.list_lemmas.proofs.Elements.{AllByRecursion-weaker, AllByRecursion-map}
+use Rattle.list_lemmas.proofs.PairwiseProperties.{Pairs, pairs_weaker, pairs_map, pairs_from}
 use Rattle.pals_base.specs.PeriodBound.{alarm, step_period, backoff}
 use Rattle.pals_base.specs.StepSequences.{upwards}
 use Rattle.pals_model.specs.declared.design.Component.{Component}
@@ -15,10 +16,11 @@ use Rattle.pals_model.specs.ComponentInputs.{rate_of, rate_in}
 use Rattle.pals_model.specs.DesignRules.{IsDesign, IsComponent, greatest_rate}
 use Rattle.pals_model.proofs.FirstMatches.{at_element}
 use Rattle.pals_model.proofs.ShapeLaws.{component_at}
+use Rattle.step_code.specs.proof.StackHeights.{Member}
 use Rattle.round_budget.specs.Budgets.{Release, release_of, releases_of, releases_in, releases}
 use Rattle.round_budget.specs.proof.BudgetLaws.{AreMembers}
-use Rattle.round_budget.proofs.ListQuantifiers.{every_both, every_flat_map, every_upwards, Pairs, pairs_weaker}
-use Rattle.round_budget.proofs.ListQuantifiers.{pairs_map, pairs_flat_map, pairs_upwards, pairs_from, Member, member_of}
+use Rattle.round_budget.proofs.ListQuantifiers.{every_both, every_flat_map, every_upwards, pairs_flat_map}
+use Rattle.round_budget.proofs.ListQuantifiers.{pairs_upwards, member_of}
 
 -- ---- rates
 first_le : (from : ℕ) (cs : List Component) → from ≤ fold (λ k (c : Component). max k c.rate) from cs

@@ -8,9 +8,10 @@ use Rattle.std.specs.List.{sum_by, AllByRecursion as Every}
 use Rattle.std.proofs.lemmas.List.Sums.{sum_by-cons}
 use Rattle.std.proofs.lemmas.Bool.Decides.{nat_tests}
 use Rattle.list_lemmas.proofs.Elements.{AllByRecursion-weaker}
+use Rattle.list_lemmas.proofs.PairwiseProperties.{Pairs}
+use Rattle.step_code.specs.proof.StackHeights.{Member}
 use Rattle.round_budget.specs.Budgets.{Release, Served, precedes, put, in_order, begins, serve}
-use Rattle.round_budget.proofs.ListQuantifiers.{Pairs, Member}
-use Rattle.round_budget.proofs.ReleaseOrders.{NotAfter}
+use Rattle.round_budget.proofs.ReleaseOrders.{NotAfter, not_after_both}
 use Rattle.round_budget.specs.declared.releases.Release as steps
 use Rattle.round_budget.specs.proof.ReleaseAndLineValues.{release_value}
 
@@ -27,10 +28,6 @@ bit false = 0
 
 abbrev counted : Release → Release → ℕ
 counted x y = bit (is_same x y)
-
-one : (b : Bool) → b ≡ true → bit b ≡ 1
-one true is = refl
-one false is = absurd (cc)
 
 same_numbers : (a b c d a' b' c' d' : ℕ) → (nat_eq a a' && (nat_eq b b' && (nat_eq c c' && nat_eq d d'))) ≡ true
     → (a ≡ a') × ((b ≡ b') × ((c ≡ c') × (d ≡ d')))
@@ -55,7 +52,7 @@ is_it x y is =
 member_counts : (x : Release) (ys : List Release) → Member ys x → 1 ≤ sum_by (counted x) ys
 member_counts x [] among = absurd among
 member_counts x (y ∷ ys) (inl here) =
-    let here_is : counted x y ≡ 1 = one (is_same x y) (ap (is_same x) here ∙ itself x) in
+    let here_is : counted x y ≡ 1 = ap bit (ap (is_same x) here ∙ itself x) in
     let whole = sum_by-cons (counted x) y ys in
     omega (arith, here_is, whole)
 member_counts x (y ∷ ys) (inr later) =
@@ -147,12 +144,6 @@ same_in_order (x ∷ xs) f =
     omega (arith, later, a, b)
 
 -- ---- from neighbours to all pairs
-not_after_both : (x y z : Release) → NotAfter x y → NotAfter y z → NotAfter x z
-not_after_both x y z first second = record {
-  time = omega (arith, first.time, second.time);
-  node = λ same. (let a = first.node in let b = second.node in omega (arith, first.time, second.time, a, b, same));
-}
-
 lower_numbers : (a b n m : ℕ) (s t : Bool) → nat_lt a b ≡ s → (a == b) ≡ t
     → is_lt (ordering_then (cond s Less (cond t Equal Greater)) (nat_cmp n m)) ≡ false → (b ≤ a) × (a ≤ b → m ≤ n)
 lower_numbers a b n m true t less same is = absurd (cc)

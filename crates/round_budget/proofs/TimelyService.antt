@@ -5,8 +5,10 @@ use Rattle.std.specs.Prelude.{max, nat_eq}
 use Rattle.std.specs.List.{sum_by, AllByRecursion as Every}
 use Rattle.std.proofs.lemmas.Bool.{cases_lt, eqb-true, or_cases}
 use Rattle.list_lemmas.proofs.Elements.{AllByRecursion-weaker}
+use Rattle.list_lemmas.proofs.PairwiseProperties.{Pairs}
+use Rattle.step_code.specs.proof.StackHeights.{Member}
 use Rattle.round_budget.specs.Budgets.{Release, Served, begins, serve}
-use Rattle.round_budget.proofs.ListQuantifiers.{every_both, Pairs, Member}
+use Rattle.round_budget.proofs.ListQuantifiers.{every_both}
 use Rattle.round_budget.proofs.FilteredSums.{part, with_one, part_le, part_more}
 
 -- ---- what is served

@@ -9,11 +9,11 @@ use Rattle.std.proofs.lemmas.Fmt.{digits_value-decimal, decimal_is_IsNumeral}
 use Rattle.std.proofs.lemmas.Str.Parse.{numerals_by_fold, tells_digits, digit_from_value}
 use Rattle.std.proofs.lemmas.Bool.{le-leb}
 use Rattle.pals_base.specs.declared.limits.TheConstants.{ROUNDS, READING}
-use Rattle.pals_model.proofs.WordBytes.{same_bytes, other_bytes}
+use Rattle.pals_model.proofs.WordBytes.{same_bytes, other_bytes, is_inner, inner}
 use Rattle.pals_runs.specs.JournalLines.{reading_word}
 use Rattle.run_laws.specs.LineForms.{is, is_there, spelled, number_up_to, round_in, reading_in}
 use Rattle.run_laws.specs.EntriesOfDesigns.{IsReading}
-use Rattle.run_laws.proofs.PlainWords.{is_inner, is_plain, inner, there_cons}
+use Rattle.run_laws.proofs.PlainWords.{is_plain, there_cons}
 
 -- ---- what digits spell
 abbrev spelled_on : ℕ → List ℕ → ℕ

@@ -38,12 +38,11 @@ use Rattle.pals_model.specs.RoundTexts.{tuple_text, taps_before, tap_line, round
 use Rattle.pals_model.specs.RoundTexts.{composed_lines}
 use Rattle.pals_model.specs.DesignRules.{IsDesign, IsComponent}
 use Rattle.pals_model.proofs.FirstMatches.{at_element}
-use Rattle.pals_model.proofs.WordBytes.{IsWithout, all_pass, word_without, path_without, other_bytes}
+use Rattle.pals_model.proofs.WordBytes.{IsWithout, all_pass, word_without, path_without, other_bytes, NoSpace, no_space}
 use Rattle.run_laws.specs.LineForms.{Form, is, is_there, spelled, round_in, words_of, with_step, arrive_line}
 use Rattle.run_laws.specs.LineForms.{start_line, step_line, finish_line, send_line, drop_line, repeat_line, early_line}
 use Rattle.run_laws.specs.LineForms.{missed_line, stop_line, form_of_words, form_of, named}
 use Rattle.run_laws.specs.proof.ReportLines.{ReportsHaveNoForms}
-use Rattle.run_laws.proofs.PlainWords.{NoSpace, no_space}
 use Rattle.run_laws.proofs.ReportRows.{numbered_all}
 
 -- ---- digits

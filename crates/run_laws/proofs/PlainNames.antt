@@ -1,11 +1,12 @@
 -- The names of components and links are plain words, and are found again.
-use Rattle.std.proofs.Common.{◌≡◌, inl, inr, map, ℕ, ◌<◌, true, ◌&&◌, List, [], ◌∷◌, ◌++◌, length, Some, slice_get, All}
-use Rattle.std.proofs.Common.{refl, sym, ap, ap₂, ◌∙◌, subst, append_assoc, arith}
+use Rattle.std.proofs.Common.{◌≡◌, map, ℕ, ◌<◌, true, ◌&&◌, List, [], ◌∷◌, ◌++◌, length, Some, slice_get, All, sym, ap}
+use Rattle.std.proofs.Common.{ap₂, ◌∙◌, subst, append_assoc}
 use Rattle.std.specs.Prelude.{codes}
 use Rattle.std.specs.List.{list_all}
 use Rattle.std.proofs.lemmas.Bool.{false≢true, and_parts}
 use Rattle.std.proofs.lemmas.List.Folds.{list_all-append, list_all-map}
-use Rattle.std.proofs.lemmas.Option.{slice_get-get_or, slice_get_cases}
+use Rattle.std.proofs.lemmas.Option.{slice_get-get_or}
+use Rattle.list_lemmas.proofs.ElementPositions.{slice_get-some}
 use Rattle.pals_base.specs.declared.behaviour.PortDecl.{PortDecl}
 use Rattle.pals_base.specs.declared.behaviour.VarDecl.{VarDecl}
 use Rattle.pals_base.specs.declared.behaviour.BehaviourParts.{BehaviourParts}
@@ -20,21 +21,13 @@ use Rattle.pals_model.specs.DesignRules.{IsDesign, IsComponent, IsLink}
 use Rattle.pals_model.proofs.FirstMatches.{at_element}
 use Rattle.pals_model.proofs.NameLaws.{node_is_found, link_is_found}
 use Rattle.pals_model.proofs.ShapeLaws.{component_at, is_behaviour}
-use Rattle.pals_model.proofs.WordBytes.{all_pass, word_without, path_without}
+use Rattle.pals_model.proofs.WordBytes.{all_pass, is_inner, word_inner, path_inner}
 use Rattle.pals_runs.specs.JournalLines.{node_word, link_word, path_in, name_in}
 use Rattle.bus_machine.specs.States.{link_at, no_link}
 use Rattle.run_laws.specs.LineForms.{is_there}
-use Rattle.run_laws.proofs.PlainWords.{is_inner, is_plain, all_inner, there_cons}
+use Rattle.run_laws.proofs.PlainWords.{is_plain, there_cons}
 
 -- ---- words and paths
-word_inner : (word : List ℕ) → is_word word ≡ true → list_all is_inner word ≡ true
-word_inner word is = all_inner word (word_without 32 word refl is) (word_without 10 word refl is)
-
-path_inner : (path : List ℕ) → is_path path ≡ true → list_all is_inner path ≡ true
-path_inner path is =
-    all_inner path (path_without 32 path (λ same. absurd (omega (arith, same))) refl is)
-    (path_without 10 path (λ same. absurd (omega (arith, same))) refl is)
-
 path_there : (path : List ℕ) → is_path path ≡ true → is_there path ≡ true
 path_there [] is = absurd (false≢true is)
 path_there (byte ∷ path) is = there_cons byte path
@@ -63,13 +56,6 @@ node_found design node rules within =
     ap (λ o. node_named design (path_in o)) c.1 ∙ node_is_found design node c.0 rules c.1
 
 -- ---- links: a path, a `.`, and a word
-port_at : (ins : List PortDecl) (port : ℕ) → port < length ins → (p : PortDecl) × (slice_get ins port ≡ Some p)
-port_at ins port within =
-    elim (slice_get_cases ins port).1 [
-      | inl there ↦ (there.0, there.2)
-      | inr past ↦ absurd (omega (arith, past.0))
-    ]
-
 ins_are_words : (b : BehaviourParts) → IsBehaviour b → All (λ (p : PortDecl). is_word p.name ≡ true) b.ins
 ins_are_words b rules =
     let ins = map (λ (p : PortDecl). p.name) b.ins in
@@ -93,7 +79,7 @@ made_of design link rules rule =
     let c = component_at design node rule.target.node_is in
     let within : link.in_port < length c.0.behaviour.ins =
     subst (λ o. link.in_port < ins_in o) c.1 rule.target.port_is in
-    let p = port_at c.0.behaviour.ins link.in_port within in (
+    let p = slice_get-some c.0.behaviour.ins link.in_port within in (
       c.0.path,
       p.0.name,
       ap (λ o. in_port_name o link.in_port) c.1 ∙ ap (λ o. c.0.path ++ codes "." ++ port_name o) p.1

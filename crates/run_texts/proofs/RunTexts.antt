@@ -5,13 +5,13 @@ use Rattle.pals_base.specs.declared.limits.TheConstants.{ROUNDS, READING}
 use Rattle.pals_clock.specs.declared.clock.Clocks.{Clocks}
 use Rattle.pals_clock.specs.declared.clock.Clocks.TheVariants.{Meet, Lists}
 use Rattle.pals_model.specs.RoundTexts.{text_of, report, report_lines}
+use Rattle.pals_model.proofs.LineLaws.{text_of-append}
 use Rattle.pals_runs.specs.declared.journal.JournalEntry.{JournalEntry}
 use Rattle.pals_runs.specs.declared.journal.Stop.{Stop}
 use Rattle.pals_runs.specs.declared.verdicts.Verdict.TheVariants.{Sound}
 use Rattle.pals_runs.specs.JournalLines.{entry_line}
 use Rattle.bus_machine.specs.proof.AgreementLaws.{IsRunOf}
 use Rattle.bus_machine.specs.States.{Run, BusState, finished_by_all}
-use Rattle.loose_world.proofs.EventsAndLines.{text_more}
 use Rattle.run_laws.specs.TextLines.{lines_of}
 use Rattle.run_laws.specs.TraceVerdicts.{verdict}
 use Rattle.run_laws.specs.Meetings.{AllDone}
@@ -53,7 +53,7 @@ module _ (run : Run) (clocks later : Clocks) (journal : List JournalEntry) (s : 
       let later_range = same_range later clocks lists range in
       let trace = trace_of run journal s in
       let whole : text ≡ text_of trace =
-      told ∙ sym (text_more (report_lines run.design run.env (finished_by_all run s))
+      told ∙ sym (text_of-append (report_lines run.design run.env (finished_by_all run s))
       (map (entry_line run.design) journal)) in
       ap (λ t. verdict run (lines_of t)) whole
       ∙ ap (verdict run) (traces_are_texts run later journal s rules runs few later_range)

@@ -223,9 +223,6 @@ module _ (design : DesignParts) (all : List NamedPair) where
       (all_read (seen ++ named_in design entry ∷ []) first.0 es more
       (one_more seen pairs entry first.0 are first.1) first.2)
 
-pub no_pairs : (design : DesignParts) → ArePairs design []
-no_pairs design = record { each = All-nil (IsPair design); apart = λ i j d less below. absurd (omega (arith, below)) }
-
 pub pairs_fit : (design : DesignParts) (d : Data) (pairs : List Pair) → plants_in design d ≡ Ok pairs
     → ArePairs design pairs
 unfolding plants_in

@@ -1,10 +1,6 @@
 -- Elements of lists, by their places.
-use Rattle.std.proofs.Common.{◌≡◌, ◌⊎◌, inl, inr, ℕ, zero, suc, Bool, true, false, List, [], ◌∷◌, Some, All, slice_get}
-use Rattle.std.proofs.Common.{slice_index_or, refl}
+use Rattle.std.proofs.Common.{◌≡◌, ◌⊎◌, inl, inr, ℕ, suc, Bool, true, false, List, [], ◌∷◌, Some, All, slice_get, refl}
 use Rattle.std.proofs.lemmas.List.Elements.{All-nil, All-cons}
-use Rattle.pals_base.specs.declared.values.PortValue.{PortValue}
-use Rattle.pals_base.specs.declared.values.PortValue.TheVariants.{Absent}
-use Rattle.pals_base.specs.StepSequences.{column}
 
 -- ---- an element passes a test, or none does
 abbrev pub Passes : {X : Type 0} → (X → Bool) → List X → Type 0
@@ -20,10 +16,3 @@ passes_or test x xs false is (inr none) = inr (All-cons (λ y. test y ≡ false)
 pub some_or_none : {X : Type 0} (test : X → Bool) (xs : List X) → Passes test xs ⊎ All (λ x. test x ≡ false) xs
 some_or_none test [] = inr (All-nil (λ x. test x ≡ false))
 some_or_none test (x ∷ xs) = passes_or test x xs (test x) refl (some_or_none test xs)
-
--- ---- a place of a list among lists
-pub column_at : (lists : List (List PortValue)) (k round : ℕ)
-    → slice_index_or (column round lists) k Absent ≡ slice_index_or (slice_index_or lists k []) round Absent
-column_at [] k round = refl
-column_at (list ∷ lists) zero round = refl
-column_at (list ∷ lists) (suc k) round = column_at lists k round

@@ -1,14 +1,12 @@
 -- The values of one port at each step, taken from the rows of a component's steps, and cut to the steps that are
 -- sent.
-use Rattle.std.proofs.Common.{◌≡◌, ◌∙◌, ℕ, ◌-◌, ◌<◌, ◌≤◌, inl, inr, Bool, if◌then◌else◌, nat_lt, List, ◌++◌, length}
-use Rattle.std.proofs.Common.{map, take, replicate, slice_index_or, sym, ap, arith}
-use Rattle.std.proofs.lemmas.Bool.{lt-ltb, le-ltb, cases_lt}
-use Rattle.std.proofs.lemmas.List.{length-map, append-nil, take_all, length-append, length-take, length-take-le}
-use Rattle.std.proofs.lemmas.List.{length-replicate, get_or-map, get_or-take, get_or-replicate, get_or_append_left}
-use Rattle.std.proofs.lemmas.List.{get_or-append_right}
+use Rattle.std.proofs.Common.{◌≡◌, ◌∙◌, ℕ, ◌<◌, if◌then◌else◌, nat_lt, List, length, map, slice_index_or, sym, ap}
+use Rattle.std.proofs.Common.{arith}
+use Rattle.std.proofs.lemmas.List.{length-map, get_or-map}
 use Rattle.pals_base.specs.declared.values.PortValue.{PortValue}
 use Rattle.pals_base.specs.declared.values.PortValue.TheVariants.{Absent}
 use Rattle.pals_base.specs.StepSequences.{column, cut}
+use Rattle.pals_base.proofs.StepSequences.{cut-at}
 use Rattle.sync_product.specs.proof.Rounds.{place_before}
 
 pub column-at : (rows : List (List PortValue)) (port at : ℕ) (d : PortValue) (row : List PortValue) → at < length rows
@@ -28,27 +26,6 @@ pub length-column_of_map : {X : Type 0} (f : X → List PortValue) (xs : List X)
 length-column_of_map f xs step =
     length-map (map f xs) (λ (r : List PortValue). slice_index_or r step Absent) ∙ length-map xs f
 
-pub length-cut : (count : ℕ) (tuple : List PortValue) → length (cut count tuple) ≡ length tuple
-length-cut count tuple =
-    length-append (take count tuple) (replicate (length tuple - count) Absent)
-    ∙ omega (arith, length-take count tuple, length-replicate (length tuple - count) Absent)
-
-cut-at : (count at : ℕ) (tuple : List PortValue) (d : PortValue) → at < length tuple
-    → slice_index_or (cut count tuple) at d ≡ (if nat_lt at count then slice_index_or tuple at d else Absent)
-cut-at count at tuple d within =
-    elim (cases_lt at count) [
-      | inl below ↦
-          get_or_append_left (take count tuple) (replicate (length tuple - count) Absent) d at
-          (omega (arith, length-take count tuple))
-          ∙ get_or-take count tuple at d below
-          ∙ sym (ap (λ (b : Bool). if b then slice_index_or tuple at d else Absent) (lt-ltb at count below))
-      | inr past ↦
-          get_or-append_right (take count tuple) (replicate (length tuple - count) Absent) count at d
-          (length-take-le count tuple (omega arith)) past
-          ∙ get_or-replicate (length tuple - count) (at - count) Absent d (omega arith)
-          ∙ sym (ap (λ (b : Bool). if b then slice_index_or tuple at d else Absent) (le-ltb at count past))
-    ]
-
 -- a place of a row that counts
 pub cut_column-at : (rows : List (List PortValue)) (port count at : ℕ) (row : List PortValue) (d : PortValue)
     → at < length rows → row ≡ slice_index_or rows at row
@@ -59,12 +36,6 @@ cut_column-at rows port count at row d within item =
     ap (λ r. place_before (nat_lt at count) port r) item
     ∙ ap (λ p. if nat_lt at count then p else Absent) (sym (column-at rows port at d row within))
     ∙ sym (cut-at count at (column port rows) d inside)
-
--- nothing is cut where all places count
-pub cut_whole : (count : ℕ) (tuple : List PortValue) → length tuple ≤ count → cut count tuple ≡ tuple
-cut_whole count tuple within =
-    let none : length tuple - count ≡ 0 = omega arith in
-    ap (λ n. take count tuple ++ replicate n Absent) none ∙ append-nil (take count tuple) ∙ take_all count tuple within
 
 pub length-column : (rows : List (List PortValue)) (port : ℕ) → length (column port rows) ≡ length rows
 length-column rows port = length-map rows (λ (r : List PortValue). slice_index_or r port Absent)

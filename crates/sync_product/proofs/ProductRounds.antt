@@ -1,6 +1,6 @@
 -- Where a product stands after a round.
-use Rattle.std.proofs.Common.{◌≡◌, ◌∙◌, ℕ, zero, suc, ◌+◌, ◌<◌, inl, inr, Bool, true, false, cond, nat_eq, List, []}
-use Rattle.std.proofs.Common.{◌∷◌, length, map, All, slice_get, slice_index_or, Some, refl, sym, ap, ap₂, arith}
+use Rattle.std.proofs.Common.{◌≡◌, ◌∙◌, ℕ, ◌<◌, inl, inr, Bool, true, false, cond, nat_eq, List, [], ◌∷◌, length, map}
+use Rattle.std.proofs.Common.{All, slice_get, slice_index_or, Some, refl, sym, ap, ap₂, arith}
 use Rattle.std.specs.Prelude.{filter}
 use Rattle.std.proofs.lemmas.Bool.{eqb-true}
 use Rattle.std.proofs.lemmas.List.{length-map}
@@ -23,6 +23,7 @@ use Rattle.pals_model.specs.ComponentInputs.{inputs_of, rate_in}
 use Rattle.pals_model.specs.PortKinds.{outs_in}
 use Rattle.pals_model.specs.DesignRules.{IsDesign, IsLink, IsTap}
 use Rattle.pals_model.specs.Composition.{steps_from, no_frame, part_of, taps_of, tuple_in, message_of}
+use Rattle.pals_model.proofs.CompositionLaws.{length-steps_from, steps_from-at}
 use Rattle.sync_product.specs.declared.round_inputs.RoundInputs.{RoundInputs}
 use Rattle.sync_product.specs.declared.component_stage.Stage.{Stage}
 use Rattle.sync_product.specs.proof.ProductSizes.{StageSize, stage_size, stage_size_of, stage_sizes, tap_ports}
@@ -31,30 +32,6 @@ use Rattle.sync_product.specs.proof.ProductStates.{ProductState, advanced, parts
 use Rattle.sync_product.proofs.ComponentLists.{sized_at, count_of_sized}
 
 -- ---- the steps of the composition
--- the steps of one component
-steps-at : (design : DesignParts) (values : List PortValue) (messages : List (List PortValue)) (first : ℕ)
-    (cs : List Component) (frames : List Frame) (k node : ℕ) (c : Component) → node ≡ first + k
-    → slice_get cs k ≡ Some c → length frames ≡ length cs
-    → slice_get (steps_from design values messages first cs frames) k
-    ≡ Some (steps c.behaviour (slice_index_or frames k no_frame) (inputs_of design values messages node c))
-steps-at design values messages first [] frames k node c at is_c same = absurd (cc)
-steps-at design values messages first (d ∷ cs) [] k node c at is_c same = absurd (omega arith)
-steps-at design values messages first (d ∷ cs) (frame ∷ frames) zero node c at is_c same =
-    let here : first ≡ node = omega arith in
-    let is : d ≡ c = cc in
-    ap (λ n. Some (steps d.behaviour frame (inputs_of design values messages n d))) here
-    ∙ ap (λ (e : Component). Some (steps e.behaviour frame (inputs_of design values messages node e))) is
-steps-at design values messages first (d ∷ cs) (frame ∷ frames) (suc k) node c at is_c same =
-    steps-at design values messages (suc first) cs frames k node c (omega arith) is_c (omega arith)
-
-length-steps : (design : DesignParts) (values : List PortValue) (messages : List (List PortValue)) (node : ℕ)
-    (cs : List Component) (frames : List Frame) → length frames ≡ length cs
-    → length (steps_from design values messages node cs frames) ≡ length cs
-length-steps design values messages node [] frames same = refl
-length-steps design values messages node (c ∷ cs) [] same = absurd (omega arith)
-length-steps design values messages node (c ∷ cs) (frame ∷ frames) same =
-    ap suc (length-steps design values messages (suc node) cs frames (omega arith))
-
 abbrev all_of : RoundInputs → List Frame → List Stepped
 all_of round frames =
     steps_from round.design.now round.values.now round.messages.now 0 round.design.now.components frames
@@ -65,7 +42,7 @@ all-at : (round : RoundInputs) (frames : List Frame) (node : ℕ) (c : Component
     ≡ Some (steps c.behaviour (slice_index_or frames node no_frame)
     (inputs_of round.design.now round.values.now round.messages.now node c))
 all-at round frames node c size is =
-    steps-at round.design.now round.values.now round.messages.now 0 round.design.now.components frames node node c
+    steps_from-at round.design.now round.values.now round.messages.now 0 round.design.now.components frames node node c
     (omega arith) is size
 
 -- ---- what root out ports show
@@ -141,7 +118,7 @@ standing_frames round frames parts stages size count stepped =
     let all = all_of round frames in
     let ours = length-map parts (λ (p : Part). p.frame) in
     let theirs = length-map all (λ (s : Stepped). s.frame) in
-    let made = length-steps design round.values.now round.messages.now 0 design.components frames size in
+    let made = length-steps_from design round.values.now round.messages.now 0 design.components frames size in
     same_from_places (frames_of parts) (map (λ (s : Stepped). s.frame) all) (omega arith)
     (λ k within.
     elim (slice_get_cases design.components k).1 [

@@ -8,6 +8,7 @@ use Rattle.list_lemmas.proofs.ElementPositions.{Contains-from_slice_get, slice_g
 use Rattle.pals_base.specs.declared.values.PortValue.{PortValue}
 use Rattle.pals_base.specs.declared.values.PortValue.TheVariants.{Absent}
 use Rattle.pals_base.specs.Adaptors.{adapt}
+use Rattle.pals_base.proofs.StepSequences.{get_or-column}
 use Rattle.pals_model.specs.declared.design.Link.{Link}
 use Rattle.pals_model.specs.declared.design.Feed.{Feed}
 use Rattle.pals_model.specs.declared.design.DesignParts.{DesignParts}
@@ -20,7 +21,7 @@ use Rattle.pals_model.proofs.SourceLaws.{link_is_source, feed_is_source, nothing
 use Rattle.pals_model.proofs.RootInputLaws.{root_inputs_are_feeds}
 use Rattle.sync_product.specs.proof.RenumberedDesigns.{renumbered_link, renumbered_feed, IsRenumbered, values_of}
 use Rattle.sync_product.specs.proof.RenumberedDesigns.{AreSameInputs}
-use Rattle.sync_product.proofs.ListElements.{Passes, some_or_none, column_at}
+use Rattle.sync_product.proofs.ListElements.{Passes, some_or_none}
 use Rattle.sync_product.proofs.ListImages.{none_there}
 use Rattle.sync_product.proofs.RenumberedDesigns.{rate_there, same_number, link_there, feed_there}
 
@@ -36,7 +37,7 @@ value_is : (design : DesignParts) (env : Env) (round f : ℕ) (feed : Feed) → 
 value_is design env round f feed is =
     ap (λ name. slice_index_or (values_at env round) (place_of name (root_inputs design)) Absent)
     (get_or_from_slice_get (feed_names design) f feed.name [] (feed_name design f feed is))
-    ∙ column_at env.lists (place_of feed.name (root_inputs design)) round
+    ∙ get_or-column env.lists round (place_of feed.name (root_inputs design))
 
 -- what passes a test on an in port goes to that in port
 port_is : (n p node port : ℕ) → (nat_eq n node && nat_eq p port) ≡ true → (n ≡ node) × (p ≡ port)

@@ -2,8 +2,7 @@
 use Rattle.std.proofs.Common.{◌≡◌, ◌∙◌, ℕ, zero, suc, ◌<◌, nat_eq, List, [], ◌∷◌, map, filter, length, replicate, Some}
 use Rattle.std.proofs.Common.{slice_get, slice_index_or, refl, sym, ap, ap₂}
 use Rattle.std.proofs.lemmas.List.Elements.{All-weaker}
-use Rattle.std.proofs.lemmas.Option.{slice_get_within, get_or_from_slice_get}
-use Rattle.list_lemmas.proofs.ElementPositions.{slice_get-map_some}
+use Rattle.std.proofs.lemmas.Option.{slice_get_within}
 use Rattle.pals_base.specs.declared.values.PortValue.{PortValue}
 use Rattle.pals_base.specs.declared.values.PortValue.TheVariants.{Absent}
 use Rattle.pals_base.specs.declared.values.Frame.{Frame}
@@ -16,26 +15,18 @@ use Rattle.pals_model.specs.declared.design.Tap.{Tap}
 use Rattle.pals_model.specs.declared.design.DesignParts.{DesignParts}
 use Rattle.pals_model.specs.declared.inputs_parts_and_delays.Env.{Env}
 use Rattle.pals_model.specs.declared.inputs_parts_and_delays.Part.{Part}
-use Rattle.pals_model.specs.ComponentInputs.{rate_of, values_at, source_of, reading, inputs_in, feed}
+use Rattle.pals_model.specs.ComponentInputs.{values_at, source_of, reading, inputs_in, feed}
 use Rattle.pals_model.specs.Composition.{comp, state, msg, part, taps_of}
 use Rattle.pals_model.specs.DesignRules.{IsDesign, IsLink, IsTap}
 use Rattle.pals_model.specs.proof.CompositionLaws.{own_steps}
 use Rattle.pals_model.proofs.FirstMatches.{at_element}
 use Rattle.pals_model.proofs.ShapeLaws.{component_at}
 use Rattle.pals_model.proofs.CompositionLaws.{state_begins, state_goes_on, message_from_source, part_from_steps}
+use Rattle.pals_model.proofs.CompositionLaws.{link_begins}
 use Rattle.sync_product.specs.proof.RenumberedDesigns.{renumbered_link, renumbered_tap, IsRenumbered, AreSameInputs}
 use Rattle.sync_product.proofs.RenumberedDesigns.{component_there, rate_there}
 use Rattle.sync_product.proofs.RenumberedInputs.{SameMessages, brings}
 use Rattle.sync_product.proofs.RenumberedTaps.{shown, same_shown}
-
--- before the first round a link is absent throughout
-link_begins : (design : DesignParts) (env : Env) (l : ℕ) (link : Link) → slice_get design.links l ≡ Some link
-    → slice_index_or (comp design env 0).messages l [] ≡ replicate (rate_of design link.source.0) Absent
-unfolding comp
-link_begins design env l link is =
-    let begins : Link → List PortValue = λ (x : Link). replicate (rate_of design x.source.0) Absent in
-    get_or_from_slice_get (map begins design.links) l (begins link) []
-    (slice_get-map_some begins design.links l link is)
 
 abbrev part_with : Frame → List (List PortValue) → Part
 part_with frame outs = record { frame = frame; outs = outs }

@@ -1,9 +1,7 @@
 -- The report's rows are made one round after the other: for the rows that an audit compares lines with.
 use Rattle.std.proofs.Common.{◌≡◌, ℕ, suc, List, length, sym, ap, ap₂, ◌∙◌, subst}
-use Rattle.std.specs.Prelude.{slice_get, slice_index_or}
-use Rattle.std.proofs.lemmas.List.{length-map}
+use Rattle.std.specs.Prelude.{slice_get}
 use Rattle.pals_base.specs.declared.values.PortValue.{PortValue}
-use Rattle.pals_base.specs.declared.values.PortValue.TheVariants.{Absent}
 use Rattle.pals_base.proofs.UpwardNumbers.{slice_get-map_upwards}
 use Rattle.pals_model.specs.declared.design.DesignParts.{DesignParts}
 use Rattle.pals_model.specs.declared.inputs_parts_and_delays.Env.{Env}
@@ -15,9 +13,6 @@ use Rattle.sync_product.specs.proof.ProductStates.{ProductState, advanced, state
 use Rattle.sync_product.proofs.ProductLaws.{design_stays, has_parts_of_round}
 use Rattle.trace_audit.specs.declared.audited_rows.AuditedRows.{AuditedRows}
 use Rattle.trace_audit.specs.proof.ReportRows.{AreRows}
-
-pub length-values_at : (env : Env) (round : ℕ) → length (values_at env round) ≡ length env.lists
-length-values_at env round = length-map env.lists (λ list. slice_index_or list round Absent)
 
 -- a product that goes one round further has the round's parts
 pub parts_made : (design shown : DesignParts) (env : Env) (round : ℕ) (old new : ProductState) (values : List PortValue)

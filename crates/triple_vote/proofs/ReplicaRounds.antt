@@ -1,10 +1,8 @@
 -- Round by round, replicas are in their components' states, and receive the messages of the composition.
 use Rattle.std.proofs.Common.{◌≡◌, ◌∙◌, ℕ, zero, suc, ◌<◌, Bool, true, false, if◌then◌else◌, List, [], length, map}
-use Rattle.std.proofs.Common.{replicate, Some, slice_get, slice_index_or, find, refl, sym, ap, ap₂, subst, arith}
-use Rattle.std.proofs.lemmas.Option.{slice_get_within, get_or_from_slice_get, slice_get-map}
-use Rattle.std.specs.Option.{option_map}
+use Rattle.std.proofs.Common.{Some, slice_get, slice_index_or, find, refl, sym, ap, ap₂, subst, arith}
+use Rattle.std.proofs.lemmas.Option.{slice_get_within}
 use Rattle.pals_base.specs.declared.values.PortValue.{PortValue}
-use Rattle.pals_base.specs.declared.values.PortValue.TheVariants.{Absent}
 use Rattle.pals_base.specs.declared.values.Frame.{Frame}
 use Rattle.pals_base.specs.PeriodBound.{sent_steps}
 use Rattle.pals_base.specs.StepSequences.{steps, cut, upwards, Stepped}
@@ -19,6 +17,7 @@ use Rattle.pals_model.specs.Composition.{no_frame, comp, state, msg, steps_of_ro
 use Rattle.pals_model.specs.DesignRules.{IsDesign, IsLink, IsTap}
 use Rattle.pals_model.specs.proof.CompositionLaws.{own_steps}
 use Rattle.pals_model.proofs.CompositionLaws.{state_begins, state_goes_on, message_from_source, steps_of_round-at}
+use Rattle.pals_model.proofs.CompositionLaws.{link_begins}
 use Rattle.pals_model.proofs.FirstMatches.{at_element}
 use Rattle.pals_model.proofs.ShapeLaws.{component_at, message_has_rate}
 use Rattle.pals_runs.specs.declared.vote_faults_and_pairs.VoteFault.{VoteFault}
@@ -61,15 +60,6 @@ has_first replicated node = first_of (is_replicated replicated node)
 pub has_three : (replicated : List Bool) (node replica : ℕ) → is_replicated replicated node ≡ true → replica < 3
     → replica < copies_of replicated node
 has_three replicated node replica is below = subst (λ b. replica < (if b then 3 else 1)) (sym is) below
-
--- before the first round a link is absent throughout
-link_begins : (design : DesignParts) (env : Env) (l : ℕ) (link : Link) → slice_get design.links l ≡ Some link
-    → slice_index_or (comp design env 0).messages l [] ≡ replicate (rate_of design link.source.0) Absent
-unfolding comp
-link_begins design env l link is =
-    let begins : Link → List PortValue = λ (x : Link). replicate (rate_of design x.source.0) Absent in
-    get_or_from_slice_get (map begins design.links) l (begins link) []
-    (slice_get-map begins design.links l ∙ ap (option_map begins) is)
 
 pub record Agrees (design : DesignParts) (env : Env) (replicated : List Bool) (v : Voted) (round : ℕ) : Type 0 where
   pub frames : (node replica : ℕ) → node < length design.components → replica < copies_of replicated node

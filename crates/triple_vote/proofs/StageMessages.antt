@@ -5,6 +5,7 @@ use Rattle.std.proofs.Common.{refl, sym, ap, arith}
 use Rattle.std.proofs.lemmas.Option.{slice_get-get_or, slice_get_read}
 use Rattle.pals_base.specs.declared.values.PortValue.{PortValue}
 use Rattle.pals_base.specs.StepSequences.{column, cut}
+use Rattle.pals_base.proofs.StepSequences.{cut_whole}
 use Rattle.pals_model.specs.declared.design.Link.{Link}
 use Rattle.pals_model.specs.declared.design.Tap.{Tap}
 use Rattle.pals_model.specs.declared.design.DesignParts.{DesignParts}
@@ -14,7 +15,7 @@ use Rattle.pals_model.proofs.FirstMatches.{at_element}
 use Rattle.sync_product.specs.declared.component_stage.Stage.{Stage}
 use Rattle.sync_product.specs.proof.ProductSizes.{stage_size, stage_sizes, message_sizes}
 use Rattle.sync_product.specs.proof.Rounds.{sent_by, sent_from}
-use Rattle.sync_product.proofs.PortColumns.{cut_whole, length-column}
+use Rattle.sync_product.proofs.PortColumns.{length-column}
 use Rattle.sync_product.proofs.ComponentLists.{item_at}
 use Rattle.triple_vote.specs.proof.ReplicaLayers.{lengths, tap_sizes, is_there, whole_from}
 use Rattle.triple_vote.proofs.SelectiveListWrites.{Filled, filled_put}

@@ -8,12 +8,13 @@ use Rattle.list_lemmas.proofs.ElementPositions.{slice_get-map_some}
 use Rattle.pals_base.specs.declared.values.PortValue.{PortValue}
 use Rattle.pals_base.specs.PeriodBound.{sent_steps}
 use Rattle.pals_base.specs.StepSequences.{column, cut}
+use Rattle.pals_base.proofs.StepSequences.{length-cut}
 use Rattle.pals_model.specs.declared.design.Component.{Component}
 use Rattle.pals_model.specs.declared.design.DesignParts.{DesignParts}
 use Rattle.pals_model.specs.ComponentInputs.{rate_of, rate_in}
 use Rattle.sync_product.specs.declared.component_stage.Stage.{Stage}
 use Rattle.sync_product.specs.proof.ProductSizes.{StageSize, stage_size, stage_size_of, stage_sizes}
-use Rattle.sync_product.proofs.PortColumns.{length-cut, length-column}
+use Rattle.sync_product.proofs.PortColumns.{length-column}
 use Rattle.sync_product.proofs.SizePreservation.{same_sizes}
 use Rattle.sync_product.proofs.TupleLengths.{count_of_rows}
 use Rattle.sync_product.proofs.ComponentLists.{sized_at, count_of_sized}

@@ -4,11 +4,11 @@ use Rattle.list_lemmas.proofs.ListOperations.{take-written_whole}
 use Rattle.pals_model.specs.Composition.{comp}
 use Rattle.pals_model.specs.ComponentInputs.{values_at}
 use Rattle.pals_model.specs.RoundTexts.{text_of}
+use Rattle.pals_model.proofs.ShapeLaws.{length-values_at}
 use Rattle.run_monitor.specs.proof.SeveralMonitors.{HasWatched}
 use Rattle.run_monitor.specs.WatchText.{watched_lines, watched_rows}
 use Rattle.run_monitor.specs.FalseProperties.{history, violation, is_violated}
 use Rattle.analysis_texts.specs.MonitoredFormulas.{named, formulas}
-use Rattle.analysis_texts.proofs.ProductRoundsAndRows.{length_values_at}
 use Rattle.analysis_texts.proofs.WatchedRounds.{found_is, found_tells, found_within, rows_more, watched_whole}
 use Rattle.analysis_texts.proofs.properties.watch_rounds.Goals as goal
 
@@ -29,7 +29,7 @@ loop-round-preserved c =
     let properties = c.args.properties.now in
     let values = c.loop-round.values in
     let written = c.write_values.new.values in
-    let wide : length written ≡ length env.lists = ap length c.write_values.ensures ∙ length_values_at env round in
+    let wide : length written ≡ length env.lists = ap length c.write_values.ensures ∙ length-values_at env round in
     let whole : take values.len (written ++ drop (length written) values.items) ≡ written =
     take-written_whole values.len written values.items (omega arith) (wide ∙ sym c.loop-round.invariant.values) in
     let here : c.as_slice.result.now ≡ values_at env round = c.as_slice.ensures.value ∙ whole

@@ -6,13 +6,13 @@ use Rattle.list_lemmas.proofs.ListOperations.{take-written_whole}
 use Rattle.pals_base.proofs.UpwardNumbers.{get_or-map_upwards}
 use Rattle.pals_model.specs.declared.design.DesignParts.{DesignParts}
 use Rattle.pals_model.specs.ComponentInputs.{values_at}
+use Rattle.pals_model.proofs.ShapeLaws.{length-values_at}
 use Rattle.pals_runs.specs.declared.vote_faults_and_pairs.VoteFault.{VoteFault}
 use Rattle.triple_vote.specs.proof.VoteLaws.{IsFault}
 use Rattle.triple_vote.specs.Replicas.{vcomp, vshown_by}
 use Rattle.triple_vote.specs.proof.VotedStates.{VotedState, vadvanced}
 use Rattle.triple_vote.specs.VotedText.{vreport}
 use Rattle.analysis_texts.specs.proof.ReplicaNamesAndLines.{all_names}
-use Rattle.analysis_texts.proofs.ProductRoundsAndRows.{length_values_at}
 use Rattle.analysis_texts.proofs.VotedRows.{MakesRound, voted_more}
 use Rattle.analysis_texts.proofs.replicas.rows.Goals as goal
 
@@ -63,7 +63,7 @@ loop-round-preserved c =
     let written = c.write_values.new.values in
     let old = c.loop-round.product in
     let new = c.advance.new.self in
-    let wide : length written ≡ length env.lists = ap length c.write_values.ensures ∙ length_values_at env round in
+    let wide : length written ≡ length env.lists = ap length c.write_values.ensures ∙ length-values_at env round in
     let whole : take values.len (written ++ drop (length written) values.items) ≡ written =
     take-written_whole values.len written values.items (omega arith) (wide ∙ sym c.loop-round.invariant.values) in
     let here : c.as_slice.result.now ≡ values_at env round = c.as_slice.ensures.value ∙ whole

@@ -4,8 +4,9 @@ use Rattle.pals_model.specs.declared.design.DesignParts.{DesignParts}
 use Rattle.pals_model.specs.Composition.{comp}
 use Rattle.pals_model.specs.ComponentInputs.{values_at}
 use Rattle.pals_model.specs.RoundTexts.{row, report}
+use Rattle.pals_model.proofs.ShapeLaws.{length-values_at}
 use Rattle.pals_report.specs.proof.TapPlaces.{tap_places}
-use Rattle.analysis_texts.proofs.ProductRoundsAndRows.{length_values_at, report_more}
+use Rattle.analysis_texts.proofs.ProductRoundsAndRows.{report_more}
 use Rattle.analysis_texts.proofs.sync.rows.Goals as goal
 
 pub loop-round-init : goal.loop-round-init
@@ -30,7 +31,7 @@ loop-round-preserved c =
     let round = c.loop-round.round in
     let values = c.loop-round.values in
     let written = c.write_values.new.values in
-    let wide : length written ≡ length env.lists = ap length c.write_values.ensures ∙ length_values_at env round in
+    let wide : length written ≡ length env.lists = ap length c.write_values.ensures ∙ length-values_at env round in
     let whole : take values.len (written ++ drop (length written) values.items) ≡ written =
     take-written_whole values.len written values.items (omega arith) (wide ∙ sym c.loop-round.invariant.values) in
     let here : c.as_slice.result.now ≡ values_at env round = c.as_slice.ensures.value ∙ whole

@@ -4,6 +4,7 @@ use Rattle.std.proofs.lemmas.List.{length-map}
 use Rattle.std.proofs.lemmas.Option.{slice_get-get_or}
 use Rattle.list_lemmas.proofs.ListOperations.{filled_more}
 use Rattle.pals_base.specs.declared.values.PortValue.{PortValue}
+use Rattle.pals_base.proofs.StepSequences.{length-cut}
 use Rattle.pals_model.specs.declared.design.DesignParts.{DesignParts}
 use Rattle.pals_model.specs.declared.design.Link.{Link}
 use Rattle.pals_model.specs.ComponentInputs.{rate_of}
@@ -13,7 +14,7 @@ use Rattle.sync_product.specs.proof.ProductSizes.{message_sizes}
 use Rattle.sync_product.proofs.SizePreservation.{same_sizes}
 use Rattle.sync_product.proofs.ComponentLists.{count_of_sized}
 use Rattle.sync_product.proofs.LinkMessages.{sized_message}
-use Rattle.sync_product.proofs.PortColumns.{length-cut, length-column}
+use Rattle.sync_product.proofs.PortColumns.{length-column}
 use Rattle.plant_fuse.specs.proof.Partners.{is_inside}
 use Rattle.plant_fuse.specs.proof.Messages.{sent_on}
 use Rattle.sync_product.proofs.StepRoom.{count_of_stages}

@@ -2,8 +2,8 @@ use Rattle.std.proofs.Common.{◌≡◌, ◌∙◌, ℕ, List, map, sym, subst, 
 use Rattle.std.specs.Prelude.{IsTrue}
 use Rattle.std.proofs.lemmas.List.{append-nil}
 use Rattle.std.proofs.lemmas.List.Sorted.{IsPermutation-map, sum_by-IsPermutation, answers_always}
+use Rattle.list_lemmas.proofs.PairwiseProperties.{pairs_from}
 use Rattle.round_budget.specs.Budgets.{Release, releases, releases_in, in_order, precedes, serve, numbers}
-use Rattle.round_budget.proofs.ListQuantifiers.{pairs_from}
 use Rattle.round_budget.proofs.BudgetLaws.{served_in_order}
 use Rattle.round_budget.specs.proof.ReleaseAndLineValues.{release_value}
 use Rattle.round_budget.proofs.SortedUniqueness.{AreSame, only_one, same_in_order, all_not_after, all_before}

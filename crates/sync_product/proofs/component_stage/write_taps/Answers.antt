@@ -3,8 +3,9 @@ use Rattle.std.proofs.lemmas.List.{length-map, get_or-map}
 use Rattle.list_lemmas.proofs.ListOperations.{filled_more}
 use Rattle.pals_base.specs.declared.values.PortValue.{PortValue}
 use Rattle.pals_base.specs.StepSequences.{column}
+use Rattle.pals_base.proofs.StepSequences.{cut_whole}
 use Rattle.sync_product.proofs.SizePreservation.{same_sizes}
-use Rattle.sync_product.proofs.PortColumns.{cut_whole, length-column}
+use Rattle.sync_product.proofs.PortColumns.{length-column}
 use Rattle.sync_product.proofs.TupleLengths.{size_of_out, count_of_outs}
 use Rattle.sync_product.proofs.component_stage.write_taps.Goals as goal
 

@@ -2,8 +2,9 @@ use Rattle.std.proofs.Common.{◌≡◌, ◌∙◌, ◌+◌, nat_lt, ap, length,
 use Rattle.std.proofs.lemmas.Grind.{common_steps}
 use Rattle.list_lemmas.proofs.ListOperations.{filled_more, filled_all}
 use Rattle.pals_base.specs.StepSequences.{column, cut}
+use Rattle.pals_base.proofs.StepSequences.{length-cut}
 use Rattle.sync_product.specs.proof.Rounds.{place_before}
-use Rattle.sync_product.proofs.PortColumns.{cut_column-at, length-cut, length-column}
+use Rattle.sync_product.proofs.PortColumns.{cut_column-at, length-column}
 use Rattle.sync_product.proofs.tuple_columns.write_column.Goals as goal
 
 pub loop-at-preserved : goal.loop-at-preserved

@@ -4,10 +4,11 @@ use Rattle.list_lemmas.proofs.Results.{OnOk-weaker}
 use Rattle.pals_model.specs.declared.design.DesignParts.{DesignParts}
 use Rattle.pals_model.specs.ComponentInputs.{values_at}
 use Rattle.pals_model.specs.RoundTexts.{composed_lines, row}
+use Rattle.pals_model.proofs.ShapeLaws.{length-values_at}
 use Rattle.sync_product.specs.proof.ProductStates.{ProductState}
 use Rattle.trace_audit.specs.declared.row_text.RowText.{RowText}
 use Rattle.trace_audit.specs.proof.RemainingRowLines.{HasLeft}
-use Rattle.trace_audit.proofs.ReportRows.{length-values_at, parts_made}
+use Rattle.trace_audit.proofs.ReportRows.{parts_made}
 use Rattle.trace_audit.proofs.audited_rows.AuditedRows.make_row.Goals as goal
 
 pub returns-clause-row : goal.returns-clause-row
