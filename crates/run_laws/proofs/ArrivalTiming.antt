@@ -31,11 +31,12 @@ use Rattle.bus_machine.proofs.AgreementChanges.{node_set, node_stays}
 use Rattle.bus_machine.proofs.QuantitiesAndSentRounds.{keeps_at}
 use Rattle.run_laws.specs.proof.WorldInvariant.{IsOnce, copies, waits, taken, one_if, KeepsLink, KeepsTime}
 use Rattle.run_laws.proofs.Lists.{count_without}
-use Rattle.run_laws.proofs.WorldNodeTiming.{Stands, stands_at, component_is}
+use Rattle.run_laws.proofs.WorldNodeTiming.{Stands, stands_at}
 use Rattle.run_laws.proofs.WorldLinkTiming.{comes_in_time, ComesInTime, is_kept, link_is, rule_of, one_of_true}
 use Rattle.run_laws.proofs.WorldLinkTiming.{one_of_false, in_flight_counts, counts_in_flight}
 use Rattle.run_laws.proofs.LocalWorldChanges.{changed, stands_put, keeps_again}
 use Rattle.run_laws.proofs.FaultlessEventConditions.{ArrivesInTime}
+use Rattle.run_laws.proofs.NodePicks.{component_is}
 
 -- ---- a round of the link
 -- a copy leaves the flight, and its message waits in the slot

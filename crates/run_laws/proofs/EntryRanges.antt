@@ -44,6 +44,7 @@ use Rattle.run_laws.proofs.MissedLinks.{missed_link}
 use Rattle.run_laws.proofs.RisingTargets.{IsTimedPlan, step_below, next_alarm}
 use Rattle.run_laws.proofs.MeetingReadings.{times_of}
 use Rattle.run_laws.proofs.StartSendAndStopPicks.{same_lists}
+use Rattle.run_laws.proofs.SentBeforeStart.{alarm_le}
 use Rattle.run_laws.specs.proof.RunTraces.{AreReadings}
 
 -- ---- readings of lists
@@ -62,9 +63,6 @@ left_all readings [] all = all
 left_all readings (t ∷ ts) all = left_all (reached readings t) ts (reached_all readings t all)
 
 -- ---- targets of a meeting
-alarms_rise : (t a b : ℕ) → a ≤ b → alarm t a ≤ alarm t b
-alarms_rise t a b le = let more : a + 1 ≤ b + 1 = omega arith in grind (arith, common_steps)
-
 last_alarm : (t rounds : ℕ) → t ≤ HOUR → rounds ≤ ROUNDS → alarm t rounds ≤ READING
 last_alarm t rounds short few =
     let one : (rounds + 1) * t ≤ (ROUNDS + 1) * t =
@@ -90,7 +88,7 @@ target_below : (run : Run) (j : ℕ) (n : NodeState) (p : Phase) (next : NodeAct
     → target (plan_of run.design j) next ≤ alarm run.design.period run.rounds
 target_below run j n Waiting next times agree most is =
     let plan = plan_of run.design j in
-    let le = alarms_rise run.design.period n.count run.rounds most in
+    let le = alarm_le run.design.period n.count run.rounds most in
     subst (λ a. target plan a ≤ alarm run.design.period run.rounds) (same_Some (action.Start n.count) next is) le
 target_below run j n (Running i) next times agree most is = absurd (cc)
 target_below run j n (Between i) next times agree most is =
@@ -98,14 +96,14 @@ target_below run j n (Between i) next times agree most is =
     let p : Progress = record { round = round_of n; steps = i; sent = n.sent } in
     let started = counted agree.0.under_way.round n.count agree.0.under_way.count in
     let here = within_next plan (round_of n) i (send_is_next plan p) (nat_lt i plan.rate) times agree.0.within in
-    let le = alarms_rise run.design.period (round_of n + 1) run.rounds (omega arith) in
+    let le = alarm_le run.design.period (round_of n + 1) run.rounds (omega arith) in
     subst (λ a. target plan a ≤ alarm run.design.period run.rounds) (same_Some (next_action plan p) next is)
     (omega arith)
 target_below run j n Holding next times agree most is =
     let plan = plan_of run.design j in
     let started = counted agree.under_way.round n.count agree.under_way.count in
     let after' = next_alarm plan.period (round_of n) in
-    let le = alarms_rise run.design.period (round_of n + 1) run.rounds (omega arith) in
+    let le = alarm_le run.design.period (round_of n + 1) run.rounds (omega arith) in
     let release = times.release in
     subst (λ a. target plan a ≤ alarm run.design.period run.rounds) (same_Some (action.Send (round_of n)) next is)
     (omega arith)

@@ -2,7 +2,6 @@
 use Rattle.std.proofs.Common.{◌≡◌, ℕ, ◌+◌, ◌≤◌, cond, List, [], ◌∷◌, ◌++◌, All, Option, Some, None, refl, sym, ap, ◌∙◌}
 use Rattle.std.proofs.Common.{subst, arith}
 use Rattle.std.specs.Option.{unwrap_or}
-use Rattle.std.proofs.lemmas.List.{append-nil, append_assoc}
 use Rattle.std.proofs.lemmas.List.Elements.{All-nil, All-cons, All-append}
 use Rattle.std.proofs.lemmas.Option.{same_Some, get_or_from_slice_get}
 use Rattle.list_lemmas.proofs.Numbers.{nat_eq-self}
@@ -31,6 +30,7 @@ use Rattle.run_laws.proofs.MissedLinks.{missed_link}
 use Rattle.run_laws.specs.HistoriesAndTraces.{IsRead, IsInTime, History, opens, goes_on}
 use Rattle.run_laws.specs.proof.SoundTraces.{ShowsFrom, ShowsTime, HistoriesReplay}
 use Rattle.run_laws.proofs.SoundTraces.{latest_one}
+use Rattle.run_laws.proofs.RisingReadings.{rise_append}
 
 pub replays : (run : Run) (journal : List JournalEntry) (s : BusState) → History run journal s → Replays run journal s
 replays run journal s opens = replay_opens
@@ -97,15 +97,6 @@ event_rises run front s (Arrive link round reading) in_time =
     arrive_rises run front link round reading (arrival run s link round) in_time.read
 event_rises run front s (Drop link round) in_time = absurd in_time
 event_rises run front s (Repeat link round) in_time = absurd in_time
-
-rise_append : (run : Run) (front xs ys : List JournalEntry) → LinesRise run front xs → LinesRise run (front ++ xs) ys
-    → LinesRise run front (xs ++ ys)
-rise_append run front [] ys first second = subst (λ f. LinesRise run f ys) (append-nil front) second
-rise_append run front (x ∷ xs) ys first second = (
-  first.0,
-  rise_append run (front ++ x ∷ []) xs ys first.1
-      (subst (λ f. LinesRise run f ys) (sym (append_assoc front (x ∷ []) xs)) second),
-)
 
 rises : (run : Run) (journal : List JournalEntry) (s : BusState) → History run journal s → LinesRise run [] journal
 rises run journal s opens = tt

@@ -1,13 +1,12 @@
 -- The lines of a history that is over break no rule.
 use Rattle.std.proofs.Common.{◌≡◌, ◌≢◌, ◌⊎◌, inl, inr, ℕ, ◌+◌, ◌<◌, ◌≤◌, nat_eq, nat_lt, Bool, true, false, not, ◌&&◌}
-use Rattle.std.proofs.Common.{cond, List, [], ◌∷◌, ◌++◌, length, map, slice_get, All, Option, Some, None, refl, sym, ap}
-use Rattle.std.proofs.Common.{ap₂, ◌∙◌, subst, arith}
+use Rattle.std.proofs.Common.{cond, List, [], ◌∷◌, ◌++◌, length, map, All, Option, Some, None, refl, sym, ap, ap₂, ◌∙◌}
+use Rattle.std.proofs.Common.{subst, arith}
 use Rattle.std.specs.Prelude.{is_some, is_none}
 use Rattle.std.specs.List.{list_all}
 use Rattle.std.specs.Option.{option_map_or, unwrap_or}
 use Rattle.std.proofs.lemmas.List.Elements.{All-nil, All-cons, All-head, All-tail, All-from_get_or}
 use Rattle.std.proofs.lemmas.List.Sums.{fold-append}
-use Rattle.std.proofs.lemmas.Option.{get_or_from_slice_get}
 use Rattle.std.proofs.lemmas.Bool.{eq-eqb, le-ltb}
 use Rattle.list_lemmas.proofs.Numbers.{nat_eq-self}
 use Rattle.list_lemmas.proofs.Elements.{All-append_right}
@@ -32,7 +31,7 @@ use Rattle.bus_machine.specs.Plans.{plan_of}
 use Rattle.bus_machine.specs.Nodes.{NodeState, round_of}
 use Rattle.bus_machine.specs.NodeEvents.{is_waiting, next_step}
 use Rattle.bus_machine.specs.EarliestReadings.{start_alarm, step_alarm, release_alarm}
-use Rattle.bus_machine.specs.States.{Run, BusState, no_node, no_link, node_at, link_at, finished_by_all}
+use Rattle.bus_machine.specs.States.{Run, BusState, no_node, node_at, link_at, finished_by_all}
 use Rattle.bus_machine.specs.MissedStarts.{missing_link}
 use Rattle.bus_machine.specs.Machine.{BusEvent, Start, Step, Finish, Send, Arrive, Drop, Repeat, is_allowed, after}
 use Rattle.bus_machine.specs.Machine.{arrival, early_stop}
@@ -56,8 +55,9 @@ use Rattle.run_laws.proofs.RuleKeepingLines.{none_due}
 use Rattle.run_laws.proofs.JournalVerdicts.{FirstHasForm, behind_report}
 use Rattle.run_laws.specs.proof.SoundTraces.{TracesAreSound}
 use Rattle.run_laws.proofs.SoundEntries.{AreLast, target_within}
-use Rattle.run_laws.proofs.SoundTraces.{noted_many, noted_last, opening_many, opening_last}
+use Rattle.run_laws.proofs.SoundTraces.{length-noted, noted_last, opening_many, opening_last}
 use Rattle.run_laws.proofs.HistoryReplay.{replays}
+use Rattle.run_laws.proofs.MeetingStopsAndBounds.{link_is}
 
 -- ---- an audit that has come as far as a history
 record IsAt (run : Run) (front : List JournalEntry) (s : BusState) (a : Audit) : Type 0 where
@@ -106,7 +106,7 @@ goes_up run front t readings x rules of many last =
     record {
       bus = refl;
       owed = refl;
-      many = noted_many readings (timed run.design x) ∙ many;
+      many = length-noted readings (timed run.design x) ∙ many;
       last = noted_last run front readings x rules of many last;
     }
 
@@ -160,10 +160,6 @@ not_early run front node least reading r read =
 has_one : (run : Run) (front : List JournalEntry) (node least : ℕ) (reading : Option ℕ)
     → IsRead run front node reading least → is_some reading ≡ true
 has_one run front node least reading read = ap is_some read.reading_is
-
-link_is : (run : Run) (number : ℕ) (link : Link) → slice_get run.design.links number ≡ Some link
-    → link_at run.design number ≡ link
-link_is run number link is = get_or_from_slice_get run.design.links number link no_link is
 
 -- ---- Start
 start_passes : (run : Run) (front : List JournalEntry) (s : BusState) (node : NodeNo) (reading : Option ℕ)

@@ -40,7 +40,7 @@ use Rattle.run_laws.specs.JournalReadings.{listed, start_in, send_in, starts, se
 use Rattle.pals_clock.specs.declared.clock.Clocks.{Clocks}
 use Rattle.pals_clock.specs.declared.clock.Clocks.TheVariants.{Lists}
 use Rattle.run_laws.specs.Runs.{Runs, KeepsTo, opens, picks_for, goes_on}
-use Rattle.run_laws.proofs.NodePicks.{runs_agree}
+use Rattle.run_laws.proofs.NodePicks.{runs_agree, below_nodes}
 
 -- ---- the two numbers
 abbrev rounds_of : ℕ → NodeState → ℕ
@@ -85,9 +85,6 @@ one_start : (s t : BusState) (k n : ℕ) (reading : Option ℕ) (at : ℕ) (b : 
 one_start s t k n reading at b is grows = subst (λ x. Grow s t k x 0) (shows_one reading at b is) grows
 
 -- ---- Start
-below : (run : Run) (s : BusState) (j : ℕ) → Agrees run s → j < length run.design.components → j < length s.nodes
-below run s j agree within = let count = agree.node_count in omega arith
-
 counts_start : (run : Run) (s : BusState) (node : NodeNo) (reading m : Option ℕ) (at k : ℕ) → Agrees run s
     → node.0 < length run.design.components → reading ≡ Some at
     → is_waiting (node_at s node.0).phase ≡ true
@@ -102,7 +99,7 @@ counts_start run s node reading None at k agree within is waits =
     let rest = subst (PhaseAgrees run node.0 c n) (is_waiting_phase n.phase waits) (agree.nodes node.0 c is_c).phase in
     let m = started (plan_of run.design node.0) (values_at run.env n.count) n in
     one_start s (with_node s node.0 m) k 0 reading at (nat_eq node.0 k) is (record {
-      count = grows_at count_of s node.0 k 1 m (below run s node.0 agree within) refl;
+      count = grows_at count_of s node.0 k 1 m (below_nodes run s node.0 agree within) refl;
       sends = add_zero_from _ _ (stays_at rounds_of s node.0 k m (sent_at_start n.sent n.count rest.0.sent));
     })
 
@@ -144,7 +141,7 @@ counts_send run s node reading at k round agree within is may =
     let grows : Grow s (with_node s node.0 m) k 0 (cond (nat_eq node.0 k) 1 0) = record {
       count = add_zero_from _ _ (stays_at count_of s node.0 k m refl);
       sends =
-          grows_at rounds_of s node.0 k 1 m (below run s node.0 agree within)
+          grows_at rounds_of s node.0 k 1 m (below_nodes run s node.0 agree within)
           (sent_behind n.sent n.count before.under_way.round before.unsent before.under_way.count);
     } in
     let all = one_send s (with_node s node.0 m) k reading at (nat_eq node.0 k) is grows in
@@ -157,7 +154,7 @@ arrival_keeps n port tuple Kept = (refl, refl)
 arrival_keeps n port tuple Ignored = (refl, refl)
 arrival_keeps n port tuple Early = (refl, refl)
 
-stop_shows : (k : ℕ) (o : Option Stop) → (length (starts k (stop_entry o)) ≡ 0) × (length (sends k (stop_entry o)) ≡ 0)
+pub stop_shows : (k : ℕ) (o : Option Stop) → (starts k (stop_entry o) ≡ []) × (sends k (stop_entry o) ≡ [])
 stop_shows k None = (refl, refl)
 stop_shows k (Some why) = (refl, refl)
 
@@ -173,8 +170,8 @@ counts_arrive run s link round reading a k =
     let count = both.count in
     let sends' = both.sends in
     record {
-      count = count ∙ ap (λ x. (node_at s k).count + x) (sym none.0);
-      sends = sends' ∙ ap (λ x. sent_rounds (node_at s k) + x) (sym none.1);
+      count = count ∙ ap (λ x. (node_at s k).count + x) (sym (ap length none.0));
+      sends = sends' ∙ ap (λ x. sent_rounds (node_at s k) + x) (sym (ap length none.1));
     }
 
 -- ---- each event

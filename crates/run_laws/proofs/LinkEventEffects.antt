@@ -28,9 +28,9 @@ get_more [] ys k x is = absurd (cc)
 get_more (z ∷ xs) ys zero x is = is
 get_more (z ∷ xs) ys (suc k) x is = get_more xs ys k x is
 
-some_of : (delay : ℕ → ℕ) (sends : List ℕ) (round due : ℕ) → due_of delay sends round ≡ Some due
+pub sent_of : (delay : ℕ → ℕ) (sends : List ℕ) (round due : ℕ) → due_of delay sends round ≡ Some due
     → (at : ℕ) × (slice_get sends round ≡ Some at) × (due ≡ at + delay round)
-some_of delay sends round due is = parts (slice_get sends round) refl is
+sent_of delay sends round due is = parts (slice_get sends round) refl is
   where
     parts : (o : Option ℕ) → slice_get sends round ≡ o → option_map (λ at. at + delay round) o ≡ Some due
         → (at : ℕ) × (slice_get sends round ≡ Some at) × (due ≡ at + delay round)
@@ -41,12 +41,12 @@ some_of delay sends round due is = parts (slice_get sends round) refl is
 pub due_more : (delay : ℕ → ℕ) (sends more : List ℕ) (round due : ℕ) → due_of delay sends round ≡ Some due
     → due_of delay (sends ++ more) round ≡ Some due
 due_more delay sends more round due is =
-    let of = some_of delay sends round due is in
+    let of = sent_of delay sends round due is in
     ap (option_map (λ at. at + delay round)) (get_more sends more round of.0 of.1) ∙ ap Some (sym of.2)
 
 sent_if_due : (delay : ℕ → ℕ) (sends : List ℕ) (round due : ℕ) → due_of delay sends round ≡ Some due
     → round < length sends
-sent_if_due delay sends round due is = let of = some_of delay sends round due is in
+sent_if_due delay sends round due is = let of = sent_of delay sends round due is in
     slice_get_within sends round of.0 of.1
 
 pub due_if_sent : (delay : ℕ → ℕ) (sends : List ℕ) (round : ℕ) → round < length sends

@@ -25,7 +25,6 @@ use Rattle.pals_runs.specs.declared.journal.Phase.{Phase}
 use Rattle.pals_runs.specs.declared.journal.Phase.TheVariants.{Waiting, Running, Between, Holding, Done}
 use Rattle.pals_runs.specs.declared.journal.Arrived.{Arrived}
 use Rattle.pals_runs.specs.declared.journal.Arrived.TheVariants.{Kept, Ignored, Early}
-use Rattle.pals_runs.specs.declared.journal.Stop.{Stop}
 use Rattle.pals_runs.specs.declared.journal.JournalEntry.{JournalEntry}
 use Rattle.pals_runs.specs.declared.journal.JournalEntry.TheVariants as entry
 use Rattle.bus_machine.specs.Plans.{plan_of, component_at, no_component}
@@ -39,7 +38,7 @@ use Rattle.bus_machine.specs.Machine.{BusEvent, Start, Step, Finish, Send, Arriv
 use Rattle.bus_machine.specs.Machine.{after_start, after_send, after_arrive, on_step, arrival, early_stop}
 use Rattle.bus_machine.specs.Machine.{flight_after_send}
 use Rattle.run_laws.specs.TraceRules.{is_due}
-use Rattle.bus_machine.specs.Replay.{entries, start_entry, stop_entry}
+use Rattle.bus_machine.specs.Replay.{entries, start_entry}
 use Rattle.bus_machine.specs.Agreement.{Agrees}
 use Rattle.bus_machine.specs.proof.AgreementLaws.{IsRunOf}
 use Rattle.bus_machine.proofs.ListsAndOldestCopies.{numbered_at}
@@ -54,7 +53,7 @@ use Rattle.pals_clock.specs.declared.clock.Clocks.TheVariants.{Lists}
 use Rattle.run_laws.specs.Runs.{Takes, KeepsTo, Runs, opens, picks_for, goes_on}
 use Rattle.run_laws.specs.proof.LinkTiming.{early_on, view, LinksAreTimed}
 use Rattle.run_laws.proofs.NodePicks.{runs_agree}
-use Rattle.run_laws.proofs.JournalStartsAndSends.{rounds_are_shown}
+use Rattle.run_laws.proofs.JournalStartsAndSends.{rounds_are_shown, stop_shows}
 use Rattle.run_laws.proofs.LinkEventEffects.{goes_start, goes_send, goes_arrive, slot_after, taken_after, arrived_at}
 use Rattle.run_laws.proofs.MissedLinks.{full_slot}
 use Rattle.run_laws.proofs.MeetingReadings.{no_fall}
@@ -256,10 +255,6 @@ other_stop : (link : LinkNo) (number round : ℕ) (reading : Option ℕ) (a : Ar
 other_stop link number round reading Kept other = refl
 other_stop link number round reading Ignored other = refl
 other_stop link number round reading Early other = ap (λ b. if b then Some round else None) (ne_eqb link.0 number other)
-
-stop_shows : (k : ℕ) (o : Option Stop) → (starts k (stop_entry o) ≡ []) × (sends k (stop_entry o) ≡ [])
-stop_shows k None = (refl, refl)
-stop_shows k (Some why) = (refl, refl)
 
 -- the message of another link: it goes into another slot, or another node's
 arrives_elsewhere : (run : Run) (s : BusState) (other number : ℕ) (l link : Link) (tuple : List PortValue) (a : Arrived)

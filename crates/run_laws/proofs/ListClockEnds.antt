@@ -36,10 +36,10 @@ use Rattle.run_laws.proofs.NodeActions.{IsPlan, length-targets, sized, size}
 use Rattle.run_laws.proofs.TargetPicks.{picks_end}
 use Rattle.run_laws.proofs.NodePicks.{runs_agree, nodes_pick, next_target, plan_rules, node_agrees, readings_are_picks}
 use Rattle.run_laws.proofs.JournalStartsAndSends.{rounds_are_shown}
-use Rattle.run_laws.proofs.LinkEventEffects.{due_if_sent}
+use Rattle.run_laws.proofs.LinkEventEffects.{due_if_sent, sent_of}
 use Rattle.run_laws.proofs.LinkTiming.{links_timed}
 use Rattle.run_laws.proofs.StopCauses.{stops_fit}
-use Rattle.run_laws.proofs.MeetingStopsAndBounds.{sent_of, link_is, source_within, target_within}
+use Rattle.run_laws.proofs.MeetingStopsAndBounds.{link_is, source_within, target_within}
 use Rattle.run_laws.proofs.StartAndSendIndices.{start_place, start_done, send_place, send_done}
 use Rattle.run_laws.proofs.StartSendAndStopPicks.{StopAt, StopPicked, both_chosen, stop_picked}
 

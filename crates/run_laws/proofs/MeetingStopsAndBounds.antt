@@ -3,7 +3,6 @@
 use Rattle.std.proofs.Common.{◌≡◌, ℕ, zero, suc, ◌+◌, ◌-◌, ◌*◌, ◌/◌, ◌<◌, ◌≤◌, max, List, length, slice_get, Option}
 use Rattle.std.proofs.Common.{Some, None, refl, sym, ap, ◌∙◌, subst, arith}
 use Rattle.std.specs.Prelude.{IfSome}
-use Rattle.std.specs.Option.{option_map}
 use Rattle.std.proofs.lemmas.Grind.{common_steps}
 use Rattle.std.proofs.lemmas.Option.{same_Some, get_or_from_slice_get, slice_get_within, slice_get-get_or}
 use Rattle.pals_base.specs.PeriodBound.{alarm, backoff, step_period, sent_steps}
@@ -36,17 +35,9 @@ use Rattle.run_laws.proofs.RisingTargets.{next_alarm}
 use Rattle.run_laws.proofs.StartAndSendReadings.{all_times_fit}
 use Rattle.run_laws.proofs.SentBeforeStart.{alarm_le}
 use Rattle.run_laws.proofs.StopCauses.{stops_fit}
+use Rattle.run_laws.proofs.LinkEventEffects.{sent_of}
 
 -- ---- the reading of a due reading's send
-pub sent_of : (delay : ℕ → ℕ) (xs : List ℕ) (round due : ℕ) → due_of delay xs round ≡ Some due
-    → (at : ℕ) × (slice_get xs round ≡ Some at) × (due ≡ at + delay round)
-sent_of delay xs round due is = by (slice_get xs round) refl is
-  where
-    by : (o : Option ℕ) → slice_get xs round ≡ o → option_map (λ at. at + delay round) o ≡ Some due
-        → (at : ℕ) × (slice_get xs round ≡ Some at) × (due ≡ at + delay round)
-    by None same is' = absurd (cc)
-    by (Some at) same is' = (at, same, sym (same_Some _ _ is'))
-
 pub link_is : (run : Run) (number : ℕ) (link : Link) → slice_get run.design.links number ≡ Some link
     → link_at run.design number ≡ link
 link_is run number link is = get_or_from_slice_get run.design.links number link no_link is

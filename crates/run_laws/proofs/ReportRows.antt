@@ -56,7 +56,8 @@ root_lines design env round =
     ap length (flat_map_single (tap_line_of design env round) (enumerate_from 0 design.taps))
     ∙ length-map_enumerate_from (tap_line_of design env round) 0 design.taps
 
-row_length : (design : DesignParts) (env : Env) (round : ℕ) → length (composed_lines design env round) ≡ row_size design
+pub row_length : (design : DesignParts) (env : Env) (round : ℕ)
+    → length (composed_lines design env round) ≡ row_size design
 row_length design env round =
     let one = component_lines design env round in
     let two = root_lines design env round in

@@ -124,8 +124,8 @@ event_rises run clocks journal s (Arrive link round reading) rules runs keeps =
 event_rises run clocks journal s (Drop link round) rules runs keeps = absurd keeps
 event_rises run clocks journal s (Repeat link round) rules runs keeps = absurd keeps
 
-rise_append : (run : Run) (front xs ys : List JournalEntry) → LinesRise run front xs → LinesRise run (front ++ xs) ys
-    → LinesRise run front (xs ++ ys)
+pub rise_append : (run : Run) (front xs ys : List JournalEntry) → LinesRise run front xs
+    → LinesRise run (front ++ xs) ys → LinesRise run front (xs ++ ys)
 rise_append run front [] ys first second = subst (λ f. LinesRise run f ys) (append-nil front) second
 rise_append run front (x ∷ xs) ys first second = (
   first.0,

@@ -41,12 +41,13 @@ use Rattle.run_laws.specs.proof.WorldInvariant.{IsInTime, RunsSince, IsSentAt, I
 use Rattle.run_laws.specs.proof.WorldInvariant.{KeepsLink, KeepsTime}
 use Rattle.run_laws.proofs.TimeArithmetic.{sent_prompt}
 use Rattle.run_laws.proofs.Lists.{count_more}
-use Rattle.run_laws.proofs.WorldNodeTiming.{fits_at, component_is, MayBe, may_is, Stands, stands_at, left_in_time}
-use Rattle.run_laws.proofs.WorldNodeTiming.{both_in_time, send_in_time, phase_last, send_last, late}
+use Rattle.run_laws.proofs.WorldNodeTiming.{fits_at, MayBe, may_is, Stands, stands_at, left_in_time, both_in_time}
+use Rattle.run_laws.proofs.WorldNodeTiming.{send_in_time, phase_last, send_last, late}
 use Rattle.run_laws.proofs.WorldLinkTiming.{link_is, one_of_true, one_of_false, in_flight_counts, counts_in_flight}
-use Rattle.run_laws.proofs.WorldLinkTiming.{under_way}
+use Rattle.run_laws.proofs.WorldLinkTiming.{under_way, one_true}
 use Rattle.run_laws.proofs.LocalWorldChanges.{changed, stands_put, keeps_again, moved_here, moved_length, moved_other}
 use Rattle.run_laws.proofs.FaultlessEventConditions.{SendsInTime}
+use Rattle.run_laws.proofs.NodePicks.{component_is}
 
 -- ---- a round of a link from the node
 -- the message of the round after those that are sent goes into flight
@@ -84,10 +85,6 @@ send_once count slot sent flight r copy is once =
                 after
           ]
     ]
-
-pub one_is : (b : Bool) → 1 ≤ one_if b → b ≡ true
-one_is true some = refl
-one_is false some = absurd (omega arith)
 
 -- ---- the node's phase
 rest_finished : (rate : ℕ) (all : Bool) (k : ℕ) → finished_steps rate (at_rest all) ≡ Some k → ⊥
@@ -330,7 +327,8 @@ module _ (run : Run) (w : World) (rules : IsRunOf run) (keeps : KeepsTime run w)
             ap (λ k. slice_index_or (sendings w k) r 0) from in
             omega arith
         | inr none ↦
-            let this : is_of r (new_copy number link) ≡ true = one_is (is_of r (new_copy number link)) (omega arith) in
+            let this : is_of r (new_copy number link) ≡ true =
+            one_true (is_of r (new_copy number link)) (omega arith) in
             let is : round_of here ≡ r = eqb-true (round_of here) r this in
             let here_at : r ≡ length moments = sym is ∙ sym many in
             let at : slice_index_or (moments ++ w.time ∷ []) r 0 ≡ w.time =

@@ -231,7 +231,7 @@ send_next run front s readings node round (Some at) are of has none =
     }
 
 -- ---- Arrive
-same_arrived : (a b : Arrived) → same_result a b ≡ true → a ≡ b
+pub same_arrived : (a b : Arrived) → same_result a b ≡ true → a ≡ b
 same_arrived Kept Kept is = refl
 same_arrived Kept Ignored is = absurd (false≢true is)
 same_arrived Kept Early is = absurd (false≢true is)

@@ -60,9 +60,9 @@ noted_is readings None k before within old = old
 noted_is readings (Some t) k before within old =
     noted_by readings t.node k (reading_of t) before (nat_eq t.node k) refl (within t refl) old
 
-pub noted_many : (readings : List ℕ) (o : Option Timed) → length (noted readings o) ≡ length readings
-noted_many readings None = refl
-noted_many readings (Some t) = length-set readings t.node (reading_of t)
+pub length-noted : (readings : List ℕ) (o : Option Timed) → length (noted readings o) ≡ length readings
+length-noted readings None = refl
+length-noted readings (Some t) = length-set readings t.node (reading_of t)
 
 pub latest_one : (design : DesignParts) (k : ℕ) (journal : List JournalEntry) (x : JournalEntry)
     → latest design k (journal ++ x ∷ []) ≡ last_of k (latest design k journal) (timed design x)
@@ -187,7 +187,7 @@ follow_by run front bus readings None e rules of up none =
       history =
           subst (λ j. History run j (after run bus next.event))
           (ap (λ es. front ++ es) next.tells ∙ sym (append_assoc front (e ∷ []) (listed next.more))) then;
-      many = noted_many readings (timed run.design e) ∙ up.many;
+      many = length-noted readings (timed run.design e) ∙ up.many;
       last = noted_last run front readings e rules of up.many up.last;
     })
 follow_by run front bus readings (Some o) e rules of up none =
@@ -202,7 +202,7 @@ follow_by run front bus readings (Some o) e rules of up none =
       history =
           subst (λ j. History run j bus)
           (ap (λ x. front ++ x ∷ []) (sym same) ∙ sym (append-nil (front ++ e ∷ []))) up.history;
-      many = noted_many readings (timed run.design e) ∙ up.many;
+      many = length-noted readings (timed run.design e) ∙ up.many;
       last = noted_last run front readings e rules of up.many up.last;
     }
 

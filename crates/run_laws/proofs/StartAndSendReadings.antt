@@ -10,7 +10,6 @@ use Rattle.pals_base.specs.PeriodBound.{alarm}
 use Rattle.pals_clock.specs.ClockStates.{ClockState}
 use Rattle.pals_runs.specs.declared.journal.Phase.{Phase}
 use Rattle.pals_runs.specs.declared.journal.Phase.TheVariants.{Waiting, Running, Between, Holding, Done}
-use Rattle.pals_runs.specs.declared.journal.Stop.{Stop}
 use Rattle.pals_runs.specs.declared.journal.JournalEntry.{JournalEntry}
 use Rattle.bus_machine.specs.declared.plan.Plan.{Plan}
 use Rattle.bus_machine.specs.Plans.{plan_of}
@@ -19,7 +18,7 @@ use Rattle.bus_machine.specs.States.{Run, BusState, node_at}
 use Rattle.bus_machine.specs.MissedStarts.{missing_link, sent_rounds}
 use Rattle.bus_machine.specs.Machine.{BusEvent, Start, Step, Finish, Send, Arrive, Drop, Repeat, is_allowed, arrival}
 use Rattle.bus_machine.specs.Machine.{early_stop}
-use Rattle.bus_machine.specs.Replay.{entries, start_entry, stop_entry}
+use Rattle.bus_machine.specs.Replay.{entries, start_entry}
 use Rattle.bus_machine.specs.Agreement.{Agrees}
 use Rattle.bus_machine.specs.proof.AgreementLaws.{IsRunOf}
 use Rattle.bus_machine.specs.declared.node_action.NodeAction.TheVariants as action
@@ -31,7 +30,7 @@ use Rattle.pals_clock.specs.declared.clock.Clocks.TheVariants.{Meet, Lists}
 use Rattle.run_laws.specs.Runs.{Shows, Does, KeepsTo, Runs, opens, picks_for, goes_on}
 use Rattle.run_laws.specs.proof.ReadingsAndStops.{IsFor, TimesFit}
 use Rattle.run_laws.proofs.NodePicks.{runs_agree}
-use Rattle.run_laws.proofs.JournalStartsAndSends.{rounds_are_shown}
+use Rattle.run_laws.proofs.JournalStartsAndSends.{rounds_are_shown, stop_shows}
 use Rattle.run_laws.proofs.LinkTiming.{unsent_round}
 
 -- ---- lists
@@ -99,10 +98,6 @@ by_node times clocks shown node k at round (Some t) true is shows size for fit =
 by_node times clocks shown node k at round (Some t) false is shows size for fit =
     none_more times clocks shown [] refl fit
 
-stop_shows : (k : ℕ) (o : Option Stop) → (starts k (stop_entry o) ≡ []) × (sends k (stop_entry o) ≡ [])
-stop_shows k None = (refl, refl)
-stop_shows k (Some why) = (refl, refl)
-
 -- ---- each event
 start_starts : (run : Run) (clocks : Clocks) (s : BusState) (node : NodeNo) (reading m : Option ℕ) (k : ℕ)
     (shown : List ℕ) → Does run clocks s node reading (action.Start (node_at s node.0).count)
@@ -117,7 +112,7 @@ start_starts run clocks s node reading None k shown does size fit =
     (λ same. subst (λ j. IsFor clocks (alarm (plan_of run.design j).period (node_at s j).count) does.at) same
     (shown_for run clocks s node.0 _ does.at does.shows)) fit
 
-start_sends : (run : Run) (s : BusState) (node : NodeNo) (reading m : Option ℕ) (k : ℕ)
+pub start_sends : (run : Run) (s : BusState) (node : NodeNo) (reading m : Option ℕ) (k : ℕ)
     → sends k (start_entry run s node reading m ∷ []) ≡ []
 start_sends run s node reading None k = refl
 start_sends run s node reading (Some link) k = refl

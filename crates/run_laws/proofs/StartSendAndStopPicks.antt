@@ -23,7 +23,7 @@ use Rattle.bus_machine.specs.States.{Run, BusState, node_at, flight_at, link_at,
 use Rattle.bus_machine.specs.MissedStarts.{missing_link, sent_rounds}
 use Rattle.bus_machine.specs.Machine.{BusEvent, Start, Step, Finish, Send, Arrive, Drop, Repeat, is_allowed, after}
 use Rattle.bus_machine.specs.Machine.{after_start, after_arrive, arrival, early_stop}
-use Rattle.bus_machine.specs.Replay.{entries, start_entry, stop_entry}
+use Rattle.bus_machine.specs.Replay.{entries, start_entry}
 use Rattle.bus_machine.specs.proof.AgreementLaws.{IsRunOf}
 use Rattle.bus_machine.specs.declared.node_action.NodeAction.{NodeAction}
 use Rattle.bus_machine.specs.declared.node_action.NodeAction.TheVariants as action
@@ -39,10 +39,10 @@ use Rattle.run_laws.proofs.TargetPicks.{pick_at}
 use Rattle.run_laws.proofs.ProgressByEvent.{action_is}
 use Rattle.run_laws.proofs.NodePicks.{runs_agree, many_clocks, nodes_pick, next_target, acting_by, plan_rules, held_of}
 use Rattle.run_laws.proofs.NodePicks.{node_agrees}
-use Rattle.run_laws.proofs.JournalStartsAndSends.{rounds_are_shown}
+use Rattle.run_laws.proofs.JournalStartsAndSends.{rounds_are_shown, stop_shows}
 use Rattle.run_laws.proofs.MissedLinks.{missed_link}
 use Rattle.run_laws.proofs.LinkTiming.{unsent_round, with_message_count}
-use Rattle.run_laws.proofs.StartAndSendReadings.{got_more, send_round}
+use Rattle.run_laws.proofs.StartAndSendReadings.{got_more, send_round, start_sends}
 use Rattle.run_laws.proofs.MeetingStopsAndBounds.{link_is}
 
 -- ---- what a node does is its list's pick
@@ -130,10 +130,6 @@ by_node run clocks action shown node k at round (Some t) true is shows size for 
 by_node run clocks action shown node k at round (Some t) false is shows size for all =
     none_more run clocks k action shown [] refl all
 
-stop_shows : (k : ℕ) (o : Option Stop) → (starts k (stop_entry o) ≡ []) × (sends k (stop_entry o) ≡ [])
-stop_shows k None = (refl, refl)
-stop_shows k (Some why) = (refl, refl)
-
 start_starts : (run : Run) (clocks : List ClockState) (journal : List JournalEntry) (s : BusState) (node : NodeNo)
     (reading m : Option ℕ) (k : ℕ) → IsRunOf run → Runs run (Lists clocks) journal s
     → Does run (Lists clocks) s node reading (action.Start (node_at s node.0).count)
@@ -147,11 +143,6 @@ start_starts run clocks journal s node reading None k rules runs does all =
     does.reading_is (λ same. (rounds_are_shown run (Lists clocks) journal s k rules runs).0)
     (λ same. subst (λ j. IsPickFor run clocks j (action.Start (node_at s j).count) does.at) same
     (does_pick run clocks journal s node reading (action.Start (node_at s node.0).count) rules runs does)) all
-
-start_sends : (run : Run) (s : BusState) (node : NodeNo) (reading m : Option ℕ) (k : ℕ)
-    → sends k (start_entry run s node reading m ∷ []) ≡ []
-start_sends run s node reading None k = refl
-start_sends run s node reading (Some link) k = refl
 
 event_starts : (run : Run) (clocks : List ClockState) (journal : List JournalEntry) (s : BusState) (e : BusEvent)
     (k : ℕ) → IsRunOf run → Runs run (Lists clocks) journal s → KeepsTo run (Lists clocks) s e

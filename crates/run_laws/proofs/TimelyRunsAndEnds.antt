@@ -35,9 +35,10 @@ use Rattle.run_laws.specs.proof.TimelyRunsAndEnds.{PickedAreDone}
 use Rattle.run_laws.proofs.NodePicks.{runs_agree, node_agrees}
 use Rattle.run_laws.proofs.JournalStartsAndSends.{rounds_are_shown}
 use Rattle.run_laws.proofs.StopCauses.{stops_fit}
-use Rattle.run_laws.proofs.MeetingStopsAndBounds.{sent_of, source_within, bounds, meetings_stop}
+use Rattle.run_laws.proofs.MeetingStopsAndBounds.{source_within, bounds, meetings_stop}
 use Rattle.run_laws.proofs.ListClockEnds.{done_are_picked, ended_picks_end, lists_stop}
 use Rattle.run_laws.proofs.RunTermination.{ends_are_named}
+use Rattle.run_laws.proofs.LinkEventEffects.{sent_of}
 
 -- ---- what hangs on the readings of lists alone
 readings_at : (node : ℕ) (clocks : List ClockState)

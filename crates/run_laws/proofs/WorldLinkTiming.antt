@@ -27,7 +27,7 @@ use Rattle.run_laws.proofs.Lists.{found_is_one, one_is_found}
 use Rattle.run_laws.proofs.WorldNodeTiming.{fits_at, done_or, done_all, late, behind, rounds_at_most}
 
 -- ---- ones
-one_true : (b : Bool) → 1 ≤ one_if b → b ≡ true
+pub one_true : (b : Bool) → 1 ≤ one_if b → b ≡ true
 one_true true some = refl
 one_true false some = absurd (omega arith)
 

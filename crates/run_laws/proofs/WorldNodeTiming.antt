@@ -5,7 +5,6 @@ use Rattle.std.proofs.Common.{◌∷◌, length, slice_get, Option, Some, None, 
 use Rattle.std.specs.Prelude.{max, min, not, nat_le, if◌then◌else◌, fold}
 use Rattle.std.specs.Option.{option_map_or}
 use Rattle.std.proofs.lemmas.Bool.{and_from, and_parts, not-true, leb-true, le-leb, cases_lt, false≢true}
-use Rattle.std.proofs.lemmas.Option.{slice_get-get_or}
 use Rattle.pals_base.specs.declared.values.Gamma.{Gamma}
 use Rattle.pals_base.specs.PeriodBound.{alarm}
 use Rattle.pals_model.specs.declared.design.Component.{Component}
@@ -15,7 +14,7 @@ use Rattle.pals_runs.specs.declared.journal.Phase.{Phase}
 use Rattle.pals_runs.specs.declared.journal.Phase.TheVariants.{Waiting, Running, Between, Holding, Done}
 use Rattle.bound_checker.specs.proof.MessageTimes.{IsNear}
 use Rattle.bus_machine.specs.declared.plan.Plan.{Plan}
-use Rattle.bus_machine.specs.Plans.{plan_of, component_at, no_component}
+use Rattle.bus_machine.specs.Plans.{plan_of, component_at}
 use Rattle.bus_machine.specs.Nodes.{NodeState, round_of, finished_steps}
 use Rattle.bus_machine.specs.NodeEvents.{may_send}
 use Rattle.bus_machine.specs.EarliestReadings.{start_alarm, step_alarm, release_alarm}
@@ -28,6 +27,7 @@ use Rattle.run_laws.specs.Deadlines.{last_before, lesser, phase_deadline, node_d
 use Rattle.run_laws.specs.proof.WorldInvariant.{IsInTime, KeepsNode, KeepsSends, KeepsTime}
 use Rattle.run_laws.proofs.TimeArithmetic.{Fits, fits, alarm_next, alarm_after, next_after_skew, late_running}
 use Rattle.run_laws.proofs.TimeArithmetic.{late_between, unsent_running, unsent_between, unsent_ready}
+use Rattle.run_laws.proofs.NodePicks.{component_is}
 
 -- ---- last allowed times
 pub left_in_time : (t a : ℕ) (b : Option ℕ) → IsInTime t (lesser (Some a) b) → t ≤ a
@@ -132,10 +132,6 @@ one_below k (d ∷ cs) zero c is =
     begins_below (max k d.rate) cs in
     omega arith
 one_below k (d ∷ cs) (suc at) c is = one_below (max k d.rate) cs at c is
-
-pub component_is : (run : Run) (node : ℕ) → node < length run.design.components
-    → slice_get run.design.components node ≡ Some (component_at run.design node)
-component_is run node within = slice_get-get_or run.design.components node no_component within
 
 pub fits_at : (run : Run) (node : ℕ) → IsRunOf run → node < length run.design.components → FitsAt run node
 fits_at run node rules within =

@@ -1,6 +1,6 @@
 -- What an audit keeps from line to line.
 use Rattle.std.proofs.Common.{◌≡◌, ℕ, zero, suc, Bool, true, not, cond, List, ◌∷◌, length, map, Option, Some, None}
-use Rattle.std.proofs.Common.{refl, sym, ap, ◌∙◌, length-set}
+use Rattle.std.proofs.Common.{refl, sym, ap, ◌∙◌}
 use Rattle.std.specs.Prelude.{is_some, replicate, IfSome}
 use Rattle.std.specs.Option.{unwrap_or}
 use Rattle.pals_base.specs.StepSequences.{upwards}
@@ -13,7 +13,7 @@ use Rattle.bus_machine.specs.Nodes.{NodeState}
 use Rattle.bus_machine.specs.States.{Run, BusState, opening}
 use Rattle.bus_machine.specs.Machine.{BusEvent, after}
 use Rattle.run_laws.specs.EntriesOfDesigns.{IsEntryIn}
-use Rattle.run_laws.specs.EntriesInLines.{Timed, event_of, has_reading, timed}
+use Rattle.run_laws.specs.EntriesInLines.{event_of, has_reading, timed}
 use Rattle.run_laws.specs.TraceRules.{broken, is_line_of}
 use Rattle.run_laws.specs.TraceVerdicts.{Audit, audit_after, audit_event, line_broken, noted}
 use Rattle.trace_audit.specs.proof.OwedStops.{owed_by}
@@ -31,10 +31,6 @@ zeros f from (suc n) = ap (λ ks. 0 ∷ ks) (zeros f (suc from) n)
 pub no_readings : (run : Run)
     → map {B = ℕ} (λ (_ : NodeState). 0) (opening run).nodes ≡ replicate (length run.design.components) 0
 no_readings run = zeros _ 0 (length run.design.components)
-
-pub length-noted : (readings : List ℕ) (t : Option Timed) → length (noted readings t) ≡ length readings
-length-noted readings None = refl
-length-noted readings (Some t) = length-set readings t.node (unwrap_or t.reading 0)
 
 pub owed_within : (design : DesignParts) (e : JournalEntry) → IsEntryIn design e → IfSome (owed_by e) (IsEntryIn design)
 owed_within design (entry.Arrive link round reading Kept) fits = tt

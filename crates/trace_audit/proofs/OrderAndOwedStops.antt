@@ -1,55 +1,30 @@
 -- An entry tells the round and step that its event has on the bus, or breaks rule `Order`; and which stop it owes
 -- behind it.
-use Rattle.std.proofs.Common.{◌≡◌, ◌≢◌, ℕ, nat_eq, Bool, true, false, ◌&&◌, List, ◌∷◌, Option, Some, None, refl, sym}
-use Rattle.std.proofs.Common.{ap, ap₂, ◌∙◌}
+use Rattle.std.proofs.Common.{◌≡◌, ℕ, nat_eq, Bool, true, false, ◌&&◌, List, ◌∷◌, Option, Some, None, refl, sym, ap}
+use Rattle.std.proofs.Common.{ap₂, ◌∙◌}
 use Rattle.std.specs.Prelude.{is_some, is_none, option_and_then}
 use Rattle.std.specs.Option.{option_map_or, unwrap_or}
 use Rattle.std.proofs.lemmas.Bool.{and_parts, eqb-true, eq-eqb, and_right}
 use Rattle.pals_base.specs.declared.values.NodeNo.{NodeNo}
-use Rattle.pals_runs.specs.declared.journal.Arrived.{Arrived}
-use Rattle.pals_runs.specs.declared.journal.Arrived.TheVariants.{Kept, Ignored, Early}
+use Rattle.pals_runs.specs.declared.journal.Arrived.TheVariants.{Early}
 use Rattle.pals_runs.specs.declared.journal.Stop.{Stop}
 use Rattle.pals_runs.specs.declared.journal.Stop.TheVariants as stop
 use Rattle.pals_runs.specs.declared.journal.JournalEntry.{JournalEntry}
 use Rattle.pals_runs.specs.declared.journal.JournalEntry.TheVariants as entry
 use Rattle.pals_runs.specs.declared.journal.Phase.{Phase}
-use Rattle.pals_runs.specs.declared.journal.Phase.TheVariants.{Waiting, Running, Between, Holding, Done}
 use Rattle.pals_runs.specs.declared.verdicts.TraceRule.TheVariants as rule
 use Rattle.bus_machine.specs.Nodes.{round_of}
-use Rattle.bus_machine.specs.NodeEvents.{is_waiting, next_step, running_step}
+use Rattle.bus_machine.specs.NodeEvents.{next_step}
 use Rattle.bus_machine.specs.States.{Run, BusState, node_at}
 use Rattle.bus_machine.specs.Machine.{BusEvent, Step, arrival, early_stop}
 use Rattle.bus_machine.specs.Replay.{entries, stop_entry}
 use Rattle.run_laws.specs.EntriesInLines.{event_of, timed}
-use Rattle.run_laws.specs.TraceRules.{broken, falls, first_entry, fits, is_in_order, same_result, tells_stop, too_early}
-use Rattle.run_laws.specs.TraceRules.{waits}
+use Rattle.run_laws.specs.TraceRules.{broken, falls, first_entry, fits, is_in_order, tells_stop, too_early, waits}
 use Rattle.run_laws.specs.TraceVerdicts.{second_entry}
-use Rattle.pals_node.specs.proof.Answers.{is_busy}
+use Rattle.run_laws.proofs.SoundEntries.{same_arrived}
 use Rattle.trace_audit.specs.proof.FirstBrokenRule.{first_rule}
 use Rattle.trace_audit.specs.proof.OwedStops.{owed_by, stop_of}
 use Rattle.trace_audit.proofs.BrokenRules.{refused, unfit}
-
--- ---- phases
-pub busy_waits : (p : Phase) → is_busy p ≡ true → is_waiting p ≡ false
-busy_waits Waiting busy = sym busy
-busy_waits (Running i) busy = refl
-busy_waits (Between i) busy = refl
-busy_waits Holding busy = refl
-busy_waits Done busy = refl
-
-pub none_between : (p : Phase) → ((i : ℕ) → p ≢ Between i) → is_some (next_step p) ≡ false
-none_between Waiting none = refl
-none_between (Running i) none = refl
-none_between (Between i) none = absurd (none i refl)
-none_between Holding none = refl
-none_between Done none = refl
-
-pub none_running : (p : Phase) → ((i : ℕ) → p ≢ Running i) → is_some (running_step p) ≡ false
-none_running Waiting none = refl
-none_running (Running i) none = absurd (none i refl)
-none_running (Between i) none = refl
-none_running Holding none = refl
-none_running Done none = refl
 
 -- ---- steps
 pub next_is : (step : ℕ) (p : Phase) → option_map_or (nat_eq step) (next_step p) false ≡ true → next_step p ≡ Some step
@@ -88,18 +63,6 @@ step_breaks run s readings node round step reading is = by (next_step (node_at s
         (nat_eq step (unwrap_or (next_step (node_at s node.0).phase) 0))
         (ap (λ o. nat_eq step (unwrap_or o 0)) next ∙ is'))
 
--- ---- arrivals
-pub results_same : (a b : Arrived) → same_result a b ≡ true → a ≡ b
-results_same Kept Kept same = refl
-results_same Kept Ignored same = absurd (cc)
-results_same Kept Early same = absurd (cc)
-results_same Ignored Kept same = absurd (cc)
-results_same Ignored Ignored same = refl
-results_same Ignored Early same = absurd (cc)
-results_same Early Kept same = absurd (cc)
-results_same Early Ignored same = absurd (cc)
-results_same Early Early same = refl
-
 -- ---- what is owed behind an entry
 second_of : (x : JournalEntry) (o : Option Stop) → second_entry (x ∷ stop_entry o) ≡ stop_of o
 second_of x None = refl
@@ -114,7 +77,7 @@ unfolding second
 second_is run s (entry.Arrive link round reading outcome) fit =
     second_of (entry.Arrive link round reading (arrival run s link round))
     (early_stop link round reading (arrival run s link round))
-    ∙ ap (λ a. stop_of (early_stop link round reading a)) (sym (results_same outcome (arrival run s link round) fit))
+    ∙ ap (λ a. stop_of (early_stop link round reading a)) (sym (same_arrived outcome (arrival run s link round) fit))
 second_is run s (entry.Start node round reading) fit = refl
 second_is run s (entry.Step node round step reading) fit = refl
 second_is run s (entry.Finish node round) fit = refl

@@ -1,25 +1,21 @@
 -- In which round and at which line of its row each line of a report stands.
 use Rattle.std.proofs.Common.{◌≡◌, ◌≢◌, inl, inr, ◌⊎◌, ℕ, ◌+◌, ◌-◌, ◌*◌, ◌/◌, ◌%◌, ◌<◌, ◌≤◌, List, [], ◌∷◌, length}
-use Rattle.std.proofs.Common.{drop, flat_map, Some, sym, ap, ap₂, ◌∙◌, subst, arith, length-append}
-use Rattle.std.specs.Prelude.{slice_index_or}
-use Rattle.std.specs.List.{enumerate_from}
+use Rattle.std.proofs.Common.{drop, Some, sym, ap, ap₂, ◌∙◌, subst, arith}
 use Rattle.std.proofs.lemmas.Bool.{cases_lt}
 use Rattle.std.proofs.lemmas.List.{drop_more}
-use Rattle.std.proofs.lemmas.List.Concat.{flat_map_single}
 use Rattle.std.proofs.lemmas.List.Elements.{All-get_or}
 use Rattle.std.proofs.lemmas.Nat.{div-mul-add, mod-mul-add}
 use Rattle.std.proofs.Math.Nat.{div-add-mod', mod-lt, add_assoc}
-use Rattle.list_lemmas.proofs.ListOperations.{length-map_enumerate_from}
-use Rattle.pals_model.specs.declared.design.Component.{Component}
-use Rattle.pals_model.specs.declared.design.Tap.{Tap}
 use Rattle.pals_model.specs.declared.design.DesignParts.{DesignParts}
 use Rattle.pals_model.specs.declared.inputs_parts_and_delays.Env.{Env}
 use Rattle.pals_model.specs.Composition.{part}
 use Rattle.pals_model.specs.proof.CompositionLaws.Lines.{IsLine}
-use Rattle.pals_model.specs.RoundTexts.{component_line, part_lines, tap_lines, composed_lines}
+use Rattle.pals_model.specs.RoundTexts.{composed_lines}
 use Rattle.pals_model.specs.DesignRules.{IsDesign}
 use Rattle.pals_model.proofs.LineLaws.{row_has_lines}
 use Rattle.run_laws.specs.TraceVerdicts.{row_size, line_at}
+use Rattle.run_laws.proofs.ReportRows.{row_length, row_some}
+use Rattle.run_laws.proofs.TimeArithmetic.{step_next}
 use Rattle.trace_audit.specs.proof.ReportRows.{rows_begun, left_at}
 
 -- ---- rounds
@@ -28,19 +24,16 @@ begun_at q size r more is none =
     let same : (p : ℕ) → p + r + more ≡ p + more = λ p. omega arith in
     ap (λ k. k / size) (same (q * size)) ∙ div-mul-add q size more (omega arith)
 
-one_more : (q size : ℕ) → (q + 1) * size ≡ q * size + size
-one_more q size = grind arith
-
 begun_in : (q size r more : ℕ) → size ≡ 1 + more → r ≢ 0 → r < size → (q * size + r + more) / size ≡ q + 1
 begun_in q size r more is some within =
     let same : (p : ℕ) → p + r + more ≡ p + size + (r - 1) = λ p. omega arith in
-    ap (λ k. k / size) (same (q * size) ∙ ap (λ k. k + (r - 1)) (sym (one_more q size)))
+    ap (λ k. k / size) (same (q * size) ∙ ap (λ k. k + (r - 1)) (sym (step_next size q)))
     ∙ div-mul-add (q + 1) size (r - 1) (omega arith)
 
 begun_next : (q size r more : ℕ) → size ≡ 1 + more → r < size → (q * size + r + 1 + more) / size ≡ q + 1
 begun_next q size r more is within =
     let same : (p : ℕ) → p + r + 1 + more ≡ p + size + r = λ p. omega arith in
-    ap (λ k. k / size) (same (q * size) ∙ ap (λ k. k + r) (sym (one_more q size))) ∙ div-mul-add (q + 1) size r within
+    ap (λ k. k / size) (same (q * size) ∙ ap (λ k. k + r) (sym (step_next size q))) ∙ div-mul-add (q + 1) size r within
 
 row_next : (q size r : ℕ) → r < size → (q * size + r + 1) % size ≢ 0
     → ((q * size + r + 1) / size ≡ q) × ((q * size + r + 1) % size ≡ r + 1)
@@ -56,14 +49,11 @@ row_next q size r within some = by (cases_lt (r + 1) size)
     )
     by (inr ge) =
         let last : (p : ℕ) → p + r + 1 ≡ p + size + 0 = λ p. omega arith in
-        absurd (some (ap (λ k. k % size) (last (q * size) ∙ ap (λ k. k + 0) (sym (one_more q size)))
+        absurd (some (ap (λ k. k % size) (last (q * size) ∙ ap (λ k. k + 0) (sym (step_next size q)))
         ∙ mod-mul-add (q + 1) size 0 (omega arith)))
 
-some_rows : (design : DesignParts) → 0 < row_size design
-some_rows design = omega arith
-
 pub place_within : (design : DesignParts) (index : ℕ) → index % row_size design < row_size design
-place_within design index = mod-lt index (some_rows design)
+place_within design index = mod-lt index (row_some design)
 
 split : (design : DesignParts) (index : ℕ) → index ≡ index / row_size design * row_size design + index % row_size design
 split design index = sym (div-add-mod' index (row_size design))
@@ -78,7 +68,7 @@ zero_mod : (n : ℕ) → 0 < n → 0 % n ≡ 0
 zero_mod n some = let same : 0 ≡ 0 * n + 0 = omega arith in ap (λ k. k % n) same ∙ mod-mul-add 0 n 0 some
 
 pub first_place : (design : DesignParts) → 0 % row_size design ≡ 0
-first_place design = zero_mod (row_size design) (some_rows design)
+first_place design = zero_mod (row_size design) (row_some design)
 
 pub begun_first : (design : DesignParts) (index : ℕ) → index % row_size design ≡ 0
     → rows_begun design index ≡ index / row_size design
@@ -90,7 +80,7 @@ begun_first design index none =
     ∙ begun_at (index / size) size (index % size) (a + b) (size_is a b) none
 
 pub none_begun : (design : DesignParts) → rows_begun design 0 ≡ 0
-none_begun design = begun_first design 0 (first_place design) ∙ zero_div (row_size design) (some_rows design)
+none_begun design = begun_first design 0 (first_place design) ∙ zero_div (row_size design) (row_some design)
 
 pub begun_later : (design : DesignParts) (index : ℕ) → index % row_size design ≢ 0
     → rows_begun design index ≡ index / row_size design + 1
@@ -110,38 +100,6 @@ begun_after design index =
     ∙ begun_next (index / size) size (index % size) (a + b) (size_is a b) (place_within design index)
 
 -- ---- the lines of a row
-component_count : (design : DesignParts) (env : Env) (round : ℕ)
-    → length (flat_map (λ numbered. part_lines numbered.1 (Some (part design env numbered.0 round)))
-    (enumerate_from 0 design.components)) ≡ length design.components
-component_count design env round =
-    let f =
-    λ (numbered : ℕ × Component).
-    component_line numbered.1.path numbered.1.behaviour (part design env numbered.0 round).frame in
-    ap length (flat_map_single f (enumerate_from 0 design.components)) ∙ length-map_enumerate_from f 0 design.components
-
-abbrev tap_at : DesignParts → Env → ℕ → ℕ × Tap → List ℕ
-tap_at design env round numbered =
-    slice_index_or (tap_lines design numbered.0 numbered.1 (Some (part design env numbered.1.source.0 round))) 0 []
-
-tap_count : (design : DesignParts) (env : Env) (round : ℕ)
-    → length (flat_map (λ numbered.
-    tap_lines design numbered.0 numbered.1 (Some (part design env numbered.1.source.0 round)))
-    (enumerate_from 0 design.taps)) ≡ length design.taps
-tap_count design env round =
-    ap length (flat_map_single (tap_at design env round) (enumerate_from 0 design.taps))
-    ∙ length-map_enumerate_from (tap_at design env round) 0 design.taps
-
-row_length : (design : DesignParts) (env : Env) (round : ℕ) → length (composed_lines design env round) ≡ row_size design
-row_length design env round =
-    let one = component_count design env round in
-    let two = tap_count design env round in
-    let both =
-    length-append (flat_map (λ numbered. part_lines numbered.1 (Some (part design env numbered.0 round)))
-    (enumerate_from 0 design.components))
-    (flat_map (λ numbered. tap_lines design numbered.0 numbered.1
-    (Some (part design env numbered.1.source.0 round))) (enumerate_from 0 design.taps)) in
-    omega arith
-
 place_there : (design : DesignParts) (env : Env) (index : ℕ)
     → index % row_size design < length (composed_lines design env (index / row_size design))
 place_there design env index =

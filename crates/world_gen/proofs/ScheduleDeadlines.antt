@@ -29,11 +29,12 @@ use Rattle.run_laws.specs.EventFaults.{fault_of}
 use Rattle.bus_machine.proofs.LoneNodeAgreement.{MaySend, may_send_of}
 use Rattle.run_laws.specs.proof.WorldInvariant.{IsInTime, copies}
 use Rattle.world_gen.specs.proof.Schedules.{step_time, finish_time, send_time, arrive_time, step_count, events_at}
-use Rattle.run_laws.proofs.WorldNodeTiming.{may_is, component_is, phase_agrees, rounds_at_most, both_in_time}
-use Rattle.run_laws.proofs.WorldNodeTiming.{sends_in_time, phase_last, send_last, deadline_is}
+use Rattle.run_laws.proofs.WorldNodeTiming.{may_is, phase_agrees, rounds_at_most, both_in_time, sends_in_time}
+use Rattle.run_laws.proofs.WorldNodeTiming.{phase_last, send_last, deadline_is}
 use Rattle.run_laws.proofs.WorldLinkTiming.{rule_of, one_of_true, under_way}
 use Rattle.world_gen.proofs.FaultlessEvents.{pass_is_fine, replicate_at}
 use Rattle.run_laws.proofs.TimePassage.{passes_in_time, pass_keeps_time}
+use Rattle.run_laws.proofs.NodePicks.{component_is}
 use Rattle.world_gen.proofs.ScheduleTimes.{Made, made_later, which_none, step_is, some_rate}
 use Rattle.world_gen.proofs.QuietTimes.{IsQuiet, is_quiet}
 use Rattle.world_gen.proofs.WorldsOnSchedule.{begun_by, ended_by, NodeFollows, Follows}

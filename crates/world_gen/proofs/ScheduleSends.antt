@@ -28,11 +28,11 @@ use Rattle.run_laws.specs.proof.WorldInvariant.{copies, one_if}
 use Rattle.world_gen.specs.proof.Schedules.{step_time, finish_time, send_time, arrive_time, which, step_count}
 use Rattle.run_laws.proofs.Lists.{count_more}
 use Rattle.run_laws.proofs.WorldNodeTiming.{fits_at, may_be, phase_agrees, rounds_at_most}
-use Rattle.run_laws.proofs.WorldLinkTiming.{one_of_true}
+use Rattle.run_laws.proofs.WorldLinkTiming.{one_of_true, one_true}
 use Rattle.run_laws.proofs.FaultlessEventConditions.{SendsInTime, sends_in_time}
 use Rattle.world_gen.proofs.FaultlessEvents.{send_is_fine}
 use Rattle.run_laws.proofs.LocalWorldChanges.{moved_here, moved_other}
-use Rattle.run_laws.proofs.SendTiming.{runs_before, one_is}
+use Rattle.run_laws.proofs.SendTiming.{runs_before}
 use Rattle.run_laws.proofs.SendTiming as send
 use Rattle.world_gen.proofs.ScheduleTimes.{Made, which_is, which_next, made_next, step_is, sends_rise, send_after}
 use Rattle.world_gen.proofs.ScheduleTimes.{some_rate}
@@ -271,7 +271,7 @@ module _ (run : Run) (rules : IsRunOf run) (w : World) (moment : ℕ) (fin st se
               elim (cases_lt 0 (copies round flight)) [
                 | inl old ↦ before.waits round old
                 | inr none ↦
-                    let this : is_of round copy ≡ true = one_is (is_of round copy) (omega arith) in
+                    let this : is_of round copy ≡ true = one_true (is_of round copy) (omega arith) in
                     let same : here.count - 1 ≡ round = eqb-true (here.count - 1) round this in
                     let at_number : arrive_time run.design l round ≡ arrive_time run.design l number =
                     ap (arrive_time run.design l) (sym same ∙ sym last) in

@@ -13,7 +13,8 @@ use Rattle.bus_machine.specs.States.{Run}
 use Rattle.bus_machine.specs.proof.AgreementLaws.{IsRunOf}
 use Rattle.bus_machine.proofs.ListsAndOldestCopies.{none_found}
 use Rattle.world_gen.specs.proof.Schedules.{step_time, finish_time, send_time, which}
-use Rattle.run_laws.proofs.WorldNodeTiming.{FitsAt, fits_at, component_is}
+use Rattle.run_laws.proofs.WorldNodeTiming.{FitsAt, fits_at}
+use Rattle.run_laws.proofs.NodePicks.{component_is}
 
 -- ---- which one
 pub which_is : (time : ℕ → ℕ) (count moment number : ℕ) → which time count moment ≡ Some number

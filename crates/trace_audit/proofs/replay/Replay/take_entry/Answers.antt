@@ -4,9 +4,10 @@ use Rattle.pals_model.specs.declared.design.DesignParts.{DesignParts}
 use Rattle.bus_machine.specs.States.{Run}
 use Rattle.run_laws.specs.EntriesOfDesigns.{IsEntryIn}
 use Rattle.run_laws.specs.TraceVerdicts.{noted}
+use Rattle.run_laws.proofs.SoundTraces.{length-noted}
 use Rattle.pals_bus.specs.BusValues.{BusValue}
 use Rattle.trace_audit.specs.proof.OwedStops.{owed_by}
-use Rattle.trace_audit.proofs.AuditInvariant.{audit_next, length-noted, owed_within}
+use Rattle.trace_audit.proofs.AuditInvariant.{audit_next, owed_within}
 use Rattle.trace_audit.proofs.replay.Replay.take_entry.Goals as goal
 
 pub returns-clause-next : goal.returns-clause-next
