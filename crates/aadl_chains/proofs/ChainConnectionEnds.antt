@@ -5,6 +5,7 @@ use Rattle.std.proofs.Common.{Some, refl, sym, ap, subst, ◌∙◌}
 use Rattle.std.proofs.lemmas.Option.{same_Some}
 use Rattle.list_lemmas.proofs.Elements.{Contains-nil}
 use Rattle.list_lemmas.proofs.ElementPositions.{slice_get-from_Contains, Contains-from_slice_get}
+use Rattle.list_lemmas.proofs.Booleans.{opposed}
 use Rattle.aadl_tree.specs.declared.declarations.Direction.TheVariants as directions
 use Rattle.aadl_tree.specs.Declarations.{PackageTree}
 use Rattle.aadl_names.specs.declared.port_place.PortPlace.{PortPlace}
@@ -17,8 +18,8 @@ use Rattle.aadl_chains.specs.proof.PortsJoinedOutside.{LeadsOut, of_root, of_own
 use Rattle.aadl_chains.specs.Chains.{Port, Place, port_at, Goes, Leads, is_in, IsStart, IsEnd}
 use Rattle.aadl_chains.specs.proof.DeclaredEnds.{MayLeave, MayEnter, NotBothOwn, AreDeclared}
 use Rattle.aadl_chains.specs.proof.ConnectionsOnChains.{IsOnWay}
-use Rattle.aadl_chains.proofs.ConnectionsOnChains.{port, opposed, next_at, below_at, is_in-at, thread_from}
-use Rattle.aadl_chains.proofs.ConnectionsOnChains.{wire_of_goes, among_goes, Chained}
+use Rattle.aadl_chains.proofs.ConnectionsOnChains.{port, next_at, below_at, is_in-at, thread_from, wire_of_goes}
+use Rattle.aadl_chains.proofs.ConnectionsOnChains.{among_goes, Chained}
 
 module _ (tree : PackageTree ℕ) (root : ℕ) where
   -- connections one behind the other, the first of them first

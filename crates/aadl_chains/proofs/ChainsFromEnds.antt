@@ -1,10 +1,9 @@
 -- Each port has at most one connection into it, and none goes into where chains begin. So a chain is found from its
 -- end.
-use Rattle.std.proofs.Common.{◌≡◌, ℕ, Bool, true, false, List, [], ◌∷◌, Some, slice_get, refl, sym, ap, ◌∙◌, subst, inl}
-use Rattle.std.proofs.Common.{inr}
+use Rattle.std.proofs.Common.{◌≡◌, ℕ, true, false, List, [], ◌∷◌, Some, slice_get, refl, sym, ap, ◌∙◌, subst, inl, inr}
 use Rattle.std.specs.Option.{option_and_then}
-use Rattle.std.proofs.lemmas.Bool.{true≢false}
 use Rattle.std.proofs.lemmas.Option.{same_Some}
+use Rattle.list_lemmas.proofs.Booleans.{opposed}
 use Rattle.aadl_tree.specs.Declarations.{Connection, Implementation, PackageTree}
 use Rattle.aadl_names.specs.declared.port_place.PortPlace.{PortPlace}
 use Rattle.aadl_names.specs.declared.port_place.PortPlace.TheVariants.{Own, Inner}
@@ -23,9 +22,6 @@ place_by a b path number =
     let second : record { path = b.path; connection = a.connection }
     ≡ b = ap (λ i. record { path = b.path; connection = i }) number in
     first ∙ second
-
-opposed : (b : Bool) → b ≡ true → b ≡ false → ⊥
-opposed b e f = true≢false (sym e ∙ f)
 
 module _ (tree : PackageTree ℕ) (root : ℕ) where
   -- what stands at a path has its own ports there

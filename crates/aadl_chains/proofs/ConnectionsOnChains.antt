@@ -1,8 +1,8 @@
 -- If the ends of a connection in use lead to where chains begin and end, the connection is on a chain at some place.
-use Rattle.std.proofs.Common.{◌≡◌, inl, inr, ℕ, zero, suc, Bool, true, false, List, [], ◌∷◌, ◌++◌, map, slice_get}
-use Rattle.std.proofs.Common.{Contains, Option, Some, None, option_map, refl, sym, ap, subst, ◌∙◌}
+use Rattle.std.proofs.Common.{◌≡◌, inl, inr, ℕ, zero, suc, true, false, List, [], ◌∷◌, ◌++◌, map, slice_get, Contains}
+use Rattle.std.proofs.Common.{Option, Some, None, option_map, refl, sym, ap, subst, ◌∙◌}
 use Rattle.std.specs.Option.{option_and_then}
-use Rattle.std.proofs.lemmas.Bool.{true≢false, not-true}
+use Rattle.std.proofs.lemmas.Bool.{not-true}
 use Rattle.std.proofs.lemmas.List.Elements.{Contains-append_right, Contains-append_left, Contains-push}
 use Rattle.std.proofs.lemmas.Option.{same_Some}
 use Rattle.list_lemmas.proofs.Elements.{Contains-nil}
@@ -11,7 +11,7 @@ use Rattle.aadl_tree.specs.declared.declarations.Direction.TheVariants as direct
 use Rattle.aadl_tree.specs.Declarations.{Feature, Connection, Implementation, PackageTree}
 use Rattle.aadl_names.specs.declared.port_place.PortPlace.{PortPlace}
 use Rattle.aadl_names.specs.declared.port_place.PortPlace.TheVariants.{Own, Inner}
-use Rattle.aadl_names.specs.ReferenceResolution.{implementation_at, ports_at, is_thread, site}
+use Rattle.aadl_names.specs.ReferenceResolution.{implementation_at, ports_at, site}
 use Rattle.aadl_names.specs.PackageFaults.{goes_in}
 use Rattle.aadl_uses.specs.Uses.{below, standing, IsInUse}
 use Rattle.aadl_uses.specs.ThreadsBelow.{IsThreadAt}
@@ -19,19 +19,12 @@ use Rattle.aadl_uses.specs.proof.ThreadCounts.{is_thread_in}
 use Rattle.aadl_uses.specs.declared.connections_by_target.Wire.{Wire}
 use Rattle.aadl_uses.specs.Wiring.{wire_of, wires_of, wires_at}
 use Rattle.aadl_uses.proofs.DeclarationTables.{listed}
+use Rattle.aadl_uses.proofs.ThreadCounts.{thread_by}
 use Rattle.aadl_chains.specs.proof.PortsJoinedInside.{is_thread_at, is_in_at, Reaches, of_thread, of_inner}
 use Rattle.aadl_chains.specs.proof.PortsJoinedOutside.{LeadsOut, of_root, of_own, of_beside, LeadsFrom}
 use Rattle.aadl_chains.specs.Chains.{Port, Place, port_at, Goes, Leads, is_in, IsStart, IsEnd, IsChain}
 use Rattle.aadl_chains.specs.proof.DeclaredEnds.{MayLeave, MayEnter, NotBothOwn, AreDeclared}
 use Rattle.aadl_chains.specs.proof.ConnectionsOnChains.{IsOnWay}
-
-pub opposed : (b : Bool) → b ≡ true → b ≡ false → ⊥
-opposed b e f = true≢false (sym e ∙ f)
-
-thread_by : (o : Option (Implementation ℕ)) → is_thread_in o ≡ true
-    → (x : Implementation ℕ) × (o ≡ Some x) × (is_thread x.category ≡ true)
-thread_by None e = absurd (true≢false (sym e))
-thread_by (Some x) e = (x, refl, e)
 
 abbrev pub port : List ℕ → ℕ → Port
 port path p = record { path = path; port = p }

@@ -29,6 +29,7 @@ use Rattle.aadl_names.specs.PackageFaults.{is_own, goes_in, may_leave, may_enter
 use Rattle.aadl_names.specs.PackageFaults.{subcomponent_faults, names_faults, may_contain, variables_faults}
 use Rattle.aadl_names.specs.PackageFaults.{heading_faults, outer_faults, annex_faults, declaration_faults, wrong_names}
 use Rattle.aadl_names.specs.PackageFaults.{package_faults}
+use Rattle.aadl_names.proofs.FirstFaultSoFar.{wrong_none}
 use Rattle.aadl_uses.specs.Uses.{below}
 use Rattle.aadl_uses.specs.proof.ThreadCounts.{is_thread_in}
 use Rattle.aadl_uses.specs.declared.connections_by_target.Wire.{Wire}
@@ -45,16 +46,12 @@ numbered i [] k x e = absurd (Contains-nil x (Contains-from_slice_get [] k x e))
 numbered i (y ∷ xs) zero x e = ap (λ z. Some (i, z)) (same_Some y x e) ∙ ap (λ n. Some (n, x)) (omega arith)
 numbered i (y ∷ xs) (suc k) x e = numbered (i + 1) xs k x e ∙ ap (λ n. Some (n, x)) (omega arith)
 
-not_wrong : (b : Bool) (at : ℕ) → wrong_if b at ≡ [] → b ≡ false
-not_wrong true at e = absurd (cc e)
-not_wrong false at e = refl
-
 -- ---- ends
 port_there : (may : PortPlace × Option Direction → Bool) (end : ConnectionEnd ℕ) (at : ℕ)
     (o : Option (PortPlace × Option Direction)) → end_faults may end at o ≡ []
     → (port : PortPlace × Option Direction) × (o ≡ Some port) × (may port ≡ true)
 port_there may end at None e = absurd (cc e)
-port_there may end at (Some port) e = (port, refl, not-false (may port) (not_wrong (not (may port)) at e))
+port_there may end at (Some port) e = (port, refl, not-false (may port) (wrong_none (not (may port)) at e))
 
 no_port : (name : List ℕ) (p : ℕ) → port_named [] name ≡ Some p → ⊥
 no_port name p e = none-some p e
@@ -178,7 +175,7 @@ module _ (tree : PackageTree ℕ) (x : Implementation ℕ) where
           not_both = not_both s.0 t.0 (
               ap (λ u. is_own u && is_own (Some (with_direction tree x t.0))) (ap Some s.2 ∙ sym p.1)
               ∙ (ap (λ u. is_own (sited tree x c.source) && is_own u) (ap Some t.2 ∙ sym q.1)
-              ∙ not_wrong (is_own (sited tree x c.source) && is_own (sited tree x c.target)) at third));
+              ∙ wrong_none (is_own (sited tree x c.source) && is_own (sited tree x c.target)) at third));
         }
 
     -- the wire of a connection
@@ -205,7 +202,7 @@ module _ (tree : PackageTree ℕ) (x : Implementation ℕ) where
         append_is_nil_left a b (append_is_nil_left (a ++ b)
         (list_faults (holders.Subcomponent sub.category) sub.properties) f) in
         contains_nothing x.category sub.category thread (not-false (may_contain x.category sub.category)
-        (not_wrong (not (may_contain x.category sub.category)) sub.name.at first))
+        (wrong_none (not (may_contain x.category sub.category)) sub.name.at first))
       where
         contains_nothing : (a b : Category) → is_thread a ≡ true → may_contain a b ≡ true → ⊥
         contains_nothing categories.System b t m = true≢false (sym t)
@@ -222,10 +219,11 @@ module _ (tree : PackageTree ℕ) (x : Implementation ℕ) where
         by (Inner s p) t e f b = no_subs s p thread clean (inner_port s p c.source e)
 
 -- ---- declarations
-there : (o : Option (Declaration ℕ)) (x : Implementation ℕ) → implementation_in o ≡ Some x → o ≡ Some (implementation x)
-there None x e = absurd (none-some x e)
-there (Some (type y)) x e = absurd (none-some x e)
-there (Some (implementation y)) x e = ap (λ z. Some (implementation z)) (same_Some y x e)
+pub implementation_in-some : (o : Option (Declaration ℕ)) (x : Implementation ℕ) → implementation_in o ≡ Some x
+    → o ≡ Some (implementation x)
+implementation_in-some None x e = absurd (none-some x e)
+implementation_in-some (Some (type y)) x e = absurd (none-some x e)
+implementation_in-some (Some (implementation y)) x e = ap (λ z. Some (implementation z)) (same_Some y x e)
 
 module _ (tree : PackageTree ℕ) (root : ℕ) (clean : package_faults tree root ≡ []) where
   all_clean : flat_map (declaration_faults tree root) (enumerate_from 0 tree.declarations) ≡ []
@@ -236,7 +234,7 @@ module _ (tree : PackageTree ℕ) (root : ℕ) (clean : package_faults tree root
       → outer_faults tree (nat_eq root n) x ≡ []
   clean_at n x e =
       let d : slice_get (enumerate_from 0 tree.declarations) n ≡ Some (n, implementation x) =
-      numbered 0 tree.declarations n (implementation x) (there (slice_get tree.declarations n) x e)
+      numbered 0 tree.declarations n (implementation x) (implementation_in-some (slice_get tree.declarations n) x e)
       ∙ ap (λ k. Some (k, implementation x)) (omega arith) in
       append_is_nil_left (outer_faults tree (nat_eq root n) x) (annex_faults tree x (behaviours x.annexes))
       (flat_map-nil_at (declaration_faults tree root) (enumerate_from 0 tree.declarations) n (n, implementation x)

@@ -31,7 +31,7 @@ use Rattle.aadl_chains.proofs.AccumulatedFaults.{finds_nothing, finds_both, find
 use Rattle.aadl_chains.proofs.ConnectionsOnChains.{chained}
 use Rattle.aadl_chains.proofs.ChainConnectionEnds.{on_way}
 
-wire_if : (tree : PackageTree ℕ) (o : Option (Implementation ℕ)) (k : ℕ) (link : Connection ℕ)
+pub wire_if : (tree : PackageTree ℕ) (o : Option (Implementation ℕ)) (k : ℕ) (link : Connection ℕ)
     → slice_get (connections_of o) k ≡ Some link
     → (wire : Wire) × (slice_get (wires_of tree o) k ≡ Some wire)
 wire_if tree None k link e = absurd (Contains-nil link (Contains-from_slice_get [] k link e))

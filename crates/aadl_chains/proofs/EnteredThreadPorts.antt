@@ -2,6 +2,7 @@
 use Rattle.std.proofs.Common.{◌≡◌, ◌⊎◌, inl, inr, ℕ, zero, suc, ◌+◌, ◌<◌, true, false, min, List, [], ◌∷◌, ◌++◌}
 use Rattle.std.proofs.Common.{slice_get, Option, Some, None, refl, sym, ap, subst, ◌∙◌, arith}
 use Rattle.std.proofs.lemmas.Option.{same_Some, none-some}
+use Rattle.list_lemmas.proofs.Booleans.{opposed}
 use Rattle.aadl_tree.specs.declared.declarations.Direction.TheVariants as directions
 use Rattle.aadl_tree.specs.Declarations.{PackageTree}
 use Rattle.aadl_names.specs.declared.port_place.PortPlace.{PortPlace}
@@ -13,7 +14,7 @@ use Rattle.aadl_uses.specs.proof.IncomingConnections.{connection_into, first_int
 use Rattle.aadl_chains.specs.proof.PortsJoinedInside.{is_thread_at, is_in_at, ReachesIn}
 use Rattle.aadl_chains.specs.Chains.{Port}
 use Rattle.aadl_chains.specs.proof.DeclaredEnds.{AreDeclared}
-use Rattle.aadl_chains.proofs.ConnectionsOnChains.{opposed, is_in-at}
+use Rattle.aadl_chains.proofs.ConnectionsOnChains.{is_in-at}
 use Rattle.aadl_chains.specs.proof.LimitedCounts.{IsNumber}
 use Rattle.aadl_chains.specs.proof.Walks.{Crossing, at_root, crosses, climb, IsThreadPort}
 use Rattle.aadl_chains.specs.proof.EnteredPortCounts.{ComesFrom, EndsLink, Through, Deeper, AmongFirst, FromOwn}

@@ -21,7 +21,7 @@ use Rattle.aadl_uses.specs.proof.FirstConnections.{is_before}
 use Rattle.aadl_uses.specs.Wiring.{wire_of, wires_of, wires_at}
 use Rattle.aadl_uses.specs.proof.IncomingConnections.{first_into_at, with_source, sourced, connection_into}
 use Rattle.aadl_uses.proofs.DeclarationTables.{listed}
-use Rattle.aadl_uses.proofs.FirstConnectionTables.{same_site-true, itself, second_from}
+use Rattle.aadl_uses.proofs.FirstConnectionTables.{itself, second_from, is_site-true, of_site}
 use Rattle.aadl_chains.specs.proof.PortsJoinedInside.{is_thread_at, is_in_at}
 use Rattle.aadl_chains.specs.Chains.{Port, Place, port_at, Goes}
 use Rattle.aadl_chains.specs.proof.DeclaredEnds.{MayLeave, MayEnter, NotBothOwn, AreDeclared}
@@ -71,13 +71,6 @@ own_no_inner o x q s p a b c = let e : Some (Own q) ≡ Some (Inner s p) = sym (
 
 pub none_no_inner : (o : Option PortPlace) (s p : ℕ) → o ≡ None → o ≡ Some (Inner s p) → ⊥
 none_no_inner o s p a c = none-some (Inner s p) (sym a ∙ c)
-
-is_site-true : (a : PortPlace) (o : Option PortPlace) → is_site a o ≡ true → o ≡ Some a
-is_site-true a None e = absurd (true≢false (sym e))
-is_site-true a (Some b) e = ap Some (sym (same_site-true a b e))
-
-of_site : (a : PortPlace) (o : Option PortPlace) → o ≡ Some a → is_site a o ≡ true
-of_site a o e = ap (is_site a) e ∙ itself a
 
 module _ (tree : PackageTree ℕ) where
   -- the first connection of a declaration into a port

@@ -22,3 +22,4 @@ pub mod SoundConnections
 pub mod TracedChains
 pub mod OutermostFirstWalks
 pub mod WalksUpAndDown
+pub mod SamePaths

@@ -6,24 +6,10 @@ use Rattle.std.proofs.lemmas.List.{length-append, length-map}
 use Rattle.list_lemmas.proofs.Numbers.{min-add_capped}
 use Rattle.list_lemmas.proofs.Elements.{AllByRecursion-append, AllByRecursion-map, AllByRecursion-weaker}
 use Rattle.aadl_uses.specs.proof.MarkedPathCounts.{Among}
+use Rattle.aadl_uses.proofs.MarkedPathCounts.{among_left, among_right, among_map}
 use Rattle.aadl_chains.specs.proof.LimitedCounts.{Distinct, IsNumber}
 
 -- ---- lists
-
-among_left : {X : Type 0} (xs ys : List X) (x : X) → Among xs x → Among (xs ++ ys) x
-among_left [] ys x a = absurd a
-among_left (y ∷ xs) ys x (inl e) = inl e
-among_left (y ∷ xs) ys x (inr a) = inr (among_left xs ys x a)
-
-among_right : {X : Type 0} (xs ys : List X) (x : X) → Among ys x → Among (xs ++ ys) x
-among_right [] ys x a = a
-among_right (y ∷ xs) ys x a = inr (among_right xs ys x a)
-
-among_map : {X Y : Type 0} (f : X → Y) (xs : List X) (x : X) → Among xs x → Among (map f xs) (f x)
-among_map f [] x a = absurd a
-among_map f (y ∷ xs) x (inl e) = inl (ap f e)
-among_map f (y ∷ xs) x (inr a) = inr (among_map f xs x a)
-
 distinct_append : {X : Type 0} (xs ys : List X) → Distinct xs → Distinct ys
     → AllByRecursion (λ x. AllByRecursion (λ y. x ≡ y → ⊥) ys) xs → Distinct (xs ++ ys)
 distinct_append [] ys a b c = b

@@ -17,16 +17,15 @@ use Rattle.aadl_tree.specs.Declarations.{Connection, Implementation, PackageTree
 use Rattle.aadl_names.specs.declared.port_place.PortPlace.TheVariants.{Own, Inner}
 use Rattle.aadl_names.specs.declared.fault.PackageFault.{PackageFault}
 use Rattle.aadl_names.specs.declared.fault.PackageFault.TheVariants.{TwoSources}
-use Rattle.aadl_names.specs.ReferenceResolution.{implementation_at, is_thread, subcomponents_of, connections_of}
-use Rattle.aadl_names.specs.ReferenceResolution.{referred}
+use Rattle.aadl_names.specs.ReferenceResolution.{implementation_at, subcomponents_of, connections_of, referred}
 use Rattle.aadl_uses.specs.Uses.{sub_at, below, standing}
 use Rattle.aadl_uses.specs.proof.PackageContainment.{targets_of}
 use Rattle.aadl_uses.specs.ThreadsBelow.{IsThreadAt, MoreThan}
-use Rattle.aadl_uses.specs.proof.ThreadCounts.{is_thread_in}
 use Rattle.aadl_uses.specs.declared.connections_by_target.Wire.{Wire}
 use Rattle.aadl_uses.specs.SecondConnections.{target_in}
 use Rattle.aadl_uses.specs.Wiring.{wire_of, wires_of, wires_at}
 use Rattle.aadl_uses.proofs.DeclarationTables.{listed}
+use Rattle.aadl_uses.proofs.ThreadCounts.{thread_by}
 use Rattle.aadl_chains.specs.proof.PortsJoinedInside.{is_thread_at, Reaches, ReachesIn, of_thread, of_inner}
 use Rattle.aadl_chains.specs.Chains.{Port, Place, Leads, is_in, IsEndFault}
 use Rattle.aadl_chains.specs.proof.DeclaredEnds.{AreDeclared}
@@ -50,11 +49,6 @@ module _ (tree : PackageTree ℕ) (root : ℕ) where
     pub thread : IsThreadAt tree root from.path
     pub out : is_in tree root from ≡ false
     pub leads : Leads tree root chain from (record { path = path; port = p })
-
-  thread_by : (o : Option (Implementation ℕ)) → is_thread_in o ≡ true
-      → (x : Implementation ℕ) × (o ≡ Some x) × (is_thread x.category ≡ true)
-  thread_by None e = absurd (true≢false (sym e))
-  thread_by (Some x) e = (x, refl, e)
 
   not_false : (b : Bool) → not b ≡ true → b ≡ false
   not_false true e = absurd (true≢false (sym e))

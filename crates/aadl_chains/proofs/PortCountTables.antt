@@ -5,19 +5,19 @@ use Rattle.std.proofs.Common.{arith}
 use Rattle.std.specs.List.{IsDistinct}
 use Rattle.std.specs.Map.{lookup}
 use Rattle.std.specs.Option.{option_map_or}
-use Rattle.std.proofs.lemmas.Bool.{cases_order, true≢false, false≢true, eqb-true, eq-eqb}
+use Rattle.std.proofs.lemmas.Bool.{cases_order, true≢false, eqb-true, eq-eqb}
 use Rattle.std.proofs.lemmas.Map.Keys.{apart_from_distinct}
 use Rattle.std.proofs.lemmas.Option.{same_Some, none-some, slice_get_within, slice_get-get_or}
 use Rattle.list_lemmas.proofs.ElementPositions.{slice_get-from_Contains, Contains-from_slice_get}
 use Rattle.aadl_uses.specs.proof.ContainmentOrders.{IsSequence}
-use Rattle.aadl_tree.specs.Declarations.{Implementation, PackageTree}
+use Rattle.aadl_tree.specs.Declarations.{PackageTree}
 use Rattle.aadl_names.specs.declared.port_place.PortPlace.{PortPlace}
 use Rattle.aadl_names.specs.declared.port_place.PortPlace.TheVariants.{Own, Inner}
-use Rattle.aadl_names.specs.ReferenceResolution.{implementation_at, is_thread}
+use Rattle.aadl_names.specs.ReferenceResolution.{implementation_at}
 use Rattle.aadl_uses.specs.Uses.{below}
 use Rattle.aadl_uses.specs.proof.PackageContainment.{containment}
-use Rattle.aadl_uses.specs.proof.ThreadCounts.{is_thread_in}
 use Rattle.aadl_uses.proofs.PackageContainment.{below-same}
+use Rattle.aadl_uses.proofs.ThreadCounts.{thread_by}
 use Rattle.aadl_uses.specs.declared.connections_by_target.Wire.{Wire}
 use Rattle.aadl_uses.specs.SecondConnections.{IsSecond}
 use Rattle.aadl_uses.specs.Wiring.{wires_at}
@@ -192,11 +192,6 @@ module _ (tree : PackageTree ℕ) (limit n : ℕ) where
       within x q h = let lt = slice_get_within (wires_at tree n) h.0 h.1.0.0 h.1.0.1 in (h.0, omega arith, h.1)
 
 -- ---- ports of threads and of others
-thread_by : (o : Option (Implementation ℕ)) → is_thread_in o ≡ true
-    → (x : Implementation ℕ) × (o ≡ Some x) × (is_thread x.category ≡ true)
-thread_by None e = absurd (false≢true e)
-thread_by (Some x) e = (x, refl, e)
-
 pub taken-number : (tree : PackageTree ℕ) (limit : ℕ) (table : List (PortAt × ℕ)) (m p : ℕ) → AreDeclared tree
     → AreTaken tree limit table m
     → IsNumber limit (ComesFrom tree m p) (taken_by limit table tree (Some m) p)

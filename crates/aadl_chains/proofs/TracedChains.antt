@@ -3,6 +3,7 @@ use Rattle.std.proofs.Common.{◌≡◌, ◌⊎◌, inl, inr, ℕ, true, false, 
 use Rattle.std.proofs.Common.{ap, subst, ◌∙◌}
 use Rattle.std.proofs.lemmas.List.{reverse-append}
 use Rattle.std.proofs.lemmas.Option.{same_Some, none-some}
+use Rattle.list_lemmas.proofs.Booleans.{opposed}
 use Rattle.aadl_tree.specs.Declarations.{PackageTree}
 use Rattle.aadl_names.specs.declared.port_place.PortPlace.{PortPlace}
 use Rattle.aadl_names.specs.declared.port_place.PortPlace.TheVariants.{Own, Inner}
@@ -12,7 +13,7 @@ use Rattle.aadl_uses.specs.proof.IncomingConnections.{connection_into}
 use Rattle.aadl_chains.specs.proof.PortsJoinedInside.{is_thread_at, is_in_at}
 use Rattle.aadl_chains.specs.Chains.{Port, Place, Goes, Leads, is_in, IsStart}
 use Rattle.aadl_chains.specs.proof.DeclaredEnds.{AreDeclared}
-use Rattle.aadl_chains.proofs.ConnectionsOnChains.{opposed, next_at, is_in-at, thread_from}
+use Rattle.aadl_chains.proofs.ConnectionsOnChains.{next_at, is_in-at, thread_from}
 use Rattle.aadl_chains.specs.declared.chain_tracing.ChainStart.{ChainStart}
 use Rattle.aadl_chains.specs.declared.chain_tracing.ChainStart.TheVariants as begins
 use Rattle.aadl_chains.specs.declared.chain_tracing.ChainRoute.{ChainRoute}
@@ -27,20 +28,9 @@ use Rattle.aadl_chains.proofs.LinksByWalks.{link_from, feed_from, tap_from, Link
 use Rattle.aadl_chains.proofs.LinksByWalks.{TapMet, tap_met}
 use Rattle.aadl_chains.proofs.SoundConnections.{sound_by}
 
-ends_by : (a b : Ends) → a.from ≡ b.from → a.to ≡ b.to → a.declaration ≡ b.declaration
+pub ends_by : (a b : Ends) → a.from ≡ b.from → a.to ≡ b.to → a.declaration ≡ b.declaration
     → a.connection ≡ b.connection → a ≡ b
-ends_by a b from to declaration connection =
-    let one : a ≡ record { from = b.from; to = a.to; declaration = a.declaration; connection = a.connection } =
-    ap (λ x. record { from = x; to = a.to; declaration = a.declaration; connection = a.connection }) from in
-    let two : record { from = b.from; to = a.to; declaration = a.declaration; connection = a.connection }
-    ≡ record { from = b.from; to = b.to; declaration = a.declaration; connection = a.connection } =
-    ap (λ x. record { from = b.from; to = x; declaration = a.declaration; connection = a.connection }) to in
-    let three : record { from = b.from; to = b.to; declaration = a.declaration; connection = a.connection }
-    ≡ record { from = b.from; to = b.to; declaration = b.declaration; connection = a.connection } =
-    ap (λ x. record { from = b.from; to = b.to; declaration = x; connection = a.connection }) declaration in
-    let four : record { from = b.from; to = b.to; declaration = b.declaration; connection = a.connection } ≡ b =
-    ap (λ x. record { from = b.from; to = b.to; declaration = b.declaration; connection = x }) connection in
-    one ∙ (two ∙ (three ∙ four))
+ends_by a b e f g h i = record { from = e i; to = f i; declaration = g i; connection = h i }
 
 -- the walk down stands at an out port of the implementation at the end of a path
 pub record Descending (tree : PackageTree ℕ) (root : ℕ) (end : Port) (path : List ℕ) (here out : ℕ) : Type 0 where

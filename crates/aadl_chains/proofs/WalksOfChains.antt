@@ -4,6 +4,7 @@ use Rattle.std.proofs.Common.{Some, refl, sym, ap, subst, ◌∙◌}
 use Rattle.std.proofs.lemmas.Bool.{true≢false, and_parts}
 use Rattle.std.proofs.lemmas.Option.{same_Some}
 use Rattle.list_lemmas.proofs.Elements.{Contains-nil, Contains-cons_cases}
+use Rattle.list_lemmas.proofs.Booleans.{opposed}
 use Rattle.aadl_tree.specs.declared.declarations.Direction.TheVariants as directions
 use Rattle.aadl_tree.specs.Declarations.{Connection, Implementation, PackageTree}
 use Rattle.aadl_names.specs.declared.port_place.PortPlace.{PortPlace}
@@ -15,7 +16,7 @@ use Rattle.aadl_uses.specs.proof.IncomingConnections.{connection_into}
 use Rattle.aadl_chains.specs.proof.PortsJoinedInside.{is_in_at, Reaches, of_thread, of_inner}
 use Rattle.aadl_chains.specs.Chains.{Port, Place, port_at, Goes, Leads, is_in, IsStart}
 use Rattle.aadl_chains.specs.proof.DeclaredEnds.{MayLeave, MayEnter, NotBothOwn, AreDeclared}
-use Rattle.aadl_chains.proofs.ConnectionsOnChains.{opposed, next_at, below_at, is_in-at, thread_from}
+use Rattle.aadl_chains.proofs.ConnectionsOnChains.{next_at, below_at, is_in-at, thread_from}
 use Rattle.aadl_chains.specs.proof.Walks.{Crossing, at_root, crosses, climb, OneEach}
 use Rattle.aadl_chains.specs.Links.{not_own, is_crossing}
 use Rattle.aadl_chains.proofs.FirstIncomingConnections.{into_of_goes, Known, known}

@@ -61,3 +61,8 @@ pub ok_of : {X E : Type 0} (r : Result X E) (P : X → Type 0) (U : Type 0) (Q :
     → MatchResult r P (λ e. (¬ U) × Q e) → U → IsOk r
 ok_of (Ok x) P U Q m u = refl
 ok_of (Err e) P U Q m u = absurd (m.0 u)
+
+pub some_left : (text : List ℕ) (ts : List Terminal) (at : ℕ) → at < length ts → 0 < length (spots_of text (drop at ts))
+some_left text [] at less = absurd (omega arith)
+some_left text (x ∷ ts) zero less = omega arith
+some_left text (x ∷ ts) (suc at) less = some_left text ts at (omega arith)

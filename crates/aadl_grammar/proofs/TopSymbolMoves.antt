@@ -5,6 +5,7 @@ use Rattle.std.proofs.Common.{◌++◌, ◌==◌, inl, inr}
 use Rattle.std.specs.Prelude.{Result, Ok, Err, IfOk}
 use Rattle.std.specs.Result.{IsErrAnd}
 use Rattle.std.proofs.lemmas.Bool.{or_cases, or_parts, false_from_ne_true}
+use Rattle.list_lemmas.proofs.Booleans.{opposed}
 use Rattle.aadl_tree.specs.declared.mark.Mark.{Mark}
 use Rattle.aadl_tree.specs.proof.MarkNumbers.{mark_number}
 use Rattle.aadl_tree.specs.Terminals.{Kind, mark, word, Spot}
@@ -44,15 +45,12 @@ deep_row outer end x below {kind} {ss} {rest} {f} l m h =
 pub a_word_at : {x : Identifier ℕ} {ss rest : List Spot} → AtWord x ss rest → At (word x.spelling) ss rest
 a_word_at {x} l = record { at = x.at; whole = l.whole }
 
-true_false : (b : Bool) → b ≡ true → b ≡ false → ⊥
-true_false b e h = cc
-
 none_fits_marks : (rs : List Row) (t : Spot) (ss : List Spot) → MissAll rs (t ∷ ss)
     → among (kind_number t.kind) (firsts rs) ≡ true → ⊥
 none_fits_marks [] t ss m e = cc
 none_fits_marks (r ∷ rs) t ss (m, ms) e =
     elim (or_cases (kind_number t.kind == class_number r.first) (among (kind_number t.kind) (firsts rs)) e) [
-      | inl i ↦ true_false _ i m
+      | inl i ↦ opposed _ i m
       | inr i ↦ none_fits_marks rs t ss ms i
     ]
 

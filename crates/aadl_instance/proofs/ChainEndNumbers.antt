@@ -1,11 +1,10 @@
 -- Ends of chains, as an instance shows them: the numbers of their threads, by paths, and of their ports.
-use Rattle.std.proofs.Common.{◌≡◌, ◌⊎◌, inl, inr, ℕ, zero, suc, ◌+◌, ◌<◌, ◌≤◌, Bool, true, false, cond, ◌&&◌, ◌||◌}
-use Rattle.std.proofs.Common.{nat_eq, nat_lt, List, [], ◌∷◌, length, map, reverse, take, slice_get, get_or, AllPairs}
-use Rattle.std.proofs.Common.{Option, Some, None, count_by, Vec, Global, refl, sym, ap, subst, ◌∙◌, arith}
+use Rattle.std.proofs.Common.{◌≡◌, ◌⊎◌, inl, inr, ℕ, zero, suc, ◌+◌, ◌<◌, ◌≤◌, Bool, true, false, cond, ◌||◌, List, []}
+use Rattle.std.proofs.Common.{◌∷◌, length, map, reverse, take, slice_get, get_or, AllPairs, Option, Some, None}
+use Rattle.std.proofs.Common.{count_by, Vec, Global, refl, sym, ap, subst, ◌∙◌, arith}
 use Rattle.std.specs.List.{position_from}
 use Rattle.std.specs.Option.{option_and_then, option_map_or}
-use Rattle.std.proofs.lemmas.Bool.{true≢false, and_parts, cases_lt, false_from_ne_true}
-use Rattle.std.proofs.lemmas.Bool.Decides.{nat_tests}
+use Rattle.std.proofs.lemmas.Bool.{true≢false, cases_lt, false_from_ne_true}
 use Rattle.std.proofs.lemmas.List.{take-map}
 use Rattle.std.proofs.lemmas.List.Folds.{fold-map}
 use Rattle.std.proofs.lemmas.Option.{same_Some, none-some, slice_get-map, slice_get_read, slice_get_within}
@@ -22,8 +21,10 @@ use Rattle.aadl_uses.specs.ThreadsBelow.{path_before, IsThreadAt, PathBefore}
 use Rattle.aadl_names.specs.ReferenceResolution.{ports_at, ports_of, implementation_at}
 use Rattle.aadl_uses.specs.Uses.{standing, component_at}
 use Rattle.aadl_uses.specs.ThreadLocations.{ThreadWith}
+use Rattle.aadl_uses.proofs.PathOrder.{never_before}
 use Rattle.aadl_chains.specs.proof.PortsJoinedInside.{is_thread_at}
 use Rattle.aadl_chains.proofs.ConnectionsOnChains.{thread_from}
+use Rattle.aadl_chains.proofs.SamePaths.{same_path-true, same_path-self}
 use Rattle.aadl_chains.specs.Links.{same_path}
 use Rattle.aadl_instance.specs.declared.chain.ChainEnd.TheVariants.{Thread}
 use Rattle.aadl_instance.specs.proof.ChainsSoFar.{paths_of}
@@ -40,36 +41,13 @@ position_at test i (y ∷ xs) (suc k) x e t none =
     ap (λ b. cond b (Some i) (position_from test (i + 1) xs)) (none 0 y (omega arith) refl)
     ∙ (position_at test (i + 1) xs k x e t (λ j z lt f. none (suc j) z (omega arith) f) ∙ ap Some (omega arith))
 
-pub same_itself : (path : List ℕ) → same_path path path ≡ true
-same_itself [] = refl
-same_itself (x ∷ path) = let e : nat_eq x x ≡ true = grind (arith, nat_tests) in
-    ap (λ b. b && same_path path path) e ∙ same_itself path
-
-same_is : (a b : List ℕ) → same_path a b ≡ true → a ≡ b
-same_is [] [] e = refl
-same_is [] (y ∷ b) e = absurd (true≢false (sym e))
-same_is (x ∷ a) [] e = absurd (true≢false (sym e))
-same_is (x ∷ a) (y ∷ b) e =
-    let h = and_parts (nat_eq x y) (same_path a b) e in
-    let first : nat_eq x y ≡ true = h.0 in
-    let same : x ≡ y = grind (arith, nat_tests) in
-    ap (λ n. n ∷ a) same ∙ ap (λ l. y ∷ l) (same_is a b h.1)
-
-pub never_before : (path : List ℕ) → path_before path path ≡ false
-never_before [] = refl
-never_before (x ∷ path) =
-    let less : nat_lt x x ≡ false = grind (arith, nat_tests) in
-    let same : nat_eq x x ≡ true = grind (arith, nat_tests) in
-    ap (λ b. b || (nat_eq x x && path_before path path)) less
-    ∙ (ap (λ b. b && path_before path path) same ∙ never_before path)
-
 pub node_is : (paths : List (List ℕ)) (node : NodeNo) (path : List ℕ) → AllPairs PathBefore paths
     → slice_get paths node.0 ≡ Some path
     → node_at paths path ≡ node
 node_is paths node path pairs at =
     ap (λ (o : Option ℕ). let n : NodeNo = record { 0 = option_map_or (λ k. k) o 0 } in n)
-    (position_at (same_path path) 0 paths node.0 path at (same_itself path)
-    (λ j y lt e. false_from_ne_true (same_path path y) (λ t. other j y lt e (same_is path y t)))
+    (position_at (same_path path) 0 paths node.0 path at (same_path-self path)
+    (λ j y lt e. false_from_ne_true (same_path path y) (λ t. other j y lt e (same_path-true path y t)))
     ∙ ap Some (omega arith))
   where
     other : (j : ℕ) (y : List ℕ) → j < node.0 → slice_get paths j ≡ Some y → path ≡ y → ⊥

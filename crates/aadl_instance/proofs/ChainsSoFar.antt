@@ -15,6 +15,7 @@ use Rattle.aadl_uses.specs.Uses.{standing, component_at}
 use Rattle.aadl_chains.specs.proof.PortsJoinedInside.{is_thread_at}
 use Rattle.aadl_chains.specs.Chains.{Port, is_in, IsEnd}
 use Rattle.aadl_chains.proofs.ConnectionsOnChains.{thread_from}
+use Rattle.aadl_chains.proofs.SamePaths.{same_path-self}
 use Rattle.aadl_chains.specs.Links.{Ends, IsLink, IsFeed, IsTap, same_path, TargetBefore, PortBefore}
 use Rattle.aadl_instance.specs.declared.chain.Chain.{Chain}
 use Rattle.aadl_instance.specs.declared.chain_search.Incoming.{Incoming}
@@ -22,7 +23,7 @@ use Rattle.aadl_instance.specs.Instances.{chain_in}
 use Rattle.aadl_instance.specs.proof.ChainsSoFar.{HasPort, AreShown, IsPassed, AreInto, AreTapsTo}
 use Rattle.aadl_instance.proofs.OrderedLists.{lists_same, lists_more, lists_none}
 use Rattle.aadl_instance.proofs.DeclaredEndPorts.{in_within, ends_there}
-use Rattle.aadl_instance.proofs.ChainEndNumbers.{same_itself, open_at}
+use Rattle.aadl_instance.proofs.ChainEndNumbers.{open_at}
 
 -- ---- the ports so far
 module _ (paths : List (List ℕ)) where
@@ -82,7 +83,7 @@ first_before a b e = ap (λ t. t || (same_path a.to.path b.to.path && nat_lt a.t
 then_before : (a b : Ends) → a.to.path ≡ b.to.path → a.to.port < b.to.port → TargetBefore a b
 then_before a b e lt =
     let same : same_path a.to.path b.to.path ≡ true =
-    subst (λ q. same_path a.to.path q ≡ true) e (same_itself a.to.path) in
+    subst (λ q. same_path a.to.path q ≡ true) e (same_path-self a.to.path) in
     let less : nat_lt a.to.port b.to.port ≡ true = grind (arith, nat_tests) in
     ap (λ t. path_before (reverse a.to.path) (reverse b.to.path) || (t && nat_lt a.to.port b.to.port)) same
     ∙ (ap (λ t. path_before (reverse a.to.path) (reverse b.to.path) || t) less

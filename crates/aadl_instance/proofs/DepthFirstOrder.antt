@@ -8,8 +8,8 @@ use Rattle.std.proofs.lemmas.List.{length-map, get_or-map, get_or_default, drop_
 use Rattle.std.proofs.lemmas.Option.{slice_get_read}
 use Rattle.std.specs.List.Sorted.{IsPartitionedBy, IsPartitionPoint}
 use Rattle.aadl_uses.specs.ThreadsBelow.{path_before, PathBefore}
+use Rattle.aadl_uses.proofs.PathOrder.{never_before}
 use Rattle.aadl_instance.specs.proof.ChainsSoFar.{paths_of}
-use Rattle.aadl_instance.proofs.ChainEndNumbers.{never_before}
 
 -- ---- where a comparison ends
 pub ended_before : (p q : List ℕ) (i : ℕ) → length p ≤ i → i < length q → path_before (drop i p) (drop i q) ≡ true

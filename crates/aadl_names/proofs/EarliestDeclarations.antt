@@ -6,6 +6,7 @@ use Rattle.std.specs.List.{list_any}
 use Rattle.std.proofs.lemmas.Bool.{true≢false}
 use Rattle.std.proofs.lemmas.Bool.Decides.{nat_tests}
 use Rattle.std.proofs.Math.Bool.{or-false}
+use Rattle.std.proofs.lemmas.List.{drop_all}
 use Rattle.list_lemmas.proofs.ListOperations.{drop-next}
 use Rattle.aadl_names.specs.declared.fault.PackageFault.TheVariants.{Twice}
 use Rattle.aadl_names.specs.declared.spelled_name.SpelledName.{SpelledName}
@@ -14,7 +15,6 @@ use Rattle.aadl_names.specs.proof.NameTables.{value_of}
 use Rattle.aadl_names.specs.DuplicateNames.{again}
 use Rattle.aadl_names.specs.proof.EarliestDeclarations.{sooner, is_sooner, earliest, is_before, again_by}
 use Rattle.aadl_names.proofs.Lookups.{value-same}
-use Rattle.aadl_names.proofs.FirstFaultSoFar.{none_left}
 
 -- ---- of two and of three
 below_chain : (a b c : ℕ) → nat_lt c b ≡ true → nat_lt b a ≡ true → nat_lt c a ≡ true
@@ -99,7 +99,7 @@ pub last_earliest : (name : List ℕ) (xs : List SpelledName) (i : ℕ) (now who
     → sooner now (earliest name i (drop i xs)) ≡ whole
     → now ≡ whole
 last_earliest name xs i now whole past so_far =
-    sym (sooner-none now) ∙ (sym (ap (λ l. sooner now (earliest name i l)) (none_left xs i past)) ∙ so_far)
+    sym (sooner-none now) ∙ (sym (ap (λ l. sooner now (earliest name i l)) (drop_all i xs past)) ∙ so_far)
 
 -- ---- what the earliest one decides
 

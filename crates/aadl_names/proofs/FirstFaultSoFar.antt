@@ -1,19 +1,21 @@
 -- Loops that keep the first finding so far: one turn, and the end.
-use Rattle.std.proofs.Common.{◌≡◌, ◌<◌, ◌≤◌, ◌+◌, ℕ, ◌∙◌, sym, ap, refl, List, [], ◌∷◌, ◌++◌, Option, length, drop}
-use Rattle.std.proofs.Common.{get_or, arith, Result, Ok, Err}
-use Rattle.std.proofs.lemmas.Grind.{common_steps}
+use Rattle.std.proofs.Common.{◌≡◌, ◌<◌, ◌≤◌, ◌+◌, ℕ, ◌∙◌, sym, ap, refl, Bool, true, false, List, [], ◌∷◌, ◌++◌, Option}
+use Rattle.std.proofs.Common.{length, drop, get_or, Result, Ok, Err}
+use Rattle.std.proofs.lemmas.List.{drop_all}
 use Rattle.std.specs.Prelude.{OnOk}
 use Rattle.list_lemmas.proofs.ListOperations.{drop-next}
 use Rattle.aadl_names.specs.declared.fault.PackageFault.{PackageFault}
 use Rattle.aadl_names.specs.proof.FirstFaultSoFar.{earlier, found}
+use Rattle.aadl_names.specs.FirstFaults.{wrong_if}
 
 pub found_append : (first : Option PackageFault) (a b : List PackageFault)
     → found first (a ++ b) ≡ found (found first a) b
 found_append first [] b = refl
 found_append first (x ∷ a) b = found_append (earlier first x) a b
 
-pub none_left : {A : Type 0} (xs : List A) (i : ℕ) → length xs ≤ i → drop i xs ≡ []
-none_left xs i past = grind (arith, common_steps)
+pub wrong_none : (b : Bool) (at : ℕ) → wrong_if b at ≡ [] → b ≡ false
+wrong_none true at none = absurd (cc none)
+wrong_none false at none = refl
 
 -- One turn of a loop finds what is wrong with the first of the things that are left.
 pub next_found : {A : Type 0} (parts : List A → List PackageFault) (here : A → List PackageFault)
@@ -32,7 +34,7 @@ pub last_found : {A : Type 0} (parts : List A → List PackageFault) (xs : List 
     (whole now : (Option PackageFault))
     → length xs ≤ i → parts [] ≡ [] → whole ≡ found now (parts (drop i xs)) → now ≡ whole
 last_found parts xs i whole now past none left =
-    sym (left ∙ ap (λ (l : List _). found now (parts l)) (none_left xs i past) ∙ ap (found now) none)
+    sym (left ∙ ap (λ (l : List _). found now (parts l)) (drop_all i xs past) ∙ ap (found now) none)
 
 -- What the last call leaves is the whole.
 pub closed : {T E : Type 0} (r : Result T E) (now last whole : (Option PackageFault)) → last ≡ whole

@@ -1,9 +1,8 @@
 -- Loops that add items to the end of a list: one turn, and the end.
 use Rattle.std.proofs.Common.{◌≡◌, ℕ, ◌+◌, ◌<◌, ◌≤◌, List, ◌∷◌, [], ◌++◌, length, drop, get_or, append_assoc, sym, ap}
 use Rattle.std.proofs.Common.{◌∙◌}
-use Rattle.std.proofs.lemmas.List.{append-nil}
+use Rattle.std.proofs.lemmas.List.{append-nil, drop_all}
 use Rattle.list_lemmas.proofs.ListOperations.{drop-next}
-use Rattle.aadl_names.proofs.FirstFaultSoFar.{none_left}
 
 -- One turn of a loop adds what the first of the things that are left gives.
 pub next_added : {A B : Type 0} (parts : List A → List B) (here : A → List B)
@@ -21,4 +20,4 @@ pub last_added : {A B : Type 0} (parts : List A → List B) (xs : List A) (i : �
     → parts [] ≡ []
     → whole ≡ now ++ parts (drop i xs) → now ≡ whole
 last_added parts xs i whole now past none left =
-    sym (left ∙ (ap (λ l. now ++ parts l) (none_left xs i past) ∙ (ap (λ l. now ++ l) none ∙ append-nil now)))
+    sym (left ∙ (ap (λ l. now ++ parts l) (drop_all i xs past) ∙ (ap (λ l. now ++ l) none ∙ append-nil now)))

@@ -36,8 +36,8 @@ same_from a b s = (bytes_eq-Decides (folded a) (folded b)).0 s
 same_by : (a b : List ℕ) → folded a ≡ folded b → same_name a b ≡ true
 same_by a b e = (bytes_eq-Decides (folded a) (folded b)).1 e
 
-same_flip : (a b : List ℕ) → same_name a b ≡ true → same_name b a ≡ true
-same_flip a b s = same_by b a (sym (same_from a b s))
+pub same_name-swapped : (a b : List ℕ) → same_name a b ≡ true → same_name b a ≡ true
+same_name-swapped a b s = same_by b a (sym (same_from a b s))
 
 same_step : (a b c : List ℕ) → same_name a b ≡ true → same_name b c ≡ true → same_name a c ≡ true
 same_step a b c s t = same_by a c (same_from a b s ∙ same_from b c t)
@@ -168,7 +168,7 @@ port_again_in : (ports others : List SpelledName) (x y : SpelledName) → Contai
 port_again_in ports others x y there same before =
     let one =
     list_any_by_element (stands_before y) others x there
-    (and_from (same_name y.name x.name) (nat_lt x.at y.at) (same_flip x.name y.name same) before) in
+    (and_from (same_name y.name x.name) (nat_lt x.at y.at) (same_name-swapped x.name y.name same) before) in
     there_if (list_any (stands_before y) (ports ++ others)) (Twice y.name y.at)
     (list_any-append (stands_before y) ports others
     ∙ or_right (list_any (stands_before y) ports) (list_any (stands_before y) others) one)
@@ -269,11 +269,13 @@ cross_enough : (ports others : List SpelledName) (x y : SpelledName) → Contain
     → NotBehind (asked ports others) (Twice x.name x.at)
 cross_enough ports others x y there none beside_it same before None e =
     let one = list_any_by_element (λ z. same_name y.name z.name && nat_lt z.at (x.at + 1)) ports x there
-    (and_from (same_name y.name x.name) (nat_lt x.at (x.at + 1)) (same_flip x.name y.name same) (lt_next x.at)) in
+    (and_from (same_name y.name x.name) (nat_lt x.at (x.at + 1)) (same_name-swapped x.name y.name same)
+    (lt_next x.at)) in
     absurd (true≢false (sym one ∙ (any_before y.name (x.at + 1) 0 ports ∙ ap (λ o. is_before o (x.at + 1)) e)))
 cross_enough ports others x y there none beside_it same before (Some s) e =
     let one = list_any_by_element (λ z. same_name y.name z.name && nat_lt z.at (x.at + 1)) ports x there
-    (and_from (same_name y.name x.name) (nat_lt x.at (x.at + 1)) (same_flip x.name y.name same) (lt_next x.at)) in
+    (and_from (same_name y.name x.name) (nat_lt x.at (x.at + 1)) (same_name-swapped x.name y.name same)
+    (lt_next x.at)) in
     let near : nat_lt s.at (x.at + 1) ≡ true = ap (λ o. is_before o (x.at + 1)) (sym e)
     ∙ (sym (any_before y.name (x.at + 1) 0 ports) ∙ one) in
     let names : earliest x.name 0 ports ≡ Some s =

@@ -1,5 +1,5 @@
 -- The places in a tree that a text has rise from part to part: the claim `places_rise`.
-use Rattle.std.proofs.Common.{inl, inr, ℕ, ◌+◌, ◌<◌, ◌≤◌, Bool, false, List, [], ◌∷◌, ◌++◌, length, All, Contains, refl}
+use Rattle.std.proofs.Common.{inl, inr, ℕ, ◌+◌, ◌<◌, ◌≤◌, Bool, false, List, [], ◌∷◌, ◌++◌, length, All, Contains}
 use Rattle.std.proofs.Common.{subst, arith}
 use Rattle.std.proofs.lemmas.List.Elements.{All-append, All-cons, All-nil}
 use Rattle.aadl_lex.specs.declared.token.Token.{Token}
@@ -9,6 +9,7 @@ use Rattle.aadl_tree.specs.Declarations.{PackageTree, package_parts}
 use Rattle.aadl_tree.specs.TextTreesAndFaults.{IsTreeOf}
 use Rattle.aadl_tree.specs.Terminals.{Kind, Spot, spots_from, spots, inside_behind}
 use Rattle.aadl_tree.specs.SpellingParts.{Part, token, may, AreAt, HaveKinds, Written, extra_kinds}
+use Rattle.aadl_tree.proofs.ConcatenatedSpellings.{written_split}
 use Rattle.aadl_names.specs.proof.PlaceOrder.{places_of, StandsBefore}
 
 -- ---- spots that rise from a place on
@@ -30,20 +31,6 @@ spots_rise inside text from to (t ∷ ts) order =
       lower (t.start + 1) t.end (spots_from (inside_behind inside t.kind) text ts) less
           (spots_rise (inside_behind inside t.kind) text t.end to ts order.2),
     )
-
--- ---- parts one behind the other
-written_split : (a b : List (Part ℕ)) (ss rest : List Spot) → Written (a ++ b) ss rest
-    → (mid : List Spot) × Written a ss mid × Written b mid rest
-written_split [] b ss rest w = (ss, refl, w)
-written_split (token kind places ∷ a) b ss rest w =
-    let r = written_split a b w.1 rest w.5 in
-    (r.0, (w.0, w.1, w.2, w.3, w.4, r.1), r.2)
-written_split (may extra ∷ a) b ss rest (inl w) =
-    let r = written_split a b ss rest w in
-    (r.0, inl r.1, r.2)
-written_split (may extra ∷ a) b ss rest (inr w) =
-    let r = written_split a b w.0 rest w.2 in
-    (r.0, inr (w.0, w.1, r.1), r.2)
 
 -- ---- the places of parts lie between those of the spots
 abbrev IsBetween : ℕ → ℕ → ℕ → Type 0

@@ -1,5 +1,5 @@
 -- From the fate of a package's terminals to the answer of parsing: its only tree, or its fault.
-use Rattle.std.proofs.Common.{◌≡◌, sym, ℕ, ◌<◌, ◌∙◌, ap, subst, refl, List, [], ◌∷◌, length, drop, arith, zero, suc}
+use Rattle.std.proofs.Common.{◌≡◌, sym, ℕ, ◌<◌, ◌∙◌, ap, subst, refl, List, [], ◌∷◌, length, arith}
 use Rattle.std.specs.Prelude.{◌≢◌, IfErr, Result, Ok, Err}
 use Rattle.std.specs.Result.{IsErrAnd}
 use Rattle.aadl_lex.specs.declared.token.Token.{Token}
@@ -21,8 +21,6 @@ use Rattle.aadl_grammar.proofs.Fates.GrammarLanguages.{packages}
 use Rattle.aadl_grammar.proofs.Fates.FirstTerminalFates.{fate_end, fate_left}
 use Rattle.aadl_grammar.specs.declared.parse_fault.ParseFault.{ParseFault}
 use Rattle.aadl_grammar.specs.declared.parse_fault.ParseFault.TheVariants as parsing
-use Rattle.aadl_grammar.specs.declared.terminal.Terminal.{Terminal}
-use Rattle.aadl_grammar.specs.proof.TerminalSpots.{spots_of}
 use Rattle.aadl_grammar.specs.proof.ParserAnswers.{FailsAs, Reads}
 use Rattle.aadl_parse.specs.declared.text_fault.TextFault.{TextFault}
 use Rattle.aadl_parse.specs.declared.text_fault.TextFault.TheVariants.{Lex, Memory, Syntax, TooDeep}
@@ -102,11 +100,6 @@ pub residual : {X : Type 0} (P : TextFault → Type 0) (e : TextFault) (result :
     → IsErrAnd result (λ y. y ≡ e) → P e → IfErr result P
 residual P e (Ok x) a p = tt
 residual P e (Err y) a p = subst P (sym a) p
-
-pub some_left : (text : List ℕ) (ts : List Terminal) (at : ℕ) → at < length ts → 0 < length (spots_of text (drop at ts))
-some_left text [] at less = absurd (omega arith)
-some_left text (x ∷ ts) zero less = omega arith
-some_left text (x ∷ ts) (suc at) less = some_left text ts at (omega arith)
 
 -- no two faults
 same_fails : (text : List ℕ) (ts us : List Token) → ts ≡ us → (a b : ℕ)

@@ -1,9 +1,8 @@
 -- Parts one behind the other are written one behind the other.
 use Rattle.std.proofs.Common.{◌≡◌, ◌<◌, ◌≤◌, ◌+◌, ◌-◌, ℕ, ◌∙◌, sym, ap, refl, List, [], ◌∷◌, ◌++◌, length, take, drop}
 use Rattle.std.proofs.Common.{get_or, arith, suc, Result, Ok, Err}
-use Rattle.std.proofs.lemmas.Grind.{common_steps}
 use Rattle.std.specs.Prelude.{OnOk}
-use Rattle.std.proofs.lemmas.List.{take_all}
+use Rattle.std.proofs.lemmas.List.{take_all, drop_all}
 use Rattle.list_lemmas.proofs.ListOperations.{drop-next}
 use Rattle.aadl_tree.specs.SpellingParts.{Part, token, may}
 use Rattle.aadl_print.specs.proof.PrintedText.{Printed, put, printed}
@@ -13,9 +12,6 @@ pub printed_append : {P : Type 0} → (before : Printed) (a b : List (Part P))
 printed_append before [] b = refl
 printed_append before (token kind places ∷ a) b = printed_append (put before kind) a b
 printed_append before (may extra ∷ a) b = printed_append before a b
-
-none_left : {A : Type 0} (xs : List A) (i : ℕ) → length xs ≤ i → drop i xs ≡ []
-none_left xs i past = grind (arith, common_steps)
 
 -- One turn of a loop writes the first of the things that are left.
 pub next_written : {A P : Type 0} (parts : List A → List (Part P)) (here : A → List (Part P))
@@ -33,7 +29,7 @@ next_written parts here splits xs i x whole before after within is left written 
 pub last_written : {A P : Type 0} (parts : List A → List (Part P)) (xs : List A) (i : ℕ) (whole now : Printed)
     → length xs ≤ i → parts [] ≡ [] → whole ≡ printed now (parts (drop i xs)) → now ≡ whole
 last_written parts xs i whole now past none left =
-    sym (left ∙ ap (λ (l : List _). printed now (parts l)) (none_left xs i past) ∙ ap (printed now) none)
+    sym (left ∙ ap (λ (l : List _). printed now (parts l)) (drop_all i xs past) ∙ ap (printed now) none)
 
 -- What the last call leaves is the whole.
 pub closed : {T E : Type 0} (r : Result T E) (now last whole : Printed) → last ≡ whole → OnOk r (now ≡ last)

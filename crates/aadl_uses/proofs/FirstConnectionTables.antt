@@ -29,11 +29,11 @@ pub itself : (a : PortPlace) → same_site a a ≡ true
 itself (Own p) = eq-eqb p p refl
 itself (Inner s p) = ap (λ b. b && nat_eq p p) (eq-eqb s s refl) ∙ eq-eqb p p refl
 
-is_site-true : (a : PortPlace) (o : Option PortPlace) → is_site a o ≡ true → o ≡ Some a
+pub is_site-true : (a : PortPlace) (o : Option PortPlace) → is_site a o ≡ true → o ≡ Some a
 is_site-true a None e = absurd (true≢false (sym e))
 is_site-true a (Some b) e = ap Some (sym (same_site-true a b e))
 
-of_site : (a : PortPlace) (o : Option PortPlace) → o ≡ Some a → is_site a o ≡ true
+pub of_site : (a : PortPlace) (o : Option PortPlace) → o ≡ Some a → is_site a o ≡ true
 of_site a o e = ap (is_site a) e ∙ itself a
 
 -- ---- one more number in a table

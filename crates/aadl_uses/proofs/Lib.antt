@@ -13,3 +13,4 @@ pub mod SubcomponentsAlongPaths
 pub mod FirstConnectionTables
 pub mod DeclarationTables
 pub mod EndPorts
+pub mod PathOrder

@@ -18,16 +18,16 @@ use Rattle.aadl_uses.specs.ThreadsBelow.{path_before}
 
 -- ---- lists
 
-among_left : {X : Type 0} (xs ys : List X) (x : X) → Among xs x → Among (xs ++ ys) x
+pub among_left : {X : Type 0} (xs ys : List X) (x : X) → Among xs x → Among (xs ++ ys) x
 among_left [] ys x a = absurd a
 among_left (y ∷ xs) ys x (inl e) = inl e
 among_left (y ∷ xs) ys x (inr a) = inr (among_left xs ys x a)
 
-among_right : {X : Type 0} (xs ys : List X) (x : X) → Among ys x → Among (xs ++ ys) x
+pub among_right : {X : Type 0} (xs ys : List X) (x : X) → Among ys x → Among (xs ++ ys) x
 among_right [] ys x a = a
 among_right (y ∷ xs) ys x a = inr (among_right xs ys x a)
 
-among_map : {X Y : Type 0} (f : X → Y) (xs : List X) (x : X) → Among xs x → Among (map f xs) (f x)
+pub among_map : {X Y : Type 0} (f : X → Y) (xs : List X) (x : X) → Among xs x → Among (map f xs) (f x)
 among_map f [] x a = absurd a
 among_map f (y ∷ xs) x (inl e) = inl (ap f e)
 among_map f (y ∷ xs) x (inr a) = inr (among_map f xs x a)

@@ -1,10 +1,9 @@
 -- The count of marked declarations is that of threads, and tells whether there are more than a limit.
-use Rattle.std.proofs.Common.{◌≡◌, ◌⊎◌, inl, inr, ◌↔◌, ℕ, zero, suc, ◌<◌, ◌≤◌, ◌+◌, Bool, true, false, ◌&&◌, ◌||◌}
-use Rattle.std.proofs.Common.{nat_eq, nat_lt, min, List, [], ◌∷◌, ◌++◌, map, reverse, Option, Some, None, length}
-use Rattle.std.proofs.Common.{get_or, slice_get, AllPairs, Contains, refl, sym, ap, subst, ◌∙◌, arith, Result, Ok, Err}
-use Rattle.std.proofs.Common.{IfOk}
+use Rattle.std.proofs.Common.{◌≡◌, ◌⊎◌, inl, inr, ◌↔◌, ℕ, zero, suc, ◌<◌, ◌≤◌, ◌+◌, Bool, true, false, nat_lt, min}
+use Rattle.std.proofs.Common.{List, [], ◌∷◌, ◌++◌, map, reverse, Option, Some, None, length, get_or, slice_get}
+use Rattle.std.proofs.Common.{AllPairs, Contains, refl, sym, ap, subst, ◌∙◌, arith, Result, Ok, Err, IfOk}
 use Rattle.std.specs.Option.{option_and_then}
-use Rattle.std.proofs.lemmas.Bool.{cases_order, true≢false, le-ltb}
+use Rattle.std.proofs.lemmas.Bool.{true≢false}
 use Rattle.std.proofs.lemmas.Bool.Decides.{nat_tests}
 use Rattle.std.proofs.lemmas.List.{length-map, reverse-append, reverse-reverse}
 use Rattle.std.proofs.lemmas.List.Elements.{All-from_recursion, All-map, All-weaker, Contains-append_cases}
@@ -12,7 +11,6 @@ use Rattle.std.proofs.lemmas.List.Elements.{Contains-append_left, Contains-appen
 use Rattle.std.proofs.lemmas.List.Elements.{Contains-push_cases}
 use Rattle.std.proofs.lemmas.List.Kept.{AllPairs-cons}
 use Rattle.std.proofs.lemmas.Option.{option_and_then_some}
-use Rattle.list_lemmas.proofs.Booleans.{or_and_right}
 use Rattle.list_lemmas.proofs.PairwiseProperties.{AllPairs-nil}
 use Rattle.list_lemmas.proofs.Elements.{Contains-nil}
 use Rattle.aadl_tree.specs.Declarations.{Implementation, Declaration, PackageTree}
@@ -23,6 +21,7 @@ use Rattle.aadl_uses.specs.ThreadsBelow.{Lists, MoreThan, IsThreadAt, PathBefore
 use Rattle.aadl_uses.specs.proof.ThreadCounts.{is_thread_in, is_thread_declaration, thread_marks, AreCounted}
 use Rattle.aadl_uses.proofs.PackageContainment.{standing-same, and_then_same}
 use Rattle.aadl_uses.proofs.FirstRecursion.{kept_as_is, regrouped}
+use Rattle.aadl_uses.proofs.PathOrder.{one_way_paths}
 use Rattle.aadl_uses.specs.proof.ContainmentGraphs.{Graph, below_in, reached_by}
 use Rattle.aadl_uses.specs.proof.ContainmentOrders.{IsOrder}
 use Rattle.aadl_uses.specs.proof.MarkedPathCounts.{stands_at, IsMarkedAt, Among, Ordered, AreListed, Counted}
@@ -57,7 +56,7 @@ mark_at [] (suc n) = refl
 mark_at (d ∷ ds) zero = refl
 mark_at (d ∷ ds) (suc n) = mark_at ds n
 
-thread_by : (o : Option (Implementation ℕ)) → is_thread_in o ≡ true
+pub thread_by : (o : Option (Implementation ℕ)) → is_thread_in o ≡ true
     → (x : Implementation ℕ) × (o ≡ Some x) × (is_thread x.category ≡ true)
 thread_by None e = absurd (true≢false (sym e))
 thread_by (Some x) e = (x, refl, e)
@@ -189,32 +188,6 @@ module _ {X : Type 0} (R : X → X → Type 0) (one_way : (x y : X) → R x y �
       absurd (Contains-nil x (among x (Contains-append_left (x ∷ []) xs x (Contains-push [] x))))
   no_longer (y ∷ ys) (x ∷ xs) b a among =
       one_more y ys x xs (λ zs c d. no_longer ys zs (tail_pairs R y ys b) c d) b a among
-
--- ---- paths are in order one way alone
-never_first : (a b c : Bool) → a ≡ false → b ≡ false → (a || (b && c)) ≡ true → ⊥
-never_first true b c e f g = true≢false e
-never_first false true c e f g = true≢false f
-never_first false false c e f g = true≢false (sym g)
-
-not_same : (a b : ℕ) → b < a → nat_eq a b ≡ false
-not_same a b lt = grind (arith, nat_tests)
-
-one_way_by : (x y : ℕ) (p q : List ℕ) → (path_before p q ≡ true → path_before q p ≡ true → ⊥)
-    → path_before (x ∷ p) (y ∷ q) ≡ true
-    → path_before (y ∷ q) (x ∷ p) ≡ true → (x ≡ y) ⊎ ((x < y) ⊎ (y < x)) → ⊥
-one_way_by x y p q rest e f (inl same) =
-    rest (or_and_right (nat_lt x y) (nat_eq x y) (path_before p q) (le-ltb x y (omega arith)) e)
-    (or_and_right (nat_lt y x) (nat_eq y x) (path_before q p) (le-ltb y x (omega arith)) f)
-one_way_by x y p q rest e f (inr (inl less)) =
-    never_first (nat_lt y x) (nat_eq y x) (path_before q p) (le-ltb y x (omega arith)) (not_same y x less) f
-one_way_by x y p q rest e f (inr (inr more)) =
-    never_first (nat_lt x y) (nat_eq x y) (path_before p q) (le-ltb x y (omega arith)) (not_same x y more) e
-
-one_way_paths : (p q : List ℕ) → path_before p q ≡ true → path_before q p ≡ true → ⊥
-one_way_paths [] [] e f = true≢false (sym e)
-one_way_paths [] (y ∷ q) e f = true≢false (sym f)
-one_way_paths (x ∷ p) [] e f = true≢false (sym e)
-one_way_paths (x ∷ p) (y ∷ q) e f = one_way_by x y p q (λ a b. one_way_paths p q a b) e f (cases_order x y)
 
 -- ---- more than a limit
 module _ (tree : PackageTree ℕ) (n limit count : ℕ) (counted : AreCounted tree (limit + 1) n count) where

@@ -1,4 +1,3 @@
-pub mod StructViews
 pub mod SeveralOperands
 pub mod ResolvedTermsAndSums
 pub mod ResolvedExpressions

@@ -1,6 +1,5 @@
 -- What the machine's fate of a behaviour says of its tokens.
-use Rattle.std.proofs.Common.{◌≡◌, sym, ℕ, ◌-◌, ◌<◌, ◌∙◌, ap, subst, refl, List, [], ◌∷◌, length, get_or, drop, arith}
-use Rattle.std.proofs.Common.{zero, suc}
+use Rattle.std.proofs.Common.{◌≡◌, sym, ℕ, ◌-◌, ◌<◌, ◌∙◌, ap, subst, refl, List, [], ◌∷◌, length, get_or, arith, suc}
 use Rattle.aadl_lex.specs.declared.token.Token.{Token}
 use Rattle.aadl_tree.proofs.ConcatenatedSpellings.{written_spells}
 use Rattle.aadl_tree.specs.Terminals.{Spot, spots_from, kinds_of}
@@ -18,8 +17,6 @@ use Rattle.aadl_grammar.proofs.Fates.GrammarLanguages.{behaviours}
 use Rattle.aadl_grammar.proofs.Fates.FirstTerminalFates.{fate_end, fate_left}
 use Rattle.aadl_grammar.specs.declared.parse_fault.ParseFault.{ParseFault}
 use Rattle.aadl_grammar.specs.declared.parse_fault.ParseFault.TheVariants.{Memory, Syntax, TooDeep}
-use Rattle.aadl_grammar.specs.declared.terminal.Terminal.{Terminal}
-use Rattle.aadl_grammar.specs.proof.TerminalSpots.{spots_of}
 use Rattle.aadl_grammar.specs.proof.ParserAnswers.{FailsAs, Reads}
 use Rattle.behaviour_parse.specs.proof.ParseOutcomes.{IsOnlyBehaviourOf, IsFaultOfBehaviour}
 
@@ -70,11 +67,6 @@ pub at_fault : (text : List ℕ) (tokens : List Token) (end : ℕ) (ss : List Sp
 at_fault text tokens end ss e a b f =
     faults text tokens e (subst (λ (l : List Spot). FailsAs (fate 1 (end_of tokens) annex_body l) e) b
     (subst (λ (n : ℕ). FailsAs (fate 1 n annex_body ss) e) a f))
-
-pub some_left : (text : List ℕ) (ts : List Terminal) (at : ℕ) → at < length ts → 0 < length (spots_of text (drop at ts))
-some_left text [] at less = absurd (omega arith)
-some_left text (x ∷ ts) zero less = omega arith
-some_left text (x ∷ ts) (suc at) less = some_left text ts at (omega arith)
 
 -- a terminal is left behind the behaviour
 pub left_fault : (text : List ℕ) (tokens : List Token) (end : ℕ) (ss rest : List Spot) (at : ℕ) → end ≡ end_of tokens

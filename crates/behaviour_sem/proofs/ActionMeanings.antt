@@ -1,6 +1,5 @@
 -- What the tree of an action means, by the lists of its parts, and the numbers of a loop.
-use Rattle.std.proofs.Common.{◌≡◌, ℕ, suc, ℤ, pos, negsuc, ◌+ℤ◌, ◌-ℤ◌, ◌≤ℤ◌, ◌<ℤ◌, List, [], ◌∷◌, ◌++◌, refl, sym, ap}
-use Rattle.std.proofs.Common.{◌∙◌, arith}
+use Rattle.std.proofs.Common.{◌≡◌, ℕ, suc, ℤ, pos, negsuc, ◌+ℤ◌, ◌-ℤ◌, ◌≤ℤ◌, List, [], ◌∷◌, ◌++◌, sym, ap, ◌∙◌, arith}
 use Rattle.std.specs.Prelude.{Bool, Result, Ok, Err}
 use Rattle.std.proofs.lemmas.Int.{ints}
 use Rattle.std.specs.declared.alloc.Global.{Global}
@@ -50,17 +49,10 @@ count_of-more (pos m) (pos k) e h = omega (arith, ints)
 count_of-more (pos m) (negsuc k) e h = omega (arith, ints)
 count_of-more (negsuc m) y e h = absurd (omega (arith, ints))
 
-count_of-none : (x : ℤ) → x <ℤ pos 0 → count_of x ≡ 0
-count_of-none (pos m) h = absurd (omega (arith, ints))
-count_of-none (negsuc m) h = refl
-
 pub numbers-more : (low high : ℤ) → low ≤ℤ high → numbers low high ≡ low ∷ numbers (low +ℤ pos 1) high
 numbers-more low high h =
     ap (counted_from low) (count_of-more (high -ℤ low) (high -ℤ (low +ℤ pos 1)) (omega (arith, ints))
     (omega (arith, ints)))
-
-pub numbers-none : (low high : ℤ) → high <ℤ low → numbers low high ≡ []
-numbers-none low high h = ap (counted_from low) (count_of-none (high -ℤ low) (omega (arith, ints)))
 
 -- one more number, and those after it
 pub for_each-more : (low high : ℤ) (body : ℤ → Effect → Result Effect Trap) (before after : Effect) → low ≤ℤ high

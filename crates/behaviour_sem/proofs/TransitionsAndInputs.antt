@@ -20,6 +20,7 @@ use Rattle.behaviour_sem.specs.proof.ActionExecution.{effect}
 use Rattle.behaviour_sem.specs.proof.TransitionMoves.{goes, move}
 use Rattle.behaviour_sem.specs.declared.transitions.StepState.{StepState}
 use Rattle.pals_base.specs.declared.behaviour.BehaviourParts.{BehaviourParts}
+use Rattle.pals_base.proofs.StepSequences.{holding-none}
 use Rattle.behaviour_sem.proofs.StateIndependence.{acts-seen, opens-seen}
 
 -- ---- stops
@@ -108,10 +109,6 @@ settled-more n b fresh at under_way =
     (λ next. settled n b fresh next)
 
 -- ---- held inputs
-holding-none : (held : List ℤ) → holding held [] ≡ held
-holding-none [] = refl
-holding-none (v ∷ held) = refl
-
 pub holding-more : (at : ℕ) (held : List ℤ) (inputs : List PortValue) (v : ℤ) (rest : List ℤ) → drop at held ≡ v ∷ rest
     → holding (drop at held) (drop at inputs)
     ≡ held_of v (slice_index_or inputs at Absent) ∷ holding rest (drop (suc at) inputs)

@@ -15,6 +15,7 @@ use Rattle.component_checks.specs.BoundsAndRates.{gamma_by}
 use Rattle.component_checks.specs.PeriodAndAdaptorFindings.{bound_findings, period_findings, name_and_number}
 use Rattle.annex_resolve.specs.declared.violation.TheConstants.{NOT_DIVISOR, RATE_TOO_HIGH, PERIOD_TOO_SHORT}
 use Rattle.annex_resolve.specs.NamesAndFindings.{finding, found_if}
+use Rattle.model_violations.proofs.RateBounds.{bounds_of}
 use Rattle.design_laws.proofs.EmptyFindingLists.{not_wrong}
 
 -- ---- what a test lets through
@@ -94,9 +95,6 @@ gamma_counts skew execution network g is =
     (range_counts execution) (range_counts network) is
 
 -- ---- rates
-bounds_of : (q : ℕ) → (nat_le 1 q && nat_le q RATE) ≡ true → (1 ≤ q) × (q ≤ RATE)
-bounds_of q h = let p = and_parts (nat_le 1 q) (nat_le q RATE) h in (leb-true 1 q p.0, leb-true q RATE p.1)
-
 divides_by : (p t : ℕ) → divides p t ≡ true → t ≡ p * (t / p)
 divides_by p t h =
     let d = and_parts (not (nat_eq p 0)) (nat_eq (t % p) 0) h in

@@ -20,11 +20,12 @@ use Rattle.aadl_names.specs.DuplicatesByNamespace.{twice_names}
 use Rattle.aadl_names.specs.PackageFaults.{is_among, known_in, state_uses, guard_uses, effect_uses, transition_uses}
 use Rattle.aadl_names.specs.PackageFaults.{behaviour_faults, annex_faults, declaration_faults, wrong_names}
 use Rattle.aadl_names.specs.PackageFaults.{package_faults}
+use Rattle.aadl_names.proofs.PortDuplicates.{same_name-swapped}
 use Rattle.annex_resolve.specs.declared.states.StateAt.{StateAt}
 use Rattle.annex_resolve.specs.BehavioursAndFindings.{states_of, first_number, state_number, transitions_of}
 use Rattle.design_laws.specs.proof.FittingAnnexNames.{is_declared}
 use Rattle.design_laws.proofs.EmptyFindingLists.{none_at}
-use Rattle.design_laws.proofs.PairwiseDistinctNames.{same_turned, all_none}
+use Rattle.design_laws.proofs.PairwiseDistinctNames.{all_none}
 use Rattle.design_laws.proofs.PartitionedPairs.{all_true}
 use Rattle.design_laws.proofs.ThreadMemberNames.{same_states}
 
@@ -77,7 +78,7 @@ state_within annex name among =
     ≡ true = sym seen ∙ (same ∙ (spelled ∙ among)) in
     let turned =
     any_weaker (λ (s : StateAt). same_name name s.name) (λ (s : StateAt). same_name s.name name)
-    (λ s h. same_turned name s.name h)
+    (λ s h. same_name-swapped name s.name h)
     (states_of annex) some in
     lt-ltb (state_number (states_of annex) name) (length (states_of annex))
     (first_within (λ (s : StateAt). same_name s.name name) (states_of annex) turned)

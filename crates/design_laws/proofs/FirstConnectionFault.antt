@@ -1,12 +1,11 @@
 -- The first connection that is on no chain, or is the second into a port.
-use Rattle.std.proofs.Common.{◌≡◌, ◌↔◌, ℕ, zero, suc, Bool, false, ◌&&◌, IsTrue, List, [], ◌∷◌, length, map, slice_get}
-use Rattle.std.proofs.Common.{Contains, Option, Some, None, refl, sym, subst, ◌∙◌}
+use Rattle.std.proofs.Common.{◌≡◌, ◌↔◌, ℕ, Bool, false, ◌&&◌, IsTrue, List, length, slice_get, Contains, Option, Some}
+use Rattle.std.proofs.Common.{None, refl, sym, subst, ◌∙◌}
 use Rattle.std.proofs.lemmas.Option.{none-some, same_Some, slice_get_within}
-use Rattle.list_lemmas.proofs.Elements.{Contains-nil}
 use Rattle.list_lemmas.proofs.ElementPositions.{slice_get-from_Contains, Contains-from_slice_get}
 use Rattle.aadl_tree.specs.declared.declarations.Direction.{Direction}
 use Rattle.aadl_tree.specs.declared.declarations.Direction.TheVariants as directions
-use Rattle.aadl_tree.specs.Declarations.{Connection, Implementation, PackageTree}
+use Rattle.aadl_tree.specs.Declarations.{Connection, PackageTree}
 use Rattle.aadl_names.specs.declared.fault.PackageFault.{PackageFault}
 use Rattle.aadl_names.specs.declared.port_place.PortPlace.{PortPlace}
 use Rattle.aadl_names.specs.proof.FirstFaultSoFar.{found}
@@ -16,7 +15,7 @@ use Rattle.aadl_uses.specs.Uses.{IsInUse}
 use Rattle.aadl_uses.specs.declared.connections_by_target.Wire.{Wire}
 use Rattle.aadl_uses.specs.SecondConnections.{IsSecond, target_in}
 use Rattle.aadl_uses.specs.proof.FirstConnections.{is_before, first_into}
-use Rattle.aadl_uses.specs.Wiring.{wire_of, wires_of, wires_at}
+use Rattle.aadl_uses.specs.Wiring.{wires_at}
 use Rattle.aadl_uses.proofs.FirstConnectionTables.{is_second-tells, no_second}
 use Rattle.aadl_uses.specs.proof.ContainmentOrders.{IsOrder}
 use Rattle.aadl_chains.specs.proof.PortsJoinedOutside.{opposite, LeadsFrom, leads_from}
@@ -26,23 +25,10 @@ use Rattle.aadl_chains.specs.proof.DeclaredEnds.{AreDeclared}
 use Rattle.aadl_chains.specs.proof.ConnectionsOnChains.{IsOnWay}
 use Rattle.aadl_chains.specs.proof.ConnectionFaults.{IsFoundAt, IsFoundIn, dead_end, second}
 use Rattle.aadl_chains.proofs.EndFaults.{both_found, nothing_at, ways_tell, no_source, no_target, end_fault}
-use Rattle.aadl_chains.proofs.EndFaults.{found_fault}
+use Rattle.aadl_chains.proofs.EndFaults.{found_fault, wire_if}
 use Rattle.design_laws.proofs.FaultSearches.{Finds, none_found, alike_found, Below, found_below, first_in}
 use Rattle.design_laws.proofs.PortsReachingThreads.{inside}
 use Rattle.design_laws.proofs.PortsLeadingOut.{is_used, outside}
-
--- a connection is wired
-wire_if : (tree : PackageTree ℕ) (o : Option (Implementation ℕ)) (k : ℕ) (link : Connection ℕ)
-    → slice_get (connections_of o) k ≡ Some link
-    → (wire : Wire) × (slice_get (wires_of tree o) k ≡ Some wire)
-wire_if tree None k link e = absurd (Contains-nil link (Contains-from_slice_get [] k link e))
-wire_if tree (Some x) k link e = by x.connections k e
-  where
-    by : (cs : List (Connection ℕ)) (k : ℕ) → slice_get cs k ≡ Some link
-        → (wire : Wire) × (slice_get (map (wire_of tree x) cs) k ≡ Some wire)
-    by [] k e = absurd (Contains-nil link (Contains-from_slice_get [] k link e))
-    by (c ∷ cs) zero e = (wire_of tree x c, refl)
-    by (c ∷ cs) (suc k) e = by cs k e
 
 record Told (P : Type 0) : Type 0 where
   answer : Bool

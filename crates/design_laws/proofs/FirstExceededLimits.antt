@@ -1,7 +1,6 @@
 -- The first limit that an instance exceeds, or that it exceeds none.
-use Rattle.std.proofs.Common.{◌≡◌, ◌⊎◌, inl, inr, ℕ, suc, ◌+◌, ◌<◌, ◌≤◌, min, Bool, true, false, ◌&&◌, ◌||◌, nat_eq}
-use Rattle.std.proofs.Common.{nat_lt, List, [], ◌∷◌, length, reverse, get_or, Contains, AllPairs, Option, Some, None}
-use Rattle.std.proofs.Common.{refl, sym, ap, subst, ◌∙◌, arith}
+use Rattle.std.proofs.Common.{◌≡◌, ◌⊎◌, inl, inr, ℕ, suc, ◌+◌, ◌<◌, ◌≤◌, min, Bool, true, false, List, [], ◌∷◌, length}
+use Rattle.std.proofs.Common.{get_or, Contains, AllPairs, Option, Some, None, refl, sym, ap, subst, ◌∙◌, arith}
 use Rattle.std.specs.List.{AllByRecursion}
 use Rattle.std.proofs.lemmas.Bool.{true≢false, cases_lt}
 use Rattle.std.proofs.lemmas.Option.{none-some, same_Some}
@@ -11,14 +10,12 @@ use Rattle.aadl_names.specs.ReferenceResolution.{is_thread, ports_of}
 use Rattle.aadl_names.proofs.ListMembers.{is_here}
 use Rattle.std.proofs.lemmas.List.Elements.{Contains-append_left, Contains-append_right}
 use Rattle.list_lemmas.proofs.Elements.{Contains-nil, Contains-cons_cases}
-use Rattle.list_lemmas.proofs.Booleans.{or_and_right}
-use Rattle.list_lemmas.proofs.Numbers.{nat_lt-self}
 use Rattle.aadl_uses.specs.Uses.{component_at}
-use Rattle.aadl_uses.specs.ThreadsBelow.{Lists, MoreThan, IsThreadOf, IsThreadAt, PathBefore, path_before}
+use Rattle.aadl_uses.specs.ThreadsBelow.{Lists, MoreThan, IsThreadOf, IsThreadAt, PathBefore}
 use Rattle.aadl_uses.proofs.ThreadCounts.{more_threads}
 use Rattle.aadl_uses.specs.proof.MarkedPathCounts.{Among}
 use Rattle.aadl_chains.specs.proof.LimitedCounts.{Distinct}
-use Rattle.aadl_chains.specs.Links.{Ends, IsLink, same_path, TargetBefore, OtherTarget}
+use Rattle.aadl_chains.specs.Links.{Ends, IsLink, TargetBefore, OtherTarget}
 use Rattle.aadl_chains.proofs.LimitedCounts.{no_more}
 use Rattle.aadl_uses.specs.ThreadLocations.{ThreadWith, spelled_path}
 use Rattle.aadl_instance.specs.BehaviourSizes.{variable_count, state_count}
@@ -26,6 +23,7 @@ use Rattle.aadl_instance.specs.declared.limits.Limit.{Limit}
 use Rattle.aadl_instance.specs.declared.limits.Limit.TheVariants.{Components, Links, Ports, Variables, States, Path}
 use Rattle.aadl_instance.specs.proof.Limits.{line_of, IsPassed}
 use Rattle.aadl_instance.proofs.FaultPrecedence.{limit_lines}
+use Rattle.design_laws.proofs.LinkOrderAndNames.{other_target}
 
 told_more : (a b : ℕ) → (a < b) ⊎ (a < b → ⊥)
 told_more a b = by (cases_lt a b)
@@ -49,24 +47,6 @@ some_in {X = X} Q tell (x ∷ xs) = by (tell x) (some_in Q tell xs)
     by (inl q) rest = inl (x, Contains-append_left (x ∷ []) xs x (is_here x), q)
     by (inr never) (inl h) = inl (h.0, Contains-append_right (x ∷ []) xs h.0 h.1, h.2)
     by (inr never) (inr none) = inr (λ y h q. neither never none y (Contains-cons_cases x xs y h) q)
-
--- ---- paths and targets are in order one way
-
-not_itself : (p : List ℕ) → path_before p p ≡ true → ⊥
-not_itself [] e = true≢false (sym e)
-not_itself (x ∷ p) e = not_itself p (or_and_right (nat_lt x x) (nat_eq x x) (path_before p p) (nat_lt-self x) e)
-
-either_false : (a b c : Bool) → (a ≡ true → ⊥) → c ≡ false → (a || (b && c)) ≡ true → ⊥
-either_false true b c never e f = never refl
-either_false false true c never e f = true≢false (sym f ∙ e)
-either_false false false c never e f = true≢false (sym f)
-
-other_target : (a b : Ends) → TargetBefore a b → OtherTarget a b
-other_target a b before e =
-    either_false (path_before (reverse b.to.path) (reverse b.to.path)) (same_path b.to.path b.to.path)
-    (nat_lt b.to.port b.to.port) (not_itself (reverse b.to.path)) (nat_lt-self b.to.port)
-    (subst (λ (t : _). (path_before (reverse t.path) (reverse b.to.path)
-    || (same_path t.path b.to.path && nat_lt t.port b.to.port)) ≡ true) e before)
 
 -- ---- no more of them than all
 in_list : {X : Type 0} (xs : List X) (x : X) → Contains xs x → Among xs x

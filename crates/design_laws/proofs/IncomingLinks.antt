@@ -11,7 +11,7 @@ use Rattle.aadl_chains.specs.Links.{Ends, IsLink, IsFeed}
 use Rattle.aadl_chains.specs.proof.TracedChains.{route_ends, IsGiver}
 use Rattle.aadl_chains.proofs.OutermostFirstWalks.{crossing_from}
 use Rattle.aadl_chains.proofs.LinksByWalks.{link_from, link_met, feed_met}
-use Rattle.aadl_chains.proofs.TracedChains.{traces_nothing, traces_itself, traces_root, traces_none_over}
+use Rattle.aadl_chains.proofs.TracedChains.{traces_nothing, traces_itself, traces_root, traces_none_over, ends_by}
 use Rattle.aadl_chains.specs.proof.Walks.{Climb, Crossing, nowhere, at_root, crosses, climb, OneEach, IsThreadPort}
 use Rattle.design_laws.proofs.OutPortSources.{Gives, gives}
 
@@ -24,10 +24,6 @@ pub record Comes (tree : PackageTree ℕ) (root : ℕ) (to : Port) : Type 0 wher
 
 abbrev pub NoneComes : PackageTree ℕ → ℕ → Port → Type 0
 NoneComes tree root to = (x : Ends) → IsLink tree root x ⊎ IsFeed tree root x → x.to ≡ to → ⊥
-
-pub same_ends : (a b : Ends) → a.from ≡ b.from → a.to ≡ b.to → a.declaration ≡ b.declaration
-    → a.connection ≡ b.connection → a ≡ b
-same_ends a b e f g h i = record { from = e i; to = f i; declaration = g i; connection = h i }
 
 same_crossing : (a b : Crossing) → crosses a ≡ crosses b → a ≡ b
 same_crossing a b e = cc e
@@ -66,7 +62,7 @@ module _ (tree : PackageTree ℕ) (root : ℕ) (sound : AreDeclared tree) (one :
             let leads =
             subst (λ (y : Crossing).
             Leads tree root m.earlier x.from (record { path = y.sub ∷ y.path; port = y.port })) same m.leads in
-            same_ends x (record { from = from; to = to; declaration = c.declaration; connection = c.connection })
+            ends_by x (record { from = from; to = to; declaration = c.declaration; connection = c.connection })
             (giver.only m.earlier x.from (inl (m.is_down.thread, m.is_down.out)) leads) e
             (m.declaration_is ∙ ap (λ (y : Crossing). y.declaration) same)
             (m.connection_is ∙ ap (λ (y : Crossing). y.connection) same)

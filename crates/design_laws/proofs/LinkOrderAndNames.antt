@@ -19,6 +19,7 @@ use Rattle.aadl_uses.specs.Uses.{component_at}
 use Rattle.aadl_uses.specs.ThreadsBelow.{IsThreadAt, path_before}
 use Rattle.aadl_chains.specs.Chains.{Port, port_of, is_in}
 use Rattle.aadl_chains.specs.Links.{OtherTarget, Ends, same_path, TargetBefore}
+use Rattle.aadl_chains.proofs.SamePaths.{same_path-true}
 use Rattle.aadl_instance.specs.FlattenedDesign.{Parts, IsFlat}
 use Rattle.aadl_instance.specs.Instances.{node_at, port_number}
 use Rattle.component_checks.specs.TypeFindings as types
@@ -27,7 +28,7 @@ use Rattle.design_laws.proofs.PairwiseDistinctNames.{one_name, Differs}
 use Rattle.design_laws.proofs.PartitionedPairs.{pairs_at, pairs_first, pairs_unmapped}
 use Rattle.design_laws.proofs.MatchedLists.{Zipped}
 use Rattle.design_laws.proofs.PathTexts.{before_other}
-use Rattle.design_laws.proofs.PortAndThreadNumbers.{count_less, one_path, numbers_rise}
+use Rattle.design_laws.proofs.PortAndThreadNumbers.{count_less, numbers_rise}
 use Rattle.design_laws.proofs.ChainEndPorts.{Sits, in_port, in_number, port_is, in_way}
 use Rattle.design_laws.proofs.LinksFromChains.{node_of}
 
@@ -109,7 +110,7 @@ module _ {tree : PackageTree ℕ} {name : List ℕ} {parts : Parts} (flat : IsFl
       (node_at parts.threads b.to.path).0 (port_number tree parts.root b.to)) [
         | inl earlier ↦ by_paths a.to b.to i j earlier
         | inr same ↦
-            (let e = one_path a.to.path b.to.path same.0 in
+            (let e = same_path-true a.to.path b.to.path same.0 in
             place_by_port (node_at parts.threads a.to.path).0 (node_at parts.threads b.to.path).0
             (port_number tree parts.root a.to)
             (port_number tree parts.root b.to)

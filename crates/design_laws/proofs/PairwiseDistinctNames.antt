@@ -16,12 +16,9 @@ use Rattle.aadl_names.specs.declared.fault.PackageFault.{PackageFault}
 use Rattle.aadl_names.specs.declared.fault.PackageFault.TheVariants.{Twice}
 use Rattle.aadl_names.specs.declared.spelled_name.SpelledName.{SpelledName}
 use Rattle.aadl_names.specs.DuplicateNames.{again, twice}
+use Rattle.aadl_names.proofs.PortDuplicates.{same_name-swapped}
 
 -- ---- names compare as equal both ways
-pub same_turned : (a b : List ℕ) → same_name a b ≡ true → same_name b a ≡ true
-same_turned a b h = (bytes_eq-Decides (str_to_ascii_lowercase b) (str_to_ascii_lowercase a)).1
-    (sym ((bytes_eq-Decides (str_to_ascii_lowercase a) (str_to_ascii_lowercase b)).0 h))
-
 pub same_itself : (a : List ℕ) → same_name a a ≡ true
 same_itself a = (bytes_eq-Decides (str_to_ascii_lowercase a) (str_to_ascii_lowercase a)).1 refl
 
@@ -100,8 +97,8 @@ Differs x y = same_name x.name y.name ≡ false
 pub names_differ : (xs : List SpelledName) → twice xs ≡ [] → Pairs Apart xs → Pairs Differs xs
 names_differ xs none apart =
     pairs_joined (λ x y. (clash x y ≡ false) × (clash y x ≡ false)) Apart Differs
-    (λ x y no away. differ_by x.at y.at (same_name x.name y.name) (same_name y.name x.name) (same_turned x.name y.name)
-    no.0 no.1 away)
+    (λ x y no away. differ_by x.at y.at (same_name x.name y.name) (same_name y.name x.name)
+    (same_name-swapped x.name y.name) no.0 no.1 away)
     xs (square (λ x y. clash x y ≡ false) xs (none_clashes xs none)) apart
 
 -- one name does not differ from itself

@@ -1,7 +1,7 @@
 -- Paths of threads: words joined by dots, which differ.
-use Rattle.std.proofs.Common.{◌≡◌, ◌≢◌, ◌∙◌, inl, inr, ◌⊎◌, ℕ, ◌<◌, nat_eq, nat_le, nat_lt, Bool, true, false, cond}
-use Rattle.std.proofs.Common.{◌&&◌, ◌||◌, List, [], ◌∷◌, ◌++◌, map, length, reverse, codes, Option, Some, None, refl}
-use Rattle.std.proofs.Common.{sym, ap, subst, arith, append_assoc}
+use Rattle.std.proofs.Common.{◌≡◌, ◌≢◌, ◌∙◌, inl, inr, ◌⊎◌, ℕ, ◌<◌, nat_eq, nat_le, Bool, true, false, cond, ◌&&◌, List}
+use Rattle.std.proofs.Common.{[], ◌∷◌, ◌++◌, map, length, reverse, codes, Option, Some, None, refl, sym, ap, subst}
+use Rattle.std.proofs.Common.{arith, append_assoc}
 use Rattle.aadl_tree.specs.Names.{same_name}
 use Rattle.std.specs.Prelude.{slice_get, IsTrue}
 use Rattle.std.specs.List.{AllByRecursion, list_all, slice_split, onto_first}
@@ -22,6 +22,7 @@ use Rattle.aadl_names.specs.DuplicatesByNamespace.{port_entries, member_entries}
 use Rattle.aadl_uses.specs.Uses.{sub_at, below, standing}
 use Rattle.aadl_uses.specs.ThreadsBelow.{path_before}
 use Rattle.aadl_uses.specs.ThreadLocations.{name_at, names_along, dotted_names, spelled_path}
+use Rattle.aadl_uses.proofs.PathOrder.{never_before}
 use Rattle.design_laws.specs.proof.PackageNames.{IsNamed, HasWords, NamesDiffer}
 use Rattle.design_laws.proofs.PairwiseDistinctNames.{one_name, Differs}
 use Rattle.design_laws.proofs.PartitionedPairs.{pairs_at, pairs_first, pairs_second, pairs_unmapped, all_at, all_true}
@@ -208,15 +209,7 @@ module _ (tree : PackageTree ℕ) (words : HasWords tree) (root : ℕ) where
         same_paths (s ∷ p) (t ∷ q) m n first second names
 
 -- ---- no path stands before itself
-path_itself : (p : List ℕ) → path_before p p ≡ false
-path_itself [] = refl
-path_itself (x ∷ p) = later (nat_lt x x) (nat_eq x x) (path_before p p) (grind (arith, nat_tests)) (path_itself p)
-  where
-    later : (a b c : Bool) → a ≡ false → c ≡ false → (a || (b && c)) ≡ false
-    later a true c e f = rw (e, f) refl
-    later a false c e f = rw e refl
-
 pub before_other : (p q : List ℕ) → path_before (reverse p) (reverse q) ≡ true → p ≢ q
 before_other p q before e = let here : path_before (reverse p) (reverse p) ≡ true =
     subst (λ l. path_before (reverse p) (reverse l) ≡ true)
-    (sym e) before in absurd (false≢true (sym (path_itself (reverse p)) ∙ here))
+    (sym e) before in absurd (false≢true (sym (never_before (reverse p)) ∙ here))

@@ -1,18 +1,17 @@
 -- The number of a port among those of its direction, and the number of a thread.
-use Rattle.std.proofs.Common.{◌≡◌, ◌∙◌, inl, inr, ◌⊎◌, ℕ, zero, suc, ◌+◌, ◌<◌, nat_eq, nat_lt, Bool, true, false, cond}
-use Rattle.std.proofs.Common.{◌&&◌, ◌||◌, List, [], ◌∷◌, length, reverse, take, Option, Some, AllPairs, Contains, refl}
-use Rattle.std.proofs.Common.{sym, ap, subst, arith}
+use Rattle.std.proofs.Common.{◌≡◌, ◌∙◌, inl, inr, ◌⊎◌, ℕ, zero, suc, ◌+◌, ◌<◌, Bool, true, false, cond, List, [], ◌∷◌}
+use Rattle.std.proofs.Common.{length, reverse, take, Option, Some, AllPairs, Contains, refl, sym, ap, subst, arith}
 use Rattle.std.specs.Prelude.{slice_get, filter, count_by}
 use Rattle.std.specs.List.{position_from}
 use Rattle.std.specs.Option.{option_map_or}
-use Rattle.std.proofs.lemmas.Bool.{false≢true, cases_order, eqb-true, and_from, and_parts}
-use Rattle.std.proofs.lemmas.Bool.Decides.{nat_tests}
+use Rattle.std.proofs.lemmas.Bool.{false≢true, cases_order}
 use Rattle.std.proofs.lemmas.List.Sums.{length-filter}
 use Rattle.std.proofs.lemmas.Option.{same_Some, slice_get-get_or}
-use Rattle.list_lemmas.proofs.Numbers.{nat_eq-self}
 use Rattle.list_lemmas.proofs.PairwiseProperties.{AllPairs-slice_get}
 use Rattle.aadl_uses.specs.ThreadsBelow.{PathBefore, path_before}
+use Rattle.aadl_uses.proofs.PathOrder.{one_way_paths}
 use Rattle.aadl_chains.specs.Links.{same_path}
+use Rattle.aadl_chains.proofs.SamePaths.{same_path-true, same_path-self}
 use Rattle.aadl_instance.specs.Instances.{node_at}
 use Rattle.design_laws.proofs.InstanceBehaviours.{first_is}
 
@@ -66,32 +65,6 @@ module _ {X : Type 0} (p : X → Bool) where
       let h = less_behind xs i j x lt is passes in
       omega (arith, a, b, h)
 
--- ---- paths compare
-path_is_itself : (p : List ℕ) → same_path p p ≡ true
-path_is_itself [] = refl
-path_is_itself (x ∷ p) = and_from (nat_eq x x) (same_path p p) (nat_eq-self x) (path_is_itself p)
-
-pub one_path : (p q : List ℕ) → same_path p q ≡ true → p ≡ q
-one_path [] [] e = refl
-one_path [] (y ∷ q) e = absurd (false≢true e)
-one_path (x ∷ p) [] e = absurd (false≢true e)
-one_path (x ∷ p) (y ∷ q) e = let h = and_parts (nat_eq x y) (same_path p q) e in
-    ap (λ k. k ∷ p) (eqb-true x y h.0) ∙ ap (λ l. y ∷ l) (one_path p q h.1)
-
--- one stands before the other, or the other before the one, but not both
-not_both_by : (x y : ℕ) (a b : Bool) → (a ≡ true → b ≡ true → ⊥) → (nat_lt x y || (nat_eq x y && a)) ≡ true
-    → (nat_lt y x || (nat_eq y x && b)) ≡ true → ⊥
-not_both_by x y true true never first second = never refl refl
-not_both_by x y true false never first second = absurd (grind (arith, nat_tests))
-not_both_by x y false true never first second = absurd (grind (arith, nat_tests))
-not_both_by x y false false never first second = absurd (grind (arith, nat_tests))
-
-not_both : (p q : List ℕ) → path_before p q ≡ true → path_before q p ≡ true → ⊥
-not_both [] [] first second = false≢true first
-not_both [] (y ∷ q) first second = false≢true second
-not_both (x ∷ p) [] first second = false≢true first
-not_both (x ∷ p) (y ∷ q) first second = not_both_by x y (path_before p q) (path_before q p) (not_both p q) first second
-
 -- ---- the number of a thread
 position_by : {X : Type 0} (p : X → Bool) (from : ℕ) (b : Bool) (rest : Option ℕ)
     → (b ≡ false → (n : ℕ) × (rest ≡ Some n))
@@ -120,13 +93,13 @@ pub record IsNode (threads : List (List ℕ)) (path : List ℕ) : Type 0 where
 pub is_node : (threads : List (List ℕ)) (path : List ℕ) → Contains threads path → IsNode threads path
 is_node threads path h =
     let at = at_from threads path h in
-    let found = position_some (same_path path) 0 threads at.0 path at.1 (path_is_itself path) in
+    let found = position_some (same_path path) 0 threads at.0 path at.1 (same_path-self path) in
     let f = first_is (same_path path) 0 found.0 threads found.1 in
     let e : found.0 ≡ f.place = let n = f.number in omega (arith, n) in
     record {
       place = f.place;
       number = ap (λ o. option_map_or (λ n. n) o 0) found.1 ∙ e;
-      is = f.is ∙ ap Some (sym (one_path path f.one f.passes));
+      is = f.is ∙ ap Some (sym (same_path-true path f.one f.passes));
     }
 
 module _ (threads : List (List ℕ)) (sorted : AllPairs PathBefore threads) where
@@ -135,10 +108,10 @@ module _ (threads : List (List ℕ)) (sorted : AllPairs PathBefore threads) wher
       → path_before (reverse p) (reverse q) ≡ true → m < n
   number_by p q m n (inl e) first second before =
       let same : p ≡ q = same_Some p q (sym first ∙ (ap (slice_get threads) e ∙ second)) in
-      absurd (not_both (reverse p) (reverse q) before (subst (λ l. path_before (reverse l) (reverse p) ≡ true) same
+      absurd (one_way_paths (reverse p) (reverse q) before (subst (λ l. path_before (reverse l) (reverse p) ≡ true) same
       (subst (λ l. path_before (reverse p) (reverse l) ≡ true) (sym same) before)))
   number_by p q m n (inr (inl lt)) first second before = lt
-  number_by p q m n (inr (inr lt)) first second before = absurd (not_both (reverse p) (reverse q) before
+  number_by p q m n (inr (inr lt)) first second before = absurd (one_way_paths (reverse p) (reverse q) before
       (AllPairs-slice_get PathBefore threads n m q p sorted lt second first))
 
   pub numbers_rise : (p q : List ℕ) → (a : IsNode threads p) (b : IsNode threads q)

@@ -22,6 +22,7 @@ use Rattle.aadl_names.specs.RecognisedProperties.{association_named, name_of, re
 use Rattle.aadl_names.specs.RecognisedProperties.{misshapen, shape_fault, property_entries, list_faults}
 use Rattle.aadl_names.specs.ReferenceResolution.{is_thread}
 use Rattle.aadl_names.specs.DuplicateNames.{twice}
+use Rattle.aadl_names.proofs.FirstFaultSoFar.{wrong_none}
 use Rattle.design_laws.proofs.EmptyFindingLists.{not_wrong}
 use Rattle.component_checks.specs.BoundsAndRates.{within_hour, range_within}
 use Rattle.annex_resolve.specs.declared.violation.TheConstants.{NUMBER_TOO_BIG}
@@ -79,10 +80,6 @@ pub record IsGood (p : PropertyName) (x : Association ℕ) : Type 0 where
 second_false : (a b : Bool) → (a && b) ≡ false → a ≡ true → b ≡ false
 second_false true b e is = e
 second_false false b e is = absurd (false≢true is)
-
-wrong_none : (b : Bool) (at : ℕ) → wrong_if b at ≡ [] → b ≡ false
-wrong_none true at e = absurd (cc e)
-wrong_none false at e = refl
 
 good_by : (holder : PropertyHolder) (p : PropertyName) (x : Association ℕ) → Among p (recognised holder)
     → shape_fault holder x ≡ []

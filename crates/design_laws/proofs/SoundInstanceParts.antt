@@ -1,19 +1,19 @@
 -- Where an instance has no fault and nothing is found in it, nothing is wrong with any part of it.
-use Rattle.std.proofs.Common.{◌≡◌, ◌∙◌, inl, inr, ℕ, zero, suc, ◌+◌, Bool, true, List, [], ◌∷◌, ◌++◌, Option, Some}
-use Rattle.std.proofs.Common.{None, refl, sym, ap, subst, arith, Contains}
+use Rattle.std.proofs.Common.{◌≡◌, ◌∙◌, inl, inr, ℕ, zero, suc, ◌+◌, Bool, true, List, [], ◌∷◌, ◌++◌, Some, refl, sym}
+use Rattle.std.proofs.Common.{ap, subst, arith, Contains}
 use Rattle.std.specs.Prelude.{flat_map, slice_get}
 use Rattle.std.specs.List.{list_any, enumerate_from}
 use Rattle.std.proofs.lemmas.Option.{same_Some, option_and_then_some}
 use Rattle.std.proofs.lemmas.Bool.{or_left, or_right, and_from as both}
 use Rattle.list_lemmas.proofs.ListOperations.{append_is_nil_right, append_is_nil_left}
 use Rattle.list_lemmas.proofs.Numbers.{nat_eq-self}
-use Rattle.aadl_tree.specs.Declarations.{Declaration, type, TypeDeclaration, Implementation, implementation}
-use Rattle.aadl_tree.specs.Declarations.{PackageTree}
+use Rattle.aadl_tree.specs.Declarations.{type, TypeDeclaration, Implementation, implementation, PackageTree}
 use Rattle.aadl_names.specs.declared.fault.PackageFault.{PackageFault}
 use Rattle.aadl_names.specs.declared.fault.PackageFault.TheVariants.{TooMany}
-use Rattle.aadl_names.specs.ReferenceResolution.{implementation_in, implementation_at, type_number}
+use Rattle.aadl_names.specs.ReferenceResolution.{implementation_at, type_number}
 use Rattle.aadl_names.specs.PackageFaults.{package_faults}
 use Rattle.aadl_uses.specs.Uses.{standing, component_at}
+use Rattle.aadl_chains.proofs.DeclaredEnds.{implementation_in-some}
 use Rattle.aadl_instance.specs.Faults.{IsOver, FoundIn}
 use Rattle.aadl_instance.specs.FlattenedDesign.{Parts, IsFlat}
 use Rattle.design_laws.proofs.EmptyFindingLists.{none_at}
@@ -75,15 +75,9 @@ all_parts tree s used none =
     }
 
 -- ---- what is in use
-pub there : (o : Option (Declaration ℕ)) (x : Implementation ℕ) → implementation_in o ≡ Some x
-    → o ≡ Some (implementation x)
-there None x e = absurd (cc e)
-there (Some (type y)) x e = absurd (cc e)
-there (Some (implementation y)) x e = ap (λ z. Some (implementation z)) (same_Some y x e)
-
 pub declared_at : (tree : PackageTree ℕ) (n : ℕ) (x : Implementation ℕ) → implementation_at tree n ≡ Some x
     → slice_get tree.declarations n ≡ Some (implementation x)
-declared_at tree n x is = there (slice_get tree.declarations n) x is
+declared_at tree n x is = implementation_in-some (slice_get tree.declarations n) x is
 
 any_numbered : {X : Type 0} (p : ℕ × X → Bool) (from : ℕ) (xs : List X) (n : ℕ) (x : X) → slice_get xs n ≡ Some x
     → p (from + n, x) ≡ true

@@ -19,14 +19,13 @@ use Rattle.aadl_chains.specs.proof.Walks.{OneEach}
 use Rattle.aadl_chains.specs.proof.TracedChains.{IsGiver}
 use Rattle.aadl_chains.proofs.FirstIncomingConnections.{entered, inner_of}
 use Rattle.aadl_chains.proofs.LinksByWalks.{tap_from, tap_met}
-use Rattle.aadl_chains.proofs.TracedChains.{no_tap, no_tap_over}
+use Rattle.aadl_chains.proofs.TracedChains.{no_tap, no_tap_over, ends_by}
 use Rattle.aadl_instance.specs.declared.chain.Chain.{Chain}
 use Rattle.aadl_instance.specs.Instances.{chain_in}
 use Rattle.aadl_instance.specs.proof.ChainsSoFar.{AreTapsTo}
 use Rattle.aadl_instance.proofs.ChainsSoFar.{taps_none, taps_more, taps_skip, taps_whole}
 use Rattle.aadl_instance.proofs.AddedChains.{in_tap}
 use Rattle.design_laws.proofs.OutPortSources.{Gives, gives}
-use Rattle.design_laws.proofs.IncomingLinks.{same_ends}
 
 abbrev pair : ℕ → ℕ → ℕ → ℕ × PortPlace
 pair k s p = (k, Inner s p)
@@ -74,7 +73,7 @@ module _ (tree : PackageTree ℕ) (root : ℕ) (sound : AreDeclared tree) (one :
             let m = tap_met tree root sound one no_thread y tap in
             let enters : connection_into tree root (Own port) ≡ Some (y.connection, Inner m.sub m.port) =
             ap (λ (p : Port). connection_into tree root (Own p.port)) (sym e) ∙ m.enters in
-            same_ends y (record {
+            ends_by y (record {
               from = from;
               to = record { path = []; port = port };
               declaration = root;

@@ -21,6 +21,7 @@ use Rattle.aadl_names.specs.declared.spelled_name.SpelledName.{SpelledName}
 use Rattle.aadl_names.specs.Spelling.{entry_of}
 use Rattle.aadl_names.specs.DuplicatesByNamespace.{port_entries, variable_entries, state_entries}
 use Rattle.aadl_names.specs.BehaviourAnnexes as names
+use Rattle.aadl_names.proofs.PortDuplicates.{same_name-swapped}
 use Rattle.annex_resolve.specs.declared.states.StateAt.{StateAt}
 use Rattle.annex_resolve.specs.BehavioursAndFindings.{state_at, states_in, states_of, declared}
 use Rattle.component_checks.specs.TypeFindings.{is_in}
@@ -28,7 +29,7 @@ use Rattle.model_violations.specs.declared.declared_ports.Declared.{Declared}
 use Rattle.model_violations.specs.PortsAndVariables.{port_of, ins_in, outs_in, variables_in, variables_of, named_of}
 use Rattle.model_violations.specs.PortsAndVariables.{var_of}
 use Rattle.design_laws.specs.proof.PackageNames.{IsNamed, Differ}
-use Rattle.design_laws.proofs.PairwiseDistinctNames.{same_turned, same_itself, Differs}
+use Rattle.design_laws.proofs.PairwiseDistinctNames.{same_itself, Differs}
 use Rattle.design_laws.proofs.PartitionedPairs.{all_unmapped, pairs_unmapped, pairs_first, pairs_second, pairs_across}
 use Rattle.design_laws.proofs.PartitionedPairs.{all_kept, split, all_true}
 
@@ -45,7 +46,7 @@ turned_by x true back e = absurd (false≢true (sym e ∙ back refl))
 turned_by x false back e = refl
 
 turned : (a b : List ℕ) → Apart a b → Apart b a
-turned a b e = turned_by (same_name a b) (same_name b a) (same_turned b a) e
+turned a b e = turned_by (same_name a b) (same_name b a) (same_name-swapped b a) e
 
 abbrev spelling : Identifier ℕ → List ℕ
 spelling x = x.spelling

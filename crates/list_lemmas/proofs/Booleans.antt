@@ -1,11 +1,14 @@
 -- Tests joined by `&&` and `||`.
-use Rattle.std.proofs.Common.{◌≡◌, ◌⊎◌, inl, inr, Bool, true, false, ◌&&◌, ◌||◌, refl}
-use Rattle.std.proofs.lemmas.Bool.{false≢true}
+use Rattle.std.proofs.Common.{◌≡◌, ◌∙◌, ◌⊎◌, inl, inr, Bool, true, false, ◌&&◌, ◌||◌, refl, sym}
+use Rattle.std.proofs.lemmas.Bool.{false≢true, true≢false}
 
 -- a goal by the two answers of a test
 pub by_test : (b : Bool) (P : Type 0) → (b ≡ true → P) → (b ≡ false → P) → P
 by_test true P holds fails = holds refl
 by_test false P holds fails = fails refl
+
+pub opposed : (b : Bool) → b ≡ true → b ≡ false → ⊥
+opposed b holds fails = true≢false (sym holds ∙ fails)
 
 pub and_assoc_left : (a b c : Bool) → (a && (b && c)) ≡ ((a && b) && c)
 and_assoc_left true b c = refl
@@ -34,8 +37,3 @@ pub or_and_cases : (a b c : Bool) → (a || (b && c)) ≡ true → (a ≡ true) 
 or_and_cases true b c one = inl refl
 or_and_cases false true c one = inr (refl, one)
 or_and_cases false false c one = absurd (false≢true one)
-
-pub or_and_right : (a b c : Bool) → a ≡ false → (a || (b && c)) ≡ true → c ≡ true
-or_and_right true b c fails one = absurd (cc)
-or_and_right false true c fails one = one
-or_and_right false false c fails one = absurd (cc)

@@ -1,9 +1,9 @@
 -- For `in_port`: the number that a thing has among those that pass a test, as the list goes one thing further.
 use Rattle.std.proofs.Common.{◌≡◌, ◌∙◌, ℕ, ◌+◌, ◌<◌, ◌≤◌, Bool, true, false, cond, List, ◌∷◌, length, map, filter, drop}
 use Rattle.std.proofs.Common.{get_or, Some, None, ap, add-one}
+use Rattle.std.proofs.lemmas.List.{drop_all}
 use Rattle.std.specs.Prelude.{slice_get}
 use Rattle.list_lemmas.proofs.ListOperations.{drop-next}
-use Rattle.aadl_names.proofs.FirstFaultSoFar.{none_left}
 
 tested : {A B : Type 0} (p : B → Bool) (v : A → B) (xs : List A) (i : ℕ) (x : A) (b : Bool) → i < length xs
     → x ≡ get_or xs i x → p (v x) ≡ b
@@ -37,4 +37,4 @@ not_here p v xs i n x within is fails = ap (λ l. slice_get l n) (tested p v xs 
 
 pub nowhere : {A B : Type 0} (p : B → Bool) (v : A → B) (xs : List A) (i n : ℕ) → length xs ≤ i
     → slice_get (filter p (map v (drop i xs))) n ≡ None
-nowhere p v xs i n past = ap (λ l. slice_get (filter p (map v l)) n) (none_left xs i past)
+nowhere p v xs i n past = ap (λ l. slice_get (filter p (map v l)) n) (drop_all i xs past)

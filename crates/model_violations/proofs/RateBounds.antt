@@ -16,7 +16,7 @@ passed_by : (b : Bool) (n k : ℕ) → cond b (Some n) None ≡ Some k → (b �
 passed_by true n k is = (refl, cc)
 passed_by false n k is = absurd (cc is)
 
-bounds_of : (q : ℕ) → (nat_le 1 q && nat_le q RATE) ≡ true → (1 ≤ q) × (q ≤ RATE)
+pub bounds_of : (q : ℕ) → (nat_le 1 q && nat_le q RATE) ≡ true → (1 ≤ q) × (q ≤ RATE)
 bounds_of q h = (grind (arith, nat_tests), grind (arith, nat_tests))
 
 bounds_by : (d : Bool) (q : ℕ) → (d && nat_le 1 q && nat_le q RATE) ≡ true → (1 ≤ q) × (q ≤ RATE)

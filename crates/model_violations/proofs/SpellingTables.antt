@@ -6,9 +6,9 @@ use Rattle.aadl_tree.specs.Names.{same_name}
 use Rattle.std.specs.List.{list_any}
 use Rattle.std.specs.Option.{is_some, option_or}
 use Rattle.std.proofs.lemmas.List.Folds.{list_any-append}
+use Rattle.std.proofs.lemmas.List.{drop_all}
 use Rattle.list_lemmas.proofs.ListOperations.{drop-next}
 use Rattle.aadl_names.specs.proof.NameTables.{value_of}
-use Rattle.aadl_names.proofs.FirstFaultSoFar.{none_left}
 use Rattle.model_violations.specs.IgnoredProperties.{behind, all_behind}
 use Rattle.model_violations.specs.proof.KnownNames.{KnowsAll}
 
@@ -65,4 +65,4 @@ known_more old new first more x n knows added pushed = λ other.
 -- ---- nothing is left
 pub left_behind : (names : List (List ℕ)) (i : ℕ) (first : List (List ℕ)) → length names ≤ i
     → all_behind [] names ≡ all_behind first (drop i names) → first ≡ all_behind [] names
-left_behind names i first past left = sym (left ∙ ap (all_behind first) (none_left names i past))
+left_behind names i first past left = sym (left ∙ ap (all_behind first) (drop_all i names past))

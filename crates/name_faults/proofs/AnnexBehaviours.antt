@@ -1,6 +1,7 @@
 -- For `check_behaviours`: the behaviours of an implementation, one annex after the other.
 use Rattle.std.proofs.Common.{◌≡◌, ℕ, ◌+◌, ◌<◌, ◌≤◌, Bool, true, false, List, [], ◌∷◌, ◌++◌, length, drop, get_or, map}
 use Rattle.std.proofs.Common.{Option, refl, sym, ap, ◌∙◌}
+use Rattle.std.proofs.lemmas.List.{drop_all}
 use Rattle.list_lemmas.proofs.ListOperations.{drop-next}
 use Rattle.aadl_tree.specs.Names.{Identifier}
 use Rattle.aadl_tree.specs.Annexes.{AnnexTree, AnnexContent, foreign, behaviour, Annex}
@@ -11,7 +12,7 @@ use Rattle.aadl_names.specs.BehaviourAnnexes.{behaviours}
 use Rattle.aadl_names.specs.proof.FirstFaultSoFar.{found}
 use Rattle.aadl_names.specs.ReferenceResolution.{is_thread}
 use Rattle.aadl_names.specs.PackageFaults.{behaviour_faults, annex_faults}
-use Rattle.aadl_names.proofs.FirstFaultSoFar.{none_left, found_append}
+use Rattle.aadl_names.proofs.FirstFaultSoFar.{found_append}
 use Rattle.name_faults.specs.proof.ExpectedBehaviours.{annex_uses, still_expected, behaviours_left}
 
 -- each behaviour that is left is too many
@@ -65,4 +66,4 @@ pub last_annex : {A : Type 0} (view : A → Annex ℕ) (tree : PackageTree ℕ) 
     (whole now : (Option PackageFault)) → length items ≤ i
     → whole ≡ found now (behaviours_left tree x expected (behaviours (map view (drop i items)))) → now ≡ whole
 last_annex view tree x items i expected whole now past left = sym
-    (left ∙ ap (λ l. found now (behaviours_left tree x expected (behaviours (map view l)))) (none_left items i past))
+    (left ∙ ap (λ l. found now (behaviours_left tree x expected (behaviours (map view l)))) (drop_all i items past))

@@ -1,5 +1,6 @@
 -- For `first_behaviour`: the first behaviour among the annexes of an implementation, if there is one.
 use Rattle.std.proofs.Common.{◌≡◌, ℕ, ◌+◌, ◌<◌, ◌≤◌, List, ◌∷◌, length, drop, get_or, map, Option, None, sym, ap, ◌∙◌}
+use Rattle.std.proofs.lemmas.List.{drop_all}
 use Rattle.list_lemmas.proofs.ListOperations.{drop-next}
 use Rattle.aadl_tree.specs.declared.annex.AnnexContent as source_content
 use Rattle.aadl_tree.specs.declared.annex.Annex.{Annex}
@@ -9,7 +10,6 @@ use Rattle.aadl_tree.specs.proof.DeclarationViews.{annex_view, content_view}
 use Rattle.aadl_tree.specs.proof.NameViews.{identifier_view}
 use Rattle.aadl_tree.specs.proof.PlaceMaps.{kept_place}
 use Rattle.aadl_names.specs.BehaviourAnnexes.{behaviours, first_behaviour}
-use Rattle.aadl_names.proofs.FirstFaultSoFar.{none_left}
 
 -- an annex of some content, and others behind it
 abbrev first_with : Annex → AnnexContent ℕ → List (plain.Annex ℕ) → Option (AnnexTree ℕ)
@@ -30,4 +30,4 @@ here_first items i x content whole within is of left =
 pub none_first : (items : List Annex) (i : ℕ) (whole : (Option (AnnexTree ℕ))) → length items ≤ i
     → whole ≡ first_behaviour (behaviours (map (annex_view kept_place) (drop i items))) → None ≡ whole
 none_first items i whole past left =
-    sym (left ∙ ap (λ l. first_behaviour (behaviours (map (annex_view kept_place) l))) (none_left items i past))
+    sym (left ∙ ap (λ l. first_behaviour (behaviours (map (annex_view kept_place) l))) (drop_all i items past))

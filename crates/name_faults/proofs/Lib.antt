@@ -1,7 +1,6 @@
 pub mod ValueShapes
 pub mod PropertyEntries
 pub mod SinglePropertyLists
-pub mod StructViews
 pub mod RoleTables
 pub mod PortEntries
 pub mod TypePortNames

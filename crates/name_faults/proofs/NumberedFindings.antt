@@ -1,12 +1,13 @@
 -- For the checks of all declarations: what is found at each declaration, with the declaration's number.
 use Rattle.std.proofs.Common.{◌≡◌, ℕ, ◌+◌, ◌<◌, ◌≤◌, List, [], ◌∷◌, length, drop, get_or, map, Option, Some, sym, ap}
 use Rattle.std.proofs.Common.{◌∙◌, zero, suc, arith}
+use Rattle.std.proofs.lemmas.List.{drop_all}
 use Rattle.std.specs.Prelude.{slice_get}
 use Rattle.std.specs.List.{flat_map, enumerate_from}
 use Rattle.list_lemmas.proofs.ListOperations.{drop-next}
 use Rattle.aadl_names.specs.declared.fault.PackageFault.{PackageFault}
 use Rattle.aadl_names.specs.proof.FirstFaultSoFar.{found}
-use Rattle.aadl_names.proofs.FirstFaultSoFar.{none_left, found_append}
+use Rattle.aadl_names.proofs.FirstFaultSoFar.{found_append}
 
 pub next_numbered : {A B : Type 0} (view : A → B) (here : ℕ × B → List PackageFault) (xs : List A) (i : ℕ) (x : A)
     (whole before after : (Option PackageFault))
@@ -23,7 +24,7 @@ pub last_numbered : {A B : Type 0} (view : A → B) (here : ℕ × B → List Pa
     (whole now : (Option PackageFault)) → length xs ≤ i
     → whole ≡ found now (flat_map here (enumerate_from i (map view (drop i xs)))) → now ≡ whole
 last_numbered view here xs i whole now past left =
-    sym (left ∙ ap (λ l. found now (flat_map here (enumerate_from i (map view l)))) (none_left xs i past))
+    sym (left ∙ ap (λ l. found now (flat_map here (enumerate_from i (map view l)))) (drop_all i xs past))
 
 -- what stands at a number
 pub numbered : {A B : Type 0} (view : A → B) (xs : List A) (i : ℕ) (x : A) → i < length xs → x ≡ get_or xs i x

@@ -2,10 +2,10 @@
 -- after the other.
 use Rattle.std.proofs.Common.{◌≡◌, ℕ, ◌+◌, ◌<◌, ◌≤◌, Bool, true, false, ◌||◌, List, [], ◌∷◌, length, drop, get_or}
 use Rattle.std.proofs.Common.{Option, None, refl, sym, ap, ◌∙◌}
+use Rattle.std.proofs.lemmas.List.{drop_all}
 use Rattle.std.specs.Option.{option_or}
 use Rattle.list_lemmas.proofs.ListOperations.{drop-next}
 use Rattle.list_lemmas.proofs.Options.{option_or_assoc, option_or-none}
-use Rattle.aadl_names.proofs.FirstFaultSoFar.{none_left}
 use Rattle.name_faults.specs.proof.ConditionalValues.{value_if, is_marked}
 
 -- One turn of a loop adds what the first of the things that are left stands for.
@@ -25,7 +25,7 @@ pub last_role : {A V : Type 0} (parts : List A → Option V) (xs : List A) (i : 
     → length xs ≤ i → parts [] ≡ None
     → whole ≡ option_or now (parts (drop i xs)) → now ≡ whole
 last_role parts xs i whole now past none left =
-    sym (left ∙ (ap (λ l. option_or now (parts l)) (none_left xs i past)
+    sym (left ∙ (ap (λ l. option_or now (parts l)) (drop_all i xs past)
     ∙ (ap (option_or now) none ∙ option_or-none now)))
 
 -- what is among one list or another

@@ -2,7 +2,7 @@
 -- gathered from them, and tuples that are cut short.
 use Rattle.std.proofs.Common.{◌≡◌, ◌∙◌, inl, inr, ℕ, zero, suc, ◌-◌, ◌<◌, ◌≤◌, nat_lt, Bool, if◌then◌else◌, List, []}
 use Rattle.std.proofs.Common.{◌∷◌, ◌++◌, length, map, take, replicate, slice_index_or, Some, refl, sym, ap, arith}
-use Rattle.std.specs.Prelude.{slice_get}
+use Rattle.std.specs.Prelude.{slice_get, ℤ}
 use Rattle.std.specs.List.{All, AllByRecursion, fold}
 use Rattle.std.proofs.lemmas.Bool.{cases_lt, lt-ltb, le-ltb}
 use Rattle.std.proofs.lemmas.List.{length-map, append-nil, take_all, length-append, length-take, length-take-le}
@@ -89,6 +89,10 @@ cut_whole count tuple within =
     ap (λ n. take count tuple ++ replicate n Absent) none ∙ append-nil (take count tuple) ∙ take_all count tuple within
 
 -- ---- a halted frame
+pub holding-none : (held : List ℤ) → holding held [] ≡ held
+holding-none [] = refl
+holding-none (v ∷ held) = refl
+
 pub fire-halted : (b : BehaviourParts) (frame : Frame) (trap : Trap) (inputs : List PortValue) → frame.halt ≡ Some trap
     → fire b frame inputs ≡ record { frame = record frame { held = holding frame.held inputs }; outs = silence b }
 unfolding fire

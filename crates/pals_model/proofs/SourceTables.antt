@@ -6,7 +6,7 @@ use Rattle.std.proofs.Common.{zero-add, append_assoc}
 use Rattle.std.specs.Prelude.{Option, slice_set, slice_index_or}
 use Rattle.std.specs.List.{enumerate_from, position_from}
 use Rattle.std.proofs.lemmas.Bool.{ne_eqb, eq-eqb}
-use Rattle.std.proofs.lemmas.List.{drop_more, get_or_default}
+use Rattle.std.proofs.lemmas.List.{drop_more, get_or_default, drop_all}
 use Rattle.std.proofs.lemmas.Iterator.Adapters.{position_from-zero}
 use Rattle.pals_base.specs.StepSequences.{upwards}
 use Rattle.pals_model.specs.declared.design.Component.{Component}
@@ -129,18 +129,12 @@ links_turn design links table after at d same some' within before is =
     (before ∙ ap (λ n. table_of design.components (linked_from design n)) back)
     ∙ links_step design (at - 1) link inside (get_or_default design.links (at - 1) d link inside)
 
-no_more : {X : Type 0} (xs : List X) (n : ℕ) → length xs ≤ n → drop n xs ≡ []
-no_more [] zero within = refl
-no_more [] (suc n) within = refl
-no_more (x ∷ xs) zero within = absurd (omega arith)
-no_more (x ∷ xs) (suc n) within = no_more xs n (omega arith)
-
 pub links_begin : (design : DesignParts) (n : ℕ) → n ≡ length design.links
     → table_of design.components (fed_from design 0) ≡ table_of design.components (linked_from design n)
 links_begin design n is =
     table_same _ _ (λ node port.
     ap (λ ls. from_link (position_from (link_goes_to node port) n ls) (fed_from design 0 node port))
-    (sym (no_more design.links n (omega arith)))) 0 design.components
+    (sym (drop_all n design.links (omega arith)))) 0 design.components
 
 pub links_end : (design : DesignParts) → table_of design.components (linked_from design 0) ≡ all_sources design
 links_end design =
@@ -198,7 +192,7 @@ pub feeds_begin : (design : DesignParts) (n : ℕ) → n ≡ length design.feeds
 feeds_begin design n is =
     table_same _ _ (λ node port.
     ap (λ fs. from_feed design (position_from (feed_goes_to node port) n fs))
-    (sym (no_more design.feeds n (omega arith)))) 0 design.components
+    (sym (drop_all n design.feeds (omega arith)))) 0 design.components
 
 -- ---- nothing yet
 nothings : (node k n : ℕ) → replicate n source.Nothing ≡ map (nothing node) (upwards k n)

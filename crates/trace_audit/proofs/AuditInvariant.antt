@@ -1,8 +1,7 @@
 -- What an audit keeps from line to line.
 use Rattle.std.proofs.Common.{◌≡◌, ℕ, zero, suc, Bool, true, not, cond, List, ◌∷◌, length, map, Option, Some, None}
 use Rattle.std.proofs.Common.{refl, sym, ap, ◌∙◌}
-use Rattle.std.specs.Prelude.{is_some, replicate, IfSome}
-use Rattle.std.specs.Option.{unwrap_or}
+use Rattle.std.specs.Prelude.{replicate, IfSome}
 use Rattle.pals_base.specs.StepSequences.{upwards}
 use Rattle.pals_model.specs.declared.design.DesignParts.{DesignParts}
 use Rattle.pals_runs.specs.declared.journal.Arrived.TheVariants.{Kept, Ignored, Early}
@@ -18,10 +17,6 @@ use Rattle.run_laws.specs.TraceRules.{broken, is_line_of}
 use Rattle.run_laws.specs.TraceVerdicts.{Audit, audit_after, audit_event, line_broken, noted}
 use Rattle.trace_audit.specs.proof.OwedStops.{owed_by}
 use Rattle.trace_audit.proofs.OrderAndOwedStops.{owed_behind}
-
-pub given : (o : Option ℕ) → is_some o ≡ true → Some (unwrap_or o 0) ≡ o
-given None is = absurd (cc)
-given (Some n) is = refl
 
 -- no reading is noted before the first line
 zeros : (f : ℕ → NodeState) (from n : ℕ) → map {B = ℕ} (λ (_ : NodeState). 0) (map f (upwards from n)) ≡ replicate n 0

@@ -7,10 +7,10 @@ use Rattle.aadl_tree.specs.Terminals.{spots}
 use Rattle.aadl_grammar.specs.proof.StackMachine.{depth}
 use Rattle.aadl_grammar.specs.proof.ParserAnswers.{here}
 use Rattle.aadl_grammar.specs.proof.TerminalSpots.{spots_of}
-use Rattle.aadl_grammar.proofs.TerminalSpots.{spots_past}
+use Rattle.aadl_grammar.proofs.TerminalSpots.{spots_past, some_left}
 use Rattle.aadl_parse.specs.ParseResults.{IsFaultOfText, of_parse}
 use Rattle.aadl_parse.specs.proof.DeclarationAndPackageParts.{package_of}
-use Rattle.aadl_parse.proofs.PackageFates.{at_fault, left_fault, at_tree, only_one, residual, some_left}
+use Rattle.aadl_parse.proofs.PackageFates.{at_fault, left_fault, at_tree, only_one, residual}
 use Rattle.aadl_parse.proofs.parse.Goals as goal
 
 pub resolve-requires : goal.resolve-requires

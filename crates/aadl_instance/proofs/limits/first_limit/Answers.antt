@@ -1,6 +1,6 @@
 use Rattle.std.proofs.Common.{arith}
+use Rattle.list_lemmas.proofs.Booleans.{opposed}
 use Rattle.aadl_tree.specs.proof.PackageViews.{placed}
-use Rattle.aadl_chains.proofs.ConnectionsOnChains.{opposed}
 use Rattle.aadl_instance.specs.proof.Limits.{IsPassed}
 use Rattle.aadl_instance.proofs.FaultPrecedence.{limit_lines, limit_line, last_line, passed_next, passed_earlier}
 use Rattle.aadl_instance.proofs.limits.first_limit.Goals as goal

@@ -10,7 +10,7 @@ use Rattle.aadl_tree.specs.proof.PlaceMaps.{kept_place}
 use Rattle.aadl_tree.specs.proof.ExpressionViews.{primary_view, factor_view, term_view, sum_view, relation_view}
 use Rattle.aadl_tree.proofs.ExpressionViews.{view-Whole, view-Truth, view-Group, view-Abs, view-Not, view-Plain}
 use Rattle.aadl_tree.proofs.ExpressionViews.{view-out-expression, view-out-sum, view-out-relation}
-use Rattle.annex_resolve.proofs.StructViews.{view-out-term}
+use Rattle.aadl_tree.proofs.FieldViews.{view-out-term}
 use Rattle.annex_resolve.proofs.SeveralOperands.{empty_by, some_by, none_by}
 use Rattle.annex_resolve.proofs.ResolvedTermsAndSums.{term_alone, term_several, sum_alone, sum_several, relation_alone}
 use Rattle.annex_resolve.proofs.ResolvedExpressions.{relation_compared, expression_alone, expression_several}

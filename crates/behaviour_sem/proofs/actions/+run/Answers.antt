@@ -6,11 +6,11 @@ use Rattle.pals_base.specs.Actions.{Effect, act, acts, act_first, for_each, numb
 use Rattle.pals_base.specs.SingleStep.{is_present}
 use Rattle.pals_base.specs.PlainTrees.{For}
 use Rattle.pals_base.specs.proof.TreeViews.{action_of, actions_along, branches_along}
+use Rattle.pals_base.proofs.LoopNumbers.{no_numbers}
 use Rattle.behaviour_sem.specs.proof.ReadableFrames.{frame_of}
 use Rattle.behaviour_sem.specs.proof.StepOutcomes.{Left, Chose}
 use Rattle.behaviour_sem.specs.proof.ActionExecution.{effect}
-use Rattle.behaviour_sem.proofs.ActionMeanings.{act-If, act-For, turn_after, Left-chose-err, numbers-none}
-use Rattle.behaviour_sem.proofs.ActionMeanings.{for_each-more}
+use Rattle.behaviour_sem.proofs.ActionMeanings.{act-If, act-For, turn_after, Left-chose-err, for_each-more}
 use Rattle.behaviour_sem.proofs.actions.+run.Goals as goal
 
 pub run-returns-in_err-run_first-in-If-clause-runs : goal.run-returns-in_err-run_first-in-If-clause-runs
@@ -123,7 +123,7 @@ run_turns-returns-clause-runs t c =
     let over : c.args.high <ℤ number = grind (arith, ints) in
     let all = simp to_z-of_z at c.loop-number.invariant.rest in
     sym all ∙ ap (λ ns. for_each ns body (effect c.loop-number.vars.items c.loop-number.outs))
-    (numbers-none number c.args.high over)
+    (no_numbers number c.args.high over)
 
 pub run_turns-returns-in_ok-run_turn-clause-runs : goal.run_turns-returns-in_ok-run_turn-clause-runs
 run_turns-returns-in_ok-run_turn-clause-runs t c =
@@ -144,4 +144,4 @@ run_turns-returns-in_ok-run_turn-clause-runs t c =
     ∙ c.in_ok-run_turn.ensures.runs) in
     sym all
     ∙ sym (for_each-more number c.args.high body before after more ran)
-    ∙ ap (λ ns. for_each ns body after) (numbers-none (number +ℤ pos 1) c.args.high over)
+    ∙ ap (λ ns. for_each ns body after) (no_numbers (number +ℤ pos 1) c.args.high over)

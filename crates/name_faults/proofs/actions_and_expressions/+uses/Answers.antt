@@ -9,11 +9,11 @@ use Rattle.aadl_tree.specs.proof.ExpressionViews.{primary_view, factor_view, fac
 use Rattle.aadl_tree.specs.proof.ExpressionViews.{relation_view, relations_view}
 use Rattle.aadl_tree.specs.proof.PlaceMaps.{kept_place}
 use Rattle.aadl_tree.proofs.ExpressionViews.{view-Group, view-out-sum, view-out-relation, view-out-expression}
+use Rattle.aadl_tree.proofs.FieldViews.{view-out-term}
 use Rattle.aadl_names.specs.NameUsesInAnnexes.{factor_uses, factors_uses, term_uses, terms_uses, relation_uses}
 use Rattle.aadl_names.specs.NameUsesInAnnexes.{relations_uses}
 use Rattle.name_faults.specs.proof.BehaviourScopes.{known_by}
 use Rattle.aadl_names.proofs.FirstFaultSoFar.{found_append, next_found, last_found, closed}
-use Rattle.name_faults.proofs.StructViews.{view-out-term}
 use Rattle.name_faults.proofs.actions_and_expressions.+uses.Goals as goal
 
 pub check_expression-loop-operand-preserved : goal.check_expression-loop-operand-preserved

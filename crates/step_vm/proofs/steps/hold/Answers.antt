@@ -2,8 +2,9 @@ use Rattle.std.proofs.Common.{◌∙◌, length, take, sym, ap, arith, rules, w6
 use Rattle.std.proofs.lemmas.Int.{to_z-of_z}
 use mir.Val.{SFits}
 use Rattle.pals_base.specs.declared.values.PortValue.TheVariants.{Absent}
+use Rattle.pals_base.proofs.StepSequences.{holding-none}
 use Rattle.step_code.proofs.StepResults.{length-holding}
-use Rattle.step_vm.proofs.HeldInputsAndVariables.{holding-none, hold_present, hold_absent}
+use Rattle.step_vm.proofs.HeldInputsAndVariables.{hold_present, hold_absent}
 use Rattle.step_vm.proofs.steps.hold.Goals as goal
 use Rattle.step_vm.proofs.steps.hold.Goals.{in-Present, in_default}
 

@@ -1,7 +1,7 @@
 use Rattle.std.proofs.Common.{◌≡◌, ◌∙◌, ap, subst, sym, Some}
+use Rattle.list_lemmas.proofs.Booleans.{opposed}
 use Rattle.aadl_tree.specs.proof.PackageViews.{placed}
 use Rattle.aadl_names.specs.declared.port_place.PortPlace.TheVariants.{Inner}
-use Rattle.aadl_chains.proofs.ConnectionsOnChains.{opposed}
 use Rattle.aadl_chains.specs.proof.LimitedCounts.{IsNumber}
 use Rattle.aadl_chains.specs.proof.EnteredPortCounts.{Through, taken_by}
 use Rattle.aadl_chains.proofs.FirstIncomingConnections.{own_no_inner, none_no_inner}
