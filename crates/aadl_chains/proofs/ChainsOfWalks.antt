@@ -1,9 +1,8 @@
 -- What the walk back from an in port of a thread passes is a chain to that port.
 use Rattle.std.proofs.Common.{◌≡◌, ◌⊎◌, inl, inr, ℕ, List, [], ◌∷◌, Contains, Option, Some, None, refl, sym, ap, subst}
 use Rattle.std.proofs.Common.{◌∙◌}
-use Rattle.std.proofs.lemmas.List.Elements.{Contains-append_right}
 use Rattle.std.proofs.lemmas.Option.{same_Some}
-use Rattle.list_lemmas.proofs.Elements.{Contains-head}
+use Rattle.list_lemmas.proofs.Elements.{Contains-head, Contains-cons}
 use Rattle.aadl_tree.specs.Declarations.{PackageTree}
 use Rattle.aadl_names.specs.declared.port_place.PortPlace.{PortPlace}
 use Rattle.aadl_names.specs.declared.port_place.PortPlace.TheVariants.{Own, Inner}
@@ -18,11 +17,6 @@ port path p = record { path = path; port = p }
 
 abbrev place : List ℕ → ℕ → Place
 place path k = record { path = path; connection = k }
-
--- ---- lists
-
-pub in_tail : {X : Type 0} (y : X) (xs : List X) (x : X) → Contains xs x → Contains (y ∷ xs) x
-in_tail y xs x h = Contains-append_right (y ∷ []) xs x h
 
 -- ---- ends of walks
 module _ (tree : PackageTree ℕ) (root : ℕ) where
@@ -126,7 +120,7 @@ module _ (tree : PackageTree ℕ) (root : ℕ) where
                 subst (λ i. Entered tree i (Inner s p) k (Own q)) is_root
                     (subst (λ i. Entered tree n (Inner s p) k (Own i)) (sym h.2) x),
               )
-          last_of (inr h) = (h.0, h.1, h.2, h.3, in_tail (place path k) r.chain (place [] h.0) h.4, h.5)
+          last_of (inr h) = (h.0, h.1, h.2, h.3, Contains-cons (place path k) (place [] h.0) r.chain h.4, h.5)
 
       by : ((k o : ℕ) → climb tree root (Some k) path o ≡ at_root l q → Rooted (Some k) path o l q)
           → Turn last path s p (at_root l q)

@@ -1,14 +1,14 @@
 -- Where nothing is wrong with the names of a package, both ends of each connection are declared, and it may go from
 -- the one to the other.
-use Rattle.std.proofs.Common.{◌≡◌, ℕ, zero, suc, ◌+◌, Bool, true, false, not, ◌&&◌, nat_eq, List, [], ◌∷◌, ◌++◌, map}
-use Rattle.std.proofs.Common.{slice_get, Contains, Option, Some, None, option_map, refl, sym, ap, ◌∙◌, arith}
+use Rattle.std.proofs.Common.{◌≡◌, ℕ, Bool, true, false, not, ◌&&◌, nat_eq, List, [], ◌∷◌, ◌++◌, map, slice_get}
+use Rattle.std.proofs.Common.{Contains, Option, Some, None, option_map, refl, sym, ap, ◌∙◌, arith}
 use Rattle.std.specs.List.{flat_map, enumerate_from}
 use Rattle.std.specs.Option.{option_and_then}
 use Rattle.std.proofs.lemmas.Bool.{true≢false, not-false, not-true}
 use Rattle.std.proofs.lemmas.Option.{same_Some, none-some, option_and_then_some}
 use Rattle.list_lemmas.proofs.Elements.{Contains-nil}
 use Rattle.list_lemmas.proofs.Options.{option_map-parts}
-use Rattle.list_lemmas.proofs.ElementPositions.{flat_map-nil_at, slice_get-from_Contains, Contains-from_slice_get}
+use Rattle.list_lemmas.proofs.ElementPositions.{flat_map-nil_at, slice_get-from_Contains, slice_get-enumerate_from}
 use Rattle.list_lemmas.proofs.ListOperations.{append_is_nil_left, append_is_nil_right}
 use Rattle.aadl_tree.specs.declared.declarations.Direction.{Direction}
 use Rattle.aadl_tree.specs.declared.declarations.Category.{Category}
@@ -37,14 +37,6 @@ use Rattle.aadl_uses.specs.Wiring.{wire_of, wires_of}
 use Rattle.aadl_uses.proofs.DeclarationTables.{listed}
 use Rattle.aadl_chains.specs.proof.PortsJoinedInside.{is_in_at}
 use Rattle.aadl_chains.specs.proof.DeclaredEnds.{MayLeave, MayEnter, NotBothOwn, IsDeclared, AreDeclared}
-
--- ---- lists with nothing in them
-
-numbered : {X : Type 0} (i : ℕ) (xs : List X) (k : ℕ) (x : X) → slice_get xs k ≡ Some x
-    → slice_get (enumerate_from i xs) k ≡ Some (i + k, x)
-numbered i [] k x e = absurd (Contains-nil x (Contains-from_slice_get [] k x e))
-numbered i (y ∷ xs) zero x e = ap (λ z. Some (i, z)) (same_Some y x e) ∙ ap (λ n. Some (n, x)) (omega arith)
-numbered i (y ∷ xs) (suc k) x e = numbered (i + 1) xs k x e ∙ ap (λ n. Some (n, x)) (omega arith)
 
 -- ---- ends
 port_there : (may : PortPlace × Option Direction → Bool) (end : ConnectionEnd ℕ) (at : ℕ)
@@ -234,8 +226,8 @@ module _ (tree : PackageTree ℕ) (root : ℕ) (clean : package_faults tree root
       → outer_faults tree (nat_eq root n) x ≡ []
   clean_at n x e =
       let d : slice_get (enumerate_from 0 tree.declarations) n ≡ Some (n, implementation x) =
-      numbered 0 tree.declarations n (implementation x) (implementation_in-some (slice_get tree.declarations n) x e)
-      ∙ ap (λ k. Some (k, implementation x)) (omega arith) in
+      slice_get-enumerate_from 0 tree.declarations n n (implementation x) (omega arith)
+      (implementation_in-some (slice_get tree.declarations n) x e) in
       append_is_nil_left (outer_faults tree (nat_eq root n) x) (annex_faults tree x (behaviours x.annexes))
       (flat_map-nil_at (declaration_faults tree root) (enumerate_from 0 tree.declarations) n (n, implementation x)
       all_clean d)

@@ -10,7 +10,7 @@ use Rattle.std.proofs.lemmas.Bool.{or_cases, eqb-true, leb-true, ltb-true, lt-lt
 use Rattle.std.proofs.lemmas.Str.{IsUtf8-append, IsUtf8-from_ascii}
 use Rattle.std.specs.Cmp.{first_so, second_so}
 use Rattle.aadl_lex.specs.declared.rules.Reading.{Reading}
-use Rattle.aadl_lex.specs.Rules.{is_word, is_in_word, is_blank}
+use Rattle.aadl_lex.specs.Rules.{is_blank}
 use Rattle.aadl_tree.specs.declared.mark.Mark.{Mark}
 use Rattle.aadl_tree.specs.declared.mark.Mark.TheVariants as k
 use Rattle.aadl_tree.specs.KeywordsAndSymbols.{mark_text}
@@ -22,6 +22,7 @@ use Rattle.aadl_grammar.proofs.PossibleTerminals.{Spoken, a_word, a_number, a_re
 use Rattle.aadl_grammar.proofs.PossibleTerminals.{a_symbol, opens, closes, behind, Said}
 use Rattle.aadl_grammar.proofs.NoAnnexEnds.{all_weaker, all_append}
 use Rattle.aadl_grammar.proofs.TextPieces.{is_gap, gap_blank}
+use Rattle.aadl_grammar.proofs.TerminalSpots.{word_is_text}
 
 abbrev low : ℕ → Bool
 low c = nat_lt c 128
@@ -46,13 +47,6 @@ letter_low c l = elim (or_cases (nat_le 65 c && nat_le c 90) _ l) [
 one_low : (c d : ℕ) → (c == d) ≡ true → low d ≡ true → low c ≡ true
 one_low c d e h = ap low (eqb-true c d e) ∙ h
 
-word_low : (c : ℕ) → is_in_word c ≡ true → low c ≡ true
-word_low c w = elim (or_cases (is_ascii_alphabetic c || is_ascii_digit c) (c == 95) w) [
-  | inl a ↦ elim (or_cases (is_ascii_alphabetic c) (is_ascii_digit c) a)
-      [ inl l ↦ letter_low c l | inr d ↦ digit_low c d ]
-  | inr a ↦ one_low c 95 a refl
-]
-
 blank_low : (c : ℕ) → is_blank c ≡ true → low c ≡ true
 blank_low c b = elim (or_cases ((c == 32 || c == 9) || c == 10) (c == 13) b) [
   | inl a ↦ elim (or_cases (c == 32 || c == 9) (c == 10) a) [
@@ -66,12 +60,6 @@ mark_utf8 : (m : Mark) → IsUtf8 (mark_text m)
 mark_utf8 k.Package = low_utf8 (mark_text k.Package) refl
 mark_utf8 m = low_utf8 (mark_text m) refl
 
-word_utf8 : (b : List ℕ) → is_word b ≡ true → IsUtf8 b
-word_utf8 [] w = absurd cc
-word_utf8 (c ∷ b) w =
-    low_utf8 (c ∷ b) (all_weaker is_in_word low (c ∷ b) word_low
-    (second_so (is_ascii_alphabetic c) _ (first_so (is_ascii_alphabetic c && list_all is_in_word (c ∷ b)) _ w)))
-
 real_utf8 : (b : List ℕ) → IsReal b → IsUtf8 b
 real_utf8 b h =
     low_utf8 b (ap (list_all low) h.spelled
@@ -79,7 +67,7 @@ real_utf8 b h =
     (all_weaker is_ascii_digit low h.fraction digit_low h.fraction_digits))
 
 kind_utf8 : (r : Reading) (kind : Kind) → Spoken r kind → IsUtf8 (kind_text kind)
-kind_utf8 r _ (a_word _ b w h) = word_utf8 b w
+kind_utf8 r _ (a_word _ b w h) = word_is_text b w
 kind_utf8 r _ (a_number _ n h) =
     low_utf8 (fmt.decimal n) (all_weaker is_ascii_digit low (fmt.decimal n) digit_low (number_digits n h))
 kind_utf8 r _ (a_real _ b h) = real_utf8 b h

@@ -1,16 +1,13 @@
 -- Ends of chains, as an instance shows them: the numbers of their threads, by paths, and of their ports.
-use Rattle.std.proofs.Common.{◌≡◌, ◌⊎◌, inl, inr, ℕ, zero, suc, ◌+◌, ◌<◌, ◌≤◌, Bool, true, false, cond, ◌||◌, List, []}
-use Rattle.std.proofs.Common.{◌∷◌, length, map, reverse, take, slice_get, get_or, AllPairs, Option, Some, None}
-use Rattle.std.proofs.Common.{count_by, Vec, Global, refl, sym, ap, subst, ◌∙◌, arith}
-use Rattle.std.specs.List.{position_from}
+use Rattle.std.proofs.Common.{◌≡◌, ◌⊎◌, inl, inr, ℕ, ◌+◌, ◌<◌, ◌≤◌, Bool, true, false, cond, ◌||◌, List, [], ◌∷◌}
+use Rattle.std.proofs.Common.{length, map, reverse, take, slice_get, get_or, AllPairs, Option, Some, None, count_by}
+use Rattle.std.proofs.Common.{Vec, Global, refl, sym, ap, subst, ◌∙◌, arith}
 use Rattle.std.specs.Option.{option_and_then, option_map_or}
 use Rattle.std.proofs.lemmas.Bool.{true≢false, cases_lt, false_from_ne_true}
 use Rattle.std.proofs.lemmas.List.{take-map}
 use Rattle.std.proofs.lemmas.List.Folds.{fold-map}
-use Rattle.std.proofs.lemmas.Option.{same_Some, none-some, slice_get-map, slice_get_read, slice_get_within}
-use Rattle.std.proofs.lemmas.Option.{get_or_from_slice_get}
-use Rattle.list_lemmas.proofs.ElementPositions.{Contains-from_slice_get}
-use Rattle.list_lemmas.proofs.Elements.{Contains-nil}
+use Rattle.std.proofs.lemmas.Option.{none-some, slice_get-map, slice_get_read, slice_get_within, get_or_from_slice_get}
+use Rattle.list_lemmas.proofs.ElementPositions.{position_from-at}
 use Rattle.pals_base.specs.declared.limits.TheConstants.{PORTS}
 use Rattle.pals_base.specs.declared.values.NodeNo.{NodeNo}
 use Rattle.aadl_tree.specs.declared.declarations.Feature as source
@@ -31,22 +28,12 @@ use Rattle.aadl_instance.specs.proof.ChainsSoFar.{paths_of}
 use Rattle.aadl_instance.specs.Instances.{same_direction, node_at, goes_as, number_among, port_number, end_in}
 
 -- ---- the number of a thread
-position_at : {X : Type 0} (test : X → Bool) (i : ℕ) (xs : List X) (k : ℕ) (x : X) → slice_get xs k ≡ Some x
-    → test x ≡ true
-    → ((j : ℕ) (y : X) → j < k → slice_get xs j ≡ Some y → test y ≡ false) → position_from test i xs ≡ Some (i + k)
-position_at test i [] k x e t none = absurd (Contains-nil x (Contains-from_slice_get [] k x e))
-position_at test i (y ∷ xs) zero x e t none =
-    ap (λ b. cond b (Some i) (position_from test (i + 1) xs)) (ap test (same_Some y x e) ∙ t) ∙ ap Some (omega arith)
-position_at test i (y ∷ xs) (suc k) x e t none =
-    ap (λ b. cond b (Some i) (position_from test (i + 1) xs)) (none 0 y (omega arith) refl)
-    ∙ (position_at test (i + 1) xs k x e t (λ j z lt f. none (suc j) z (omega arith) f) ∙ ap Some (omega arith))
-
 pub node_is : (paths : List (List ℕ)) (node : NodeNo) (path : List ℕ) → AllPairs PathBefore paths
     → slice_get paths node.0 ≡ Some path
     → node_at paths path ≡ node
 node_is paths node path pairs at =
     ap (λ (o : Option ℕ). let n : NodeNo = record { 0 = option_map_or (λ k. k) o 0 } in n)
-    (position_at (same_path path) 0 paths node.0 path at (same_path-self path)
+    (position_from-at (same_path path) paths 0 node.0 path at (same_path-self path)
     (λ j y lt e. false_from_ne_true (same_path path y) (λ t. other j y lt e (same_path-true path y t)))
     ∙ ap Some (omega arith))
   where

@@ -1,12 +1,12 @@
 -- Ports that connections go out of and into are declared.
-use Rattle.std.proofs.Common.{◌≡◌, ℕ, ◌+◌, ◌<◌, Bool, true, false, cond, List, [], ◌∷◌, length, slice_get, Contains}
-use Rattle.std.proofs.Common.{Option, Some, None, option_map, refl, sym, ap, subst, ◌∙◌, arith}
-use Rattle.std.specs.List.{position_from}
+use Rattle.std.proofs.Common.{◌≡◌, ℕ, ◌<◌, true, List, [], ◌∷◌, length, slice_get, Contains, Option, Some, None}
+use Rattle.std.proofs.Common.{option_map, refl, sym, ap, subst, ◌∙◌, arith}
 use Rattle.std.specs.Option.{option_and_then}
 use Rattle.std.proofs.lemmas.Bool.{true≢false}
-use Rattle.std.proofs.lemmas.Option.{same_Some, none-some, option_and_then_some, slice_get_within}
+use Rattle.std.proofs.lemmas.Option.{option_and_then_some, slice_get_within}
 use Rattle.list_lemmas.proofs.Elements.{Contains-nil}
 use Rattle.list_lemmas.proofs.Options.{option_map-parts}
+use Rattle.list_lemmas.proofs.ElementPositions.{position_from-within}
 use Rattle.aadl_tree.specs.Names.{Identifier}
 use Rattle.aadl_tree.specs.Declarations.{Feature, Subcomponent, ConnectionEnd, Implementation, PackageTree}
 use Rattle.aadl_names.specs.declared.port_place.PortPlace.{PortPlace}
@@ -19,19 +19,8 @@ use Rattle.aadl_chains.specs.Chains.{Port, Place, port_at, Goes, Leads}
 use Rattle.aadl_instance.specs.proof.ChainsSoFar.{HasPort}
 
 -- ---- lists
-first_within : {X : Type 0} (test : X → Bool) (i : ℕ) (xs : List X) (k : ℕ) → position_from test i xs ≡ Some k
-    → k < i + length xs
-first_within test i [] k e = absurd (none-some k e)
-first_within test i (x ∷ xs) k e = by (test x) e (first_within test (i + 1) xs k)
-  where
-    by : (b : Bool) → cond b (Some i) (position_from test (i + 1) xs) ≡ Some k
-        → (position_from test (i + 1) xs ≡ Some k → k < i + 1 + length xs)
-        → k < i + length (x ∷ xs)
-    by true f more = let same = same_Some i k f in omega arith
-    by false f more = let lt = more f in omega arith
-
 named_within : (ports : List (Feature ℕ)) (name : List ℕ) (p : ℕ) → port_named ports name ≡ Some p → p < length ports
-named_within ports name p e = let lt = first_within _ 0 ports p e in omega arith
+named_within ports name p e = let lt = position_from-within _ 0 p ports e in omega arith
 
 -- a port that goes in is declared
 in_within_by : (ports : List (Feature ℕ)) (p : ℕ) (o : Option (Feature ℕ)) → slice_get ports p ≡ o

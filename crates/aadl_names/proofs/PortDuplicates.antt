@@ -16,6 +16,7 @@ use Rattle.std.specs.Str.{bytes_eq}
 use Rattle.std.specs.Cmp.{first_so, second_so}
 use Rattle.list_lemmas.proofs.ElementPositions.{Contains-from_slice_get}
 use Rattle.list_lemmas.proofs.Elements.{list_any_by_element, Contains-nil}
+use Rattle.list_lemmas.proofs.Booleans.{or_second}
 use Rattle.aadl_names.specs.declared.fault.PackageFault.{PackageFault}
 use Rattle.aadl_names.specs.declared.fault.PackageFault.TheVariants.{Twice}
 use Rattle.aadl_names.specs.declared.spelled_name.SpelledName.{SpelledName}
@@ -41,11 +42,6 @@ same_name-swapped a b s = same_by b a (sym (same_from a b s))
 
 same_step : (a b c : List ℕ) → same_name a b ≡ true → same_name b c ≡ true → same_name a c ≡ true
 same_step a b c s t = same_by a c (same_from a b s ∙ same_from b c t)
-
--- ---- a test of two parts
-
-or_else : (a b : Bool) → (a || b) ≡ true → a ≡ false → b ≡ true
-or_else a b h x = sym (ap (λ c. c || b) x) ∙ h
 
 -- ---- a finding that is there where a test is passed
 there_if : (b : Bool) (f : PackageFault) → b ≡ true → Contains (cond b (f ∷ []) []) f
@@ -319,9 +315,9 @@ port_enough ports others x f there here = by (list_any (stands_before x) ports) 
           not_behind = s.not_behind;
         }
     by false e =
-        let any = or_else (list_any (stands_before x) ports) (list_any (stands_before x) others)
+        let any = or_second (list_any (stands_before x) ports) (list_any (stands_before x) others) e
         (sym (list_any-append (stands_before x) ports others)
-        ∙ passed_if (list_any (stands_before x) (ports ++ others)) (Twice x.name x.at) f here) e in
+        ∙ passed_if (list_any (stands_before x) (ports ++ others)) (Twice x.name x.at) f here) in
         let y = passing (stands_before x) others any in
         subst (NotBehind (asked ports others)) is
         (cross_enough ports others x y.item there e y.there

@@ -16,9 +16,9 @@ use Rattle.aadl_grammar.specs.proof.StackMachine.{fate, syntax_at}
 use Rattle.aadl_grammar.proofs.Fates.Answers.{answers_text, answers_fault, answers_depth}
 use Rattle.aadl_grammar.proofs.Fates.ExclusiveFates.{fails_once, fails_not_deep, deep_once}
 use Rattle.aadl_grammar.proofs.Fates.FateMeanings.{fails_no_text, deep_not_shallow}
-use Rattle.aadl_grammar.proofs.UniquePlacedTrees.PackagesAndBehaviours.{one_placed_package}
 use Rattle.aadl_grammar.proofs.Fates.GrammarLanguages.{packages}
 use Rattle.aadl_grammar.proofs.Fates.FirstTerminalFates.{fate_end, fate_left}
+use Rattle.aadl_grammar.proofs.CanonicalRoundTrip.{no_other}
 use Rattle.aadl_grammar.specs.declared.parse_fault.ParseFault.{ParseFault}
 use Rattle.aadl_grammar.specs.declared.parse_fault.ParseFault.TheVariants as parsing
 use Rattle.aadl_grammar.specs.proof.ParserAnswers.{FailsAs, Reads}
@@ -59,16 +59,6 @@ left_fault text tokens l end ss [] at a b c d e = absurd (omega arith)
 left_fault text tokens l end ss (x ∷ more) at a b c d e =
     at_fault text tokens l end ss (parsing.Syntax at) a b (c ∙ fate_left 0 end x more ∙ ap syntax_at (sym e))
 
-same_tree : (text : List ℕ) (ts us : List Token) → ts ≡ us → (t u : PackageTree ℕ)
-    → Written (package_parts t) (spots text ts) [] → Written (package_parts u) (spots text us) [] → t ≡ u
-same_tree text ts us e t u a b =
-    one_placed_package (spots text us) t u
-    (subst (λ (l : List Token). Written (package_parts t) (spots text l) []) e a) b
-
-pub only_tree : (text : List ℕ) (t u : PackageTree ℕ) → IsTreeOf text t → IsTreeOf text u → t ≡ u
-only_tree text t u a b =
-    same_tree text a.tokens b.tokens (one_list text a.tokens b.tokens a.lexed b.lexed) t u a.written b.written
-
 given_tree : (text : List ℕ) (tokens : List Token) → AreTokensOf text tokens
     → (end : ℕ) (t : PackageTree ℕ) (rest : List Spot)
     → fate 0 end (s.a_package ∷ []) (spots text tokens) ≡ fate 0 end [] rest
@@ -94,7 +84,7 @@ at_tree text tokens l end ss t rest b f a e =
     (subst (λ (x : List Spot). Reads (package_parts t) x rest) b a) e
 
 pub only_one : (text : List ℕ) (t : PackageTree ℕ) → IsTreeOf text t → IsOnlyTreeOf text t
-only_one text t given = record { given = given; only = λ u b. only_tree text u t b given }
+only_one text t given = record { given = given; only = λ u b. no_other text u t b given }
 
 pub residual : {X : Type 0} (P : TextFault → Type 0) (e : TextFault) (result : Result X TextFault)
     → IsErrAnd result (λ y. y ≡ e) → P e → IfErr result P

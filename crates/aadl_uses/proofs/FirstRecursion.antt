@@ -8,6 +8,7 @@ use Rattle.std.proofs.lemmas.Bool.Decides.{nat_tests}
 use Rattle.std.proofs.lemmas.List.{take_more}
 use Rattle.std.proofs.lemmas.Option.{same_Some, none-some, option_and_then_some}
 use Rattle.std.proofs.lemmas.List.Elements.{Contains-push_cases}
+use Rattle.list_lemmas.proofs.Options.{option_and_then_assoc}
 use Rattle.aadl_tree.specs.Declarations.{Subcomponent, PackageTree}
 use Rattle.aadl_names.specs.declared.fault.PackageFault.{PackageFault}
 use Rattle.aadl_names.specs.declared.fault.PackageFault.TheVariants.{Recursive}
@@ -23,17 +24,12 @@ pub kept_as_is : {X : Type 0} (o : Option X) → o ≡ option_and_then (λ x. So
 kept_as_is None = refl
 kept_as_is (Some x) = refl
 
-pub regrouped : {X Y Z : Type 0} (f : Y → Option Z) (h : X → Option Y) (o : Option X)
-    → option_and_then f (option_and_then h o) ≡ option_and_then (λ x. option_and_then f (h x)) o
-regrouped f h None = refl
-regrouped f h (Some x) = refl
-
 -- the first step of a way stands last in its path
 first_step : (g : Graph) (from s : ℕ) (path : List ℕ)
     → reached_by g from (path ++ s ∷ []) ≡ option_and_then (λ m. reached_by g m path) (below_in g from s)
 first_step g from s [] = kept_as_is (below_in g from s)
 first_step g from s (t ∷ path) = ap (option_and_then (λ n. below_in g n t)) (first_step g from s path)
-    ∙ regrouped (λ n. below_in g n t) (λ m. reached_by g m path) (below_in g from s)
+    ∙ option_and_then_assoc (λ m. reached_by g m path) (λ n. below_in g n t) (below_in g from s)
 
 pub leads_back_from : (tree : PackageTree ℕ) (sub : Subcomponent ℕ) → (c : ClosesCycle tree sub)
     → LeadsBack (containment tree) c.within c.number

@@ -6,13 +6,13 @@ use Rattle.std.specs.Option.{option_and_then}
 use Rattle.std.proofs.lemmas.Bool.{true≢false}
 use Rattle.std.proofs.lemmas.Bool.Decides.{nat_tests}
 use Rattle.std.proofs.lemmas.List.{length-map, reverse-append, reverse-reverse}
-use Rattle.std.proofs.lemmas.List.Elements.{All-from_recursion, All-map, All-weaker, Contains-append_cases}
-use Rattle.std.proofs.lemmas.List.Elements.{Contains-append_left, Contains-append_right, Contains-push}
-use Rattle.std.proofs.lemmas.List.Elements.{Contains-push_cases}
+use Rattle.std.proofs.lemmas.List.Elements.{All-from_recursion, All-map, All-weaker, Contains-append_left}
+use Rattle.std.proofs.lemmas.List.Elements.{Contains-append_right, Contains-push, Contains-push_cases}
 use Rattle.std.proofs.lemmas.List.Kept.{AllPairs-cons}
 use Rattle.std.proofs.lemmas.Option.{option_and_then_some}
 use Rattle.list_lemmas.proofs.PairwiseProperties.{AllPairs-nil}
-use Rattle.list_lemmas.proofs.Elements.{Contains-nil}
+use Rattle.list_lemmas.proofs.Elements.{Contains-nil, Contains-cons_cases}
+use Rattle.list_lemmas.proofs.Options.{option_and_then_assoc}
 use Rattle.aadl_tree.specs.Declarations.{Implementation, Declaration, PackageTree}
 use Rattle.aadl_names.specs.ReferenceResolution.{implementation_in, implementation_at, is_thread}
 use Rattle.aadl_uses.specs.Uses.{standing}
@@ -20,7 +20,7 @@ use Rattle.aadl_uses.specs.proof.PackageContainment.{targets_in, containment}
 use Rattle.aadl_uses.specs.ThreadsBelow.{Lists, MoreThan, IsThreadAt, PathBefore, path_before}
 use Rattle.aadl_uses.specs.proof.ThreadCounts.{is_thread_in, is_thread_declaration, thread_marks, AreCounted}
 use Rattle.aadl_uses.proofs.PackageContainment.{standing-same, and_then_same}
-use Rattle.aadl_uses.proofs.FirstRecursion.{kept_as_is, regrouped}
+use Rattle.aadl_uses.proofs.FirstRecursion.{kept_as_is}
 use Rattle.aadl_uses.proofs.PathOrder.{one_way_paths}
 use Rattle.aadl_uses.specs.proof.ContainmentGraphs.{Graph, below_in, reached_by}
 use Rattle.aadl_uses.specs.proof.ContainmentOrders.{IsOrder}
@@ -33,7 +33,7 @@ stands_end g n s [] = sym (kept_as_is (below_in g n s))
 stands_end g n s (t ∷ p) =
     and_then_same (λ k. stands_at g k (p ++ s ∷ [])) (λ k. option_and_then (λ m. below_in g m s) (stands_at g k p))
     (λ k. stands_end g k s p) (below_in g n t)
-    ∙ sym (regrouped (λ m. below_in g m s) (λ k. stands_at g k p) (below_in g n t))
+    ∙ sym (option_and_then_assoc (λ k. stands_at g k p) (λ m. below_in g m s) (below_in g n t))
 
 stands_reversed : (g : Graph) (n : ℕ) (path : List ℕ) → stands_at g n (reverse path) ≡ reached_by g n path
 stands_reversed g n [] = refl
@@ -138,13 +138,6 @@ head_before R x z xs a h = let lt = h.1 in subst (R x) h.2 (a 0 (suc h.0) z (ome
 tail_pairs : {X : Type 0} (R : X → X → Type 0) (x : X) (xs : List X) → AllPairs R (x ∷ xs) → AllPairs R xs
 tail_pairs R x xs a i j d less lt = a (suc i) (suc j) d (omega arith) (omega arith)
 
-first_or_later : {X : Type 0} (y z : X) (ys : List X) → Contains (y ∷ ys) z → (y ≡ z) ⊎ Contains ys z
-first_or_later y z ys h = by (Contains-append_cases (y ∷ []) ys z h)
-  where
-    one : Contains [] z ⊎ (y ≡ z) → (y ≡ z) ⊎ Contains ys z
-    one (inl k) = absurd (Contains-nil z k)
-    one (inr k) = inl k
-
     by : Contains (y ∷ []) z ⊎ Contains ys z → (y ≡ z) ⊎ Contains ys z
     by (inl k) = one (Contains-push_cases [] y z k)
     by (inr k) = inr k
@@ -155,7 +148,7 @@ module _ {X : Type 0} (R : X → X → Type 0) (one_way : (x y : X) → R x y �
       → AllPairs R (y ∷ ys) → AllPairs R (x ∷ xs) → ((z : X) → Contains (x ∷ xs) z → Contains (y ∷ ys) z)
       → length (x ∷ xs) ≤ length (y ∷ ys)
   one_more y ys x xs fewer b a among =
-      by (first_or_later y x ys (among x (Contains-append_left (x ∷ []) xs x (Contains-push [] x))))
+      by (Contains-cons_cases y ys x (among x (Contains-append_left (x ∷ []) xs x (Contains-push [] x))))
     where
       behind : (z : X) → Contains xs z → R x z
       behind z h = head_before R x z xs a h
@@ -174,11 +167,12 @@ module _ {X : Type 0} (R : X → X → Type 0) (one_way : (x y : X) → R x y �
       by : (y ≡ x) ⊎ Contains ys x → length (x ∷ xs) ≤ length (y ∷ ys)
       by (inl same) =
           let shorter : length xs ≤ length ys = fewer xs (tail_pairs R x xs a)
-          (λ z h. rest_of z same h (first_or_later y z ys (among z (Contains-append_right (x ∷ []) xs z h)))) in
+          (λ z h. rest_of z same h (Contains-cons_cases y ys z (among z (Contains-append_right (x ∷ []) xs z h)))) in
           omega arith
       by (inr here) =
           let shorter : length (x ∷ xs) ≤ length ys =
-          fewer (x ∷ xs) a (λ z h. all_of z here (first_or_later x z xs h) (first_or_later y z ys (among z h))) in
+          fewer (x ∷ xs) a
+          (λ z h. all_of z here (Contains-cons_cases x xs z h) (Contains-cons_cases y ys z (among z h))) in
           omega arith
 
   no_longer : (ys xs : List X) → AllPairs R ys → AllPairs R xs → ((z : X) → Contains xs z → Contains ys z)

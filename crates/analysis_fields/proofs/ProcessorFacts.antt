@@ -102,7 +102,7 @@ record IsServed (count number : ℕ) (owners : List ℕ) : Type 0 where
   at_within : at < count
   at_is : get_or owners at 0 ≡ number
 
-node_within : (design : DesignParts) (place path : List ℕ) (node : ℕ) → node_at place design path ≡ Ok node
+pub node_within : (design : DesignParts) (place path : List ℕ) (node : ℕ) → node_at place design path ≡ Ok node
     → node < length design.components
 unfolding node_at
 node_within design place path node e =

@@ -4,8 +4,9 @@ use Rattle.pals_model.specs.declared.design.DesignParts.{DesignParts}
 use Rattle.pals_model.specs.RoundTexts.{line_end, text_of}
 use Rattle.aadl_tree.specs.Declarations.{PackageTree}
 use Rattle.aadl_tree.specs.TextTreesAndFaults.{IsTreeOf}
+use Rattle.aadl_grammar.proofs.CanonicalRoundTrip.{no_other}
 use Rattle.aadl_parse.specs.ParseResults.{IsFaultOfText}
-use Rattle.aadl_parse.proofs.PackageFates.{only_tree, one_text_fault, tree_or_fault}
+use Rattle.aadl_parse.proofs.PackageFates.{one_text_fault, tree_or_fault}
 use Rattle.aadl_instance.specs.FlattenedDesign.{Parts}
 use Rattle.annex_resolve.specs.declared.violation.Violation.{Violation}
 use Rattle.model_violations.specs.Violations.{shown_by, AreViolations}
@@ -28,7 +29,7 @@ one_text bundle a b s t u v x y = (one_split bundle a b s t x.split y.split).0
 
 pub one_tree : (bundle a b s t : List ℕ) (u v : PackageTree ℕ) → IsParsed bundle a s u → IsParsed bundle b t v → u ≡ v
 one_tree bundle a b s t u v x y =
-    only_tree b u v (subst (λ (w : List ℕ). IsTreeOf w u) (one_text bundle a b s t u v x y) x.read) y.read
+    no_other b u v (subst (λ (w : List ℕ). IsTreeOf w u) (one_text bundle a b s t u v x y) x.read) y.read
 
 -- ---- a tree, or a text that is refused
 unread : (bundle text scenario written : List ℕ) (tree : PackageTree ℕ) → IsParsed bundle text scenario tree

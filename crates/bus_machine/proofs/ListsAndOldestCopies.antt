@@ -1,12 +1,13 @@
 -- Lists by their places: numbered lists, the first that passes a test, the oldest copy of a flight, and cut tuples.
 use Rattle.std.proofs.Common.{◌≡◌, ℕ, zero, suc, ◌+◌, ◌-◌, ◌≤◌, Bool, true, false, cond, List, [], ◌∷◌, ◌++◌, map, take}
 use Rattle.std.proofs.Common.{drop, set, replicate, slice_get, Some, None, All, refl, sym, ap, ap₂, ◌∙◌, subst, arith}
-use Rattle.std.proofs.Common.{zero-add}
 use Rattle.std.specs.Prelude.{position, find, slice_index_or, slice_set}
 use Rattle.std.specs.List.{enumerate_from, position_from, position_or_len}
 use Rattle.std.proofs.lemmas.Iterator.Adapters.{position_from-zero}
 use Rattle.std.proofs.lemmas.List.{length-set}
 use Rattle.std.proofs.lemmas.List.Elements.{All-head, All-tail, All-append, All-take, All-drop}
+use Rattle.std.proofs.lemmas.Option.{get_or_from_slice_get}
+use Rattle.list_lemmas.proofs.ElementPositions.{slice_get-map_enumerate}
 use Rattle.pals_base.specs.declared.values.PortValue.{PortValue}
 use Rattle.pals_base.specs.declared.values.PortValue.TheVariants.{Absent}
 use Rattle.pals_base.specs.StepSequences.{cut, with_places}
@@ -14,19 +15,10 @@ use Rattle.pals_model.specs.declared.flight_copy.FlightCopy.{FlightCopy}
 use Rattle.pals_model.specs.Flights.{is_of, oldest, without_oldest}
 
 -- ---- lists whose elements are numbered
-
-numbered_from : {X Y : Type 0} (f : ℕ × X → Y) (from : ℕ) (xs : List X) (k n : ℕ) (x : X) (d : Y) → n ≡ from + k
-    → slice_get xs k ≡ Some x → slice_index_or (map f (enumerate_from from xs)) k d ≡ f (n, x)
-numbered_from f from [] k n x d at is_x = absurd (cc)
-numbered_from f from (y ∷ ys) zero n x d at is_x =
-    let same : y ≡ x = cc in
-    let here : from ≡ n = omega arith in
-    ap₂ (λ m z. f (m, z)) here same
-numbered_from f from (y ∷ ys) (suc k) n x d at is_x = numbered_from f (from + 1) ys k n x d (omega arith) is_x
-
 pub numbered_at : {X Y : Type 0} (f : ℕ × X → Y) (xs : List X) (k : ℕ) (x : X) (d : Y) → slice_get xs k ≡ Some x
     → slice_index_or (map f (enumerate_from 0 xs)) k d ≡ f (k, x)
-numbered_at f xs k x d is_x = numbered_from f 0 xs k k x d (sym (zero-add k)) is_x
+numbered_at f xs k x d is_x =
+    get_or_from_slice_get (map f (enumerate_from 0 xs)) k (f (k, x)) d (slice_get-map_enumerate f xs k x is_x)
 
 -- ---- the first that passes
 none_or : {X : Type 0} (test : X → Bool) (y : X) (ys : List X) (from k : ℕ) (x : X) (b : Bool) → test y ≡ b

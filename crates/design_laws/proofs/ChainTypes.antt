@@ -7,7 +7,7 @@ use Rattle.std.proofs.lemmas.Bool.{false≢true}
 use Rattle.std.proofs.lemmas.Option.{option_and_then_some}
 use Rattle.list_lemmas.proofs.ElementPositions.{flat_map-nil_at}
 use Rattle.list_lemmas.proofs.ListOperations.{append_is_nil_right, append_is_nil_left}
-use Rattle.list_lemmas.proofs.Options.{option_map-parts, some_by_test}
+use Rattle.list_lemmas.proofs.Options.{option_map-parts, some_by_test, option_and_then_assoc}
 use Rattle.pals_base.specs.declared.behaviour.Kind.{Kind}
 use Rattle.pals_base.specs.declared.behaviour.Kind.TheVariants.{Integer, Boolean}
 use Rattle.aadl_tree.specs.Names.{Identifier, same_name}
@@ -32,7 +32,7 @@ use Rattle.model_violations.specs.DeclarationFindings.{thread_findings}
 use Rattle.model_violations.specs.Violations.{shown_by, used_findings, carriers_of}
 use Rattle.design_laws.specs.proof.PortKinds.{port_kind}
 use Rattle.design_laws.proofs.SoundInstanceParts.{declared_at, implementation_clean, stands_at, is_used}
-use Rattle.design_laws.proofs.InstanceBehaviours.{joined, first_is, ports_clean}
+use Rattle.design_laws.proofs.InstanceBehaviours.{first_is, ports_clean}
 
 -- ---- a site that is declared has a port
 named_there : (ports : List (Feature ℕ)) (word : List ℕ) (p : ℕ) → port_named ports word ≡ Some p
@@ -80,7 +80,8 @@ module _ (tree : PackageTree ℕ) (root : ℕ) where
   site_is path n x (Inner s p) stands is =
       ap (λ o. slice_get (ports_at tree o) p)
       (ap (λ o. option_and_then (implementation_at tree) (option_and_then (λ k. below tree k s) o)) stands
-      ∙ (sym (joined (λ (k : Subcomponent ℕ). referred tree k.classifier) (implementation_at tree) (sub_at tree n s))
+      ∙ (option_and_then_assoc (λ (k : Subcomponent ℕ). referred tree k.classifier) (implementation_at tree)
+      (sub_at tree n s)
       ∙ ap (λ o. option_and_then (target_of tree) (slice_get (subcomponents_of o) s)) is))
 
   source_there : (place : Place) (from to : Port) → (g : Goes tree root place from to)

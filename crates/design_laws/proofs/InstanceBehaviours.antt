@@ -11,6 +11,7 @@ use Rattle.std.proofs.lemmas.List.Elements.{All-map, All-weaker}
 use Rattle.std.proofs.lemmas.Option.{same_Some, option_and_then_some}
 use Rattle.list_lemmas.proofs.ListOperations.{append_is_nil_right, append_is_nil_left}
 use Rattle.list_lemmas.proofs.ElementPositions.{slice_get-last}
+use Rattle.list_lemmas.proofs.Options.{option_and_then_assoc}
 use Rattle.pals_base.specs.BehaviourRules.{IsBehaviour}
 use Rattle.aadl_tree.specs.declared.declarations.Category.{Category}
 use Rattle.aadl_tree.specs.declared.declarations.Category.TheVariants as categories
@@ -53,17 +54,13 @@ component_by tree root s path n stands =
     ∙ reverse-append (here ∷ []) (subs_along tree root path) in
     ap (innermost tree) along ∙ innermost_last tree (reverse (subs_along tree root path)) here
 
-pub joined : {A B C : Type 0} (f : A → Option B) (g : B → Option C) (o : Option A)
-    → option_and_then (λ a. option_and_then g (f a)) o ≡ option_and_then g (option_and_then f o)
-joined f g None = refl
-joined f g (Some a) = refl
-
 pub component_is : (tree : PackageTree ℕ) (root s : ℕ) (path : List ℕ) (n : ℕ) → standing tree root path ≡ Some n
     → component_of tree (thread_at tree root (s ∷ path)) ≡ component_at tree root (s ∷ path)
 component_is tree root s path n stands =
     let sub = component_by tree root s path n stands in
     ap (option_and_then (target_of tree)) sub
-    ∙ (joined (λ (x : Subcomponent ℕ). referred tree x.classifier) (implementation_at tree) (sub_at tree n s)
+    ∙ (sym (option_and_then_assoc (λ (x : Subcomponent ℕ). referred tree x.classifier) (implementation_at tree)
+    (sub_at tree n s))
     ∙ sym (ap (λ o. option_and_then (implementation_at tree) (option_and_then (λ k. below tree k s) o)) stands))
 
 -- ---- the root is no thread

@@ -8,6 +8,7 @@ use Rattle.std.proofs.lemmas.Bool.{false≢true, le-leb, and_from, not-false, or
 use Rattle.std.proofs.lemmas.Bool.Decides.{nat_tests}
 use Rattle.std.proofs.lemmas.Option.{same_Some}
 use Rattle.list_lemmas.proofs.ListOperations.{append_is_nil_left}
+use Rattle.list_lemmas.proofs.Booleans.{and_second_false}
 use Rattle.pals_base.specs.declared.limits.TheConstants.{HOUR}
 use Rattle.aadl_tree.specs.declared.declarations.Category.{Category}
 use Rattle.aadl_tree.specs.Values.{Association, Associations}
@@ -77,10 +78,6 @@ pub record IsGood (p : PropertyName) (x : Association ℕ) : Type 0 where
   pub shape : has_shape p (association_value x) ≡ true
   pub small : is_too_big p (association_value x) ≡ false
 
-second_false : (a b : Bool) → (a && b) ≡ false → a ≡ true → b ≡ false
-second_false true b e is = e
-second_false false b e is = absurd (false≢true is)
-
 good_by : (holder : PropertyHolder) (p : PropertyName) (x : Association ℕ) → Among p (recognised holder)
     → shape_fault holder x ≡ []
     → counted_big holder x ≡ [] → counts x ≡ true → is_named (name_of p) x ≡ true → IsGood p x
@@ -94,11 +91,11 @@ good_by holder p x known shape big count named =
     let bigs = all_none (big_as x) (recognised holder) (where_true (counts x) (association_big holder x) count big) in
     let there = of_among (λ q. big_as x q ≡ []) p (recognised holder) bigs known in
     record {
-      shape = not-false (has_shape p (association_value x)) (second_false (is_named (name_of p) x)
-          (not (has_shape p (association_value x))) here named);
-      small = second_false (is_named (name_of p) x) (is_too_big p (association_value x))
+      shape = not-false (has_shape p (association_value x)) (and_second_false (is_named (name_of p) x)
+          (not (has_shape p (association_value x))) named here);
+      small = and_second_false (is_named (name_of p) x) (is_too_big p (association_value x)) named
           (not_wrong (is_named (name_of p) x && is_too_big p (association_value x)) (association_at x) NUMBER_TOO_BIG
-          (shown p) there) named;
+          (shown p) there);
     }
 
 -- ---- the first of a name among those that count

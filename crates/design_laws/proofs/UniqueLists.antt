@@ -1,22 +1,7 @@
 -- There is one list of all that have a property, in an order that goes one way.
-use Rattle.std.proofs.Common.{◌≡◌, ◌⊎◌, inl, inr, ℕ, zero, suc, ◌<◌, List, [], ◌∷◌, length, get_or, AllPairs, All}
-use Rattle.std.proofs.Common.{Contains, sym, subst, arith}
-use Rattle.list_lemmas.proofs.Elements.{Contains-nil}
+use Rattle.std.proofs.Common.{◌≡◌, ◌⊎◌, inl, inr, suc, List, [], ◌∷◌, AllPairs, All, Contains, sym, subst, arith}
+use Rattle.list_lemmas.proofs.Elements.{Contains-nil, Contains-cons, Contains-cons_cases, Contains-head}
 use Rattle.aadl_uses.specs.ThreadsBelow.{Lists}
-
-module _ {X : Type 0} where
-  in_head : (x : X) (xs : List X) → Contains (x ∷ xs) x
-  in_head x xs = (0, omega arith, λ i. x)
-
-  in_tail : (y : X) (xs : List X) (x : X) → Contains xs x → Contains (y ∷ xs) x
-  in_tail y xs x h = let lt = h.1 in (suc h.0, omega arith, h.2)
-
-  later_at : (y x : X) (ys : List X) (k : ℕ) → k < length (y ∷ ys) → get_or (y ∷ ys) k x ≡ x → (y ≡ x) ⊎ Contains ys x
-  later_at y x ys zero lt e = inl e
-  later_at y x ys (suc k) lt e = inr (k, omega arith, e)
-
-  first_or_later : (y x : X) (ys : List X) → Contains (y ∷ ys) x → (y ≡ x) ⊎ Contains ys x
-  first_or_later y x ys h = later_at y x ys h.0 h.1 h.2
 
 module _ {X : Type 0} (Before : X → X → Type 0) (one_way : (x y : X) → Before x y → Before y x → ⊥) where
   head_before : (x z : X) (xs : List X) → AllPairs Before (x ∷ xs) → Contains xs z → Before x z
@@ -45,16 +30,16 @@ module _ {X : Type 0} (Before : X → X → Type 0) (one_way : (x y : X) → Bef
   same_lists : (xs ys : List X) → AllPairs Before xs → AllPairs Before ys
       → ((z : X) → Contains xs z → Contains ys z) → ((z : X) → Contains ys z → Contains xs z) → xs ≡ ys
   same_lists [] [] a b there back = λ i. []
-  same_lists [] (y ∷ ys) a b there back = absurd (Contains-nil y (back y (in_head y ys)))
-  same_lists (x ∷ xs) [] a b there back = absurd (Contains-nil x (there x (in_head x xs)))
+  same_lists [] (y ∷ ys) a b there back = absurd (Contains-nil y (back y (Contains-head y ys)))
+  same_lists (x ∷ xs) [] a b there back = absurd (Contains-nil x (there x (Contains-head x xs)))
   same_lists (x ∷ xs) (y ∷ ys) a b there back =
       let first =
-      same_first x y xs ys a b (first_or_later y x ys (there x (in_head x xs)))
-      (first_or_later x y xs (back y (in_head y ys))) in
+      same_first x y xs ys a b (Contains-cons_cases y ys x (there x (Contains-head x xs)))
+      (Contains-cons_cases x xs y (back y (Contains-head y ys))) in
       let rest =
       same_lists xs ys (tail_pairs x xs a) (tail_pairs y ys b)
-      (λ z h. behind x y z xs ys first a h (first_or_later y z ys (there z (in_tail x xs z h))))
-      (λ z h. behind y x z ys xs (sym first) b h (first_or_later x z xs (back z (in_tail y ys z h)))) in
+      (λ z h. behind x y z xs ys first a h (Contains-cons_cases y ys z (there z (Contains-cons x z xs h))))
+      (λ z h. behind y x z ys xs (sym first) b h (Contains-cons_cases x xs z (back z (Contains-cons y z ys h)))) in
       λ i. first i ∷ rest i
 
   has_each : (P : X → Type 0) (xs : List X) (z : X) → All P xs → Contains xs z → P z

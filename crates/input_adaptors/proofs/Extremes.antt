@@ -3,8 +3,8 @@
 use Rattle.std.proofs.Common.{◌≡◌, ap, sym, subst, refl, zero, suc, ◌⊎◌, inl, inr, ℤ, ◌≤ℤ◌, List, [], ◌∷◌, arith}
 use Rattle.std.specs.Prelude.{All, Contains}
 use Rattle.std.proofs.lemmas.Int.{fold-int_max_bounds, fold-int_max_reached, fold-int_min_bounds, fold-int_min_reached}
-use Rattle.std.proofs.lemmas.List.Elements.{All-cons, All-contains, Contains-append_right}
-use Rattle.list_lemmas.proofs.Elements.{Contains-head}
+use Rattle.std.proofs.lemmas.List.Elements.{All-cons, All-contains}
+use Rattle.list_lemmas.proofs.Elements.{Contains-head, Contains-cons}
 use Rattle.pals_base.specs.declared.values.PortValue.{PortValue}
 use Rattle.pals_base.specs.declared.values.PortValue.TheVariants.{Absent, Present}
 use Rattle.pals_base.specs.declared.values.Adaptor.TheVariants.{Min, Max}
@@ -12,17 +12,13 @@ use Rattle.pals_base.specs.Adaptors.{present, joined, of_present, least_of, grea
 use Rattle.input_adaptors.specs.proof.GroupsAndExtremes.{IsLeast, IsGreatest}
 
 -- ---- a number is among the present ones exactly where a port has it
-
-pub Contains-tail : {X : Type 0} (y x : X) (xs : List X) → Contains xs x → Contains (y ∷ xs) x
-Contains-tail y x xs among = Contains-append_right (y ∷ []) xs x among
-
 pub Contains-from_present : (ports : List PortValue) (v : ℤ) → Contains (present ports) v → Contains ports (Present v)
 Contains-from_present [] v among = absurd (omega (arith, among.1))
 Contains-from_present (Absent ∷ ports) v among =
-    Contains-tail Absent (Present v) ports (Contains-from_present ports v among)
+    Contains-cons Absent (Present v) ports (Contains-from_present ports v among)
 Contains-from_present (Present w ∷ ports) v (zero, below, read) = (0, omega arith, ap Present read)
 Contains-from_present (Present w ∷ ports) v (suc k, below, read) =
-    Contains-tail (Present w) (Present v) ports (Contains-from_present ports v (k, omega arith, read))
+    Contains-cons (Present w) (Present v) ports (Contains-from_present ports v (k, omega arith, read))
 
 pub Contains-present : (ports : List PortValue) (v : ℤ) → Contains ports (Present v) → Contains (present ports) v
 Contains-present [] v among = absurd (omega (arith, among.1))
@@ -30,12 +26,12 @@ Contains-present (Absent ∷ ports) v (zero, below, read) = cc
 Contains-present (Absent ∷ ports) v (suc k, below, read) = Contains-present ports v (k, omega arith, read)
 Contains-present (Present w ∷ ports) v (zero, below, read) = let e : w ≡ v = cc in (0, omega arith, e)
 Contains-present (Present w ∷ ports) v (suc k, below, read) =
-    Contains-tail w v (present ports) (Contains-present ports v (k, omega arith, read))
+    Contains-cons w v (present ports) (Contains-present ports v (k, omega arith, read))
 
 -- ---- the least and the greatest of numbers
 Contains-reached : (w v : ℤ) (ws : List ℤ) → (v ≡ w) ⊎ Contains ws v → Contains (w ∷ ws) v
 Contains-reached w v ws (inl e) = subst (λ x. Contains (x ∷ ws) v) e (Contains-head v ws)
-Contains-reached w v ws (inr among) = Contains-tail w v ws among
+Contains-reached w v ws (inr among) = Contains-cons w v ws among
 
 pub Contains-least : (w : ℤ) (ws : List ℤ) → Contains (w ∷ ws) (least_of w ws)
 Contains-least w ws = Contains-reached w (least_of w ws) ws (fold-int_min_reached w ws (least_of w ws) refl)

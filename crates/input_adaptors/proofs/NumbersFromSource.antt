@@ -7,13 +7,13 @@ use Rattle.std.proofs.lemmas.Bool.{cases_lt}
 use Rattle.std.proofs.lemmas.List.{get_or_past, get_or_default}
 use Rattle.std.proofs.lemmas.List.Elements.{All-nil, All-cons, All-append, All-map, All-set, All-replicate, All-take}
 use Rattle.std.proofs.lemmas.List.Elements.{All-drop, All-weaker, All-contains, All-contains_itself}
-use Rattle.list_lemmas.proofs.Elements.{Contains-head}
+use Rattle.list_lemmas.proofs.Elements.{Contains-head, Contains-cons}
 use Rattle.pals_base.specs.declared.values.PortValue.{PortValue}
 use Rattle.pals_base.specs.declared.values.PortValue.TheVariants.{Absent, Present}
 use Rattle.pals_base.specs.declared.values.Adaptor.{Adaptor}
 use Rattle.pals_base.specs.declared.values.Adaptor.TheVariants.{Repeat, First, Last, At, Latest, Max, Min, Average}
 use Rattle.pals_base.specs.Adaptors.{adapt, groups, joined, spread, present, of_present, latest_of}
-use Rattle.input_adaptors.proofs.Extremes.{Contains-tail, Contains-from_present, IsLeast-joined, IsGreatest-joined}
+use Rattle.input_adaptors.proofs.Extremes.{Contains-from_present, IsLeast-joined, IsGreatest-joined}
 use Rattle.input_adaptors.proofs.TupleLengthsAndGroups.{adapt-faster, adapt-slower}
 
 -- the number of the port, if it has one, is among those of the tuple
@@ -50,7 +50,7 @@ All-spread_all tuple a m [] from = All-nil (IsFrom tuple)
 All-spread_all tuple a m (port ∷ ports) from =
     All-append (IsFrom tuple) (spread a m port) (flat_map (spread a m) ports)
     (All-spread tuple a m port (from port (Contains-head port ports)))
-    (All-spread_all tuple a m ports (λ x among. from x (Contains-tail port x ports among)))
+    (All-spread_all tuple a m ports (λ x among. from x (Contains-cons port x ports among)))
 
 -- ---- to a lower rate
 at_from : (group : List PortValue) (i : ℕ) → IsFrom group (slice_index_or group i Absent)
@@ -62,7 +62,7 @@ at_from group i v e =
 
 Contains-latest : (w : ℤ) (ws : List ℤ) → Contains (w ∷ ws) (latest_of w ws)
 Contains-latest w [] = Contains-head w []
-Contains-latest w (x ∷ ws) = Contains-tail w (latest_of x ws) (x ∷ ws) (Contains-latest x ws)
+Contains-latest w (x ∷ ws) = Contains-cons w (latest_of x ws) (x ∷ ws) (Contains-latest x ws)
 
 latest_from : (group : List PortValue) (numbers : List ℤ) → present group ≡ numbers
     → IsFrom group (of_present latest_of numbers)

@@ -20,6 +20,10 @@ and_three_parts true true false all = absurd (false≢true all)
 and_three_parts true false c all = absurd (false≢true all)
 and_three_parts false b c all = absurd (false≢true all)
 
+pub and_second_false : (a b : Bool) → a ≡ true → (a && b) ≡ false → b ≡ false
+and_second_false true b holds fails = fails
+and_second_false false b holds fails = absurd (false≢true holds)
+
 pub or_false_left : (a b : Bool) → (a || b) ≡ false → a ≡ false
 or_false_left true b none = none
 or_false_left false b none = refl

@@ -2,8 +2,9 @@
 -- a test.
 use Rattle.std.proofs.Common.{◌≡◌, ◌∙◌, ℕ, zero, suc, ◌+◌, ◌-◌, ◌<◌, Bool, true, false, cond, List, [], ◌∷◌, ◌++◌, map}
 use Rattle.std.proofs.Common.{length, slice_get, get_or, replicate, Contains, Option, Some, refl, ap, ap₂, subst, arith}
+use Rattle.std.proofs.Common.{sym, add-zero}
 use Rattle.std.specs.Prelude.{flat_map, zip, option_map}
-use Rattle.std.specs.List.{position_from}
+use Rattle.std.specs.List.{position_from, enumerate_from}
 use Rattle.std.proofs.lemmas.List.{length_push}
 use Rattle.std.proofs.lemmas.Option.{slice_get_within, slice_get-get_or, slice_get-map, get_or_from_slice_get}
 use Rattle.std.proofs.lemmas.Option.{same_Some, none-some}
@@ -80,6 +81,21 @@ slice_get-zip (z ∷ xs) (w ∷ ys) zero x y is_x is_y =
     ap₂ (λ a b. Some (a, b)) one two
 slice_get-zip (z ∷ xs) (w ∷ ys) (suc k) x y is_x is_y = slice_get-zip xs ys k x y is_x is_y
 
+-- ---- numbered elements
+pub slice_get-enumerate_from : {X : Type 0} (from : ℕ) (xs : List X) (k n : ℕ) (x : X) → n ≡ from + k
+    → slice_get xs k ≡ Some x → slice_get (enumerate_from from xs) k ≡ Some (n, x)
+slice_get-enumerate_from from [] k n x at is = absurd (cc)
+slice_get-enumerate_from from (y ∷ ys) zero n x at is =
+    let same : y ≡ x = cc in
+    let here : from ≡ n = omega arith in
+    ap₂ (λ m z. Some (m, z)) here same
+slice_get-enumerate_from from (y ∷ ys) (suc k) n x at is = slice_get-enumerate_from (from + 1) ys k n x (omega arith) is
+
+pub slice_get-map_enumerate : {X Y : Type 0} (f : ℕ × X → Y) (xs : List X) (k : ℕ) (x : X) → slice_get xs k ≡ Some x
+    → slice_get (map f (enumerate_from 0 xs)) k ≡ Some (f (k, x))
+slice_get-map_enumerate f xs k x is =
+    slice_get-map_some f (enumerate_from 0 xs) k (k, x) (slice_get-enumerate_from 0 xs k k x (omega arith) is)
+
 -- ---- the first place that passes a test
 position_or_past : (b : Bool) (k m n : ℕ) (rest : Option ℕ) → (rest ≡ Some m → m < k + 1 + n)
     → cond b (Some k) rest ≡ Some m → m < k + suc n
@@ -92,3 +108,15 @@ position_from-within test k m [] is = absurd (none-some m is)
 position_from-within test k m (x ∷ xs) is =
     position_or_past (test x) k m (length xs) (position_from test (k + 1) xs)
     (position_from-within test (k + 1) m xs) is
+
+pub position_from-at : {X : Type 0} (test : X → Bool) (xs : List X) (from n : ℕ) (x : X) → slice_get xs n ≡ Some x
+    → test x ≡ true → ((k : ℕ) (y : X) → k < n → slice_get xs k ≡ Some y → test y ≡ false)
+    → position_from test from xs ≡ Some (from + n)
+position_from-at test [] from n x is_x passes before = absurd (cc)
+position_from-at test (y ∷ ys) from zero x is_x passes before =
+    let here : test y ≡ true = let same : y ≡ x = cc in ap test same ∙ passes in
+    ap (λ b. cond b (Some from) (position_from test (from + 1) ys)) here ∙ ap Some (sym (add-zero from))
+position_from-at test (y ∷ ys) from (suc n) x is_x passes before =
+    ap (λ b. cond b (Some from) (position_from test (from + 1) ys)) (before 0 y (omega arith) refl)
+    ∙ position_from-at test ys (from + 1) n x is_x passes (λ k z below is_z. before (suc k) z (omega arith) is_z)
+    ∙ ap Some (omega arith)

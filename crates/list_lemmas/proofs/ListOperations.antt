@@ -1,6 +1,6 @@
 -- Lists that are joined, mapped, cut and numbered.
-use Rattle.std.proofs.Common.{◌≡◌, ◌∙◌, ℕ, zero, suc, ◌+◌, ◌<◌, ◌≤◌, List, [], ◌∷◌, ◌++◌, length, map, take, drop, set}
-use Rattle.std.proofs.Common.{Some, slice_get, get_or, drop-cons, append-nil, refl, sym, ap, ap₂, arith}
+use Rattle.std.proofs.Common.{◌≡◌, ◌∙◌, ℕ, suc, ◌+◌, ◌<◌, ◌≤◌, List, [], ◌∷◌, ◌++◌, length, map, take, drop, set}
+use Rattle.std.proofs.Common.{slice_get, get_or, drop-cons, append-nil, refl, sym, ap, ap₂, arith}
 use Rattle.std.specs.Prelude.{flat_map}
 use Rattle.std.specs.List.{enumerate_from}
 use Rattle.std.proofs.lemmas.Grind.{common_steps, flat_map-append}

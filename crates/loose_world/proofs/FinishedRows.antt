@@ -1,21 +1,17 @@
 -- The law that rows are told: the text has the rows of the rounds that the nodes of a bus have finished.
-use Rattle.std.proofs.Common.{◌≡◌, inl, inr, ℕ, zero, suc, ◌+◌, ◌<◌, ◌≤◌, Bool, List, [], ◌∷◌, ◌++◌, length, map}
-use Rattle.std.proofs.Common.{slice_get, Option, Some, None, All, refl, sym, ap, ap₂, ◌∙◌, arith}
+use Rattle.std.proofs.Common.{◌≡◌, inl, inr, ℕ, zero, suc, ◌<◌, ◌≤◌, Bool, List, [], ◌∷◌, length, map, slice_get}
+use Rattle.std.proofs.Common.{Option, Some, None, refl, sym, ap, ◌∙◌, arith}
 use Rattle.std.specs.Prelude.{fold, max, min, flat_map, slice_index_or, if◌then◌else◌}
-use Rattle.std.specs.List.{enumerate_from}
 use Rattle.std.proofs.lemmas.Bool.{lt-ltb, le-ltb, cases_lt}
-use Rattle.std.proofs.lemmas.List.Elements.{All-head, All-tail}
 use Rattle.std.proofs.lemmas.Option.{slice_get-get_or}
 use Rattle.std.proofs.lemmas.List.{nil_from_length}
 use Rattle.pals_base.specs.StepSequences.{upwards}
 use Rattle.pals_base.proofs.UpwardNumbers.{slice_get-map_upwards, map_upwards_same, flat_map_upwards_same}
 use Rattle.pals_model.specs.declared.design.Component.{Component}
-use Rattle.pals_model.specs.declared.design.Tap.{Tap}
-use Rattle.pals_model.specs.declared.design.DesignParts.{DesignParts}
 use Rattle.pals_model.specs.declared.inputs_parts_and_delays.Part.{Part}
 use Rattle.pals_model.specs.Composition.{part}
-use Rattle.pals_model.specs.RoundTexts.{part_lines, tap_lines, row_lines, round_line, text_of, report, composed_lines}
-use Rattle.pals_model.specs.DesignRules.{IsDesign, IsTap}
+use Rattle.pals_model.specs.RoundTexts.{row_lines, text_of, report, composed_lines}
+use Rattle.pals_model.proofs.LineLaws.{same_row}
 use Rattle.pals_runs.specs.declared.events_and_faults.Event.{Event}
 use Rattle.bus_machine.specs.Plans.{component_at, no_component}
 use Rattle.bus_machine.specs.Nodes.{NodeState}
@@ -53,34 +49,6 @@ pub rounds_without_nodes : (run : Run) (s : BusState) → Agrees run s → run.d
 rounds_without_nodes run s agree none =
     ap (fold (λ least (n : NodeState). min least (length n.parts)) run.rounds)
     (nil_from_length s.nodes (agree.node_count ∙ ap (λ (cs : List Component). length cs) none))
-
--- ---- a row tells of components alone
-same_part_lines : (f g : ℕ → Option Part) (from : ℕ) (components : List Component)
-    → ((k : ℕ) → k < from + length components → f k ≡ g k)
-    → flat_map (λ numbered. part_lines numbered.1 (f numbered.0)) (enumerate_from from components)
-    ≡ flat_map (λ numbered. part_lines numbered.1 (g numbered.0)) (enumerate_from from components)
-same_part_lines f g from [] same = refl
-same_part_lines f g from (c ∷ components) same =
-    ap₂ (λ x xs. x ++ xs) (ap (part_lines c) (same from (omega arith)))
-    (same_part_lines f g (from + 1) components (λ k below. same k (omega arith)))
-
-same_tap_lines : (design : DesignParts) (f g : ℕ → Option Part) (from : ℕ) (taps : List Tap) → All (IsTap design) taps
-    → ((k : ℕ) → k < length design.components → f k ≡ g k)
-    → flat_map (λ numbered. tap_lines design numbered.0 numbered.1 (f numbered.1.source.0)) (enumerate_from from taps)
-    ≡ flat_map (λ numbered. tap_lines design numbered.0 numbered.1 (g numbered.1.source.0))
-    (enumerate_from from taps)
-same_tap_lines design f g from [] rules same = refl
-same_tap_lines design f g from (tap ∷ taps) rules same =
-    ap₂ (λ x xs. x ++ xs) (ap (tap_lines design from tap)
-    (same tap.source.0 (All-head (IsTap design) tap taps rules).source.node_is))
-    (same_tap_lines design f g (from + 1) taps (All-tail (IsTap design) tap taps rules) same)
-
-pub same_row : (design : DesignParts) (f g : ℕ → Option Part) (round : ℕ) → IsDesign design
-    → ((k : ℕ) → k < length design.components → f k ≡ g k) → row_lines design f round ≡ row_lines design g round
-same_row design f g round rules same =
-    ap₂ (λ parts taps. round_line round ∷ parts ++ taps)
-    (same_part_lines f g 0 design.components (λ k below. same k (omega arith)))
-    (same_tap_lines design f g 0 design.taps rules.taps.each same)
 
 -- ---- parts
 -- a node that agrees has the composition's part of each round that it has finished

@@ -31,8 +31,8 @@ done_none s events text going =
       meeting = refl;
     }
 
-run_loose : (old : BusValue) (e : Event) (new : BusValue) → HappensLoose old e new → new.run ≡ old.run
-run_loose old e new happens = let same : Happens old happens.0 new = happens.2 in
+pub loose_keeps_run : (old : BusValue) (e : Event) (new : BusValue) → HappensLoose old e new → new.run ≡ old.run
+loose_keeps_run old e new happens = let same : Happens old happens.0 new = happens.2 in
     ap (λ (b : BusValue). b.run) same.others
 
 meeting_loose : (old : BusValue) (e : Event) (new : BusValue) → HappensLoose old e new → new.meeting ≡ old.meeting
@@ -49,7 +49,7 @@ done_more s events first t u old mid new d within done goes told =
       happen = turns_next GoesOn s t u events first d done.lines within done.happen goes;
       told = told_more old mid new done.lines (told_by u e) done.told told;
       going = goes.going;
-      run = run_loose t e u goes.happens ∙ done.run;
+      run = loose_keeps_run t e u goes.happens ∙ done.run;
       meeting = meeting_loose t e u goes.happens ∙ done.meeting;
     }
 

@@ -11,10 +11,10 @@ use Rattle.pals_model.specs.declared.inputs_parts_and_delays.Env.{Env}
 use Rattle.pals_model.specs.Composition.{part}
 use Rattle.pals_model.specs.RoundTexts.{row_lines, composed_lines, report_lines, report, text_of, line_end}
 use Rattle.pals_model.specs.DesignRules.{IsDesign}
+use Rattle.pals_model.proofs.LineLaws.{same_row}
 use Rattle.pals_runs.specs.declared.events_and_faults.Event.{Event}
 use Rattle.bus_machine.specs.WorldTexts.{finished_by, part_shown, rounds_shown, sent_lines, world_rows, worldtext}
 use Rattle.loose_world.specs.proof.ReportedWorlds.{AllHaveFinished}
-use Rattle.loose_world.proofs.FinishedRows.{same_row}
 
 -- the most of equal numbers
 most_same : (n a from m : ℕ) → a ≤ n → 0 < m → fold max a (map (λ (_ : ℕ). n) (upwards from m)) ≡ n

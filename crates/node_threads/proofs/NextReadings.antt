@@ -13,20 +13,19 @@ use Rattle.pals_clock.specs.ClockStates.{ClockState, standing_at}
 use Rattle.pals_clock.specs.declared.clock.Clocks.{Clocks}
 use Rattle.pals_clock.specs.declared.clock.Clocks.TheVariants.{Meet, Lists}
 use Rattle.pals_clock.proofs.ReachedReadings.{reached_none}
-use Rattle.pals_runs.specs.declared.journal.Phase.{Phase}
-use Rattle.pals_runs.specs.declared.journal.Phase.TheVariants.{Waiting, Running, Between, Holding, Done}
 use Rattle.bus_machine.specs.declared.plan.Plan.{Plan}
 use Rattle.bus_machine.specs.declared.node_action.NodeAction.{NodeAction}
 use Rattle.bus_machine.specs.declared.node_action.Next.{Next}
 use Rattle.bus_machine.specs.Nodes.{NodeState}
 use Rattle.bus_machine.specs.Plans.{plan_of}
 use Rattle.bus_machine.specs.States.{node_at}
-use Rattle.bus_machine.specs.ActionsAndTargets.{target, action_in, next_in}
+use Rattle.bus_machine.specs.ActionsAndTargets.{target}
 use Rattle.pals_bus.specs.BusValues.{BusValue}
 use Rattle.pals_bus.specs.proof.Meeting.{target_in, HasEnded as HasStopped, GoesAt}
 use Rattle.run_laws.specs.NodeActions.{upcoming}
 use Rattle.run_laws.specs.Runs.{clock_at, no_clock, Shows, Does}
 use Rattle.run_laws.proofs.NodePicks.{runs_agree}
+use Rattle.run_laws.proofs.MeetingReadings.{next_acts}
 use Rattle.node_threads.specs.declared.node_end.NodeNote.{NodeNote}
 use Rattle.node_threads.specs.proof.SharedCourses.{CourseValue, clocks_of, course_of, EndsAt, IsCourse, IsOpen, IsNext}
 use Rattle.node_threads.specs.proof.SharedCourses.{IsReady}
@@ -51,18 +50,10 @@ comes c node next is = let plan = plan_of c.bus.run.design node in let n = node_
     next_by plan n next (upcoming plan n) refl is
 
 -- ---- where nodes meet
-same_action : (plan : Plan) (n : NodeState) (p : Phase) (a : NodeAction) → next_in plan n p ≡ Some a
-    → action_in plan n p ≡ Some a
-same_action plan n Waiting a is = is
-same_action plan n (Running step) a is = absurd (none-some a is)
-same_action plan n (Between steps) a is = is
-same_action plan n Holding a is = is
-same_action plan n Done a is = absurd (none-some a is)
-
 aims : (b : BusValue) (node : ℕ) (a : NodeAction) → upcoming (plan_of b.run.design node) (node_at b.state node) ≡ Some a
     → target_in b node ≡ Some (target (plan_of b.run.design node) a)
 aims b node a is = let plan = plan_of b.run.design node in let n = node_at b.state node in
-    ap (option_map (target plan)) (same_action plan n n.phase a is)
+    ap (option_map (target plan)) (next_acts plan n n.phase a is)
 
 -- a node that the meeting lets go on is ready
 pub meets_ready : (c : CourseValue) (node : NodeNo) (next : Next) (reading : ℕ) → c.clocks ≡ Meet → IsCourse c

@@ -9,14 +9,13 @@ use Rattle.std.proofs.lemmas.Bool.{cases_eq, cases_lt, eqb-true, and_parts, fals
 use Rattle.std.proofs.lemmas.Bool.{or_from, and_left, le-ltb, ne_eqb, cases_Bool, and_from, eq-eqb}
 use Rattle.std.proofs.lemmas.List.{get_or_past}
 use Rattle.std.proofs.lemmas.List.Sorted.{sum_by-IsPermutation}
-use Rattle.std.proofs.lemmas.Grind.{common_steps}
 use Rattle.std.proofs.lemmas.List.Sums.{sum_by-cons, count_by-le-length, length-filter}
 use Rattle.std.proofs.lemmas.Option.{slice_get-get_or, get_or_from_slice_get}
 use Rattle.pals_model.specs.declared.design.Link.{Link}
 use Rattle.pals_model.specs.declared.flight_copy.FlightCopy.{FlightCopy}
 use Rattle.link_buffers.specs.declared.due_queue.DueEntry.{DueEntry}
 use Rattle.link_buffers.specs.proof.DueQueues.{QueueState, is_entry, is_due_at}
-use Rattle.link_buffers.proofs.DueOrder.{entry_from_test}
+use Rattle.link_buffers.proofs.DueOrder.{entry_from_test, entry_is_itself}
 use Rattle.bus_machine.specs.LinkEvents.{is_in_flight}
 use Rattle.bus_machine.specs.States.{flight_at, link_at, no_link}
 use Rattle.pals_model.specs.Flights.{is_of}
@@ -289,16 +288,13 @@ due_place (x ∷ xs) reading count place is below none =
     absurd (cc)
 
 -- ---- whether any message is due
-entry_refl : (e : DueEntry) → is_entry e e ≡ true
-entry_refl e = grind (arith, common_steps)
-
 some_there : (b : BusValue) (node reading : ℕ) (entries : List DueEntry)
     → length b.state.flights ≡ length b.run.design.links
     → ((e : DueEntry) → count_by (is_entry e) entries ≡ (if is_due_at reading e then flying b node e else 0))
     → 1 ≤ length entries → HasDue b node reading
 some_there b node reading [] many counts some = absurd (omega (arith, some))
 some_there b node reading (e ∷ entries) many counts some =
-    let one = count_some (is_entry e) (e ∷ entries) 0 e refl (entry_refl e) in
+    let one = count_some (is_entry e) (e ∷ entries) 0 e refl (entry_is_itself e) in
     let here = counts e in
     let parts = if_some (is_due_at reading e) (flying b node e) (omega (arith, one, here)) in
     record { link = e.link.0; round = e.round; is_due = due_of_entry b node reading e many parts.0 parts.1 }

@@ -8,7 +8,7 @@ use Rattle.std.proofs.lemmas.List.{append-nil, length-map, length-set, map-appen
 use Rattle.std.proofs.lemmas.List.Elements.{All-nil, All-cons, All-head, All-tail, filter-append}
 use Rattle.std.proofs.lemmas.Grind.{get_or-set_at}
 use Rattle.std.proofs.lemmas.Option.{slice_get_within, get_or_from_slice_get}
-use Rattle.list_lemmas.proofs.ListOperations.{enumerate_from-append}
+use Rattle.list_lemmas.proofs.ListOperations.{enumerate_from-append, length-take_within}
 use Rattle.list_lemmas.proofs.ElementPositions.{get_or-map_constant}
 use Rattle.pals_base.specs.declared.limits.TheConstants.{PORTS}
 use Rattle.pals_base.specs.declared.values.LinkNo.{LinkNo}
@@ -45,11 +45,6 @@ from_push node links link =
     ∙ map-append number_of (filter own first) (filter own last)
     ∙ ap (λ n. links_from node links ++ numbers_from node n (link ∷ [])) e
 
-length_taken : {X : Type 0} (k : ℕ) (xs : List X) → k < length xs → length (take k xs) ≡ k
-length_taken zero xs lt = refl
-length_taken (suc k) [] lt = absurd (omega (arith, lt))
-length_taken (suc k) (x ∷ xs) lt = ap suc (length_taken k xs (omega (arith, lt)))
-
 from_more : (node k : ℕ) (links : List Link) → k < length links
     → links_from node (take (k + 1) links)
     ≡ links_from node (take k links) ++ numbers_from node k (slice_index_or links k no_link ∷ [])
@@ -57,7 +52,7 @@ from_more node k links within =
     let link = slice_index_or links k no_link in
     ap (links_from node) (take_more links k no_link within)
     ∙ from_push node (take k links) link
-    ∙ ap (λ n. links_from node (take k links) ++ numbers_from node n (link ∷ [])) (length_taken k links within)
+    ∙ ap (λ n. links_from node (take k links) ++ numbers_from node n (link ∷ [])) (length-take_within links k within)
 
 own_more : (node k : ℕ) (links : List Link) → k < length links → is_from node (slice_index_or links k no_link) ≡ true
     → links_from node (take (k + 1) links) ≡ links_from node (take k links) ++ numbered k ∷ []

@@ -1,5 +1,5 @@
 -- For `reserve_message` and `reserve_round`: more room in a flight or a queue leaves what contracts see as it was.
-use Rattle.std.proofs.Common.{◌≡◌, ◌∙◌, ℕ, ◌<◌, ◌≤◌, List, length, Result, Ok, Err, OnOk, refl, sym, ap, arith}
+use Rattle.std.proofs.Common.{◌≡◌, ◌∙◌, ℕ, ◌<◌, ◌≤◌, List, length, refl, sym, ap, arith}
 use Rattle.std.specs.Prelude.{slice_set, slice_index_or}
 use Rattle.std.specs.Arc.{arc_value}
 use Rattle.std.proofs.Math.Seq.{map-set_same}
@@ -32,11 +32,6 @@ more_room f flights queues keeps copies less entries more =
     (queues_more links f.nodes flights f.queues queues
     (queues_copies links f.nodes f.flights flights f.queues keeps.queues copies) entries more) refl
     (omega arith)
-
--- what holds anyhow holds where all went well
-pub held : {T E : Type 0} (r : Result T E) {P : Type 0} → P → OnOk r P
-held (Ok x) holds = holds
-held (Err e) holds = tt
 
 -- ---- one flight, or one queue
 pub flight_copies : (flights : List FlightState) (at : ℕ) (n flight : FlightState) → at < length flights

@@ -1,33 +1,22 @@
 -- For laws that look up components, links and states: the first element of a list that passes a test.
-use Rattle.std.proofs.Common.{◌≡◌, ℕ, zero, suc, ◌+◌, ◌<◌, Bool, true, false, cond, List, [], ◌∷◌, slice_get, Some}
-use Rattle.std.proofs.Common.{None, All, refl, sym, ap, ◌∙◌, subst, arith, add-zero}
+use Rattle.std.proofs.Common.{◌≡◌, ℕ, suc, ◌+◌, ◌<◌, Bool, true, false, cond, List, [], ◌∷◌, slice_get, Some, None, All}
+use Rattle.std.proofs.Common.{refl, sym, ap, ◌∙◌, subst, arith}
 use Rattle.std.specs.Prelude.{position}
 use Rattle.std.specs.List.{position_from}
 use Rattle.std.proofs.lemmas.Iterator.Adapters.{position_from-zero}
 use Rattle.std.proofs.lemmas.List.Elements.{All-head, All-tail}
 use Rattle.std.proofs.lemmas.Option.{get_or_from_slice_get, slice_get_within}
+use Rattle.list_lemmas.proofs.ElementPositions.{position_from-at}
 
 -- what holds of all, at one element
 pub at_element : {X : Type 0} (P : X → Type 0) (xs : List X) (n : ℕ) (x : X) → All P xs → slice_get xs n ≡ Some x → P x
 at_element P xs n x all is_x = subst P (get_or_from_slice_get xs n x x is_x) (all n x (slice_get_within xs n x is_x))
 
-first_from : {X : Type 0} (test : X → Bool) (xs : List X) (from n : ℕ) (x : X) → slice_get xs n ≡ Some x → test x ≡ true
-    → ((k : ℕ) (y : X) → k < n → slice_get xs k ≡ Some y → test y ≡ false)
-    → position_from test from xs ≡ Some (from + n)
-first_from test [] from n x is_x passes before = absurd (cc)
-first_from test (y ∷ ys) from zero x is_x passes before =
-    let here : test y ≡ true = let same : y ≡ x = cc in ap test same ∙ passes in
-    ap (λ b. cond b (Some from) (position_from test (from + 1) ys)) here ∙ ap Some (sym (add-zero from))
-first_from test (y ∷ ys) from (suc n) x is_x passes before =
-    ap (λ b. cond b (Some from) (position_from test (from + 1) ys)) (before 0 y (omega arith) refl)
-    ∙ first_from test ys (from + 1) n x is_x passes (λ k z below is_z. before (suc k) z (omega arith) is_z)
-    ∙ ap Some (omega arith)
-
 -- an element that passes, where none before it does
 pub first_at : {X : Type 0} (test : X → Bool) (xs : List X) (n : ℕ) (x : X) → slice_get xs n ≡ Some x → test x ≡ true
     → ((k : ℕ) (y : X) → k < n → slice_get xs k ≡ Some y → test y ≡ false) → position test xs ≡ Some n
 first_at test xs n x is_x passes before =
-    position_from-zero test xs ∙ first_from test xs 0 n x is_x passes before ∙ ap Some (omega arith)
+    position_from-zero test xs ∙ position_from-at test xs 0 n x is_x passes before ∙ ap Some (omega arith)
 
 none_from : {X : Type 0} (test : X → Bool) (xs : List X) (from : ℕ) → All (λ x. test x ≡ false) xs
     → position_from test from xs ≡ None

@@ -1,7 +1,7 @@
 -- Why the laws of lines hold.
 use Rattle.std.proofs.Common.{◌≡◌, ◌≢◌, ℕ, zero, suc, ◌+◌, ◌/◌, ◌%◌, Bool, true, false, not, ℤ, pos, negsuc, ◌==◌}
 use Rattle.std.proofs.Common.{nat_eq, nat_lt, if◌then◌else◌, List, [], ◌∷◌, ◌++◌, map, flat_map, slice_get, Some, None}
-use Rattle.std.proofs.Common.{All, refl, sym, ap, ◌∙◌, arith, append_assoc, ne_eqb}
+use Rattle.std.proofs.Common.{◌<◌, length, All, refl, sym, ap, ap₂, ◌∙◌, arith, append_assoc, ne_eqb}
 use Rattle.std.specs.Prelude.{Option, codes, decimal}
 use Rattle.std.specs.List.{list_all, enumerate_from, slice_split}
 use Rattle.std.specs.Fmt.{digits, digits_onto, digit_glyph, signed_decimal}
@@ -34,7 +34,7 @@ use Rattle.pals_model.specs.declared.inputs_parts_and_delays.Part.{Part}
 use Rattle.pals_model.specs.Composition.{part}
 use Rattle.pals_model.specs.RoundTexts.{text_of, value_text, port_text, with_commas, tuple_text, state_name, state_text}
 use Rattle.pals_model.specs.RoundTexts.{variable_text, vars_text, component_line, tap_line, round_line, part_lines}
-use Rattle.pals_model.specs.RoundTexts.{tap_lines, composed_lines, report_lines, is_line_feed, line_end}
+use Rattle.pals_model.specs.RoundTexts.{tap_lines, composed_lines, report_lines, is_line_feed, line_end, row_lines}
 use Rattle.pals_model.specs.DesignRules.{IsDesign, IsComponent, IsTap}
 use Rattle.pals_model.specs.proof.CompositionLaws.Lines.{IsLine, RowHasLines, ReportHasLines, TextSplits, RowSplits}
 use Rattle.pals_model.specs.proof.CompositionLaws.Lines.{ReportSplits}
@@ -241,3 +241,31 @@ row_splits design env round rules =
 
 pub report_splits : ReportSplits
 report_splits design env n rules = text_splits (report_lines design env n) (report_has_lines design env n rules)
+
+-- ---- rows of the same parts
+same_part_lines : (f g : ℕ → Option Part) (from : ℕ) (components : List Component)
+    → ((k : ℕ) → k < from + length components → f k ≡ g k)
+    → flat_map (λ numbered. part_lines numbered.1 (f numbered.0)) (enumerate_from from components)
+    ≡ flat_map (λ numbered. part_lines numbered.1 (g numbered.0)) (enumerate_from from components)
+same_part_lines f g from [] same = refl
+same_part_lines f g from (c ∷ components) same =
+    ap₂ (λ x xs. x ++ xs) (ap (part_lines c) (same from (omega arith)))
+    (same_part_lines f g (from + 1) components (λ k below. same k (omega arith)))
+
+same_tap_lines : (design : DesignParts) (f g : ℕ → Option Part) (from : ℕ) (taps : List Tap) → All (IsTap design) taps
+    → ((k : ℕ) → k < length design.components → f k ≡ g k)
+    → flat_map (λ numbered. tap_lines design numbered.0 numbered.1 (f numbered.1.source.0)) (enumerate_from from taps)
+    ≡ flat_map (λ numbered. tap_lines design numbered.0 numbered.1 (g numbered.1.source.0))
+    (enumerate_from from taps)
+same_tap_lines design f g from [] rules same = refl
+same_tap_lines design f g from (tap ∷ taps) rules same =
+    ap₂ (λ x xs. x ++ xs) (ap (tap_lines design from tap)
+    (same tap.source.0 (All-head (IsTap design) tap taps rules).source.node_is))
+    (same_tap_lines design f g (from + 1) taps (All-tail (IsTap design) tap taps rules) same)
+
+pub same_row : (design : DesignParts) (f g : ℕ → Option Part) (round : ℕ) → IsDesign design
+    → ((k : ℕ) → k < length design.components → f k ≡ g k) → row_lines design f round ≡ row_lines design g round
+same_row design f g round rules same =
+    ap₂ (λ parts taps. round_line round ∷ parts ++ taps)
+    (same_part_lines f g 0 design.components (λ k below. same k (omega arith)))
+    (same_tap_lines design f g 0 design.taps rules.taps.each same)

@@ -11,9 +11,8 @@ use Rattle.pals_runs.specs.declared.journal.Stop.{Stop}
 use Rattle.pals_runs.specs.JournalLines.{entry_line}
 use Rattle.bus_machine.specs.proof.AgreementLaws.{IsRunOf}
 use Rattle.bus_machine.specs.States.{Run, finished_by_all}
-use Rattle.pals_bus.specs.BusValues.{BusValue, Happens}
+use Rattle.pals_bus.specs.BusValues.{BusValue}
 use Rattle.pals_bus.specs.proof.NodeAndCodeValues.{opening_bus}
-use Rattle.pals_bus.specs.LooseEvents.{HappensLoose}
 use Rattle.scenario_json.specs.declared.scenario.Scenario.{Scenario}
 use Rattle.scenario_json.specs.proof.ScenarioValidity.{IsScenarioOf}
 use Rattle.loose_world.specs.declared.loose_run.LooseEnd.{LooseEnd}
@@ -22,6 +21,7 @@ use Rattle.loose_world.specs.LooseRuns.{AllHappen, StopsAt, IsRefusedAt, Tells}
 use Rattle.loose_world.specs.proof.FinishedRows.{finished_lines, common_lines}
 use Rattle.loose_world.specs.proof.WorldLaws.{TextIsTold, StopIsTold}
 use Rattle.loose_world.specs.proof.EventsAsSteps.{EventsAreSteps}
+use Rattle.loose_world.proofs.LooseRuns.{loose_keeps_run}
 use Rattle.pals_report.specs.EventFaultLines.{event_fault_line}
 use Rattle.pals_top.specs.declared.answer.Answer.{Answer}
 use Rattle.pals_top.specs.proof.PrivateFunctions.{status_at, text_at}
@@ -34,19 +34,17 @@ abbrev opens : DesignParts → Scenario → List CodeParts → BusValue
 opens design scenario programs = opening_bus (run_of design scenario) programs false
 
 -- ---- events are of the run that they began with
-one_run : (s t : BusValue) (e : Event) → HappensLoose s e t → t.run ≡ s.run
-one_run s t e happens = let same : Happens s happens.0 t = happens.2 in ap (λ (b : BusValue). b.run) same.others
-
 pub all_run : (s t : BusValue) (events : List Event) (lines : List (List ℕ)) → AllHappen s events t lines
     → t.run ≡ s.run
 all_run s t [] lines happen = ap (λ (b : BusValue). b.run) happen.0
 all_run s t (e ∷ events) lines happen =
-    all_run happen.0 t events happen.1 happen.3 ∙ one_run s happen.0 e happen.2.happens
+    all_run happen.0 t events happen.1 happen.3 ∙ loose_keeps_run s e happen.0 happen.2.happens
 
 stop_run : (s t : BusValue) (events : List Event) (why : Stop) (lines : List (List ℕ)) → StopsAt s events why t lines
     → t.run ≡ s.run
 stop_run s t events why lines stops =
-    one_run stops.before t stops.event stops.last ∙ all_run s stops.before (take stops.index events) lines stops.happen
+    loose_keeps_run stops.before stops.event t stops.last
+    ∙ all_run s stops.before (take stops.index events) lines stops.happen
 
 pub rules_of : (design : DesignParts) (scenario : Scenario) → IsDesign design → IsScenarioOf design scenario
     → IsRunOf (run_of design scenario)

@@ -8,7 +8,7 @@ use Rattle.std.proofs.lemmas.Bool.{cases_Bool}
 use Rattle.std.proofs.lemmas.List.{length-map}
 use Rattle.std.proofs.lemmas.List.Elements.{All-head, All-tail}
 use Rattle.std.proofs.lemmas.Option.{slice_get_cases, get_or_from_slice_get}
-use Rattle.list_lemmas.proofs.ElementPositions.{slice_get-map_some}
+use Rattle.list_lemmas.proofs.ElementPositions.{slice_get-map_some, slice_get-map_enumerate}
 use Rattle.list_lemmas.proofs.ListOperations.{length-map_enumerate_from, same_from_places}
 use Rattle.pals_base.proofs.SettledStates.{map-same}
 use Rattle.pals_base.proofs.UpwardNumbers.{length-map_upwards}
@@ -33,7 +33,7 @@ use Rattle.sync_product.specs.declared.component_stage.Stage.{Stage}
 use Rattle.sync_product.specs.proof.ProductSizes.{StageSize, stage_size, stage_size_of, stage_sizes}
 use Rattle.sync_product.specs.proof.Rounds.{frames_of}
 use Rattle.sync_product.proofs.PortColumns.{length-column}
-use Rattle.sync_product.proofs.ComponentLists.{numbered-at, sized_at}
+use Rattle.sync_product.proofs.ComponentLists.{sized_at}
 use Rattle.plant_fuse.specs.FusedComposition.{is_back, is_forth, ArePairs, Inputs, inputs_to}
 use Rattle.plant_fuse.specs.proof.Partners.{partner_of, is_inside}
 use Rattle.plant_fuse.specs.proof.Messages.{sent_from, sent_on}
@@ -124,7 +124,7 @@ module _ (round : RoundInputs) (pairs : List Pair) (are : ArePairs round.design.
       (λ k within.
       elim (slice_get_cases design.components k).1 [
         | inl found ↦ slice_get-map_some (λ (p : Part). p.frame) next k _ (part_is k found.0 found.2)
-            ∙ sym (numbered-at f design.components k found.0 found.2)
+            ∙ sym (slice_get-map_enumerate f design.components k found.0 found.2)
         | inr past ↦ absurd (let low = past.0 in omega (arith, low, within, size, count))
       ])
 
@@ -135,7 +135,7 @@ module _ (round : RoundInputs) (pairs : List Pair) (are : ArePairs round.design.
       same_from_places next (map f (enumerate_from 0 design.components)) (count ∙ sym all)
       (λ k within.
       elim (slice_get_cases design.components k).1 [
-        | inl found ↦ part_is k found.0 found.2 ∙ sym (numbered-at f design.components k found.0 found.2)
+        | inl found ↦ part_is k found.0 found.2 ∙ sym (slice_get-map_enumerate f design.components k found.0 found.2)
         | inr past ↦ absurd (let low = past.0 in omega (arith, low, within, count))
       ])
 

@@ -1,13 +1,12 @@
 -- Without pairs the report of fused composition is that of the composition: the claim ReportWithoutPairs.
-use Rattle.std.proofs.Common.{◌≡◌, ◌∙◌, ◌++◌, ℕ, suc, ◌+◌, ◌*◌, ◌<◌, ◌≤◌, Bool, true, false, nat_eq, List, [], ◌∷◌}
-use Rattle.std.proofs.Common.{length, map, take, Option, Some, slice_get, slice_index_or, All, refl, sym, ap, ap₂}
-use Rattle.std.proofs.Common.{subst, arith}
-use Rattle.std.specs.Prelude.{filter, flat_map, if◌then◌else◌}
-use Rattle.std.specs.List.{enumerate_from}
+use Rattle.std.proofs.Common.{◌≡◌, ◌∙◌, ℕ, suc, ◌*◌, ◌<◌, ◌≤◌, Bool, true, false, nat_eq, List, [], ◌∷◌, length, map}
+use Rattle.std.proofs.Common.{take, Option, Some, slice_get, slice_index_or, All, refl, sym, ap, ap₂, subst, arith}
+use Rattle.std.specs.Prelude.{filter, if◌then◌else◌}
 use Rattle.std.proofs.lemmas.Bool.{eqb-true}
 use Rattle.std.proofs.lemmas.Nat.{mul-le}
 use Rattle.std.proofs.lemmas.List.Elements.{All-head, All-tail}
 use Rattle.std.proofs.lemmas.Option.{get_or_from_slice_get}
+use Rattle.list_lemmas.proofs.ElementPositions.{slice_get-map_enumerate}
 use Rattle.pals_base.specs.declared.values.PortValue.{PortValue}
 use Rattle.pals_base.specs.declared.values.Frame.{Frame}
 use Rattle.pals_base.specs.SingleStep.{initial}
@@ -23,43 +22,15 @@ use Rattle.pals_model.specs.Composition.{comp, state, part, steps_of_round, tupl
 use Rattle.pals_model.specs.proof.CompositionLaws.{own_steps}
 use Rattle.pals_model.specs.PortKinds.{outs_in}
 use Rattle.pals_model.specs.DesignRules.{IsDesign, IsTap}
-use Rattle.pals_model.specs.RoundTexts.{text_of, round_line, part_lines, tap_lines, row_lines, composed_lines}
+use Rattle.pals_model.specs.RoundTexts.{text_of, composed_lines}
 use Rattle.pals_model.proofs.CompositionLaws.{steps_of_round-at}
 use Rattle.pals_model.proofs.ShapeLaws.{component_at}
-use Rattle.sync_product.proofs.ComponentLists.{numbered-at}
+use Rattle.pals_model.proofs.LineLaws.{same_row}
 use Rattle.plant_fuse.specs.FusedComposition.{Inputs, round_tuple, frame_before, IsFused}
 use Rattle.plant_fuse.specs.FusedReport.{fused_part, fused_parts, fused_lines}
 use Rattle.plant_fuse.specs.proof.FusedLaws.{ReportWithoutPairs}
 use Rattle.plant_fuse.proofs.SolutionPrefixes.{take_upwards}
 use Rattle.plant_fuse.proofs.EquationsWithoutPairs as alone
-
--- ---- rows from the same parts
-components_same : (f g : ℕ → Option Part) (k : ℕ) (cs : List Component)
-    → ((node : ℕ) → node < k + length cs → f node ≡ g node)
-    → flat_map (λ numbered. part_lines numbered.1 (f numbered.0)) (enumerate_from k cs)
-    ≡ flat_map (λ numbered. part_lines numbered.1 (g numbered.0)) (enumerate_from k cs)
-components_same f g k [] same = refl
-components_same f g k (c ∷ cs) same =
-    ap₂ (λ a b. a ++ b) (ap (part_lines c) (same k (omega arith)))
-    (components_same f g (k + 1) cs (λ node within. same node (omega arith)))
-
-taps_same : (design : DesignParts) (f g : ℕ → Option Part) (k : ℕ) (taps : List Tap)
-    → ((node : ℕ) → node < length design.components → f node ≡ g node) → All (IsTap design) taps
-    → flat_map (λ numbered. tap_lines design numbered.0 numbered.1 (f numbered.1.source.0)) (enumerate_from k taps)
-    ≡ flat_map (λ numbered. tap_lines design numbered.0 numbered.1 (g numbered.1.source.0)) (enumerate_from k taps)
-taps_same design f g k [] same each = refl
-taps_same design f g k (tap ∷ taps) same each =
-    ap₂ (λ a b. a ++ b) (ap (tap_lines design k tap)
-    (same tap.source.0 (All-head (IsTap design) tap taps each).source.node_is))
-    (taps_same design f g (k + 1) taps same (All-tail (IsTap design) tap taps each))
-
-row_same : (design : DesignParts) (f g : ℕ → Option Part) (round : ℕ) → IsDesign design
-    → ((node : ℕ) → node < length design.components → f node ≡ g node)
-    → row_lines design f round ≡ row_lines design g round
-row_same design f g round sound same =
-    ap₂ (λ a b. round_line round ∷ a ++ b)
-    (components_same f g 0 design.components (λ node within. same node (omega (arith, within))))
-    (taps_same design f g 0 design.taps same sound.taps.each)
 
 -- ---- taps of a component
 one_more : (f g : Tap → List PortValue) (node : ℕ) (tap : Tap) (taps : List Tap) (b : Bool)
@@ -125,12 +96,12 @@ module _ (design : DesignParts) (env : Env) (rounds : ℕ) (ins : Inputs) (sound
 
   pub lines_are : fused_lines design ins round ≡ composed_lines design env round
   lines_are =
-      row_same design (λ node. slice_get (fused_parts design ins round) node)
+      same_row design (λ node. slice_get (fused_parts design ins round) node)
       (λ node. Some (part design env node round)) round sound
       (λ node within.
       let found = component_at design node within in
-      numbered-at (λ (numbered : ℕ × Component). fused_part design ins round numbered.0 numbered.1) design.components
-      node found.0 found.1
+      slice_get-map_enumerate (λ (numbered : ℕ × Component). fused_part design ins round numbered.0 numbered.1)
+      design.components node found.0 found.1
       ∙ ap Some (part_is node found.0 found.1))
 
 pub report_without_pairs : ReportWithoutPairs

@@ -1,8 +1,8 @@
 -- Counts, first elements, and lists by their places.
 use Rattle.std.proofs.Common.{◌≡◌, ℕ, zero, suc, ◌+◌, ◌≤◌, Bool, true, false, cond, List, [], ◌∷◌, ◌++◌, map, slice_get}
-use Rattle.std.proofs.Common.{Option, Some, None, refl, sym, ap, ap₂, ◌∙◌, arith}
+use Rattle.std.proofs.Common.{Option, Some, None, refl, sym, ap, ◌∙◌, arith}
 use Rattle.std.specs.Prelude.{find, zip, is_some, slice_index_or, count_by}
-use Rattle.std.specs.List.{enumerate_from, before_first, after_first, position_or_len}
+use Rattle.std.specs.List.{before_first, after_first, position_or_len}
 use Rattle.std.proofs.lemmas.List.Sums.{sum_by-cons, sum_by-append, sum_by_push, split_at_first}
 use Rattle.std.proofs.lemmas.List.Folds.{find_at}
 use Rattle.pals_runs.specs.declared.events_and_faults.EventFault.{EventFault}
@@ -65,19 +65,6 @@ none_first f (y ∷ ys) zero x none is = let same : y ≡ x = cc in
 none_first f (y ∷ ys) (suc k) x none is = none_first f ys k x (both_none (f y) (first_of (map f ys)) none).1 is
 
 -- ---- places
-enumerated_from : {X : Type 0} (from : ℕ) (xs : List X) (k n : ℕ) (x : X) → n ≡ from + k → slice_get xs k ≡ Some x
-    → slice_get (enumerate_from from xs) k ≡ Some (n, x)
-enumerated_from from [] k n x at is = absurd (cc)
-enumerated_from from (y ∷ ys) zero n x at is =
-    let same : y ≡ x = cc in
-    let here : from ≡ n = omega arith in
-    ap₂ (λ m z. Some (m, z)) here same
-enumerated_from from (y ∷ ys) (suc k) n x at is = enumerated_from (from + 1) ys k n x (omega arith) is
-
-pub enumerated_at : {X : Type 0} (xs : List X) (k : ℕ) (x : X) → slice_get xs k ≡ Some x
-    → slice_get (enumerate_from 0 xs) k ≡ Some (k, x)
-enumerated_at xs k x is = enumerated_from 0 xs k k x (omega arith) is
-
 pub zipped_at : {X Y : Type 0} (xs : List X) (ys : List Y) (k : ℕ) (p : X × Y) → slice_get (zip xs ys) k ≡ Some p
     → (slice_get xs k ≡ Some p.0) × (slice_get ys k ≡ Some p.1)
 zipped_at [] ys k p is = absurd (cc)

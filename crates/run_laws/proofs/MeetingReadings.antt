@@ -215,7 +215,7 @@ hour_in run clocks journal s rules (goes_on {journal = before} {s = t} e runs ke
     (λ j within. follows_in run clocks before t j rules runs within) (hour_in run clocks before t rules runs))
 
 -- ---- so no reading falls
-next_acts : (plan : Plan) (n : NodeState) (p : Phase) (action : NodeAction) → next_in plan n p ≡ Some action
+pub next_acts : (plan : Plan) (n : NodeState) (p : Phase) (action : NodeAction) → next_in plan n p ≡ Some action
     → action_in plan n p ≡ Some action
 next_acts plan n Waiting action is = is
 next_acts plan n (Running i) action is = absurd (cc)

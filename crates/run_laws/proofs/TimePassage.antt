@@ -7,6 +7,7 @@ use Rattle.std.proofs.lemmas.Bool.{ltb-false, leb-false, eqb-true, false≢true}
 use Rattle.std.proofs.lemmas.Option.{slice_get-get_or}
 use Rattle.std.proofs.lemmas.List.Folds.{find_at}
 use Rattle.list_lemmas.proofs.Elements.{find-passes}
+use Rattle.list_lemmas.proofs.ElementPositions.{slice_get-enumerate_from}
 use Rattle.pals_base.specs.StepSequences.{upwards}
 use Rattle.pals_base.proofs.UpwardNumbers.{slice_get-upwards}
 use Rattle.pals_model.specs.declared.flight_copy.FlightCopy.{FlightCopy}
@@ -24,7 +25,7 @@ use Rattle.run_laws.specs.Deadlines.{node_deadline, message_deadline}
 use Rattle.run_laws.specs.EventFaults.{fault_of, found_if, first_of, apart, clock_back, clock_apart, past, node_past}
 use Rattle.run_laws.specs.EventFaults.{copy_past, link_past}
 use Rattle.run_laws.specs.proof.WorldInvariant.{IsInTime, KeepsNode, KeepsSends, KeepsTime}
-use Rattle.run_laws.proofs.Lists.{both_none, none_first, enumerated_at}
+use Rattle.run_laws.proofs.Lists.{both_none, none_first}
 use Rattle.run_laws.proofs.WorldNodeTiming.{deadline_is}
 use Rattle.run_laws.proofs.FaultlessEventConditions.{named, none_if}
 
@@ -49,7 +50,8 @@ module _ (run : Run) (w : World) (time : ℕ) (readings : List ℕ) where
   near node within none =
       let reading = slice_index_or readings node 0 in
       let eps = run.design.gamma.eps in
-      let at = enumerated_at readings node reading (slice_get-get_or readings node 0 within) in
+      let at =
+      slice_get-enumerate_from 0 readings node node reading (omega arith) (slice_get-get_or readings node 0 within) in
       let one = none_first (clock_apart run time) (enumerate_from 0 readings) node (node, reading) none at in
       let few : apart reading time < eps =
       leb-false eps (apart reading time)

@@ -22,9 +22,9 @@ use Rattle.scenario_values.specs.NameLookup.{node_at}
 use Rattle.analysis_fields.specs.declared.plants.NamedPair.{NamedPair}
 use Rattle.analysis_fields.specs.Plants.{pair, named_in, shares, is_between, are_equals, is_alone, is_sound, pair_in}
 use Rattle.analysis_fields.specs.Plants.{with_pair, plants_in}
+use Rattle.analysis_fields.proofs.ProcessorFacts.{node_within}
 use Rattle.plant_fuse.specs.FusedComposition.{IsPair, AreApart, ArePairs}
 use Rattle.plant_fuse.proofs.FusiblePairs.{pair_by}
-use Rattle.scenario_laws.proofs.NamesInDesign.{node_below}
 
 -- ---- a list in which one element alone passes a test
 abbrev bit : Bool → ℕ
@@ -189,8 +189,8 @@ entry_read design all entry p e =
     subst (IsOf design all entry) (ok_same made p passed.1) (record {
       named = ap₂ naming (named_is place design entry.0 plant.0 plant.1) controller_is;
       read =
-          sound_is design all made (node_below place design entry.0 plant.0 plant.1)
-          (node_below place design path.0 controller.0 controller.1) passed.0;
+          sound_is design all made (node_within design place entry.0 plant.0 plant.1)
+          (node_within design place path.0 controller.0 controller.1) passed.0;
     })
 
 -- ---- all entries

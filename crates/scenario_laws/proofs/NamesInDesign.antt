@@ -2,19 +2,11 @@
 use Rattle.std.proofs.Common.{◌≡◌, ℕ, ◌<◌, List, length, Ok, bytes_eq}
 use Rattle.scenario_values.proofs.NameSearch.{within}
 use Rattle.pals_model.specs.declared.design.DesignParts.{DesignParts}
-use Rattle.pals_model.specs.declared.design.Component.{Component}
 use Rattle.pals_model.specs.declared.design.Link.{Link}
-use Rattle.pals_model.specs.NamesInTexts.{node_named, link_named, link_name}
+use Rattle.pals_model.specs.NamesInTexts.{link_named, link_name}
 use Rattle.scenario_values.specs.declared.fault.ScenarioFault.TheVariants.{Unknown}
 use Rattle.scenario_values.proofs.SuccessfulResults.{ok_given}
-use Rattle.scenario_values.specs.NameLookup.{node_at, link_at}
-
-pub node_below : (place : List ℕ) (design : DesignParts) (path : List ℕ) (node : ℕ)
-    → node_at place design path ≡ Ok node → node < length design.components
-unfolding node_at
-node_below place design path node e =
-    within (λ (c : Component). bytes_eq path c.path) design.components node
-    (ok_given (Unknown place) (node_named design path) node e)
+use Rattle.scenario_values.specs.NameLookup.{link_at}
 
 pub link_below : (place : List ℕ) (design : DesignParts) (name : List ℕ) (link : ℕ)
     → link_at place design name ≡ Ok link → link < length design.links

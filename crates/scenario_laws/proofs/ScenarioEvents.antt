@@ -24,9 +24,10 @@ use Rattle.scenario_json.specs.declared.events.EventWord.TheVariants.{Pass, Star
 use Rattle.scenario_json.specs.declared.events.EventWord.TheVariants.{Repeat}
 use Rattle.scenario_json.specs.Events.{word_of, is_usual, node_part, link_parts, event_of, usual_word, event_from}
 use Rattle.scenario_json.specs.Events.{event_in, with_event, events_in}
+use Rattle.analysis_fields.proofs.ProcessorFacts.{node_within}
 use Rattle.loose_world.specs.LooseRuns.{IsLooseIn}
 use Rattle.scenario_laws.specs.proof.EventsAndTraces.{loosely, AreLooseEvents}
-use Rattle.scenario_laws.proofs.NamesInDesign.{node_below, link_below}
+use Rattle.scenario_laws.proofs.NamesInDesign.{link_below}
 
 -- ---- nodes and links
 node_part_below : (design : DesignParts) (place : List ℕ) (ds : List Data) (node : NodeNo)
@@ -37,7 +38,7 @@ node_part_below design place (d ∷ []) node e =
     let path = ok_bind (text place d) (λ path. node_at place design path >>= λ n. Ok (node_no n)) node e in
     let at = ok_bind (node_at place design path.0) (λ n. Ok (node_no n)) node path.2 in
     subst (λ (n : NodeNo). n.0 < length design.components) (ok_same (node_no at.0) node at.2)
-    (node_below place design path.0 at.0 at.1)
+    (node_within design place path.0 at.0 at.1)
 node_part_below design place (d ∷ x ∷ ds) node e = absurd (cc)
 
 link_parts_below : (design : DesignParts) (place : List ℕ) (ds : List Data) (p : LinkNo × ℕ)

@@ -1,9 +1,9 @@
 -- What holds at each place and entry of verified code: loops closed, instructions known, entries good.
-use Rattle.std.proofs.Common.{◌≡◌, ◌∙◌, ℕ, ◌<◌, Bool, true, false, ◌&&◌, ◌||◌, List, [], ◌∷◌, length, Option, Some}
-use Rattle.std.proofs.Common.{refl, sym, ap, ⊎_elim, nat_eq, nat_lt}
+use Rattle.std.proofs.Common.{◌≡◌, ◌∙◌, ℕ, ◌<◌, true, false, ◌&&◌, ◌||◌, List, [], ◌∷◌, length, Option, Some, refl, ap}
+use Rattle.std.proofs.Common.{⊎_elim, nat_eq, nat_lt}
 use Rattle.std.specs.Prelude.{slice_get}
 use Rattle.std.proofs.lemmas.Bool.{and_parts, ltb-true, false≢true, or_right, not-false}
-use Rattle.list_lemmas.proofs.Booleans.{or_false_left}
+use Rattle.list_lemmas.proofs.Booleans.{or_false_left, and_second_false}
 use Rattle.list_lemmas.proofs.Numbers.{nat_eq-self}
 use Rattle.step_code.specs.declared.instr.Instr.{Instr}
 use Rattle.step_code.specs.declared.instr.CodeParts.{CodeParts}
@@ -46,13 +46,10 @@ none_is : (ls : List LoopSpan) → is_none ls ≡ true → ls ≡ []
 none_is [] is = refl
 none_is (l ∷ ls) is = absurd (false≢true is)
 
-second_false : (a b : Bool) → a ≡ true → (a && b) ≡ false → b ≡ false
-second_false a b is both = sym (ap (λ x. x && b) is) ∙ both
-
 pub verified_entry : (c : CodeParts) (e : ℕ) → IsVerified c → Member c.entries (Some e) → EntersWell c.instrs e
 verified_entry c e v among =
     let bad =
-    second_false (is_entry c.entries e) (enters_badly c.instrs e) (member_entry c.entries e among)
+    and_second_false (is_entry c.entries e) (enters_badly c.instrs e) (member_entry c.entries e among)
     (good_entry c e v) in
     let both =
     and_parts (nat_lt e (length c.instrs)) (is_none (around c.instrs e))

@@ -6,6 +6,7 @@ use Rattle.std.specs.Prelude.{filter}
 use Rattle.std.proofs.lemmas.Bool.{cases_Bool, true≢false, false≢true, or_parts, or_cases}
 use Rattle.std.proofs.Math.Bool.{or-false}
 use Rattle.list_lemmas.proofs.Numbers.{nat_eq-self}
+use Rattle.list_lemmas.proofs.Booleans.{or_second}
 use Rattle.pals_base.specs.declared.behaviour.BehaviourParts.{BehaviourParts}
 use Rattle.pals_base.specs.PlainTrees.{Edge}
 use Rattle.pals_base.specs.SingleStep.{is_complete}
@@ -34,15 +35,12 @@ kept_by : (b : BehaviourParts) (u t x y : ℕ) (r : Bool) → (r ≡ false → x
 kept_by b u t x y true same = refl
 kept_by b u t x y false same = ap (λ k. block_length b u + k) (same refl)
 
-second_true : (r p : Bool) → (r || p) ≡ true → r ≡ false → p ≡ true
-second_true r p is isnt = ap (λ x. x || p) (sym isnt) ∙ is
-
 pub start_kept : (b : BehaviourParts) (order : List ℕ) (s t : ℕ) → is_placed order t ≡ true
     → start_of b (order ++ s ∷ []) t ≡ start_of b order t
 start_kept b [] s t placed = absurd (false≢true placed)
 start_kept b (u ∷ order) s t placed =
     kept_by b u t (start_of b (order ++ s ∷ []) t) (start_of b order t) (nat_eq u t)
-    (λ isnt. start_kept b order s t (second_true (nat_eq u t) (is_placed order t) placed isnt))
+    (λ isnt. start_kept b order s t (or_second (nat_eq u t) (is_placed order t) isnt placed))
 
 pub start_last : (b : BehaviourParts) (order : List ℕ) (s : ℕ) → is_placed order s ≡ false
     → start_of b (order ++ s ∷ []) s ≡ order_length b order
@@ -64,7 +62,7 @@ pub start_below : (b : BehaviourParts) (order : List ℕ) (t : ℕ) → is_place
 start_below b [] t placed = absurd (false≢true placed)
 start_below b (u ∷ order) t placed =
     below_by b order u t (nat_eq u t) refl
-    (λ isnt. start_below b order t (second_true (nat_eq u t) (is_placed order t) placed isnt))
+    (λ isnt. start_below b order t (or_second (nat_eq u t) (is_placed order t) isnt placed))
 
 length_more : (b : BehaviourParts) (order : List ℕ) (s : ℕ)
     → order_length b (order ++ s ∷ []) ≡ order_length b order + block_length b s

@@ -1,25 +1,10 @@
 -- Lists with an element for each component, and their elements.
-use Rattle.std.proofs.Common.{◌≡◌, ◌∙◌, ℕ, zero, suc, ◌+◌, ◌<◌, List, [], ◌∷◌, length, map, set, slice_get}
-use Rattle.std.proofs.Common.{slice_index_or, Some, refl, sym, ap, arith}
+use Rattle.std.proofs.Common.{◌≡◌, ◌∙◌, ℕ, zero, suc, ◌<◌, List, [], ◌∷◌, length, map, set, slice_get, slice_index_or}
+use Rattle.std.proofs.Common.{Some, refl, sym, ap, arith}
 use Rattle.std.specs.List.{enumerate_from}
 use Rattle.std.proofs.lemmas.List.{length-map, get_or-map}
 use Rattle.std.proofs.lemmas.Option.{slice_get_within, slice_get_read, get_or_from_slice_get}
 use Rattle.list_lemmas.proofs.ListOperations.{length-map_enumerate_from}
-
--- ---- numbered elements
-
-numbered-from : {X Y : Type 0} (f : ℕ × X → Y) (from : ℕ) (xs : List X) (k n : ℕ) (x : X) → n ≡ from + k
-    → slice_get xs k ≡ Some x → slice_get (map f (enumerate_from from xs)) k ≡ Some (f (n, x))
-numbered-from f from [] k n x at is = absurd (cc)
-numbered-from f from (y ∷ ys) zero n x at is =
-    let here : from ≡ n = omega arith in
-    let same : y ≡ x = cc in
-    ap (λ m. Some (f (m, y))) here ∙ ap (λ z. Some (f (n, z))) same
-numbered-from f from (y ∷ ys) (suc k) n x at is = numbered-from f (from + 1) ys k n x (omega arith) is
-
-pub numbered-at : {X Y : Type 0} (f : ℕ × X → Y) (xs : List X) (k : ℕ) (x : X) → slice_get xs k ≡ Some x
-    → slice_get (map f (enumerate_from 0 xs)) k ≡ Some (f (k, x))
-numbered-at f xs k x is = numbered-from f 0 xs k k x (omega arith) is
 
 -- ---- what is read
 -- an element of a list that is another one

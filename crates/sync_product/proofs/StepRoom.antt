@@ -2,7 +2,7 @@
 use Rattle.std.proofs.Common.{◌≡◌, ◌∙◌, ℕ, List, length, map, slice_index_or, sym, ap}
 use Rattle.std.proofs.lemmas.List.{length-map}
 use Rattle.list_lemmas.proofs.ListOperations.{length-map_enumerate_from}
-use Rattle.list_lemmas.proofs.ElementPositions.{slice_get-map_some}
+use Rattle.list_lemmas.proofs.ElementPositions.{slice_get-map_some, slice_get-map_enumerate}
 use Rattle.pals_base.specs.PeriodBound.{sent_steps}
 use Rattle.pals_base.specs.StepSequences.{upwards}
 use Rattle.pals_base.proofs.UpwardNumbers.{length-upwards}
@@ -16,7 +16,7 @@ use Rattle.sync_product.specs.proof.ProductSizes.{PartSize, StageSize, frame_siz
 use Rattle.sync_product.specs.proof.ProductSizes.{part_size_of, part_sizes, stage_size, stage_size_of, stage_sizes}
 use Rattle.sync_product.specs.proof.ProductSizes.{tap_ports}
 use Rattle.sync_product.specs.proof.ComponentWiring.{IsWired}
-use Rattle.sync_product.proofs.ComponentLists.{numbered-at, sized_at, count_of_sized}
+use Rattle.sync_product.proofs.ComponentLists.{sized_at, count_of_sized}
 
 -- ---- one for each component
 pub count_of_parts : (design : DesignParts) (parts : List Part) → map part_size parts ≡ part_sizes design
@@ -44,7 +44,8 @@ module _ (design : DesignParts) (node : ℕ) (wired : WiredComponent) (is : IsWi
   fits_part parts part fit at =
       let c = wired.component.now in
       sized_at part_size parts (part_sizes design) node part (part_size_of c (tap_ports design.taps node)) fit
-      (numbered-at (λ (numbered : ℕ × Component). part_size_of numbered.1 (tap_ports design.taps numbered.0))
+      (slice_get-map_enumerate
+      (λ (numbered : ℕ × Component). part_size_of numbered.1 (tap_ports design.taps numbered.0))
       design.components node c is.component_is) at
       ∙ ap (part_size_of c) (sym is.taps_are)
 

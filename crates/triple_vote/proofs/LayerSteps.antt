@@ -3,7 +3,7 @@ use Rattle.std.proofs.Common.{◌≡◌, ◌∙◌, ℕ, ◌+◌, ◌<◌, ◌�
 use Rattle.std.proofs.Common.{slice_get, slice_index_or, Some, sym, ap, ap₂, arith, eq-or-lt_of_le}
 use Rattle.std.proofs.lemmas.Bool.{false≢true}
 use Rattle.std.proofs.lemmas.List.{map-set, length-map, get_or-map}
-use Rattle.list_lemmas.proofs.ElementPositions.{slice_get-map_some}
+use Rattle.list_lemmas.proofs.ElementPositions.{slice_get-map_some, slice_get-map_enumerate}
 use Rattle.pals_base.specs.declared.values.PortValue.{PortValue}
 use Rattle.pals_base.specs.declared.values.Frame.{Frame}
 use Rattle.pals_base.specs.PeriodBound.{sent_steps}
@@ -19,7 +19,7 @@ use Rattle.sync_product.specs.declared.component_stage.Stage.{Stage}
 use Rattle.sync_product.specs.proof.ProductSizes.{PartSize, StageSize, part_size, part_size_of, stage_size}
 use Rattle.sync_product.specs.proof.ProductSizes.{stage_size_of, stage_sizes}
 use Rattle.sync_product.specs.proof.Rounds.{frames_of}
-use Rattle.sync_product.proofs.ComponentLists.{numbered-at, entry_at, sized_at, within_table, count_of_sized, item_at}
+use Rattle.sync_product.proofs.ComponentLists.{entry_at, sized_at, within_table, count_of_sized, item_at}
 use Rattle.sync_product.proofs.ComponentLists.{slice_get-set_same, slice_get-set_other}
 use Rattle.triple_vote.specs.proof.ReplicaLayers.{frame_sizes, is_there, frame_made, rows_made, IsRun}
 
@@ -144,8 +144,8 @@ module _ (design : DesignParts) (items : List Component) (node : ℕ) (item : Co
       → sources ≡ sources_of design node item
   sources_are table sources is sources_is =
       entry_at table (all_sources design) node sources (sources_of design node item) is
-      (numbered-at (λ (numbered : ℕ × Component). sources_of design numbered.0 numbered.1) design.components node item
-      component_is) sources_is
+      (slice_get-map_enumerate (λ (numbered : ℕ × Component). sources_of design numbered.0 numbered.1) design.components
+      node item component_is) sources_is
 
   pub sources_count : (sources : List PortSource) → sources ≡ sources_of design node item
       → length sources ≡ length item.behaviour.ins

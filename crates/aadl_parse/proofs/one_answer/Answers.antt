@@ -1,8 +1,9 @@
-use Rattle.aadl_parse.proofs.PackageFates.{only_tree, one_text_fault, tree_or_fault}
+use Rattle.aadl_grammar.proofs.CanonicalRoundTrip.{no_other}
+use Rattle.aadl_parse.proofs.PackageFates.{one_text_fault, tree_or_fault}
 use Rattle.aadl_parse.proofs.one_answer.Goals as goal
 
 pub returns-clause-tree : goal.returns-clause-tree
-returns-clause-tree c = only_tree
+returns-clause-tree c = no_other
 
 pub returns-clause-fault : goal.returns-clause-fault
 returns-clause-fault c = one_text_fault

@@ -1,12 +1,13 @@
 use Rattle.std.proofs.Common.{◌≡◌, ◌∙◌, ℕ, ◌+◌, ◌++◌, ◌∷◌, List, length, drop, refl, sym, ap, arith}
 use Rattle.std.proofs.lemmas.List.{drop_more}
 use Rattle.list_lemmas.proofs.ListOperations.{length-map_enumerate_from}
+use Rattle.list_lemmas.proofs.ElementPositions.{slice_get-map_enumerate}
 use Rattle.pals_model.specs.declared.design.Component.{Component}
 use Rattle.pals_model.specs.declared.design.DesignParts.{DesignParts}
 use Rattle.pals_model.specs.RoundTexts.{text_of}
 use Rattle.triple_vote.specs.Replicas.{is_replicated, frame_at}
 use Rattle.triple_vote.specs.VotedText.{replica_lines}
-use Rattle.sync_product.proofs.ComponentLists.{entry_at, item_at, numbered-at}
+use Rattle.sync_product.proofs.ComponentLists.{entry_at, item_at}
 use Rattle.pals_report.proofs.RowLines.{lines_turn}
 use Rattle.analysis_texts.specs.proof.ReplicaNamesAndLines.{names_of, all_names, all_lines}
 use Rattle.analysis_texts.proofs.replicas.add_components.Goals as goal
@@ -37,7 +38,8 @@ add_replicas-requires-clause-names c =
     c.as_slice-names.ensures.value
     ∙ entry_at c.args.names.now (all_names components product.replicated) node c.index-names-node.result
     (names_of component.path (is_replicated product.replicated node)) c.requires
-    (numbered-at (λ (numbered : ℕ × Component). names_of numbered.1.path (is_replicated product.replicated numbered.0))
+    (slice_get-map_enumerate
+    (λ (numbered : ℕ × Component). names_of numbered.1.path (is_replicated product.replicated numbered.0))
     components node component is)
     c.index-names-node.is
 

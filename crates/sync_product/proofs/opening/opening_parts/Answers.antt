@@ -1,6 +1,7 @@
 use Rattle.std.proofs.Common.{◌∙◌, ◌+◌, ◌++◌, ◌∷◌, ℕ, List, ap, ap₂, sym, map, drop, replicate, append_assoc}
 use Rattle.std.specs.List.{enumerate_from}
 use Rattle.std.proofs.lemmas.List.{drop_more}
+use Rattle.list_lemmas.proofs.ElementPositions.{slice_get-map_enumerate}
 use Rattle.pals_base.specs.declared.values.PortValue.{PortValue}
 use Rattle.pals_base.specs.declared.values.PortValue.TheVariants.{Absent}
 use Rattle.pals_base.specs.declared.values.Frame.{Frame}
@@ -8,7 +9,7 @@ use Rattle.pals_model.specs.declared.design.Component.{Component}
 use Rattle.pals_model.specs.declared.inputs_parts_and_delays.Part.{Part}
 use Rattle.sync_product.specs.proof.ProductStates.{opening_part}
 use Rattle.sync_product.specs.proof.ProductSizes.{tap_ports}
-use Rattle.sync_product.proofs.ComponentLists.{numbered-at, entry_at, within_table, item_at}
+use Rattle.sync_product.proofs.ComponentLists.{entry_at, within_table, item_at}
 use Rattle.sync_product.proofs.opening.opening_parts.Goals as goal
 
 pub bounds-taps-node : goal.bounds-taps-node
@@ -30,7 +31,8 @@ loop-node-preserved c =
     let taps =
     c.as_slice.ensures.value
     ∙ entry_at c.args.taps.now _ node c.index-taps-node.result (tap_ports design.taps node) c.requires
-    (numbered-at (λ (numbered : ℕ × Component). tap_ports design.taps numbered.0) design.components node item is)
+    (slice_get-map_enumerate (λ (numbered : ℕ × Component). tap_ports design.taps numbered.0) design.components
+    node item is)
     c.index-taps-node.is in
     let opened = λ (numbered : ℕ × Component). opening_part design numbered.0 numbered.1 in
     let later = map opened (enumerate_from (node + 1) (drop (node + 1) items)) in

@@ -1,5 +1,6 @@
 use Rattle.std.proofs.Common.{◌≡◌, ◌∙◌, ℕ, ◌<◌, List, length, All, refl, sym, ap, subst, arith}
 use Rattle.std.specs.Arc.{arc_value}
+use Rattle.list_lemmas.proofs.Results.{OnOk-always}
 use Rattle.pals_base.specs.declared.values.LinkNo.{LinkNo}
 use Rattle.pals_model.specs.declared.design.DesignParts.{DesignParts}
 use Rattle.pals_model.specs.declared.design.Link.{Link}
@@ -8,7 +9,7 @@ use Rattle.pals_bus.specs.proof.LinksFrom.{links_from}
 use Rattle.pals_bus.specs.proof.DueQueues.{HasQueueRoomFor, HasQueueRoomOn}
 use Rattle.pals_bus.specs.proof.RoundMessages.{HasRoomFor, HasRoomOn}
 use Rattle.pals_bus.proofs.LinksFrom.{numbers_within, room_for, queue_room_for}
-use Rattle.pals_bus.proofs.UnseenReservations.{more_room, held}
+use Rattle.pals_bus.proofs.UnseenReservations.{more_room}
 use Rattle.pals_bus.proofs.bus_fields.BusFields.reserve_round.Goals as goal
 
 pub returns-in_err-reserve_links-clause-keeps : goal.returns-in_err-reserve_links-clause-keeps
@@ -49,7 +50,7 @@ returns-clause-room c =
     room_for node links c.reserve_links.new.flights
     (subst (λ (ns : List LinkNo). HasRoomOn ns c.reserve_links.new.flights) numbers
     c.in_ok-reserve_links.ensures.room) in
-    held c.reserve_entries.result
+    OnOk-always c.reserve_entries.result _
     (subst (λ (k : BusFields). HasRoomFor node (length (arc_value k.design).links) (arc_value k.design).links
     k.flights) (sym c.reserve_entries.ensures.others) room)
 
@@ -67,6 +68,6 @@ returns-clause-queues c =
     c.in_ok-reserve_queues.ensures.room in
     let room =
     queue_room_for node links queues (subst (λ (ns : List LinkNo). HasQueueRoomOn ns links queues) numbers on) in
-    held c.reserve_entries.result
+    OnOk-always c.reserve_entries.result _
     (subst (λ (k : BusFields). HasQueueRoomFor node (arc_value k.design).links k.queues)
     (sym c.reserve_entries.ensures.others) room)

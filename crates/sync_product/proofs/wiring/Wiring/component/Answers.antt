@@ -1,8 +1,9 @@
 use Rattle.std.proofs.Common.{◌∙◌, ℕ, ◌<◌, ap, length, arith}
+use Rattle.list_lemmas.proofs.ElementPositions.{slice_get-map_enumerate}
 use Rattle.pals_model.specs.declared.design.Component.{Component}
 use Rattle.pals_model.specs.ComponentInputs.{sources_of}
 use Rattle.sync_product.specs.proof.ProductSizes.{tap_ports}
-use Rattle.sync_product.proofs.ComponentLists.{numbered-at, entry_at, item_at, within_table}
+use Rattle.sync_product.proofs.ComponentLists.{entry_at, item_at, within_table}
 use Rattle.sync_product.proofs.wiring.Wiring.component.Goals as goal
 
 pub index-requires : goal.index-requires
@@ -34,12 +35,13 @@ returns c =
           c.as_slice.ensures.value
           ∙ entry_at c.args.self.now.sources _ node c.index.result.now (sources_of design node item)
           c.requires.wiring.sources_are
-          (numbered-at (λ (numbered : ℕ × Component). sources_of design numbered.0 numbered.1) design.components node
-          item is) c.index.ensures;
+          (slice_get-map_enumerate (λ (numbered : ℕ × Component). sources_of design numbered.0 numbered.1)
+          design.components node item is) c.index.ensures;
       taps_are =
           c.as_slice-2.ensures.value
           ∙ entry_at c.args.self.now.taps _ node c.index-2.result.now (tap_ports design.taps node)
           c.requires.wiring.taps_are
-          (numbered-at (λ (numbered : ℕ × Component). tap_ports design.taps numbered.0) design.components node item is)
+          (slice_get-map_enumerate (λ (numbered : ℕ × Component). tap_ports design.taps numbered.0) design.components
+          node item is)
           c.index-2.ensures;
     }
