@@ -1,11 +1,11 @@
 -- Ports that lead out of implementations, found declaration by declaration, those that contain others first.
 use Rattle.std.proofs.Common.{◌≡◌, ◌⊎◌, inl, inr, ℕ, zero, suc, ◌+◌, ◌<◌, ◌≤◌, false, nat_eq, List, [], ◌∷◌, length}
 use Rattle.std.proofs.Common.{slice_get, Contains, Some, None, refl, sym, ap, subst, ◌∙◌, arith}
-use Rattle.std.specs.List.{IsDistinct, AllByRecursion}
+use Rattle.std.specs.List.{IsDistinct}
 use Rattle.std.proofs.lemmas.Bool.{true≢false, eq-eqb}
 use Rattle.std.proofs.lemmas.List.{length-map}
 use Rattle.std.proofs.lemmas.Option.{same_Some, none-some, slice_get_within, slice_get-get_or}
-use Rattle.list_lemmas.proofs.Elements.{Contains-nil}
+use Rattle.list_lemmas.proofs.Elements.{Contains-nil, AllByRecursion-at}
 use Rattle.list_lemmas.proofs.ElementPositions.{slice_get-from_Contains}
 use Rattle.aadl_tree.specs.declared.declarations.Direction.{Direction}
 use Rattle.aadl_tree.specs.Declarations.{PackageTree}
@@ -24,20 +24,15 @@ use Rattle.aadl_chains.specs.proof.PortsJoinedOutside.{HasLeading, AreLed, AreLe
 use Rattle.aadl_chains.proofs.JoinedInsideByDeclaration.{no_wires, split}
 use Rattle.aadl_chains.proofs.JoinedOutsideByConnection.{leads_in_use}
 
-each_at : (P : ℕ → Type 0) (xs : List ℕ) (j n : ℕ) → AllByRecursion P xs → slice_get xs j ≡ Some n → P n
-each_at P [] j n a e = let lt = slice_get_within [] j n e in absurd (omega arith)
-each_at P (x ∷ xs) zero n a e = subst P (same_Some x n e) a.0
-each_at P (x ∷ xs) (suc j) n a e = each_at P xs j n a.1 e
-
 -- in a list of different numbers each stands at one place
 one_place : (xs : List ℕ) (i j n : ℕ) → IsDistinct nat_eq xs → slice_get xs i ≡ Some n → slice_get xs j ≡ Some n → i ≡ j
 unfolding IsDistinct
 one_place [] i j n d e f = let lt = slice_get_within [] i n e in absurd (omega arith)
 one_place (x ∷ xs) zero zero n d e f = refl
 one_place (x ∷ xs) zero (suc j) n d e f =
-    absurd (true≢false (sym (eq-eqb x n (same_Some x n e)) ∙ each_at (λ y. nat_eq x y ≡ false) xs j n d.0 f))
+    absurd (true≢false (sym (eq-eqb x n (same_Some x n e)) ∙ AllByRecursion-at (λ y. nat_eq x y ≡ false) xs j n d.0 f))
 one_place (x ∷ xs) (suc i) zero n d e f =
-    absurd (true≢false (sym (eq-eqb x n (same_Some x n f)) ∙ each_at (λ y. nat_eq x y ≡ false) xs i n d.0 e))
+    absurd (true≢false (sym (eq-eqb x n (same_Some x n f)) ∙ AllByRecursion-at (λ y. nat_eq x y ≡ false) xs i n d.0 e))
 one_place (x ∷ xs) (suc i) (suc j) n d e f = ap suc (one_place xs i j n d.1 e f)
 
 module _ (tree : PackageTree ℕ) (root : ℕ) (d : Direction) (keys : List ℕ) where

@@ -8,6 +8,7 @@ use Rattle.std.specs.Str.{bytes_eq, str_eq_ignore_ascii_case, str_to_ascii_lower
 use Rattle.std.proofs.lemmas.Bool.{false_from_ne_true}
 use Rattle.std.proofs.lemmas.Slice.Eq.{bytes_eq-Decides}
 use Rattle.std.proofs.lemmas.Option.{same_Some}
+use Rattle.list_lemmas.proofs.Elements.{find-passes}
 use Rattle.aadl_lex.specs.declared.token.TokenKind.TheVariants.{Word, Symbol}
 use Rattle.aadl_lex.specs.declared.rules.Reading.{Reading}
 use Rattle.aadl_lex.specs.declared.rules.Reading.TheVariants.{Outside, AfterName, Inside}
@@ -37,10 +38,6 @@ passes_by : (q : Mark → Bool) (x m : Mark) (b : Bool) (y : Option Mark) → q 
     → (if b then Some x else y) ≡ Some m → q m ≡ true
 passes_by q x m true y here go e = sym (ap q (same_Some x m e)) ∙ here
 passes_by q x m false y here go e = go e
-
-find_passes : (q : Mark → Bool) (xs : List Mark) (m : Mark) → find q xs ≡ Some m → q m ≡ true
-find_passes q [] m h = absurd cc
-find_passes q (x ∷ xs) m h = passes_by q x m (q x) (find q xs) refl (λ g. find_passes q xs m g) h
 
 keywords_read : (inside : Bool)
     → map (λ m. keyword_of inside (mark_text m)) (keywords inside) ≡ map Some (keywords inside)
@@ -75,7 +72,7 @@ pub no_annex_name : (inside : Bool) (b : List ℕ) (m : Mark) → keyword_of ins
 no_annex_name inside b m e =
     let word =
     same_length b (mark_text m)
-    (find_passes (λ x. str_eq_ignore_ascii_case b (mark_text x)) (keywords inside) m e) in
+    (find-passes (λ x. str_eq_ignore_ascii_case b (mark_text x)) (keywords inside) m e) in
     false_from_ne_true _ (λ h. not_so_long m (sym word ∙ same_length b (codes "behavior_specification") h))
 
 pub keyword_behind : (r : Reading) (b : List ℕ) (m : Mark) → keyword_of (is_inside r) b ≡ Some m

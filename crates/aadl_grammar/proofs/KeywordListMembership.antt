@@ -1,7 +1,8 @@
 -- Keywords in lists, and tests of each item of a list.
-use Rattle.std.proofs.Common.{◌≡◌, suc, Bool, true, false, not, ◌||◌, ◌==◌, List, [], ◌∷◌, refl, arith}
+use Rattle.std.proofs.Common.{◌≡◌, Bool, true, false, not, ◌||◌, ◌==◌, List, [], ◌∷◌, refl, arith}
 use Rattle.std.specs.Prelude.{Contains}
 use Rattle.std.proofs.lemmas.Bool.{eqb-true}
+use Rattle.list_lemmas.proofs.Elements.{Contains-cons}
 use Rattle.aadl_tree.specs.declared.mark.Mark.{Mark}
 use Rattle.aadl_tree.specs.proof.MarkNumbers.{mark_number}
 use Rattle.aadl_tree.proofs.MarkNumbers.{same_number}
@@ -19,13 +20,10 @@ abbrev pub listed : List Mark → Mark → Bool
 listed [] m = false
 listed (x ∷ xs) m = mark_number x == mark_number m || listed xs m
 
-behind : (x m : Mark) (xs : List Mark) → Contains xs m → Contains (x ∷ xs) m
-behind x m xs c = let within = c.1 in (suc c.0, omega arith, c.2)
-
 listed_first : (b : Bool) (x m : Mark) (xs : List Mark) → (b ≡ true → x ≡ m) → (listed xs m ≡ true → Contains xs m)
     → (b || listed xs m) ≡ true → Contains (x ∷ xs) m
 listed_first true x m xs same more e = (0, omega arith, same refl)
-listed_first false x m xs same more e = behind x m xs (more e)
+listed_first false x m xs same more e = Contains-cons x m xs (more e)
 
 pub is_listed : (xs : List Mark) (m : Mark) → listed xs m ≡ true → Contains xs m
 is_listed [] m e = cc

@@ -1,8 +1,7 @@
 -- Loops that keep the first finding so far: one turn, and the end.
 use Rattle.std.proofs.Common.{◌≡◌, ◌<◌, ◌≤◌, ◌+◌, ℕ, ◌∙◌, sym, ap, refl, Bool, true, false, List, [], ◌∷◌, ◌++◌, Option}
-use Rattle.std.proofs.Common.{length, drop, get_or, Result, Ok, Err}
+use Rattle.std.proofs.Common.{length, drop, get_or}
 use Rattle.std.proofs.lemmas.List.{drop_all}
-use Rattle.std.specs.Prelude.{OnOk}
 use Rattle.list_lemmas.proofs.ListOperations.{drop-next}
 use Rattle.aadl_names.specs.declared.fault.PackageFault.{PackageFault}
 use Rattle.aadl_names.specs.proof.FirstFaultSoFar.{earlier, found}
@@ -35,9 +34,3 @@ pub last_found : {A : Type 0} (parts : List A → List PackageFault) (xs : List 
     → length xs ≤ i → parts [] ≡ [] → whole ≡ found now (parts (drop i xs)) → now ≡ whole
 last_found parts xs i whole now past none left =
     sym (left ∙ ap (λ (l : List _). found now (parts l)) (drop_all i xs past) ∙ ap (found now) none)
-
--- What the last call leaves is the whole.
-pub closed : {T E : Type 0} (r : Result T E) (now last whole : (Option PackageFault)) → last ≡ whole
-    → OnOk r (now ≡ last) → OnOk r (now ≡ whole)
-closed (Ok x) now last whole e is = is ∙ e
-closed (Err x) now last whole e is = tt

@@ -43,7 +43,7 @@ lookup-push test (f ∷ es) e =
     option_or-cond (test f.0) f.1 (lookup test es) _ (cond (test e.0) (Some e.1) None) (lookup-push test es e)
 
 -- a value that is there stays
-kept_by : {X : Type 0} (a : Option X) (b : Bool) (n : X) → (b ≡ true → (m : X) × (a ≡ Some m))
+pub kept_by : {X : Type 0} (a : Option X) (b : Bool) (n : X) → (b ≡ true → (m : X) × (a ≡ Some m))
     → a ≡ option_or a (cond b (Some n) None)
 kept_by (Some m) b n h = refl
 kept_by None true n h = let e = (h refl).1 in absurd (cc e)

@@ -1,7 +1,6 @@
 -- Parts one behind the other are written one behind the other.
 use Rattle.std.proofs.Common.{◌≡◌, ◌<◌, ◌≤◌, ◌+◌, ◌-◌, ℕ, ◌∙◌, sym, ap, refl, List, [], ◌∷◌, ◌++◌, length, take, drop}
-use Rattle.std.proofs.Common.{get_or, arith, suc, Result, Ok, Err}
-use Rattle.std.specs.Prelude.{OnOk}
+use Rattle.std.proofs.Common.{get_or, arith, suc}
 use Rattle.std.proofs.lemmas.List.{take_all, drop_all}
 use Rattle.list_lemmas.proofs.ListOperations.{drop-next}
 use Rattle.aadl_tree.specs.SpellingParts.{Part, token, may}
@@ -30,12 +29,6 @@ pub last_written : {A P : Type 0} (parts : List A → List (Part P)) (xs : List 
     → length xs ≤ i → parts [] ≡ [] → whole ≡ printed now (parts (drop i xs)) → now ≡ whole
 last_written parts xs i whole now past none left =
     sym (left ∙ ap (λ (l : List _). printed now (parts l)) (drop_all i xs past) ∙ ap (printed now) none)
-
--- What the last call leaves is the whole.
-pub closed : {T E : Type 0} (r : Result T E) (now last whole : Printed) → last ≡ whole → OnOk r (now ≡ last)
-    → OnOk r (now ≡ whole)
-closed (Ok x) now last whole e is = is ∙ e
-closed (Err x) now last whole e is = tt
 
 -- A list that has a first item.
 pub parted : {A : Type 0} (xs : List A) (x : A) → 1 ≤ length xs → x ≡ get_or xs 0 x

@@ -20,11 +20,11 @@ use Rattle.aadl_tree.specs.proof.ExpressionViews.{factor_view, factors_view, ter
 use Rattle.aadl_tree.specs.proof.ActionViews.{action_view, actions_view, block_view, mores_view, block_of}
 use Rattle.aadl_tree.proofs.ActionViews.{view-block}
 
-pub view-out-association : {P : Type 0} (place : ℕ → P) (x : Association)
+pub view_out_association : {P : Type 0} (place : ℕ → P) (x : Association)
     → association_view place x
     ≡ association (name_view place (out-Association x).name) (out-Association x).operator (out-Association x).constant
     (value_view place (out-Association x).value) (map (path_view place) (out-Association x).applies_to.items)
-view-out-association place x = search (rules, value_lemmas)
+view_out_association place x = search (rules, value_lemmas)
 
 pub view-out-term : {P : Type 0} (place : ℕ → P) (x : Term)
     → term_view place x ≡ term (factor_view place (out-Term x).first) (factors_view place (out-Term x).rest.items)

@@ -14,7 +14,7 @@ use Rattle.std.proofs.lemmas.Map.Steps.{length-le_from_distinct_below, le-length
 use Rattle.indexmap.specs.IndexSet.{insert_key}
 use Rattle.indexmap.proofs.CallerLemmas.{Contains-list_any, Contains-insert_key}
 use Rattle.list_lemmas.proofs.ElementPositions.{slice_get-from_Contains, Contains-from_slice_get, slice_get-append_left}
-use Rattle.list_lemmas.proofs.Elements.{list_any_by_number, Contains-nil}
+use Rattle.list_lemmas.proofs.Elements.{list_any_by_number, Contains-nil, Contains-cons_cases}
 use Rattle.aadl_uses.specs.proof.ContainmentGraphs.{Graph, targets_in, below_in, IsReached, IsWithin, LeadsBack}
 use Rattle.aadl_uses.specs.proof.ContainmentOrders.{is_there, IsSequence, IsOrder, Misses, IsPlaced, ArePlaced}
 use Rattle.aadl_uses.proofs.GraphSearches.{insert_grows, below_target, reached_next}
@@ -54,13 +54,6 @@ distinct_more n xs e d = (each_other n xs e, d)
 -- different numbers below a number are no more than that
 few : (xs : List ℕ) (n : ℕ) → IsDistinct nat_eq xs → ((q : ℕ) → Contains xs q → q < n) → length xs ≤ n
 few xs n d below = length-le_from_distinct_below xs n d (λ q e. below q (of_any xs q e))
-
-in_more : (n m : ℕ) (xs : List ℕ) → Contains (n ∷ xs) m → (n ≡ m) ⊎ Contains xs m
-in_more n m xs h = by (Contains-append_cases (n ∷ []) xs m h)
-  where
-    one : Contains [] m ⊎ (n ≡ m) → (n ≡ m) ⊎ Contains xs m
-    one (inl k) = absurd (Contains-nil m k)
-    one (inr k) = inl k
 
     by : Contains (n ∷ []) m ⊎ Contains xs m → (n ≡ m) ⊎ Contains xs m
     by (inl k) = one (Contains-push_cases [] n m k)
@@ -258,8 +251,8 @@ module _ (g : Graph) (xs : List ℕ) (within : IsWithin g) (acyclic : (n s : ℕ
       by next false e =
           rest next.target (within u next.sub next.target next.names) next.absent
           (distinct_more next.target (u ∷ seen) e distinct)
-          (λ q h. below_by q (in_more next.target q (u ∷ seen) h))
-          (λ q h. reaches_by q (in_more next.target q (u ∷ seen) h)) (omega (arith, long))
+          (λ q h. below_by q (Contains-cons_cases next.target (u ∷ seen) q h))
+          (λ q h. reaches_by q (Contains-cons_cases next.target (u ∷ seen) q h)) (omega (arith, long))
         where
           below_by : (q : ℕ) → (next.target ≡ q) ⊎ Contains (u ∷ seen) q → q < length g
           below_by q (inl h) = subst (λ k. k < length g) h (within u next.sub next.target next.names)
@@ -286,7 +279,7 @@ module _ (g : Graph) (xs : List ℕ) (within : IsWithin g) (acyclic : (n s : ℕ
       one q (inr h) = absurd (Contains-nil q h)
 
       same : (q : ℕ) → Contains (n ∷ []) q → n ≡ q
-      same q h = one q (in_more n q [] h)
+      same q h = one q (Contains-cons_cases n [] q h)
 
 -- a round over all declarations places one, unless all are there
 pub one_more : (g : Graph) (old new : List ℕ) → IsWithin g → ((n s : ℕ) → LeadsBack g n s → ⊥) → IsSequence g old
@@ -330,7 +323,7 @@ all_placed g xs sequence full = record {
     by (inr h) =
         let most =
         few (h.0 ∷ xs) (length g) (distinct_more h.0 xs h.2 sequence.distinct)
-        (λ q k. below q (in_more h.0 q xs k)) in
+        (λ q k. below q (Contains-cons_cases h.0 xs q k)) in
         absurd (omega arith)
       where
         below : (q : ℕ) → (h.0 ≡ q) ⊎ Contains xs q → q < length g

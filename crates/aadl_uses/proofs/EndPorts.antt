@@ -1,7 +1,6 @@
 -- The port that an end of a connection names, with one word or two, by look-ups of ports and subcomponents that were
 -- made before.
-use Rattle.std.proofs.Common.{◌≡◌, ℕ, List, Option, Some, None, Result, Ok, Err, IfOk, slice_get, option_map, sym, ap}
-use Rattle.std.proofs.Common.{◌∙◌}
+use Rattle.std.proofs.Common.{◌≡◌, ℕ, List, Option, Some, None, slice_get, option_map, sym, ap, ◌∙◌}
 use Rattle.std.specs.Option.{option_and_then}
 use Rattle.std.proofs.lemmas.Option.{none-some, same_Some}
 use Rattle.list_lemmas.proofs.Options.{option_and_then_assoc}
@@ -13,10 +12,6 @@ use Rattle.aadl_names.specs.declared.port_place.PortPlace.TheVariants.{Own, Inne
 use Rattle.aadl_names.specs.ReferenceResolution.{implementation_in, implementation_at, subcomponents_of, referred}
 use Rattle.aadl_names.specs.ReferenceResolution.{target_of, port_named, sub_named, ports_at, inner_site, site_by, site}
 use Rattle.aadl_uses.specs.Uses.{below}
-
-pub if_ok : {T E : Type 0} (P Q : T → Type 0) (r : Result T E) → ((x : T) → P x → Q x) → IfOk r P → IfOk r Q
-if_ok P Q (Ok x) f h = f x h
-if_ok P Q (Err e) f h = tt
 
 member_is : (name : List ℕ) (x : Implementation ℕ) (o : Option (Declaration ℕ)) → implementation_in o ≡ Some x
     → member_of o name ≡ sub_named x.subcomponents name

@@ -9,7 +9,7 @@ use Rattle.std.proofs.lemmas.Grind.{common_steps}
 use Rattle.std.proofs.lemmas.Option.{same_Some, none-some}
 use Rattle.aadl_names.specs.declared.port_place.PortPlace.{PortPlace}
 use Rattle.aadl_names.specs.declared.port_place.PortPlace.TheVariants.{Own, Inner}
-use Rattle.aadl_names.proofs.Lookups.{lookup-push}
+use Rattle.aadl_names.proofs.Lookups.{lookup-push, kept_by}
 use Rattle.aadl_uses.specs.declared.connections_by_target.Wire.{Wire}
 use Rattle.aadl_uses.specs.proof.NumbersByPort.{same_site, is_site, number_of}
 use Rattle.aadl_uses.specs.proof.FirstConnections.{first_into, is_before}
@@ -42,12 +42,6 @@ pub number-added : (table new : List (PortPlace × ℕ)) (target : PortPlace) (n
     ≡ option_or (number_of table other) (cond (is_site other (Some target)) (Some n) None)
 number-added table new target n more other =
     ap (λ t. number_of t other) more ∙ lookup-push (same_site other) table (target, n)
-
-kept_by : (a : Option ℕ) (b : Bool) (n : ℕ) → (b ≡ true → (m : ℕ) × (a ≡ Some m))
-    → a ≡ option_or a (cond b (Some n) None)
-kept_by (Some m) b n h = refl
-kept_by None true n h = let e = (h refl).1 in absurd (cc e)
-kept_by None false n h = refl
 
 pub number-kept : (table : List (PortPlace × ℕ)) (target : PortPlace) (n m : ℕ) → number_of table target ≡ Some m
     → (other : PortPlace) → number_of table other

@@ -1,7 +1,6 @@
 -- An expression of several operands, and the tests whether there are several.
-use Rattle.std.proofs.Common.{◌≡◌, Bool, true, false, ◌==◌, List, [], Option, Some, None, ◌∷◌, length, arith, vec_len}
-use Rattle.std.proofs.Common.{refl, sym, ap, ◌∙◌, Box, Vec, Global}
-use Rattle.std.specs.Option.{is_some}
+use Rattle.std.proofs.Common.{◌≡◌, Bool, true, false, ◌==◌, List, [], ◌∷◌, length, arith, vec_len, refl, sym, ap, ◌∙◌}
+use Rattle.std.proofs.Common.{Box, Vec, Global}
 use Rattle.std.proofs.lemmas.Bool.{true≢false, eqb-true}
 use Rattle.pals_base.specs.declared.behaviour.Expr.{Expr}
 use Rattle.pals_base.specs.declared.behaviour.Expr.TheVariants as expr
@@ -18,10 +17,6 @@ empty_by v r is holds = let none = eqb-true (vec_len v) 0 (sym is ∙ holds) in 
 pub some_by : {X : Type 0} (v : Vec X Global) (r : Bool) → r ≡ (vec_len v == 0) → r ≡ false → length v.items ≡ 0 → ⊥
 some_by v r is fails none = let zero : vec_len v ≡ 0 = omega (arith, none, v.ok) in
     true≢false (sym (ap (λ m. m == 0) zero) ∙ sym is ∙ fails)
-
-pub none_by : {X : Type 0} (o : Option X) → is_some o ≡ false → o ≡ None
-none_by None none = refl
-none_by (Some x) none = absurd (true≢false none)
 
 chained_some : (e : plain.Expression) (rest : List Operand) → (length rest ≡ 0 → ⊥)
     → plain.Chain e (operands_along rest) ≡ chained e (operands_along rest)

@@ -1,27 +1,16 @@
 -- The associations of one name in a list of properties, and the first that counts in several lists.
 use Rattle.std.proofs.Common.{◌≡◌, ◌∙◌, ℕ, Bool, true, false, cond, ◌&&◌, ◌++◌, List, [], ◌∷◌, Option, Some, refl, sym}
-use Rattle.std.proofs.Common.{ap, map, rules, find}
+use Rattle.std.proofs.Common.{ap, find}
 use Rattle.std.specs.Option.{option_or, option_and_then}
 use Rattle.std.proofs.lemmas.Bool.{false≢true}
 use Rattle.list_lemmas.proofs.Options.{option_or-none, option_or_assoc}
-use Rattle.aadl_tree.specs.declared.values.Value.{the_lemmas as value_lemmas}
-use Rattle.aadl_tree.specs.declared.values.Value.TheViews.{out-Association}
-use Rattle.aadl_tree.specs.declared.values.Association.{Association as source}
-use Rattle.aadl_tree.specs.Values.{Association, Associations, association, associate}
-use Rattle.aadl_tree.specs.proof.NameViews.{name_view, path_view}
-use Rattle.aadl_tree.specs.proof.ValueViews.{value_view, association_view}
+use Rattle.aadl_tree.specs.Values.{Association, Associations, associate}
 use Rattle.aadl_names.specs.declared.recognised_properties.PropertyName.{PropertyName}
 use Rattle.aadl_tree.specs.Declarations.{Implementation, PackageTree}
 use Rattle.aadl_names.specs.RecognisedProperties.{counts, is_named, name_of, association_named}
 use Rattle.aadl_names.specs.ReferenceResolution.{implementation_at, type_number, type_numbered}
 use Rattle.aadl_uses.specs.proof.ImplementationTypes.{type_number_at}
 use Rattle.component_checks.specs.PropertyLookup.{type_lists, own_lists, root_lists, first_in}
-
-pub view_out_association : {P : Type 0} (place : ℕ → P) (x : source)
-    → association_view place x
-    ≡ association (name_view place (out-Association x).name) (out-Association x).operator (out-Association x).constant
-    (value_view place (out-Association x).value) (map (path_view place) (out-Association x).applies_to.items)
-view_out_association place x = search (rules, value_lemmas)
 
 -- ---- the first of those that count
 hit_by : {A : Type 0} (p : A → Bool) (x : A) (xs : List A) (b : Bool) → (b && p x) ≡ true

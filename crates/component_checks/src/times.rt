@@ -180,7 +180,7 @@ pub fn shown(property: PropertyName) -> &'static str
 }
 
 // Adds the finding that an association gives a property a time above an hour.
-#[tactic(auto, using(crate::proofs::NamedAssociations::view_out_association))]
+#[tactic(auto, using(aadl_tree::proofs::FieldViews::view_out_association))]
 fn add_big_as(
     alloc: Global,
     association: &Association,
@@ -217,7 +217,7 @@ fn add_association_big(
 
 // Adds what is above an hour in an association at a kind of place, where the association does not
 // apply elsewhere.
-#[tactic(auto, using(crate::proofs::NamedAssociations::view_out_association))]
+#[tactic(auto, using(aadl_tree::proofs::FieldViews::view_out_association))]
 fn add_counted_big(
     alloc: Global,
     holder: PropertyHolder,

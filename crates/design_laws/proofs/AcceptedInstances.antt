@@ -1,6 +1,7 @@
 -- An instance in which nothing is found has a design.
 use Rattle.std.proofs.Common.{◌≡◌, ◌∙◌, ℕ, ◌≤◌, Bool, List, refl, sym, ap, subst}
 use Rattle.std.proofs.lemmas.Option.{same_Some}
+use Rattle.list_lemmas.proofs.ListOperations.{map-map}
 use Rattle.pals_base.specs.PeriodBound.{least_period}
 use Rattle.pals_base.specs.declared.values.Gamma.{Gamma}
 use Rattle.pals_model.specs.declared.design.Component.{Component}
@@ -24,7 +25,7 @@ use Rattle.design_laws.specs.InstanceDesigns.{component_in, link_in, feed_in, ta
 use Rattle.design_laws.proofs.SoundInstanceParts.{NoFindings, all_parts}
 use Rattle.design_laws.proofs.InstanceBehaviours.{ThreadLaw}
 use Rattle.design_laws.proofs.InstanceBoundsAndRates.{root_time, root_bounds, bounds_keep, enough, some_time}
-use Rattle.design_laws.proofs.MatchedLists.{Zipped, Made, zipped_weaker, made_twice}
+use Rattle.design_laws.proofs.MatchedLists.{Zipped, Made, zipped_weaker}
 use Rattle.design_laws.proofs.DesignComponents as composing
 use Rattle.design_laws.proofs.DesignComponents.{components, is_small, thread_of, components_keep, components_few}
 use Rattle.design_laws.proofs.DesignComponents.{components_differ, greatest_is}
@@ -82,21 +83,21 @@ module _ {tree : PackageTree ℕ} {name : List ℕ} {parts : Parts} (flat : IsFl
     period = (root_time flat used is_use found.declarations rate found.root).1.is;
     gamma = (root_bounds flat used is_use found.declarations rate found.root).1;
     components =
-        ap all_of (made_twice (component_in tree parts.root) (thread_at tree parts.root) parts.threads) ∙ parted.are;
-    links = ap all_of (made_twice (link_in tree) (chain_at tree parts) parts.links)
+        ap all_of (map-map (component_in tree parts.root) (thread_at tree parts.root) parts.threads) ∙ parted.are;
+    links = ap all_of (map-map (link_in tree) (chain_at tree parts) parts.links)
         ∙ (links flat used is_use found.declarations named found.links found.feeds period gamma
         (ignored_names tree parts.root) parted.all sits).are;
-    feeds = ap all_of (made_twice (feed_in tree) (chain_at tree parts) parts.feeds)
+    feeds = ap all_of (map-map (feed_in tree) (chain_at tree parts) parts.feeds)
         ∙ (feeds flat used is_use found.declarations named found.links found.feeds period gamma
         (ignored_names tree parts.root) parted.all sits).are;
-    taps = ap all_of (made_twice tap_in (chain_at tree parts) parts.taps)
+    taps = ap all_of (map-map tap_in (chain_at tree parts) parts.taps)
         ∙ (taps flat used is_use found.declarations named found.links found.feeds period gamma
         (ignored_names tree parts.root) parted.all sits).are;
     ignored = refl;
   }
 
   rate_is : rate ≡ model.greatest_rate parted.all
-  rate_is = ap greatest_rate (made_twice (thread_rate tree parts.root) (thread_at tree parts.root) parts.threads)
+  rate_is = ap greatest_rate (map-map (thread_rate tree parts.root) (thread_at tree parts.root) parts.threads)
       ∙ greatest_is flat used is_use found.declarations rate found.root found.threads named law
 
   keeps : IsDesign design

@@ -1,14 +1,11 @@
 -- What follows where a test passes, or a list of findings is empty.
-use Rattle.std.proofs.Common.{◌≡◌, ℕ, ◌+◌, zero, suc, Bool, true, false, not, cond, List, [], ◌∷◌, ◌++◌, map, Some}
-use Rattle.std.proofs.Common.{refl, ap, ◌∙◌, arith}
+use Rattle.std.proofs.Common.{◌≡◌, ℕ, ◌+◌, zero, suc, Bool, true, false, not, cond, List, [], ◌∷◌, map, Some, refl, ap}
+use Rattle.std.proofs.Common.{◌∙◌, arith}
 use Rattle.std.specs.Prelude.{flat_map, filter, slice_get}
 use Rattle.std.specs.List.{enumerate_from}
 use Rattle.std.proofs.lemmas.Bool.{not-false}
+use Rattle.list_lemmas.proofs.ListOperations.{append_is_nil}
 use Rattle.annex_resolve.specs.NamesAndFindings.{found_if}
-
-pub nothing_left : {X : Type 0} (xs ys : List X) → xs ++ ys ≡ [] → (xs ≡ []) × (ys ≡ [])
-nothing_left [] ys e = (refl, e)
-nothing_left (x ∷ xs) ys e = absurd (cc e)
 
 -- nothing is wrong
 pub not_wrong : (wrong : Bool) (at number : ℕ) (details : List ℕ) → found_if wrong at number details ≡ []
@@ -24,11 +21,11 @@ pub none_at : {A B : Type 0} (f : ℕ × A → List B) (from : ℕ) (xs : List A
     → (n : ℕ) (x : A) → slice_get xs n ≡ Some x → f (from + n, x) ≡ []
 none_at f from [] e n x is = absurd (cc is)
 none_at f from (y ∷ ys) e zero x is =
-    let here = nothing_left (f (from, y)) (flat_map f (enumerate_from (from + 1) ys)) e in
+    let here = append_is_nil (f (from, y)) (flat_map f (enumerate_from (from + 1) ys)) e in
     let z : from + 0 ≡ from = omega arith in
     ap (λ k. f (k, x)) z ∙ ap (λ v. f (from, v)) (grind (arith, is)) ∙ here.0
 none_at f from (y ∷ ys) e (suc n) x is =
-    let here = nothing_left (f (from, y)) (flat_map f (enumerate_from (from + 1) ys)) e in
+    let here = append_is_nil (f (from, y)) (flat_map f (enumerate_from (from + 1) ys)) e in
     let z : from + suc n ≡ (from + 1) + n = omega arith in
     ap (λ k. f (k, x)) z ∙ none_at f (from + 1) ys here.1 n x is
 

@@ -10,6 +10,7 @@ use Rattle.std.proofs.lemmas.List.{length-map}
 use Rattle.std.proofs.lemmas.Option.{slice_get-map}
 use Rattle.std.proofs.lemmas.Slice.Eq.{bytes_eq-Decides}
 use Rattle.list_lemmas.proofs.Elements.{AllByRecursion-weaker, AllByRecursion-append, AllByRecursion-map}
+use Rattle.list_lemmas.proofs.Elements.{AllByRecursion-at}
 use Rattle.list_lemmas.proofs.ListOperations.{append_is_nil_right, append_is_nil_left}
 use Rattle.pals_base.specs.declared.behaviour.Kind.{Kind}
 use Rattle.pals_base.specs.declared.behaviour.Kind.TheVariants.{Integer, Boolean}
@@ -35,7 +36,7 @@ use Rattle.model_violations.specs.PortsAndVariables.{port_of, ins_in, outs_in, v
 use Rattle.model_violations.specs.PortsAndVariables.{variable_of, variables_in, variables_of, or_integer, named_of}
 use Rattle.model_violations.specs.PortsAndVariables.{var_of, in_entry, out_entry, variable_entry, scope_by}
 use Rattle.design_laws.proofs.PairwiseDistinctNames.{all_none}
-use Rattle.design_laws.proofs.PartitionedPairs.{all_kept, all_at, numbered, found_one, all_true}
+use Rattle.design_laws.proofs.PartitionedPairs.{all_kept, numbered, found_one, all_true}
 
 -- ---- a type that is there
 abbrev IsTyped : Declared → Type 0
@@ -166,7 +167,7 @@ module _ (b : BehaviourParts) where
         named_of d,
         ap (λ l. slice_get l n) are
             ∙ (slice_get-map named_of ds n ∙ ap (option_map named_of) is),
-        all_at IsTyped ds n d typed is,
+        AllByRecursion-at IsTyped ds n d typed is,
       )))
 
   outs_fit : (ds : List Declared) → AllByRecursion IsTyped ds → b.outs ≡ map named_of ds
@@ -177,7 +178,7 @@ module _ (b : BehaviourParts) where
         named_of d,
         ap (λ l. slice_get l n) are
             ∙ (slice_get-map named_of ds n ∙ ap (option_map named_of) is),
-        all_at IsTyped ds n d typed is,
+        AllByRecursion-at IsTyped ds n d typed is,
       )))
 
   variables_fit : (ds : List Declared) → AllByRecursion IsTyped ds → b.vars ≡ map var_of ds
@@ -188,7 +189,7 @@ module _ (b : BehaviourParts) where
         var_of d,
         ap (λ l. slice_get l n) are
             ∙ (slice_get-map var_of ds n ∙ ap (option_map var_of) is),
-        all_at IsTyped ds n d typed is,
+        AllByRecursion-at IsTyped ds n d typed is,
       )))
 
   pub scope_fits : (ins outs vars : List Declared) → AllByRecursion IsTyped ins → AllByRecursion IsTyped outs

@@ -81,8 +81,3 @@ zipped_weaker R S from [] [] h = tt
 zipped_weaker R S from [] (y ∷ ys) h = absurd h
 zipped_weaker R S from (x ∷ xs) [] h = absurd h
 zipped_weaker R S from (x ∷ xs) (y ∷ ys) h = (from x y h.0, zipped_weaker R S from xs ys h.1)
-
-pub made_twice : {X Y Z : Type 0} (f : Y → Option Z) (g : X → Y) (xs : List X)
-    → map f (map g xs) ≡ map (λ x. f (g x)) xs
-made_twice f g [] = refl
-made_twice f g (x ∷ xs) = ap (λ l. f (g x) ∷ l) (made_twice f g xs)

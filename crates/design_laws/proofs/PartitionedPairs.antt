@@ -5,7 +5,7 @@ use Rattle.std.specs.Prelude.{filter, slice_get, find}
 use Rattle.std.specs.List.{AllByRecursion, list_all, enumerate_from}
 use Rattle.std.proofs.lemmas.Option.{same_Some}
 use Rattle.std.proofs.lemmas.Bool.{and_from}
-use Rattle.list_lemmas.proofs.Elements.{found_either, AllByRecursion-append}
+use Rattle.list_lemmas.proofs.Elements.{found_either, AllByRecursion-append, AllByRecursion-at}
 use Rattle.list_lemmas.proofs.PairwiseProperties.{Pairs}
 
 -- ---- what is made of a list
@@ -93,19 +93,13 @@ pub numbered : {X : Type 0} (P : ℕ × X → Type 0) (xs : List X) → ((n : �
 numbered P xs each =
     numbered_from P (slice_get xs) each 0 xs (λ n. let none : 0 + n ≡ n = omega arith in ap (slice_get xs) none)
 
-pub all_at : {X : Type 0} (P : X → Type 0) (xs : List X) (n : ℕ) (x : X) → AllByRecursion P xs
-    → slice_get xs n ≡ Some x → P x
-all_at P [] n x h is = absurd (cc is)
-all_at P (y ∷ xs) zero x h is = subst P (same_Some y x is) h.0
-all_at P (y ∷ xs) (suc n) x h is = all_at P xs n x h.1 is
-
 pub pairs_at : {X : Type 0} (R : X → X → Type 0) (xs : List X) (i j : ℕ) (x y : X) → Pairs R xs → i < j
     → slice_get xs i ≡ Some x
     → slice_get xs j ≡ Some y → R x y
 pairs_at R [] i j x y h lt first second = absurd (cc first)
 pairs_at R (z ∷ xs) i zero x y h lt first second = absurd (omega arith)
 pairs_at R (z ∷ xs) zero (suc j) x y h lt first second =
-    subst (λ k. R k y) (same_Some z x first) (all_at (R z) xs j y h.0 second)
+    subst (λ k. R k y) (same_Some z x first) (AllByRecursion-at (R z) xs j y h.0 second)
 pairs_at R (z ∷ xs) (suc i) (suc j) x y h lt first second = pairs_at R xs i j x y h.1 (omega arith) first second
 
 -- ---- tests

@@ -11,7 +11,7 @@ use Rattle.std.proofs.lemmas.Bool.Decides.{nat_tests}
 use Rattle.std.proofs.lemmas.List.{reverse-append, reverse-reverse}
 use Rattle.std.proofs.lemmas.List.Elements.{recursion_from_All}
 use Rattle.std.proofs.lemmas.Option.{same_Some, option_and_then_some}
-use Rattle.list_lemmas.proofs.Elements.{AllByRecursion-append}
+use Rattle.list_lemmas.proofs.Elements.{AllByRecursion-append, AllByRecursion-at}
 use Rattle.list_lemmas.proofs.PairwiseProperties.{Pairs, pairs_from}
 use Rattle.pals_base.specs.declared.limits.TheConstants.{NAME_BYTES}
 use Rattle.pals_base.specs.Names.{is_word_byte, is_led_by_letter, is_word, is_dot, is_path}
@@ -25,7 +25,7 @@ use Rattle.aadl_uses.specs.ThreadLocations.{name_at, names_along, dotted_names, 
 use Rattle.aadl_uses.proofs.PathOrder.{never_before}
 use Rattle.design_laws.specs.proof.PackageNames.{IsNamed, HasWords, NamesDiffer}
 use Rattle.design_laws.proofs.PairwiseDistinctNames.{one_name, Differs}
-use Rattle.design_laws.proofs.PartitionedPairs.{pairs_at, pairs_first, pairs_second, pairs_unmapped, all_at, all_true}
+use Rattle.design_laws.proofs.PartitionedPairs.{pairs_at, pairs_first, pairs_second, pairs_unmapped, all_true}
 use Rattle.design_laws.proofs.SoundInstanceParts.{declared_at}
 
 -- ---- words have no dots
@@ -79,7 +79,7 @@ module _ (tree : PackageTree ℕ) (words : HasWords tree) (root : ℕ) where
       → slice_get (subcomponents_of o) s ≡ Some sub → IsNamed sub.name
   sub_by n s None sub is sub_is = absurd (cc sub_is)
   sub_by n s (Some x) sub is sub_is =
-      all_at (λ (k : Subcomponent ℕ). IsNamed k.name) x.subcomponents s sub
+      AllByRecursion-at (λ (k : Subcomponent ℕ). IsNamed k.name) x.subcomponents s sub
       (recursion_from_All (λ (k : Subcomponent ℕ). IsNamed k.name) x.subcomponents
       (words.subs n x (declared_at tree n x is))) sub_is
 

@@ -4,6 +4,7 @@ use Rattle.std.specs.Prelude.{IsTrue}
 use Rattle.std.specs.Option.{option_and_then}
 use Rattle.std.proofs.lemmas.List.Elements.{recursion_from_All}
 use Rattle.list_lemmas.proofs.ListOperations.{append_is_nil_right}
+use Rattle.list_lemmas.proofs.Elements.{AllByRecursion-at}
 use Rattle.pals_base.specs.declared.behaviour.Kind.{Kind}
 use Rattle.pals_base.specs.AllowedAdaptors.{divides_or_divided, is_allowed, suits_kind}
 use Rattle.pals_base.specs.Names.{is_word}
@@ -27,7 +28,6 @@ use Rattle.model_violations.specs.ChainFindings.{feed_findings}
 use Rattle.model_violations.specs.ChainEnds.{end_name, end_kind, end_rate}
 use Rattle.component_checks.specs.PeriodAndAdaptorFindings.{adaptor_named, kind_suits}
 use Rattle.design_laws.specs.proof.PackageNames.{HasWords}
-use Rattle.design_laws.proofs.PartitionedPairs.{all_at}
 use Rattle.design_laws.proofs.ThreadMemberNames.{IsPort}
 use Rattle.design_laws.proofs.SoundThreadBehaviour.{port_words}
 use Rattle.model_violations.specs.UsedDeclarations.{IsUse}
@@ -123,7 +123,7 @@ module _ {tree : PackageTree ℕ} {name : List ℕ} {parts : Parts} (flat : IsFl
   root_word words p f is =
       let all = port_words tree words (option_and_then (type_number tree) (component_at tree parts.root p.path)) in
       subst (λ o. IsTrue (is_word (port_name o))) (sym is)
-      (all_at IsPort (ports_at tree (component_at tree parts.root p.path)) p.port f
+      (AllByRecursion-at IsPort (ports_at tree (component_at tree parts.root p.path)) p.port f
       (recursion_from_All IsPort (ports_at tree (component_at tree parts.root p.path)) all) is)
 
   -- ---- feeds

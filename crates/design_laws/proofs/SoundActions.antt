@@ -3,6 +3,7 @@ use Rattle.std.proofs.Common.{◌≡◌, ℕ, ◌+◌, ◌*◌, ◌≤◌, min, 
 use Rattle.std.proofs.Common.{None, refl, sym, subst, arith, inl, inr}
 use Rattle.std.proofs.Math.Nat.{min-eq_left, min-eq_right}
 use Rattle.std.proofs.lemmas.Bool.{false≢true, leb-true, le-leb, cases_lt, and_from, and_parts, not-false}
+use Rattle.list_lemmas.proofs.ListOperations.{append_is_nil}
 use Rattle.pals_base.specs.declared.behaviour.Kind.{Kind}
 use Rattle.pals_base.specs.declared.behaviour.Kind.TheVariants.{Integer, Boolean}
 use Rattle.pals_base.specs.declared.behaviour.BehaviourParts.{BehaviourParts}
@@ -30,7 +31,7 @@ use Rattle.annex_resolve.specs.ActionFindings.{turns, together, is_too_long, is_
 use Rattle.annex_resolve.specs.ActionFindings.{action_findings, actions_findings, mores_findings, elsifs_findings}
 use Rattle.annex_resolve.specs.ActionFindings.{otherwise_findings, block_findings}
 use Rattle.design_laws.specs.proof.FittingAnnexNames.{FitsMeaning, FitsScope}
-use Rattle.design_laws.proofs.EmptyFindingLists.{nothing_left, not_wrong, is_right}
+use Rattle.design_laws.proofs.EmptyFindingLists.{not_wrong, is_right}
 use Rattle.design_laws.proofs.LoopScopes.{inner_fits}
 use Rattle.design_laws.proofs.TypedExpressions.{Has, is_truth, expression_sound}
 
@@ -52,7 +53,7 @@ pub test_sound : (b : BehaviourParts) (loops : ℕ) (scope : Scope) (fit : FitsS
     → whole_types scope (Some Boolean) e ≡ [] → (kinds_of (expression_of scope e) b loops).boolean ≡ true
 test_sound b loops scope fit e none =
     let p =
-    nothing_left (expression_types scope e)
+    append_is_nil (expression_types scope e)
     (misfit (expression_at e) (Some Boolean) (expression_kind scope e)) none in
     is_truth b loops (expression_at e) (expression_kind scope e) (expression_of scope e)
     (expression_sound b loops scope fit e p.0) p.1
@@ -93,7 +94,7 @@ given_sound : (b : BehaviourParts) (loops around : ℕ) (scope : Scope) (fit : F
     → is_sound (given_to (expression_of scope e) (entry_named scope name)) b loops around ≡ true
 given_sound b loops around scope fit name e may none =
     let wanted = kind_of (entry_named scope name) in
-    let p = nothing_left (expression_types scope e) (misfit (expression_at e) wanted (expression_kind scope e)) none in
+    let p = append_is_nil (expression_types scope e) (misfit (expression_at e) wanted (expression_kind scope e)) none in
     to_entry b loops around (entry_named scope name) (expression_kind scope e) (expression_of scope e)
     (λ (k : DeclaredName) is. fit.entries name k is) may (expression_sound b loops scope fit e p.0)
     (is_right (fits (expression_kind scope e) wanted) (expression_at e) BAD_TYPE [] p.1)
@@ -127,23 +128,23 @@ module _ (b : BehaviourParts) where
         → action_findings scope around x ≡ [] → is_sound (action_of scope x) b loops around ≡ true
     action_sound (assign x e) loops around scope fit none =
         let p =
-        nothing_left (found_if (not (may_set (entry_named scope x.spelling))) x.at BAD_TYPE [])
+        append_is_nil (found_if (not (may_set (entry_named scope x.spelling))) x.at BAD_TYPE [])
         (whole_types scope (kind_of (entry_named scope x.spelling)) e) none in
         given_sound b loops around scope fit x.spelling e
         (is_right (may_set (entry_named scope x.spelling)) x.at BAD_TYPE [] p.0) p.1
     action_sound (send x e) loops around scope fit none =
         let p =
-        nothing_left (found_if (not (may_send (entry_named scope x.spelling))) x.at BAD_TYPE [])
+        append_is_nil (found_if (not (may_send (entry_named scope x.spelling))) x.at BAD_TYPE [])
         (whole_types scope (kind_of (entry_named scope x.spelling)) e) none in
         given_sound b loops around scope fit x.spelling e
         (sent_is_set (entry_named scope x.spelling)
         (is_right (may_send (entry_named scope x.spelling)) x.at BAD_TYPE [] p.0)) p.1
     action_sound (choose test a es o) loops around scope fit none =
         let p =
-        nothing_left (branch_findings scope around test a ++ elsifs_findings scope around es)
+        append_is_nil (branch_findings scope around test a ++ elsifs_findings scope around es)
         (otherwise_findings scope around o) none in
-        let q = nothing_left (branch_findings scope around test a) (elsifs_findings scope around es) p.0 in
-        let r = nothing_left (whole_types scope (Some Boolean) test) (actions_findings scope around a) q.0 in
+        let q = append_is_nil (branch_findings scope around test a) (elsifs_findings scope around es) p.0 in
+        let r = append_is_nil (whole_types scope (Some Boolean) test) (actions_findings scope around a) q.0 in
         and_from (branches_are_sound (plain.Where (expression_of scope test) (actions_of scope a) (elsifs_of scope es))
         b loops around) (are_sound (otherwise_of scope o) b loops around)
         (and_from ((kinds_of (expression_of scope test) b loops).boolean
@@ -156,9 +157,9 @@ module _ (b : BehaviourParts) where
         let typed = found_if (not (is_integer (kind_named type))) at BAD_TYPE [] in
         let limited = found_if (is_too_long around (turns low high)) at LOOP_TOO_LONG [] in
         let p =
-        nothing_left (typed ++ limited)
+        append_is_nil (typed ++ limited)
         (block_findings (with_loop scope x) (together around (turns low high)) body) none in
-        let q = nothing_left typed limited p.0 in
+        let q = append_is_nil typed limited p.0 in
         let short =
         short_enough around (turns low high)
         (not_wrong (is_too_long around (turns low high)) at LOOP_TOO_LONG [] q.1) in
@@ -170,7 +171,7 @@ module _ (b : BehaviourParts) where
     actions_sound : (x : Actions ℕ) (loops around : ℕ) (scope : Scope) → FitsScope b loops scope
         → actions_findings scope around x ≡ [] → are_sound (actions_of scope x) b loops around ≡ true
     actions_sound (actions first rest) loops around scope fit none =
-        let p = nothing_left (action_findings scope around first) (mores_findings scope around rest) none in
+        let p = append_is_nil (action_findings scope around first) (mores_findings scope around rest) none in
         and_from (is_sound (action_of scope first) b loops around) (are_sound (mores_of scope rest) b loops around)
         (action_sound first loops around scope fit p.0) (mores_sound rest loops around scope fit p.1)
 
@@ -178,7 +179,7 @@ module _ (b : BehaviourParts) where
         → mores_findings scope around x ≡ [] → are_sound (mores_of scope x) b loops around ≡ true
     mores_sound no_mores loops around scope fit none = refl
     mores_sound (more a rest) loops around scope fit none =
-        let p = nothing_left (action_findings scope around a) (mores_findings scope around rest) none in
+        let p = append_is_nil (action_findings scope around a) (mores_findings scope around rest) none in
         and_from (is_sound (action_of scope a) b loops around) (are_sound (mores_of scope rest) b loops around)
         (action_sound a loops around scope fit p.0) (mores_sound rest loops around scope fit p.1)
 
@@ -186,8 +187,8 @@ module _ (b : BehaviourParts) where
         → elsifs_findings scope around x ≡ [] → branches_are_sound (elsifs_of scope x) b loops around ≡ true
     elsifs_sound no_elsifs loops around scope fit none = refl
     elsifs_sound (elsif test a rest) loops around scope fit none =
-        let p = nothing_left (branch_findings scope around test a) (elsifs_findings scope around rest) none in
-        let r = nothing_left (whole_types scope (Some Boolean) test) (actions_findings scope around a) p.0 in
+        let p = append_is_nil (branch_findings scope around test a) (elsifs_findings scope around rest) none in
+        let r = append_is_nil (whole_types scope (Some Boolean) test) (actions_findings scope around a) p.0 in
         and_from ((kinds_of (expression_of scope test) b loops).boolean
         && are_sound (actions_of scope a) b loops around) (branches_are_sound (elsifs_of scope rest) b loops around)
         (and_from (kinds_of (expression_of scope test) b loops).boolean (are_sound (actions_of scope a) b loops around)

@@ -8,6 +8,7 @@ use Rattle.std.proofs.lemmas.Bool.{false≢true, eqb-true, and_from, and_parts, 
 use Rattle.std.proofs.lemmas.List.{length-map}
 use Rattle.std.proofs.lemmas.Option.{slice_get-map}
 use Rattle.list_lemmas.proofs.ElementPositions.{slice_get-some}
+use Rattle.list_lemmas.proofs.ListOperations.{append_is_nil}
 use Rattle.pals_base.specs.declared.behaviour.BehaviourParts.{BehaviourParts}
 use Rattle.pals_base.specs.PlainTrees as plain
 use Rattle.pals_base.specs.TypingRules.{are_sound}
@@ -32,7 +33,7 @@ use Rattle.annex_resolve.specs.BehavioursAndFindings.{breaks_dispatch, way_of, l
 use Rattle.annex_resolve.specs.BehavioursAndFindings.{is_guarded, is_open, lacks_otherwise, state_rules, cycles_of}
 use Rattle.annex_resolve.proofs.StateReachability.{way_reaches}
 use Rattle.design_laws.specs.proof.FittingAnnexNames.{FitsScope, is_declared}
-use Rattle.design_laws.proofs.EmptyFindingLists.{nothing_left, not_wrong, none_at, filter-map}
+use Rattle.design_laws.proofs.EmptyFindingLists.{not_wrong, none_at, filter-map}
 use Rattle.design_laws.proofs.SoundActions.{test_sound, block_sound}
 
 -- ---- transitions
@@ -53,7 +54,7 @@ edge_sound : (b : BehaviourParts) (scope : Scope) (states : List StateAt) → Fi
     → transition_findings scope t ≡ []
     → is_edge b (edge_of scope states t) ≡ true
 edge_sound b scope states fit count t known none =
-    let p = nothing_left (guard_types scope t.guard) (effect_findings scope t.effect) none in
+    let p = append_is_nil (guard_types scope t.guard) (effect_findings scope t.effect) none in
     let there : (nat_lt (state_number states t.source.spelling) (length b.states) && nat_lt (state_number states t.target.spelling) (length b.states)) ≡ true =
     subst (λ n. (nat_lt (state_number states t.source.spelling) n && nat_lt (state_number states t.target.spelling) n)
     ≡ true) (sym count) known in
@@ -71,7 +72,7 @@ pub edges_sound : (b : BehaviourParts) (scope : Scope) (states : List StateAt) �
 edges_sound b scope states fit count [] known none = refl
 edges_sound b scope states fit count (t ∷ ts) known none =
     let k = and_parts (is_declared states t) (list_all (is_declared states) ts) known in
-    let p = nothing_left (transition_findings scope t) (flat_map (transition_findings scope) ts) none in
+    let p = append_is_nil (transition_findings scope t) (flat_map (transition_findings scope) ts) none in
     and_from (is_edge b (edge_of scope states t)) (list_all (is_edge b) (map (edge_of scope states) ts))
     (edge_sound b scope states fit count t k.0 p.0) (edges_sound b scope states fit count ts k.1 p.1)
 
@@ -154,13 +155,13 @@ module _ (b : BehaviourParts) (scope : Scope) (states : List StateAt) (ts : List
       let lacks = lacks_otherwise (ways_from n (map (leg_of states) ts)) in
       let second = found_if lacks s.at NO_OTHERWISE s.name in
       let third = found_if (unwrap_or (slice_get (cycles_of b) n) false) s.at CYCLE_WITHOUT_COMPLETE s.name in
-      let p = nothing_left first (cond s.complete [] (second ++ third)) none in
+      let p = append_is_nil first (cond s.complete [] (second ++ third)) none in
       let count =
       not-false (nat_eq (dispatch_count (leaving b n)) (cond (is_complete b n) 1 0))
       (not_wrong (breaks_dispatch b n) s.at DISPATCH_COUNT s.name p.0) in
       ways_by (is_complete b n) (dispatch_count (leaving b n)) (ends_unguarded (leaving b n)) count (λ open' zero'.
       let rest =
-      nothing_left second third
+      append_is_nil second third
       (otherwise_empty s.complete (second ++ third) p.1 (sym (complete_is n s is) ∙ open')) in
       let shut =
       (or_parts (is_open (slice_get (ways_from n (map (leg_of states) ts))
@@ -179,9 +180,9 @@ module _ (b : BehaviourParts) (scope : Scope) (states : List StateAt) (ts : List
       let first = found_if (breaks_dispatch b n) s.at DISPATCH_COUNT s.name in
       let second = found_if (lacks_otherwise (ways_from n (map (leg_of states) ts))) s.at NO_OTHERWISE s.name in
       let third = found_if (unwrap_or (slice_get (cycles_of b) n) false) s.at CYCLE_WITHOUT_COMPLETE s.name in
-      let p = nothing_left first (cond s.complete [] (second ++ third)) none in
+      let p = append_is_nil first (cond s.complete [] (second ++ third)) none in
       let rest =
-      nothing_left second third
+      append_is_nil second third
       (otherwise_empty s.complete (second ++ third) p.1 (sym (complete_is n s is) ∙ open')) in
       sym (ap (λ o. unwrap_or o false) (slice_get-map_upwards (is_on_cycle b) (length b.states) n within))
       ∙ not_wrong (unwrap_or (slice_get (cycles_of b) n) false) s.at CYCLE_WITHOUT_COMPLETE s.name rest.1

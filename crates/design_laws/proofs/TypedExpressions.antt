@@ -4,6 +4,7 @@ use Rattle.std.proofs.Common.{refl, sym, subst}
 use Rattle.std.specs.Option.{is_some}
 use Rattle.std.proofs.lemmas.Bool.{false≢true, lt-ltb, or_left, or_right, and_from}
 use Rattle.std.proofs.lemmas.Option.{slice_get_within, slice_get_past}
+use Rattle.list_lemmas.proofs.ListOperations.{append_is_nil}
 use Rattle.pals_base.specs.declared.behaviour.Kind.{Kind}
 use Rattle.pals_base.specs.declared.behaviour.Kind.TheVariants.{Integer, Boolean}
 use Rattle.pals_base.specs.declared.behaviour.BehaviourParts.{BehaviourParts}
@@ -38,7 +39,7 @@ use Rattle.annex_resolve.specs.ResolvedTrees.{multiply_op, sign_op, relation_op,
 use Rattle.annex_resolve.specs.ResolvedTrees.{primary_of, factor_of, term_of, factors_of, sum_of, terms_of, relation_of}
 use Rattle.annex_resolve.specs.ResolvedTrees.{expression_of, relations_of}
 use Rattle.design_laws.specs.proof.FittingAnnexNames.{FitsMeaning, FitsScope}
-use Rattle.design_laws.proofs.EmptyFindingLists.{nothing_left, is_right}
+use Rattle.design_laws.proofs.EmptyFindingLists.{is_right}
 
 -- an expression may have the type that it was found to have
 abbrev pub Has : BehaviourParts → ℕ → Option Kind → plain.Expression → Type 0
@@ -103,7 +104,7 @@ ordered_sides : (b : BehaviourParts) (loops at to : ℕ) (k m : Option Kind) (x 
     → misfit at (Some Integer) k ++ misfit to (Some Integer) m ≡ []
     → numbers_at (kinds_of x b loops) (kinds_of y b loops) ≡ true
 ordered_sides b loops at to k m x y h g e =
-    let p = nothing_left (misfit at (Some Integer) k) (misfit to (Some Integer) m) e in
+    let p = append_is_nil (misfit at (Some Integer) k) (misfit to (Some Integer) m) e in
     and_from (kinds_of x b loops).integer (kinds_of y b loops).integer (is_integer b loops at k x h p.0)
     (is_integer b loops to m y g p.1)
 
@@ -175,14 +176,16 @@ module _ (b : BehaviourParts) (loops : ℕ) (scope : Scope) (fit : FitsScope b l
     pub factor_sound : (x : Factor ℕ) → factor_types scope x ≡ []
         → Has b loops (factor_kind scope x) (factor_of scope x)
     factor_sound (absolute at x) e =
-        let p = nothing_left (primary_types scope x) (misfit (primary_at x) (Some Integer) (primary_kind scope x)) e in (
+        let p =
+        append_is_nil (primary_types scope x) (misfit (primary_at x) (Some Integer) (primary_kind scope x)) e in (
           Integer,
           refl,
           is_integer b loops (primary_at x) (primary_kind scope x) (primary_of scope x)
               (primary_sound x p.0) p.1,
         )
     factor_sound (negated at x) e =
-        let p = nothing_left (primary_types scope x) (misfit (primary_at x) (Some Boolean) (primary_kind scope x)) e in (
+        let p =
+        append_is_nil (primary_types scope x) (misfit (primary_at x) (Some Boolean) (primary_kind scope x)) e in (
           Boolean,
           refl,
           is_truth b loops (primary_at x) (primary_kind scope x) (primary_of scope x)
@@ -194,10 +197,10 @@ module _ (b : BehaviourParts) (loops : ℕ) (scope : Scope) (fit : FitsScope b l
     term_sound (term first no_factors) e = factor_sound first e
     term_sound (term first (factor o x rest)) e =
         let p =
-        nothing_left (factor_types scope first ++ misfit (factor_at first) (Some Integer) (factor_kind scope first))
+        append_is_nil (factor_types scope first ++ misfit (factor_at first) (Some Integer) (factor_kind scope first))
         (factors_types scope (factor o x rest)) e in
         let q =
-        nothing_left (factor_types scope first)
+        append_is_nil (factor_types scope first)
         (misfit (factor_at first) (Some Integer) (factor_kind scope first)) p.0 in (
           Integer,
           refl,
@@ -211,23 +214,23 @@ module _ (b : BehaviourParts) (loops : ℕ) (scope : Scope) (fit : FitsScope b l
     factors_sound no_factors e left h = h
     factors_sound (factor o x rest) e left h =
         let p =
-        nothing_left (factor_types scope x ++ misfit (factor_at x) (Some Integer) (factor_kind scope x))
+        append_is_nil (factor_types scope x ++ misfit (factor_at x) (Some Integer) (factor_kind scope x))
         (factors_types scope rest) e in
-        let q = nothing_left (factor_types scope x) (misfit (factor_at x) (Some Integer) (factor_kind scope x)) p.0 in
+        let q = append_is_nil (factor_types scope x) (misfit (factor_at x) (Some Integer) (factor_kind scope x)) p.0 in
         let here =
         is_integer b loops (factor_at x) (factor_kind scope x) (factor_of scope x) (factor_sound x q.0) q.1 in
         factors_sound rest p.1 (joined (multiply_op o) left (kinds_of (factor_of scope x) b loops))
         (multiplied o left (kinds_of (factor_of scope x) b loops) h here)
 
     pub sum_sound : (x : Sum ℕ) → sum_types scope x ≡ [] → Has b loops (total_kind scope x) (sum_of scope x)
-    sum_sound (total None first no_terms) e = let p = nothing_left (term_types scope first ++ []) [] e in
-        let q = nothing_left (term_types scope first) [] p.0 in term_sound first q.0
+    sum_sound (total None first no_terms) e = let p = append_is_nil (term_types scope first ++ []) [] e in
+        let q = append_is_nil (term_types scope first) [] p.0 in term_sound first q.0
     sum_sound (total None first (add o x rest)) e =
         let p =
-        nothing_left (term_types scope first ++ misfit (term_at first) (Some Integer) (term_kind scope first))
+        append_is_nil (term_types scope first ++ misfit (term_at first) (Some Integer) (term_kind scope first))
         (terms_types scope (add o x rest)) e in
         let q =
-        nothing_left (term_types scope first) (misfit (term_at first) (Some Integer) (term_kind scope first)) p.0 in (
+        append_is_nil (term_types scope first) (misfit (term_at first) (Some Integer) (term_kind scope first)) p.0 in (
           Integer,
           refl,
           terms_sound (add o x rest) p.1 (kinds_of (term_of scope first) b loops)
@@ -236,10 +239,10 @@ module _ (b : BehaviourParts) (loops : ℕ) (scope : Scope) (fit : FitsScope b l
         )
     sum_sound (total (Some s) first no_terms) e =
         let p =
-        nothing_left (term_types scope first
+        append_is_nil (term_types scope first
         ++ misfit (term_at first) (Some Integer) (term_kind scope first)) [] e in
         let q =
-        nothing_left (term_types scope first) (misfit (term_at first) (Some Integer) (term_kind scope first)) p.0 in (
+        append_is_nil (term_types scope first) (misfit (term_at first) (Some Integer) (term_kind scope first)) p.0 in (
           Integer,
           refl,
           signed_integer b loops s.sign (term_of scope first)
@@ -248,10 +251,10 @@ module _ (b : BehaviourParts) (loops : ℕ) (scope : Scope) (fit : FitsScope b l
         )
     sum_sound (total (Some s) first (add o x rest)) e =
         let p =
-        nothing_left (term_types scope first ++ misfit (term_at first) (Some Integer) (term_kind scope first))
+        append_is_nil (term_types scope first ++ misfit (term_at first) (Some Integer) (term_kind scope first))
         (terms_types scope (add o x rest)) e in
         let q =
-        nothing_left (term_types scope first) (misfit (term_at first) (Some Integer) (term_kind scope first)) p.0 in (
+        append_is_nil (term_types scope first) (misfit (term_at first) (Some Integer) (term_kind scope first)) p.0 in (
           Integer,
           refl,
           terms_sound (add o x rest) p.1 (kinds_of (negated_by s.sign (term_of scope first)) b loops)
@@ -265,9 +268,9 @@ module _ (b : BehaviourParts) (loops : ℕ) (scope : Scope) (fit : FitsScope b l
     terms_sound no_terms e left h = h
     terms_sound (add o x rest) e left h =
         let p =
-        nothing_left (term_types scope x ++ misfit (term_at x) (Some Integer) (term_kind scope x))
+        append_is_nil (term_types scope x ++ misfit (term_at x) (Some Integer) (term_kind scope x))
         (terms_types scope rest) e in
-        let q = nothing_left (term_types scope x) (misfit (term_at x) (Some Integer) (term_kind scope x)) p.0 in
+        let q = append_is_nil (term_types scope x) (misfit (term_at x) (Some Integer) (term_kind scope x)) p.0 in
         let here = is_integer b loops (term_at x) (term_kind scope x) (term_of scope x) (term_sound x q.0) q.1 in
         terms_sound rest p.1 (joined (sign_op o) left (kinds_of (term_of scope x) b loops))
         (summed o left (kinds_of (term_of scope x) b loops) h here)
@@ -277,11 +280,11 @@ module _ (b : BehaviourParts) (loops : ℕ) (scope : Scope) (fit : FitsScope b l
     relation_sound (single x) e = sum_sound x e
     relation_sound (compared x o y) e =
         let p =
-        nothing_left (sum_types scope x ++ sum_types scope y)
+        append_is_nil (sum_types scope x ++ sum_types scope y)
         (cond (is_equality o) (misfit (sum_at y) (total_kind scope x) (total_kind scope y))
         (misfit (sum_at x) (Some Integer) (total_kind scope x)
         ++ misfit (sum_at y) (Some Integer) (total_kind scope y))) e in
-        let q = nothing_left (sum_types scope x) (sum_types scope y) p.0 in (
+        let q = append_is_nil (sum_types scope x) (sum_types scope y) p.0 in (
           Boolean,
           refl,
           sided b loops (sum_at x) (sum_at y) o (total_kind scope x) (total_kind scope y) (sum_of scope x)
@@ -293,11 +296,11 @@ module _ (b : BehaviourParts) (loops : ℕ) (scope : Scope) (fit : FitsScope b l
     expression_sound (expression first no_relations) e = relation_sound first e
     expression_sound (expression first (join o x rest)) e =
         let p =
-        nothing_left (relation_types scope first
+        append_is_nil (relation_types scope first
         ++ misfit (relation_at first) (Some Boolean) (relation_kind scope first))
         (relations_types scope (join o x rest)) e in
         let q =
-        nothing_left (relation_types scope first)
+        append_is_nil (relation_types scope first)
         (misfit (relation_at first) (Some Boolean) (relation_kind scope first)) p.0 in (
           Boolean,
           refl,
@@ -311,10 +314,10 @@ module _ (b : BehaviourParts) (loops : ℕ) (scope : Scope) (fit : FitsScope b l
     relations_sound no_relations e left h = h
     relations_sound (join o x rest) e left h =
         let p =
-        nothing_left (relation_types scope x ++ misfit (relation_at x) (Some Boolean) (relation_kind scope x))
+        append_is_nil (relation_types scope x ++ misfit (relation_at x) (Some Boolean) (relation_kind scope x))
         (relations_types scope rest) e in
         let q =
-        nothing_left (relation_types scope x) (misfit (relation_at x) (Some Boolean) (relation_kind scope x)) p.0 in
+        append_is_nil (relation_types scope x) (misfit (relation_at x) (Some Boolean) (relation_kind scope x)) p.0 in
         let here =
         is_truth b loops (relation_at x) (relation_kind scope x) (relation_of scope x) (relation_sound x q.0) q.1 in
         relations_sound rest p.1 (joined (logic_op o) left (kinds_of (relation_of scope x) b loops))

@@ -6,6 +6,7 @@ use Rattle.std.specs.Option.{option_map}
 use Rattle.std.specs.Prelude.{position, slice_index_or, replicate}
 use Rattle.std.proofs.lemmas.List.Elements.{All-take}
 use Rattle.std.proofs.lemmas.Option.{slice_get_within, get_or_from_slice_get, slice_get-map}
+use Rattle.list_lemmas.proofs.ListOperations.{map-map}
 use Rattle.pals_base.specs.declared.values.PortValue.{PortValue}
 use Rattle.pals_base.specs.declared.values.PortValue.TheVariants.{Absent}
 use Rattle.pals_base.specs.declared.behaviour.PortDecl.{PortDecl}
@@ -38,7 +39,6 @@ use Rattle.plant_fuse.specs.FusedComposition.{ArePairs, is_back, is_forth, Input
 use Rattle.plant_fuse.specs.FusedComposition.{left_before, round_tuple, message_on, messages_before, from_round}
 use Rattle.plant_fuse.specs.FusedComposition.{value_on, value_read, vector_of, frame_before, IsFused}
 use Rattle.plant_fuse.specs.FusedReport.{fused_part}
-use Rattle.plant_fuse.proofs.FunctionTables.{map_map}
 use Rattle.plant_fuse.proofs.StepRanks.{is_controller, rank, rank_upto, rank_before, rank_beside, rank_in_round}
 use Rattle.plant_fuse.proofs.StepRanks.{rank_from_round}
 use Rattle.plant_fuse.proofs.PairLinks.{back_rates, forth_is, read_from_target}
@@ -181,7 +181,7 @@ module _ (design : DesignParts) (pairs : List Pair) (env : Env) (ins : Inputs) (
           let from : ℕ → PortSource = λ q. source_of design node q in
           let count = length c.behaviour.ins in
           let here : slice_index_or (map value (sources_of design node c)) p Absent ≡ value (from p) =
-          ap (λ (values : List PortValue). slice_index_or values p Absent) (map_map from value (upwards 0 count))
+          ap (λ (values : List PortValue). slice_index_or values p Absent) (map-map value from (upwards 0 count))
           ∙ get_or-map_upwards (λ q. value (from q)) count p Absent (slice_get_within c.behaviour.ins p port is_port) in
           subst (PortFits port.kind) (sym here)
           (value_fits p port is_port (position (link_goes_to node p) design.links)

@@ -6,6 +6,7 @@ use Rattle.std.specs.Prelude.{position, slice_index_or}
 use Rattle.std.proofs.lemmas.Bool.{and_parts, eqb-true}
 use Rattle.std.proofs.lemmas.List.Elements.{All-nil, All-cons}
 use Rattle.std.proofs.lemmas.Option.{slice_get_within}
+use Rattle.list_lemmas.proofs.ListOperations.{map-map}
 use Rattle.pals_base.specs.declared.values.PortValue.{PortValue}
 use Rattle.pals_base.specs.declared.values.PortValue.TheVariants.{Absent}
 use Rattle.pals_base.specs.declared.behaviour.PortDecl.{PortDecl}
@@ -27,7 +28,6 @@ use Rattle.pals_model.proofs.FirstMatches.{found_at, at_element}
 use Rattle.pals_model.proofs.RootInputLaws.{feed_has_root, feeds_have_root_kind}
 use Rattle.pals_model.proofs.AllElements.{index_fits}
 use Rattle.pals_model.proofs.KindsOfAdaptors.{absent_fits, adapt_fits}
-use Rattle.plant_fuse.proofs.FunctionTables.{map_map}
 use Rattle.kind_laws.proofs.ElementsByIndex.{upwards_all}
 
 abbrev pub MessagesFit : DesignParts → List (List PortValue) → Type 0
@@ -116,7 +116,7 @@ vectors_fit design env round messages node c rules given sent is_c =
     upwards_all (PortsFit c.behaviour.ins) (λ at. column at lists) 0 c.rate
     (λ at above below p port is.
     let here : slice_index_or lists p [] ≡ read (source p) =
-    ap (λ (tuples : List (List PortValue)). slice_index_or tuples p []) (map_map source read (upwards 0 count))
+    ap (λ (tuples : List (List PortValue)). slice_index_or tuples p []) (map-map read source (upwards 0 count))
     ∙ get_or-map_upwards (λ q. read (source q)) count p [] (slice_get_within c.behaviour.ins p port is) in
     let fits : TupleFits port.kind (slice_index_or lists p []) =
     subst (TupleFits port.kind) (sym here)

@@ -2,7 +2,7 @@
 -- a test.
 use Rattle.std.proofs.Common.{◌≡◌, ◌∙◌, ℕ, zero, suc, ◌+◌, ◌-◌, ◌<◌, Bool, true, false, cond, List, [], ◌∷◌, ◌++◌, map}
 use Rattle.std.proofs.Common.{length, slice_get, get_or, replicate, Contains, Option, Some, refl, ap, ap₂, subst, arith}
-use Rattle.std.proofs.Common.{sym, add-zero}
+use Rattle.std.proofs.Common.{sym, add-zero, take}
 use Rattle.std.specs.Prelude.{flat_map, zip, option_map}
 use Rattle.std.specs.List.{position_from, enumerate_from}
 use Rattle.std.proofs.lemmas.List.{length_push}
@@ -39,10 +39,20 @@ slice_get-last xs x =
     let at : length (xs ++ x ∷ []) - 1 ≡ length xs = let long = length_push xs x in omega (arith, long) in
     ap (slice_get (xs ++ x ∷ [])) at ∙ slice_get-push xs x
 
+pub slice_get-take : {X : Type 0} (n : ℕ) (xs : List X) (k : ℕ) → k < n → slice_get (take n xs) k ≡ slice_get xs k
+slice_get-take zero xs k below = absurd (omega arith)
+slice_get-take (suc n) [] k below = refl
+slice_get-take (suc n) (x ∷ xs) zero below = refl
+slice_get-take (suc n) (x ∷ xs) (suc k) below = slice_get-take n xs k (omega arith)
+
 -- ---- mapped lists
 pub slice_get-map_some : {X Y : Type 0} (f : X → Y) (xs : List X) (k : ℕ) (x : X) → slice_get xs k ≡ Some x
     → slice_get (map f xs) k ≡ Some (f x)
 slice_get-map_some f xs k x is = slice_get-map f xs k ∙ ap (option_map f) is
+
+pub get_or-map_some : {X Y : Type 0} (f : X → Y) (xs : List X) (k : ℕ) (x : X) (d : Y) → slice_get xs k ≡ Some x
+    → get_or (map f xs) k d ≡ f x
+get_or-map_some f xs k x d is = get_or_from_slice_get (map f xs) k (f x) d (slice_get-map_some f xs k x is)
 
 pub slice_get-map_parts : {X Y : Type 0} (f : X → Y) (xs : List X) (k : ℕ) (y : Y) → slice_get (map f xs) k ≡ Some y
     → (x : X) × (slice_get xs k ≡ Some x) × (f x ≡ y)

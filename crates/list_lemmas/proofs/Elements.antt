@@ -1,6 +1,7 @@
 -- The elements of a list: which there are, what holds of each, and which pass a test.
 use Rattle.std.proofs.Common.{◌≡◌, ◌∙◌, ◌⊎◌, inl, inr, ℕ, Bool, true, false, cond, ◌||◌, nat_eq, List, [], ◌∷◌, ◌++◌}
-use Rattle.std.proofs.Common.{map, get_or, Contains, All, Option, Some, refl, sym, ap, subst, arith}
+use Rattle.std.proofs.Common.{map, get_or, Contains, All, Option, Some, refl, sym, ap, subst, arith, slice_get, zero}
+use Rattle.std.proofs.Common.{suc}
 use Rattle.std.specs.Prelude.{find}
 use Rattle.std.specs.List.{list_any, list_all, AllByRecursion}
 use Rattle.std.proofs.lemmas.Bool.{cases_Bool, eq-eqb}
@@ -49,6 +50,12 @@ pub AllByRecursion-weaker : {X : Type 0} (P Q : X → Type 0) → ((x : X) → P
     → AllByRecursion P xs → AllByRecursion Q xs
 AllByRecursion-weaker P Q weaker [] all = tt
 AllByRecursion-weaker P Q weaker (x ∷ xs) all = (weaker x all.0, AllByRecursion-weaker P Q weaker xs all.1)
+
+pub AllByRecursion-at : {X : Type 0} (P : X → Type 0) (xs : List X) (n : ℕ) (x : X) → AllByRecursion P xs
+    → slice_get xs n ≡ Some x → P x
+AllByRecursion-at P [] n x h is = absurd (cc is)
+AllByRecursion-at P (y ∷ xs) zero x h is = subst P (same_Some y x is) h.0
+AllByRecursion-at P (y ∷ xs) (suc n) x h is = AllByRecursion-at P xs n x h.1 is
 
 -- ---- which pass a test
 pub passes_by_list_all : {X : Type 0} (p : X → Bool) (xs : List X) (x : X) → list_all p xs ≡ true → Contains xs x

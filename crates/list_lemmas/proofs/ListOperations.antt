@@ -16,6 +16,9 @@ pub append_is_nil_right : {X : Type 0} (xs ys : List X) → xs ++ ys ≡ [] → 
 append_is_nil_right [] ys none = none
 append_is_nil_right (x ∷ xs) ys none = absurd (cc none)
 
+pub append_is_nil : {X : Type 0} (xs ys : List X) → xs ++ ys ≡ [] → (xs ≡ []) × (ys ≡ [])
+append_is_nil xs ys none = (append_is_nil_left xs ys none, append_is_nil_right xs ys none)
+
 -- ---- an element more, or less
 pub length-take_within : {A : Type 0} (xs : List A) (i : ℕ) → i < length xs → length (take i xs) ≡ i
 length-take_within xs i within = grind (arith, common_steps)
@@ -26,6 +29,10 @@ drop-next xs i x within is = drop-cons xs i x within ∙ grind (arith, common_st
 
 pub drop_add : {A : Type 0} (m n : ℕ) (xs : List A) → drop (m + n) xs ≡ drop n (drop m xs)
 drop_add m n xs = sym (drop-drop n m xs)
+
+pub take-append_front : {X : Type 0} (xs ys : List X) → take (length xs) (xs ++ ys) ≡ xs
+take-append_front [] ys = refl
+take-append_front (x ∷ xs) ys = ap (λ zs. x ∷ zs) (take-append_front xs ys)
 
 -- what a call that writes as many elements as there were has written
 pub take-written_whole : {A : Type 0} (n : ℕ) (new old : List A) → n ≡ length old → length new ≡ length old
@@ -53,6 +60,10 @@ pub flat_map-take_more : {X Y : Type 0} (f : X → List Y) (xs : List X) (i : �
 flat_map-take_more f xs i x within is =
     ap (flat_map f) (take_more xs i x within ∙ ap (λ y. take i xs ++ y ∷ []) (sym is))
     ∙ flat_map-append f (take i xs) (x ∷ []) ∙ ap (λ rest. flat_map f (take i xs) ++ rest) (append-nil (f x))
+
+pub map-map : {X Y Z : Type 0} (f : Y → Z) (g : X → Y) (xs : List X) → map f (map g xs) ≡ map (λ x. f (g x)) xs
+map-map f g [] = refl
+map-map f g (x ∷ xs) = ap (λ ys. f (g x) ∷ ys) (map-map f g xs)
 
 -- ---- numbered
 pub enumerate_from-append : {X : Type 0} (from : ℕ) (xs ys : List X)

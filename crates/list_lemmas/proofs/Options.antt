@@ -1,5 +1,5 @@
 -- Options that are mapped, chained, joined and tested.
-use Rattle.std.proofs.Common.{◌≡◌, Bool, true, false, cond, Option, Some, None, refl}
+use Rattle.std.proofs.Common.{◌≡◌, Bool, true, false, cond, Option, Some, None, refl, sym}
 use Rattle.std.specs.Prelude.{option_map, is_some, is_none}
 use Rattle.std.specs.Option.{option_and_then, option_or}
 use Rattle.std.proofs.lemmas.Bool.{false≢true}
@@ -39,3 +39,7 @@ some_by_test (Some x) is = (x, refl)
 pub none_by_test : {X : Type 0} (o : Option X) → is_none o ≡ true → o ≡ None
 none_by_test None is = refl
 none_by_test (Some x) is = absurd (false≢true is)
+
+pub none_unless_some : {X : Type 0} (o : Option X) → is_some o ≡ false → o ≡ None
+none_unless_some None fails = refl
+none_unless_some (Some x) fails = absurd (false≢true (sym fails))

@@ -1,11 +1,12 @@
 -- For the loop of `arrive_all`: the bus when the first due messages have arrived and the others are left, and one
 -- more arrival.
 use Rattle.std.proofs.Common.{◌≡◌, ◌∙◌, ℕ, ◌+◌, ◌-◌, ◌<◌, ◌≤◌, Bool, true, false, List, ◌∷◌, length, drop, Option, Some}
-use Rattle.std.proofs.Common.{None, is_some, refl, sym, ap, ap₂, subst, arith, add-one, drop-cons, length-append}
+use Rattle.std.proofs.Common.{None, is_some, refl, sym, ap, subst, arith, length-append}
 use Rattle.std.specs.Prelude.{sum_by, slice_index_or, count_by, vec_capacity, IfSome, IfNone, nat_eq}
 use Rattle.std.specs.Arc.{arc_value}
 use Rattle.std.proofs.lemmas.Bool.{false≢true}
 use Rattle.std.proofs.lemmas.List.{length-map}
+use Rattle.list_lemmas.proofs.ListOperations.{drop-next}
 use Rattle.pals_runs.specs.declared.journal.Arrived.{Arrived}
 use Rattle.pals_runs.specs.declared.journal.Stop.{Stop}
 use Rattle.link_buffers.specs.declared.due_queue.DueEntry.{DueEntry}
@@ -34,12 +35,6 @@ pub record Arriving (first now : BusFields) (node reading at : ℕ) (due : List 
 pub flights_many : (f : BusFields) → Keeps f → length (state_of f).flights ≡ length (arc_value f.design).links
 flights_many f keeps = length-map f.flights (λ (k : FlightState). k.copies) ∙ keeps.flight_count
 
-pub next_left : (due : List DueEntry) (at : ℕ) (message : DueEntry) → at < length due
-    → message ≡ slice_index_or due at message → drop at due ≡ message ∷ drop (at + 1) due
-next_left due at message within is =
-    drop-cons due at message within
-    ∙ ap₂ (λ (x : DueEntry) (ys : List DueEntry). x ∷ ys) (sym is) (ap (λ k. drop k due) (sym (add-one at)))
-
 first_link : (b : BusValue) (node reading : ℕ) (x : DueEntry) (rest : List DueEntry)
     → length b.state.flights ≡ length b.run.design.links → AreLeft b node reading (x ∷ rest)
     → x.link.0 < length b.run.design.links
@@ -54,7 +49,7 @@ left_now : (first now : BusFields) (node reading at : ℕ) (due : List DueEntry)
     → Arriving first now node reading at due → at < length due → message ≡ slice_index_or due at message
     → AreLeft (value_of now) node reading (message ∷ drop (at + 1) due)
 left_now first now node reading at due message so_far within is =
-    subst (AreLeft (value_of now) node reading) (next_left due at message within is) so_far.left
+    subst (AreLeft (value_of now) node reading) (drop-next due at message within is) so_far.left
 
 -- the next message is in flight on a link of the design
 pub message_link : (first now : BusFields) (node reading at : ℕ) (due : List DueEntry) (message : DueEntry)

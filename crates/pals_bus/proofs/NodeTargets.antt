@@ -1,10 +1,10 @@
 -- For `Bus::target` and `meet`: the reading that a node of a bus waits for stands in the list of targets.
-use Rattle.std.proofs.Common.{◌≡◌, ◌∙◌, inl, inr, ℕ, ◌<◌, List, length, map, Option, Some, None, false, is_some, refl}
-use Rattle.std.proofs.Common.{sym, ap, subst, arith}
+use Rattle.std.proofs.Common.{◌≡◌, ◌∙◌, inl, inr, ℕ, ◌<◌, List, length, map, Option, None, false, is_some, sym, ap}
+use Rattle.std.proofs.Common.{subst, arith}
 use Rattle.std.specs.Prelude.{slice_index_or}
 use Rattle.std.proofs.lemmas.Bool.{false≢true}
 use Rattle.std.proofs.lemmas.List.{length-map, get_or-map}
-use Rattle.pals_runs.specs.declared.journal.Stop.{Stop}
+use Rattle.list_lemmas.proofs.Options.{none_unless_some}
 use Rattle.pals_bus.specs.declared.bus_fields.BusFields.{BusFields}
 use Rattle.pals_bus.specs.proof.BusInvariant.{Keeps, value_of}
 use Rattle.pals_bus.specs.BusValues.{BusValue}
@@ -43,10 +43,6 @@ within_run f b keeps shows node within =
     omega (arith, count, within)
 
 -- ---- the run goes on
-none_by : (o : Option Stop) → is_some o ≡ false → o ≡ None
-none_by None is = refl
-none_by (Some why) is = absurd (false≢true (sym is))
-
 pub still_going : (b : BusValue) → b.closed ≡ false → is_some b.state.stop ≡ false → HasEnded b → ⊥
-still_going b not_closed none (inl stopped) = stopped (none_by b.state.stop none)
+still_going b not_closed none (inl stopped) = stopped (none_unless_some b.state.stop none)
 still_going b not_closed none (inr closed) = false≢true (sym not_closed ∙ closed)

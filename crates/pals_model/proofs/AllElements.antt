@@ -63,7 +63,3 @@ on_ok Q (Err trap) go keeps = tt
 pub if_ok : {A : Type 0} (P : A → Type 0) (b : Bool) (x y : Result A Trap) → IfOk x P → IfOk y P → IfOk (cond b x y) P
 if_ok P true x y here there = here
 if_ok P false x y here there = there
-
-pub weaker_ok : {A : Type 0} (P Q : A → Type 0) (r : Result A Trap) → ((x : A) → P x → Q x) → IfOk r P → IfOk r Q
-weaker_ok P Q (Ok x) to has = to x has
-weaker_ok P Q (Err trap) to has = tt

@@ -3,6 +3,7 @@ use Rattle.std.proofs.Common.{◌≡◌, ◌⊎◌, inl, inr, ℕ, ◌+◌, nat_
 use Rattle.std.proofs.Common.{◌||◌, cond, List, length, Option, Some, None, refl, ap, arith}
 use Rattle.std.specs.Prelude.{Result, Ok, IfOk, slice_get, slice_index_or, int_le, int_lt}
 use Rattle.std.proofs.lemmas.Bool.{and_parts, leb-true, false≢true, or_cases}
+use Rattle.list_lemmas.proofs.Results.{IfOk-weaker}
 use Rattle.pals_base.specs.declared.values.Trap.{Trap}
 use Rattle.pals_base.specs.declared.values.Frame.{Frame}
 use Rattle.pals_base.specs.declared.behaviour.Op.{Op}
@@ -22,7 +23,7 @@ use Rattle.pals_base.specs.PlainTrees.{Expression, Literal, Variable, PortRead, 
 use Rattle.pals_base.specs.PlainTrees.{NoMore, Then}
 use Rattle.pals_base.proofs.StepTermination.{then_ok}
 use Rattle.pals_model.specs.proof.FittingValues.{Fits, VarsFit, HeldFit}
-use Rattle.pals_model.proofs.AllElements.{any_ok, on_ok, if_ok, weaker_ok}
+use Rattle.pals_model.proofs.AllElements.{any_ok, on_ok, if_ok}
 
 -- ---- numbers
 -- a value that may be a Boolean is 0 or 1
@@ -103,11 +104,11 @@ combined_may Xor a b left right one two =
     (λ x is. truth_fits (cond (is_true left) (not (is_true x)) (is_true x)))
 combined_may AndThen a b left right one two =
     if_ok (MayBe (joined AndThen a b)) (is_true left) right (Ok (pos 0))
-    (weaker_ok (MayBe b) (MayBe (joined AndThen a b)) right (λ x may is. may (and_parts a.boolean b.boolean is).1)
+    (IfOk-weaker (MayBe b) (MayBe (joined AndThen a b)) right (λ x may is. may (and_parts a.boolean b.boolean is).1)
     two) (λ is. inl refl)
 combined_may OrElse a b left right one two =
     if_ok (MayBe (joined OrElse a b)) (is_true left) (Ok (pos 1)) right (λ is. inr refl)
-    (weaker_ok (MayBe b) (MayBe (joined OrElse a b)) right
+    (IfOk-weaker (MayBe b) (MayBe (joined OrElse a b)) right
     (λ x may is. may (and_parts a.boolean b.boolean is).1) two)
 
 -- ---- expressions

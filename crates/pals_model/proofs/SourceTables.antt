@@ -9,6 +9,7 @@ use Rattle.std.proofs.lemmas.Bool.{ne_eqb, eq-eqb}
 use Rattle.std.proofs.lemmas.List.{drop_more, get_or_default, drop_all}
 use Rattle.std.proofs.lemmas.Iterator.Adapters.{position_from-zero}
 use Rattle.pals_base.specs.StepSequences.{upwards}
+use Rattle.pals_base.proofs.SettledStates.{map-same}
 use Rattle.pals_model.specs.declared.design.Component.{Component}
 use Rattle.pals_model.specs.declared.design.Link.{Link}
 use Rattle.pals_model.specs.declared.design.Feed.{Feed}
@@ -47,10 +48,6 @@ row_set g s k (suc m) (suc i) port is =
     ap₂ (λ x xs. x ∷ xs) (sym (ap (λ b. cond b s (g k)) (ne_eqb port k other)))
     (row_set g s (suc k) m i port (omega arith))
 
-map_same : (f g : ℕ → PortSource) (ports : List ℕ) → ((p : ℕ) → f p ≡ g p) → map f ports ≡ map g ports
-map_same f g [] same = refl
-map_same f g (p ∷ ps) same = ap₂ (λ x xs. x ∷ xs) (same p) (map_same f g ps same)
-
 -- ---- the table
 rows_past : (f : ℕ → ℕ → PortSource) (node port : ℕ) (s : PortSource) (k : ℕ) (cs : List Component) → node < k
     → map (row (patched f node port s)) (enumerate_from k cs) ≡ map (row f) (enumerate_from k cs)
@@ -58,8 +55,8 @@ rows_past f node port s k [] below = refl
 rows_past f node port s k (c ∷ cs) below =
     let other : node ≢ k = omega arith in
     ap₂ (λ x xs. x ∷ xs)
-    (map_same (patched f node port s k) (f k) (upwards 0 (length c.behaviour.ins))
-    (λ p. ap (λ b. cond (b && nat_eq port p) s (f k p)) (ne_eqb node k other)))
+    (map-same (patched f node port s k) (f k)
+    (λ p. ap (λ b. cond (b && nat_eq port p) s (f k p)) (ne_eqb node k other)) (upwards 0 (length c.behaviour.ins)))
     (rows_past f node port s (k + 1) cs (omega arith))
 
 rows_set : (f : ℕ → ℕ → PortSource) (node port : ℕ) (s : PortSource) (k i : ℕ) (cs : List Component) → k + i ≡ node
@@ -69,14 +66,15 @@ rows_set f node port s k zero (c ∷ cs) is =
     let here : node ≡ k = omega arith in
     ap₂ (λ x xs. x ∷ xs)
     (row_set (f k) s 0 (length c.behaviour.ins) port port (zero-add port)
-    ∙ map_same (λ p. cond (nat_eq port p) s (f k p)) (patched f node port s k) (upwards 0 (length c.behaviour.ins))
-    (λ p. sym (ap (λ b. cond (b && nat_eq port p) s (f k p)) (eq-eqb node k here))))
+    ∙ map-same (λ p. cond (nat_eq port p) s (f k p)) (patched f node port s k)
+    (λ p. sym (ap (λ b. cond (b && nat_eq port p) s (f k p)) (eq-eqb node k here)))
+    (upwards 0 (length c.behaviour.ins)))
     (sym (rows_past f node port s (k + 1) cs (omega arith)))
 rows_set f node port s k (suc i) (c ∷ cs) is =
     let other : node ≢ k = omega arith in
     ap₂ (λ x xs. x ∷ xs)
-    (sym (map_same (patched f node port s k) (f k) (upwards 0 (length c.behaviour.ins))
-    (λ p. ap (λ b. cond (b && nat_eq port p) s (f k p)) (ne_eqb node k other))))
+    (sym (map-same (patched f node port s k) (f k)
+    (λ p. ap (λ b. cond (b && nat_eq port p) s (f k p)) (ne_eqb node k other)) (upwards 0 (length c.behaviour.ins))))
     (rows_set f node port s (k + 1) i cs (omega arith))
 
 table_set : (cs : List Component) (f : ℕ → ℕ → PortSource) (node port : ℕ) (s : PortSource)
@@ -87,7 +85,7 @@ table_same : (f g : ℕ → ℕ → PortSource) → ((n p : ℕ) → f n p ≡ g
     → map (row f) (enumerate_from k cs) ≡ map (row g) (enumerate_from k cs)
 table_same f g same k [] = refl
 table_same f g same k (c ∷ cs) =
-    ap₂ (λ x xs. x ∷ xs) (map_same (f k) (g k) (upwards 0 (length c.behaviour.ins)) (same k))
+    ap₂ (λ x xs. x ∷ xs) (map-same (f k) (g k) (same k) (upwards 0 (length c.behaviour.ins)))
     (table_same f g same (k + 1) cs)
 
 -- ---- links

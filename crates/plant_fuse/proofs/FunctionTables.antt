@@ -4,10 +4,6 @@ use Rattle.std.proofs.Common.{refl, sym, ap, ap₂, arith}
 use Rattle.std.specs.List.{enumerate_from}
 use Rattle.pals_base.specs.StepSequences.{upwards}
 
-pub map_map : {X Y Z : Type 0} (f : X → Y) (g : Y → Z) (xs : List X) → map g (map f xs) ≡ map (λ x. g (f x)) xs
-map_map f g [] = refl
-map_map f g (x ∷ xs) = ap (λ ys. g (f x) ∷ ys) (map_map f g xs)
-
 -- ---- numbers
 get_from_same : {X : Type 0} (f g : ℕ → X) (from n at place : ℕ) → place ≡ from + at → f place ≡ g place
     → slice_get (map f (upwards from n)) at ≡ slice_get (map g (upwards from n)) at

@@ -6,9 +6,7 @@ use Rattle.std.proofs.Common.{sym, ap, ap₂, subst, arith}
 use Rattle.std.specs.Prelude.{if◌then◌else◌}
 use Rattle.std.proofs.lemmas.Nat.{div-mul-add, mod-mul-add}
 use Rattle.std.proofs.lemmas.List.{take-append-drop, length-take-le}
-use Rattle.std.proofs.lemmas.Option.{slice_get-map, get_or_from_slice_get}
-use Rattle.std.specs.Option.{option_map}
-use Rattle.list_lemmas.proofs.ElementPositions.{get_or-replicate_constant}
+use Rattle.list_lemmas.proofs.ElementPositions.{get_or-replicate_constant, get_or-map_some}
 use Rattle.pals_base.proofs.SettledStates.{map-same}
 use Rattle.pals_base.specs.declared.values.PortValue.{PortValue}
 use Rattle.pals_base.specs.declared.values.PortValue.TheVariants.{Absent}
@@ -54,11 +52,6 @@ drop_upwards f from zero m place is =
 drop_upwards f from (suc n) m place is =
     let size : suc n + m ≡ suc (n + m) = omega arith in
     ap (λ k. drop (suc n) (map f (upwards from k))) size ∙ drop_upwards f (suc from) n m place (omega arith)
-
-at_link : (f : Link → List PortValue) (links : List Link) (number : ℕ) (link : Link)
-    → slice_get links number ≡ Some link → slice_index_or (map f links) number [] ≡ f link
-at_link f links number link is =
-    get_or_from_slice_get (map f links) number (f link) [] (slice_get-map f links number ∙ ap (option_map f) is)
 
 before_suc : (design : DesignParts) (ins : Inputs) (node port n m : ℕ) → n ≡ suc m
     → left_before design ins node port n ≡ left_by design ins node port m
@@ -186,7 +179,8 @@ module _ (design : DesignParts) (pairs : List Pair) (env : Env) (rounds : ℕ) (
           let none : 0 * c.rate ≡ 0 = omega arith in
           ap (left_before design ins link.source.0 link.out_port) none
           ∙ sym (ap (λ (m : List PortValue). slice_index_or m (rate_of design link.source.0 - 1) Absent)
-          (at_link (λ (l : Link). replicate (rate_of design l.source.0) Absent) design.links number link is_link)
+          (get_or-map_some (λ (l : Link). replicate (rate_of design l.source.0) Absent) design.links number link []
+          is_link)
           ∙ get_or-replicate_constant Absent (rate_of design link.source.0) (rate_of design link.source.0 - 1))
       last_message (suc n) at back rate =
           let some = (small node c is_c).some in
@@ -195,7 +189,7 @@ module _ (design : DesignParts) (pairs : List Pair) (env : Env) (rounds : ℕ) (
           let place : suc n * c.rate ≡ suc (n * k + (k - 1)) = omega (arith, some, rate, product) in
           before_suc design ins link.source.0 link.out_port (suc n * c.rate) (n * k + (k - 1)) place
           ∙ sym (ap (λ (m : List PortValue). slice_index_or m (k - 1) Absent)
-          (at_link (message_on design pairs ins n) design.links number link is_link
+          (get_or-map_some (message_on design pairs ins n) design.links number link [] is_link
           ∙ ap (λ b. if b then round_tuple design ins link.source.0 link.out_port n else if is_forth pairs link then
           round_tuple design ins link.source.0 link.out_port n else cut (sent_steps design.gamma design.period k)
           (round_tuple design ins link.source.0 link.out_port n)) back)

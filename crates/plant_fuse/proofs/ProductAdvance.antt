@@ -9,7 +9,7 @@ use Rattle.std.proofs.lemmas.List.{length-map}
 use Rattle.std.proofs.lemmas.List.Elements.{All-head, All-tail}
 use Rattle.std.proofs.lemmas.Option.{slice_get_cases, get_or_from_slice_get}
 use Rattle.list_lemmas.proofs.ElementPositions.{slice_get-map_some, slice_get-map_enumerate}
-use Rattle.list_lemmas.proofs.ListOperations.{length-map_enumerate_from, same_from_places}
+use Rattle.list_lemmas.proofs.ListOperations.{length-map_enumerate_from, same_from_places, map-map}
 use Rattle.pals_base.proofs.SettledStates.{map-same}
 use Rattle.pals_base.proofs.UpwardNumbers.{length-map_upwards}
 use Rattle.pals_base.proofs.StepSequences.{cut_whole}
@@ -41,7 +41,6 @@ use Rattle.plant_fuse.specs.proof.RoundEquations.{frame_at, place_at, left_in, t
 use Rattle.plant_fuse.specs.proof.RoundEquations.{after_round}
 use Rattle.plant_fuse.specs.proof.RoundWork.{rows_of, AreRun}
 use Rattle.plant_fuse.specs.proof.FuseState.{FuseState, part_after, parts_after, IsAdvanced}
-use Rattle.plant_fuse.proofs.FunctionTables.{map_map}
 use Rattle.plant_fuse.proofs.EquationsWithoutPairs.{by_place}
 use Rattle.sync_product.proofs.StepRoom.{count_of_stages}
 use Rattle.plant_fuse.proofs.ComponentPairs.{inside_goes, outside_back, outside_forth}
@@ -108,7 +107,7 @@ module _ (round : RoundInputs) (pairs : List Pair) (are : ArePairs round.design.
       part_at_node round pairs are frames next stages run many node c is_c
       ∙ ap (λ (outs : List (List PortValue)). let p : Part =
       record { frame = frame_after c.behaviour (frame_at at node) (inputs_to vs node); outs = outs } in Some p)
-      (map_map (λ (tap : Tap). tap.out_port) (λ port. column port (rows node)) (taps_of design node)
+      (map-map (λ port. column port (rows node)) (λ (tap : Tap). tap.out_port) (taps_of design node)
       ∙ map-same (λ (tap : Tap). column tap.out_port (rows node))
       (λ (tap : Tap). tuple_from design at vs node tap.out_port) (λ tap. sym (tuple_is node c tap.out_port is_c))
       (taps_of design node))

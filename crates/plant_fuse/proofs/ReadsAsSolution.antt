@@ -7,6 +7,7 @@ use Rattle.std.specs.Prelude.{if◌then◌else◌}
 use Rattle.std.proofs.lemmas.Bool.{eqb-true}
 use Rattle.std.proofs.lemmas.List.{length-map}
 use Rattle.std.proofs.lemmas.Option.{get_or_from_slice_get, slice_get_cases, same_Some}
+use Rattle.list_lemmas.proofs.ListOperations.{map-map}
 use Rattle.pals_base.specs.declared.values.PortValue.{PortValue}
 use Rattle.pals_base.specs.declared.values.PortValue.TheVariants.{Absent}
 use Rattle.pals_base.specs.declared.values.Frame.{Frame}
@@ -34,7 +35,7 @@ use Rattle.plant_fuse.specs.proof.RoundEquations.{link_by, read_by, vector_by, r
 use Rattle.plant_fuse.specs.proof.PairSteps.{Work, from_partner, from_link, side_value, row_at, row_before}
 use Rattle.plant_fuse.specs.proof.PairSteps.{plant_vector, controller_vector}
 use Rattle.plant_fuse.specs.proof.RoundWork.{seat, rows_of, HasWork, IsRun, AreRun}
-use Rattle.plant_fuse.proofs.FunctionTables.{map_map, table, table_at, table_same}
+use Rattle.plant_fuse.proofs.FunctionTables.{table, table_at, table_same}
 use Rattle.plant_fuse.proofs.PairLinks.{read_from_target}
 use Rattle.plant_fuse.proofs.ComponentPairs.{some_stands, pair_at, to_plant_forth, to_plant_back, to_controller_back}
 use Rattle.plant_fuse.proofs.ComponentPairs.{to_controller_forth, to_alone_back, to_alone_forth}
@@ -131,7 +132,7 @@ module _ (round : RoundInputs) (pairs : List Pair) (are : ArePairs round.design.
         → column step (map (brought round c.rate) (sources_of design node c))
         ≡ vector_by design pairs round.values.now before left node c step
     alone_vector step =
-        map_map (brought round c.rate) (λ (tuple : List PortValue). slice_index_or tuple step Absent)
+        map-map (λ (tuple : List PortValue). slice_index_or tuple step Absent) (brought round c.rate)
         (sources_of design node c)
         ∙ each_source design node (λ s. slice_index_or (brought round c.rate s) step Absent) (read c.rate step)
         (alone_value step) (upwards 0 (length c.behaviour.ins))

@@ -2,6 +2,7 @@
 use Rattle.std.proofs.Common.{◌≡◌, ◌∙◌, ℕ, zero, suc, ◌*◌, ◌<◌, ◌≤◌, List, [], ◌∷◌, map, take, Option, Some, None}
 use Rattle.std.proofs.Common.{slice_get, refl, sym, ap, subst, arith}
 use Rattle.std.proofs.lemmas.Nat.{mul-le}
+use Rattle.list_lemmas.proofs.ElementPositions.{slice_get-take}
 use Rattle.pals_base.specs.declared.values.PortValue.{PortValue}
 use Rattle.pals_base.specs.StepSequences.{upwards}
 use Rattle.pals_model.specs.declared.design.Component.{Component}
@@ -22,12 +23,6 @@ pub take_upwards : {X : Type 0} (f : ℕ → X) (from n m : ℕ) → n ≤ m
 take_upwards f from zero m less = refl
 take_upwards f from (suc n) zero less = absurd (omega arith)
 take_upwards f from (suc n) (suc m) less = ap (λ xs. f from ∷ xs) (take_upwards f (suc from) n m (omega arith))
-
-get_take : {X : Type 0} (n : ℕ) (xs : List X) (k : ℕ) → k < n → slice_get (take n xs) k ≡ slice_get xs k
-get_take zero xs k below = absurd (omega arith)
-get_take (suc n) [] k below = refl
-get_take (suc n) (x ∷ xs) zero below = refl
-get_take (suc n) (x ∷ xs) (suc k) below = get_take n xs k (omega arith)
 
 module _ (design : DesignParts) (pairs : List Pair) (env : Env) (rounds : ℕ) (ins : Inputs) (sound : IsDesign design)
     (are : ArePairs design pairs) (is : IsFused design pairs env (suc rounds) ins) where
@@ -51,7 +46,7 @@ module _ (design : DesignParts) (pairs : List Pair) (env : Env) (rounds : ℕ) (
       subst (λ k. step < rounds * k) rate (rounds_of_rank design pairs sound node rounds step low) in
       ap (λ (xs : List (List PortValue)). slice_get xs step)
       (table_at begun 0 design.components node node c [] (omega arith) is_c)
-      ∙ get_take (rounds * c.rate) (inputs_to ins node) step inside
+      ∙ slice_get-take (rounds * c.rate) (inputs_to ins node) step inside
 
   pub agree : Agree design pairs (rounds * 128) fewer ins
   agree = record { same = λ node step low. agree_by node step low (slice_get design.components node) refl }

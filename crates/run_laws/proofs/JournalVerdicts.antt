@@ -5,6 +5,7 @@ use Rattle.std.specs.Prelude.{is_some}
 use Rattle.std.specs.List.{position_or_len}
 use Rattle.std.proofs.lemmas.List.Elements.{All-head, All-tail}
 use Rattle.std.proofs.lemmas.Nat.{div-mul-add}
+use Rattle.list_lemmas.proofs.ListOperations.{take-append_front}
 use Rattle.pals_model.specs.declared.design.DesignParts.{DesignParts}
 use Rattle.pals_model.specs.declared.inputs_parts_and_delays.Env.{Env}
 use Rattle.pals_model.specs.RoundTexts.{report_lines}
@@ -39,10 +40,6 @@ ends_there (row ∷ rows) lines none first =
     past_by row rows lines (has_form row) refl (ap is_some (All-head (λ r. form_of r ≡ None) row rows none))
     (ends_there rows lines (All-tail (λ r. form_of r ≡ None) row rows none) first)
 
-take_front : (xs ys : List (List ℕ)) → take (length xs) (xs ++ ys) ≡ xs
-take_front [] ys = refl
-take_front (x ∷ xs) ys = ap (λ zs. x ∷ zs) (take_front xs ys)
-
 drop_front : (xs ys : List (List ℕ)) → drop (length xs) (xs ++ ys) ≡ ys
 drop_front [] ys = refl
 drop_front (x ∷ xs) ys = drop_front xs ys
@@ -63,7 +60,7 @@ behind_report run rounds lines rules first =
     ends_there report lines (reports_have_no_forms run.design run.env rounds rules) first in
     ap (λ n. trace_verdict run n (wrong_row run.design run.env (take n (report ++ lines))) (report ++ lines)) size
     ∙ ap (λ ls. trace_verdict run (length report) (wrong_row run.design run.env ls) (report ++ lines))
-    (take_front report lines)
+    (take-append_front report lines)
     ∙ ap (λ o. trace_verdict run (length report) o (report ++ lines)) (reports_have_rows run.design run.env rounds)
     ∙ ap₂ (λ n ls. journal_verdict run n (length report) (opening_audit run) ls) (rows_in run.design run.env rounds)
     (drop_front report lines)

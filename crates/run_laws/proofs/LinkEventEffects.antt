@@ -1,8 +1,8 @@
 -- What a start, a send and an arrival change of what is known of a link's messages, and that they keep their times:
 -- for LinksAreTimed.
-use Rattle.std.proofs.Common.{◌≡◌, ◌≢◌, inl, inr, ℕ, zero, suc, ◌+◌, ◌-◌, ◌<◌, ◌≤◌, nat_eq, nat_le, Bool, true, false}
-use Rattle.std.proofs.Common.{not, ◌&&◌, cond, List, [], ◌∷◌, ◌++◌, length, take, drop, slice_get, All, Option, Some}
-use Rattle.std.proofs.Common.{None, refl, sym, ap, ap₂, ◌∙◌, subst, arith, length-append}
+use Rattle.std.proofs.Common.{◌≡◌, ◌≢◌, inl, inr, ℕ, suc, ◌+◌, ◌-◌, ◌<◌, ◌≤◌, nat_eq, nat_le, Bool, true, false, not}
+use Rattle.std.proofs.Common.{◌&&◌, cond, List, [], ◌∷◌, ◌++◌, length, take, drop, slice_get, All, Option, Some, None}
+use Rattle.std.proofs.Common.{refl, sym, ap, ap₂, ◌∙◌, subst, arith, length-append}
 use Rattle.std.specs.Prelude.{is_some, is_none, if◌then◌else◌}
 use Rattle.std.specs.Option.{option_map, option_map_or, unwrap_or}
 use Rattle.std.specs.List.{position_or_len}
@@ -10,7 +10,7 @@ use Rattle.std.proofs.lemmas.Bool.{cases_eq, cases_lt, eqb-true, leb-true, false
 use Rattle.std.proofs.lemmas.Grind.{common_steps}
 use Rattle.std.proofs.lemmas.List.Elements.{All-nil, All-cons, All-head, All-tail, All-append, All-weaker}
 use Rattle.std.proofs.lemmas.Option.{same_Some, slice_get_within, slice_get-get_or}
-use Rattle.list_lemmas.proofs.ElementPositions.{slice_get-push}
+use Rattle.list_lemmas.proofs.ElementPositions.{slice_get-push, slice_get-append_left}
 use Rattle.list_lemmas.proofs.Options.{none_by_test}
 use Rattle.pals_base.specs.declared.values.PortValue.{PortValue}
 use Rattle.pals_model.specs.declared.flight_copy.FlightCopy.{FlightCopy}
@@ -23,11 +23,6 @@ use Rattle.run_laws.specs.proof.LinkTiming.{LinkView, due_of, one_if, copies, Wh
 use Rattle.run_laws.specs.proof.LinkTiming.{was_taken, came_early, IsDueCopy, SlotWasDue, IsTimed}
 
 -- ---- lists
-get_more : (xs ys : List ℕ) (k x : ℕ) → slice_get xs k ≡ Some x → slice_get (xs ++ ys) k ≡ Some x
-get_more [] ys k x is = absurd (cc)
-get_more (z ∷ xs) ys zero x is = is
-get_more (z ∷ xs) ys (suc k) x is = get_more xs ys k x is
-
 pub sent_of : (delay : ℕ → ℕ) (sends : List ℕ) (round due : ℕ) → due_of delay sends round ≡ Some due
     → (at : ℕ) × (slice_get sends round ≡ Some at) × (due ≡ at + delay round)
 sent_of delay sends round due is = parts (slice_get sends round) refl is
@@ -42,7 +37,7 @@ pub due_more : (delay : ℕ → ℕ) (sends more : List ℕ) (round due : ℕ) �
     → due_of delay (sends ++ more) round ≡ Some due
 due_more delay sends more round due is =
     let of = sent_of delay sends round due is in
-    ap (option_map (λ at. at + delay round)) (get_more sends more round of.0 of.1) ∙ ap Some (sym of.2)
+    ap (option_map (λ at. at + delay round)) (slice_get-append_left sends more round of.0 of.1) ∙ ap Some (sym of.2)
 
 sent_if_due : (delay : ℕ → ℕ) (sends : List ℕ) (round due : ℕ) → due_of delay sends round ≡ Some due
     → round < length sends
@@ -175,7 +170,7 @@ goes_start delay v at timed going most full = record {
           due = old.due;
           at = old.at;
           due_is = old.due_is;
-          at_is = get_more v.starts (at ∷ []) (round + 1) old.at old.at_is;
+          at_is = slice_get-append_left v.starts (at ∷ []) (round + 1) old.at old.at_is;
           before = old.before;
         }
     | inr now ↦

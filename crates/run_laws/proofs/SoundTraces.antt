@@ -11,6 +11,7 @@ use Rattle.std.proofs.lemmas.List.Elements.{All-nil, All-cons, All-head}
 use Rattle.std.proofs.lemmas.List.Sums.{fold-append, prefix_len-le-length}
 use Rattle.std.proofs.lemmas.Option.{same_Some}
 use Rattle.std.proofs.lemmas.Slice.Eq.{bytes_eq-Decides}
+use Rattle.list_lemmas.proofs.Options.{none_unless_some}
 use Rattle.pals_base.specs.StepSequences.{upwards}
 use Rattle.pals_base.proofs.UpwardNumbers.{length-upwards}
 use Rattle.pals_model.specs.declared.design.DesignParts.{DesignParts}
@@ -215,10 +216,6 @@ end_parts false true same none = absurd (cc)
 end_parts false false true none = (refl, refl, refl)
 end_parts false false false none = absurd (cc)
 
-none_owed : (o : Option JournalEntry) → is_some o ≡ false → o ≡ None
-none_owed None is = refl
-none_owed (Some e) is = absurd (true≢false is)
-
 over_by : (o : Option Stop) (all : Bool) → (is_none o && not all) ≡ false → (o ≢ None) ⊎ (all ≡ true)
 over_by None true over = inr refl
 over_by None false over = absurd (true≢false over)
@@ -268,7 +265,7 @@ ends run rows index front a rounds why up sound =
     let parts = wrong_by index (end_broken run rows a) (Sound rows a.bus.stop) rounds why sound in
     let all = list_all (λ (n : NodeState). is_done n.phase) a.bus.nodes in
     let kept = end_parts (is_some a.owed) (is_none a.bus.stop && not all) (nat_eq rows finished) parts.0 in
-    let none = none_owed a.owed kept.0 in
+    let none = none_unless_some a.owed kept.0 in
     let same = sound_rounds rows rounds a.bus.stop why parts.1 in
     record {
       journal = [];

@@ -11,7 +11,7 @@ use Rattle.std.proofs.lemmas.Bool.{cases_eq, cases_lt, ltb-true, ltb-false, leb-
 use Rattle.std.proofs.lemmas.Grind.{common_steps, flat_map-append, get_or-set_at}
 use Rattle.std.proofs.lemmas.List.{append-nil, get_or-set_other}
 use Rattle.std.proofs.lemmas.Option.{same_Some, slice_get_past, get_or_from_slice_get, slice_get-get_or}
-use Rattle.list_lemmas.proofs.Options.{some_by_test}
+use Rattle.list_lemmas.proofs.Options.{some_by_test, none_unless_some}
 use Rattle.pals_base.specs.declared.values.NodeNo.{NodeNo}
 use Rattle.pals_base.specs.declared.values.LinkNo.{LinkNo}
 use Rattle.pals_base.specs.declared.values.PortValue.{PortValue}
@@ -101,10 +101,6 @@ not_due due at d is same =
           (sym here ∙ (let yes' : nat_le d at ≡ true = grind (arith, common_steps) in yes')))
     ]
 
-none_copy : (o : Option FlightCopy) → is_some o ≡ false → o ≡ None
-none_copy None is = refl
-none_copy (Some copy) is = absurd (false≢true (sym is))
-
 -- what is known where a start misses a link's message
 record Missing (run : Run) (clocks : Clocks) (journal : List JournalEntry) (s : BusState) (number : ℕ) (l : Link)
     (round at : ℕ) : Type 0 where
@@ -145,7 +141,7 @@ cause_by run clocks journal s number l round at true true going timed size missi
     )
 cause_by run clocks journal s number l round at true false going timed size missing is_sent flying =
     let sent' = ltb-true round (sent_rounds (node_at s l.source.0)) is_sent in
-    let none = none_flying round (flight_at s number) (none_copy (oldest round (flight_at s number)) flying) in
+    let none = none_flying round (flight_at s number) (none_unless_some (oldest round (flight_at s number)) flying) in
     not_lost round (node_at s l.target.0).count (copies round (flight_at s number))
     (slot_at (node_at s l.target.0) l.in_port) _ (ap (early_on number) going) none missing.next missing.empty
     (timed.places round (omega arith))

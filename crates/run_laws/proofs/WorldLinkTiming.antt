@@ -6,6 +6,7 @@ use Rattle.std.specs.Prelude.{nat_lt, nat_le, ◌&&◌, is_some, is_none, if◌t
 use Rattle.std.proofs.lemmas.Bool.{and_parts, and_from, eq-eqb, ltb-true, lt-ltb, le-ltb, lt-leb, cases_lt, false≢true}
 use Rattle.std.proofs.lemmas.Bool.{false_from_ne_true}
 use Rattle.std.proofs.lemmas.Option.{slice_get-get_or}
+use Rattle.list_lemmas.proofs.Options.{none_unless_some}
 use Rattle.bus_machine.proofs.QuantitiesAndSentRounds.{sent_most}
 use Rattle.pals_base.specs.declared.values.PortValue.{PortValue}
 use Rattle.pals_base.specs.PeriodBound.{alarm}
@@ -104,10 +105,6 @@ not_waiting count slot round last apart =
     (λ full. false≢true (sym apart
     ∙ and_from (nat_eq count (round + 1)) (is_some slot) (eq-eqb count (round + 1) (omega arith)) full))
 
-none_of : (slot : Option (List PortValue)) → is_some slot ≡ false → slot ≡ None
-none_of None is = refl
-none_of (Some tuple) is = absurd (false≢true (sym is))
-
 module _ (run : Run) (w : World) (rules : IsRunOf run) (keeps : KeepsTime run w) where
   -- ---- an arrival
   pub record ComesInTime (number round : ℕ) : Type 0 where
@@ -156,7 +153,7 @@ module _ (run : Run) (w : World) (rules : IsRunOf run) (keeps : KeepsTime run w)
       record {
         last = last;
         empty =
-            none_of (slot_at n link.in_port) (not_waiting n.count (slot_at n link.in_port) round last u.apart);
+            none_unless_some (slot_at n link.in_port) (not_waiting n.count (slot_at n link.in_port) round last u.apart);
       }
 
   -- so it is kept

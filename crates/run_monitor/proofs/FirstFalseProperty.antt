@@ -7,6 +7,7 @@ use Rattle.std.specs.Option.{option_map, option_or}
 use Rattle.std.proofs.lemmas.Bool.{or_from, or_left, or_right, false≢true}
 use Rattle.std.proofs.lemmas.Iterator.Adapters.{position_from-zero}
 use Rattle.list_lemmas.proofs.ElementPositions.{slice_get-map_some}
+use Rattle.list_lemmas.proofs.Options.{option_or-none}
 use Rattle.pals_base.specs.declared.values.Frame.{Frame}
 use Rattle.pals_base.specs.StepSequences.{upwards}
 use Rattle.pals_base.proofs.UpwardNumbers.{upwards-more}
@@ -215,10 +216,6 @@ or_assoc : (a b c : Option FalseProperty) → option_or a (option_or b c) ≡ op
 or_assoc None b c = refl
 or_assoc (Some v) b c = refl
 
-or_none : (a : Option FalseProperty) → option_or a None ≡ a
-or_none None = refl
-or_none (Some v) = refl
-
 violation-append : (fs : List Formula) (h : List (List Frame)) (xs ys : List ℕ)
     → violation_in fs h (xs ++ ys) ≡ option_or (violation_in fs h xs) (violation_in fs h ys)
 violation-append fs h [] ys = refl
@@ -237,4 +234,4 @@ violation-more fs h row =
     (upwards-more 0 (length h) ∙ ap (λ k. upwards 0 (length h) ++ k ∷ []) (zero-add (length h)))
     ∙ violation-append fs longer (upwards 0 (length h)) (length h ∷ [])
     ∙ ap₂ option_or (violations-stay fs h (row ∷ []) 0 (length h) (omega arith))
-    (or_none (violation_at fs longer (length h)))
+    (option_or-none (violation_at fs longer (length h)))

@@ -7,6 +7,7 @@ use Rattle.std.proofs.Math.Nat.{mul-le-mul_left, mul_comm}
 use Rattle.std.proofs.lemmas.Bool.{cases_lt}
 use Rattle.std.proofs.lemmas.List.{length-set, take_more}
 use Rattle.std.proofs.lemmas.Option.{slice_get-get_or, get_or_from_slice_get}
+use Rattle.list_lemmas.proofs.ListOperations.{map-map}
 use Rattle.step_code.specs.declared.instr.Instr.{Instr}
 use Rattle.step_code.specs.declared.instr.CodeParts.{CodeParts}
 use Rattle.step_code.specs.declared.loops.LoopSpan.{LoopSpan}
@@ -127,10 +128,6 @@ map-append f (x ∷ xs) ys = ap (λ l. f x ∷ l) (map-append f xs ys)
 pub greatest_both : (f : ℕ → ℕ) (xs ys : List ℕ)
     → greatest (map f (xs ++ ys)) ≡ max (greatest (map f xs)) (greatest (map f ys))
 greatest_both f xs ys = ap greatest (map-append f xs ys) ∙ greatest-append (map f xs) (map f ys)
-
-map-map : (f g : ℕ → ℕ) (xs : List ℕ) → map f (map g xs) ≡ map (λ x. f (g x)) xs
-map-map f g [] = refl
-map-map f g (x ∷ xs) = ap (λ l. f (g x) ∷ l) (map-map f g xs)
 
 pub best_here : (c : CodeParts) (p : ℕ) (i : Instr) (best : List ℕ) (d : ℕ) → IsVerified c
     → slice_get c.instrs p ≡ Some i → p < length c.instrs → AreBest c.instrs (p + 1) best

@@ -50,12 +50,6 @@ pub find_least : (f : ℕ → Bool) (n s t : ℕ) → find f (upwards 0 n) ≡ S
 find_least f n s t found below = least_from f 0 n s found t (omega arith) below
 
 -- ---- elements and beginnings
-pub get_take : (n : ℕ) (xs : List ℕ) (k : ℕ) → k < n → slice_get (take n xs) k ≡ slice_get xs k
-get_take zero xs k below = absurd (omega arith)
-get_take (suc n) [] k below = refl
-get_take (suc n) (x ∷ xs) zero below = refl
-get_take (suc n) (x ∷ xs) (suc k) below = get_take n xs k (omega arith)
-
 pub take_next : (k : ℕ) (xs : List ℕ) → take (suc k) xs ≡ take k xs ++ option_to_list (slice_get xs k)
 take_next zero [] = refl
 take_next zero (x ∷ xs) = refl

@@ -7,7 +7,7 @@ use Rattle.std.proofs.lemmas.Bool.{eqb-true, eq-eqb, and_parts, cases_lt, cases_
 use Rattle.std.proofs.lemmas.List.{take_all, take-append-le, length-append}
 use Rattle.std.proofs.lemmas.List.Folds.{Any-from_list_any, list_any_at}
 use Rattle.std.proofs.lemmas.Option.{slice_get_within}
-use Rattle.list_lemmas.proofs.ElementPositions.{slice_get-push}
+use Rattle.list_lemmas.proofs.ElementPositions.{slice_get-push, slice_get-take}
 use Rattle.pals_base.specs.declared.behaviour.BehaviourParts.{BehaviourParts}
 use Rattle.pals_base.specs.BehaviourRules.{IsBehaviour}
 use Rattle.pals_base.specs.PlainTrees.{Edge}
@@ -17,8 +17,7 @@ use Rattle.step_compiler.specs.LaidOutCode.{complete_states, MayFollow, IsNext, 
 use Rattle.step_compiler.proofs.NumbersFromZero.{found_is}
 use Rattle.step_compiler.proofs.BlockOrderCompleteness.{order_full}
 use Rattle.step_compiler.specs.proof.LayoutLaws.{OrderIsOne}
-use Rattle.step_compiler.proofs.BlockOrderMembers.{placed_contains, contains_placed, find_least, get_take, take_next}
-use Rattle.step_compiler.proofs.BlockOrderMembers.{get_front}
+use Rattle.step_compiler.proofs.BlockOrderMembers.{placed_contains, contains_placed, find_least, take_next, get_front}
 
 -- ---- what may follow
 
@@ -182,8 +181,9 @@ module _ (b : BehaviourParts) (o p : List ℕ) (is_o : IsBlockOrder b o) (is_p :
   same_get : (k : ℕ) → take k o ≡ take k p → slice_get o k ≡ slice_get p k
   same_get k same =
       elim (cases_lt k completes) [
-        | inl below ↦ sym (get_take completes o k below) ∙ ap (λ xs. slice_get xs k) (is_o.complete ∙ sym is_p.complete)
-            ∙ get_take completes p k below
+        | inl below ↦ sym (slice_get-take completes o k below)
+            ∙ ap (λ xs. slice_get xs k) (is_o.complete ∙ sym is_p.complete)
+            ∙ slice_get-take completes p k below
         | inr past ↦ same_by k past same (slice_get o k) (slice_get p k) refl refl
       ]
 

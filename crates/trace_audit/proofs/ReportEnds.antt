@@ -4,7 +4,8 @@ use Rattle.std.proofs.Common.{length, take, drop, get_or, Option, Some, None, re
 use Rattle.std.specs.Prelude.{bytes_eq, is_some, position}
 use Rattle.std.specs.List.{enumerate_from, position_from}
 use Rattle.std.proofs.lemmas.Iterator.Adapters.{position_from-zero}
-use Rattle.std.proofs.lemmas.List.{drop_all, drop_more, length-take-le}
+use Rattle.std.proofs.lemmas.List.{drop_all, length-take-le}
+use Rattle.list_lemmas.proofs.ListOperations.{drop-next}
 use Rattle.pals_model.specs.declared.design.DesignParts.{DesignParts}
 use Rattle.pals_model.specs.declared.inputs_parts_and_delays.Env.{Env}
 use Rattle.run_laws.specs.LineForms.{form_of}
@@ -137,10 +138,6 @@ report_ends design env lines end is =
     (ends_by design env lines (position (other design env) numbered) refl)
 
 -- ---- a line of it
-at_line : (lines : List (List ℕ)) (index : ℕ) (line : List ℕ) → index < length lines → line ≡ get_or lines index line
-    → drop index lines ≡ line ∷ drop (index + 1) lines
-at_line lines index line within is = drop_more lines index line within ∙ ap (λ l. l ∷ drop (index + 1) lines) (sym is)
-
 whether : DesignParts → Env → ℕ → List ℕ → List (List ℕ) → Bool → Bool → ReportEnd
 whether design env index line lines form same =
     cond form (end_at index (row_size design))
@@ -152,7 +149,7 @@ line_reported : (design : DesignParts) (env : Env) (lines : List (List ℕ)) (in
     → reported design env index (drop index lines) ≡ whether design env index line lines form same
 unfolding whether
 line_reported design env lines index line form same within is form_is same_is =
-    ap (reported design env index) (at_line lines index line within is)
+    ap (reported design env index) (drop-next lines index line within is)
     ∙ ap₂ (whether design env index line lines) form_is same_is
 
 pub at_form : (design : DesignParts) (env : Env) (lines : List (List ℕ)) (index : ℕ) (line : List ℕ)

@@ -7,6 +7,7 @@ use Rattle.std.proofs.lemmas.Bool.{ne_eqb}
 use Rattle.std.proofs.lemmas.Iterator.Adapters.{position_from-zero}
 use Rattle.std.proofs.lemmas.List.{drop-drop, length-drop}
 use Rattle.std.proofs.lemmas.List.Elements.{All-head, All-tail}
+use Rattle.list_lemmas.proofs.ListOperations.{take-append_front}
 use Rattle.pals_model.specs.proof.CompositionLaws.Lines.{IsLine}
 use Rattle.pals_model.specs.RoundTexts.{is_line_feed, text_of}
 
@@ -25,10 +26,6 @@ feed_at text line rest is same =
     ap (position is_line_feed) same ∙ position_from-zero is_line_feed (line ++ 10 ∷ rest) ∙ feed_from 0 line rest is
     ∙ ap Some (omega arith)
 
-taken : (line rest : List ℕ) → take (length line) (line ++ rest) ≡ line
-taken [] rest = refl
-taken (b ∷ line) rest = ap (λ bs. b ∷ bs) (taken line rest)
-
 left : (line rest : List ℕ) → drop (suc (length line)) (line ++ 10 ∷ rest) ≡ rest
 left [] rest = refl
 left (b ∷ line) rest = left line rest
@@ -40,7 +37,8 @@ first_of text shown lines is = is ∙ append_assoc shown (10 ∷ []) (text_of li
 
 pub start_is : (text line shown rest : List ℕ) (n : ℕ) → text ≡ shown ++ 10 ∷ rest → n ≡ length shown
     → bytes_eq line (take n text) ≡ bytes_eq line shown
-start_is text line shown rest n is here = ap (bytes_eq line) (ap₂ (λ k t. take k t) here is ∙ taken shown (10 ∷ rest))
+start_is text line shown rest n is here =
+    ap (bytes_eq line) (ap₂ (λ k t. take k t) here is ∙ take-append_front shown (10 ∷ rest))
 
 -- the place behind the first line that is left
 pub next_place : (text shown rest : List ℕ) (place n next : ℕ) → place ≤ length text

@@ -4,7 +4,7 @@ use Rattle.std.proofs.Common.{find, slice_get, slice_index_or, Some, refl, sym, 
 use Rattle.std.proofs.lemmas.Bool.{lt-ltb}
 use Rattle.std.proofs.lemmas.List.{length-map, ext_get_or}
 use Rattle.std.proofs.lemmas.Option.{slice_get_within, slice_get_cases, get_or_from_slice_get}
-use Rattle.list_lemmas.proofs.ElementPositions.{slice_get-map_some}
+use Rattle.list_lemmas.proofs.ElementPositions.{slice_get-map_some, get_or-map_some}
 use Rattle.pals_base.specs.declared.values.PortValue.{PortValue}
 use Rattle.pals_base.specs.declared.values.Frame.{Frame}
 use Rattle.pals_base.specs.PeriodBound.{sent_steps}
@@ -69,13 +69,6 @@ at_most_three false replica below = omega (arith, below)
 pub within_three : (replicated : List Bool) (node replica : ℕ) → replica < copies_of replicated node → replica < 3
 within_three replicated node replica below = at_most_three (is_replicated replicated node) replica below
 
--- an element of one of the lists of layers
-of_layer : {X : Type 0} (field : Layer → List X) (layers : List Layer) (replica : ℕ) (layer : Layer)
-    → slice_get layers replica ≡ Some layer
-    → slice_index_or (map field layers) replica [] ≡ field layer
-of_layer field layers replica layer is =
-    get_or_from_slice_get (map field layers) replica (field layer) [] (slice_get-map_some field layers replica layer is)
-
 module _ (design : DesignParts) (replicated : List Bool) (values : List PortValue)
     (heard : List (List (List PortValue))) (layers : List Layer)
     (rules : IsDesign design) (three : length layers ≡ 3) (are : HaveReplicas design replicated (there_in layers))
@@ -101,7 +94,8 @@ module _ (design : DesignParts) (replicated : List Bool) (values : List PortValu
   present : (node replica : ℕ) (at : HasLayer replica) → node < length design.components
       → replica < copies_of replicated node → is_there at.layer.there node ≡ true
   present node replica at within below =
-      ap (λ there. is_there there node) (sym (of_layer (λ (l : Layer). l.there) layers replica at.layer at.is))
+      ap (λ there. is_there there node)
+      (sym (get_or-map_some (λ (l : Layer). l.there) layers replica at.layer [] at.is))
       ∙ are replica node (within_three replicated node replica below) within
       ∙ lt-ltb replica (copies_of replicated node) below
 
@@ -128,7 +122,7 @@ module _ (design : DesignParts) (replicated : List Bool) (values : List PortValu
       → frame_of (parts_in layers) replica node ≡ slice_index_or (frames_of at.layer.parts) node no_frame
   own_frame node replica at =
       ap (λ parts. slice_index_or (frames_of parts) node no_frame)
-      (of_layer (λ (l : Layer). l.parts) layers replica at.layer at.is)
+      (get_or-map_some (λ (l : Layer). l.parts) layers replica at.layer [] at.is)
 
   layer_frame : (node replica : ℕ) (c : Component) (at : HasLayer replica) → (layer_steps node c replica).frame
       ≡ frame_made design values (heard_of replica) (frames_of at.layer.parts) node c
@@ -165,7 +159,7 @@ module _ (design : DesignParts) (replicated : List Bool) (values : List PortValu
       let at = has_layer replica (within_three replicated node replica below) in
       let layer_made = made replica at.layer at.is in
       ap (λ parts. slice_index_or (frames_of parts) node no_frame)
-      (of_layer (λ (l : Layer). l.next) layers replica at.layer at.is)
+      (get_or-map_some (λ (l : Layer). l.next) layers replica at.layer [] at.is)
       ∙ get_or_from_slice_get (frames_of at.layer.next) node _ no_frame
       (layer_made.frames node c found.1 (present node replica at within below))
       ∙ sym (ap (λ (s : Stepped). s.frame) (same_steps node replica c found.1 below) ∙ layer_frame node replica c at)
@@ -181,7 +175,8 @@ module _ (design : DesignParts) (replicated : List Bool) (values : List PortValu
       let at = has_layer replica (within_three replicated link.source.0 replica below) in
       let layer_made = made replica at.layer at.is in
       let rows = rows_made design values (heard_of replica) (frames_of at.layer.parts) link.source.0 c in
-      ap (λ tuples. slice_index_or tuples l []) (of_layer (λ (x : Layer). x.sent) layers replica at.layer at.is)
+      ap (λ tuples. slice_index_or tuples l [])
+      (get_or-map_some (λ (x : Layer). x.sent) layers replica at.layer [] at.is)
       ∙ get_or_from_slice_get at.layer.sent l _ []
       (layer_made.sent l link c is found.1 (present link.source.0 replica at kept.source.node_is below))
       ∙ ap (cut (sent_steps design.gamma design.period c.rate))
@@ -215,7 +210,8 @@ module _ (design : DesignParts) (replicated : List Bool) (values : List PortValu
       let c : Component = found.0 in
       let at = has_layer replica (within_three replicated tap.source.0 replica below) in
       let layer_made = made replica at.layer at.is in
-      ap (λ tuples. slice_index_or tuples n []) (of_layer (λ (x : Layer). x.shown) layers replica at.layer at.is)
+      ap (λ tuples. slice_index_or tuples n [])
+      (get_or-map_some (λ (x : Layer). x.shown) layers replica at.layer [] at.is)
       ∙ get_or_from_slice_get at.layer.shown n _ []
       (layer_made.shown n tap c is found.1 (present tap.source.0 replica at kept.source.node_is below))
       ∙ sym (layer_tuple tap.source.0 tap.out_port replica c at found.1 below
@@ -249,7 +245,8 @@ module _ (design : DesignParts) (replicated : List Bool) (values : List PortValu
       let kept = at_element (IsLink design) design.links l link rules.links.each is in
       let at = has_layer target (within_three replicated link.target.0 target below) in
       let here =
-      ap (λ there. is_there there link.target.0) (of_layer (λ (x : Layer). x.there) layers target at.layer at.is)
+      ap (λ there. is_there there link.target.0)
+      (get_or-map_some (λ (x : Layer). x.there) layers target at.layer [] at.is)
       ∙ present link.target.0 target at kept.target.node_is below in
       get_or_from_slice_get (slice_index_or next target []) l _ []
       (received target (within_three replicated link.target.0 target below) l link is here)

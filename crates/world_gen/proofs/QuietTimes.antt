@@ -1,8 +1,9 @@
 -- At a quiet time, nothing of a schedule happens to any node or link.
-use Rattle.std.proofs.Common.{◌≡◌, ◌≢◌, inl, inr, ℕ, zero, suc, ◌+◌, ◌<◌, ◌≤◌, nat_eq, Bool, true, false, List, [], ◌∷◌}
+use Rattle.std.proofs.Common.{◌≡◌, ◌≢◌, inl, inr, ℕ, zero, suc, ◌+◌, ◌<◌, ◌≤◌, nat_eq, Bool, true, false, List, []}
 use Rattle.std.proofs.Common.{◌++◌, length, Option, Some, None, refl, sym, subst, arith}
 use Rattle.std.specs.Prelude.{flat_map, if◌then◌else◌}
 use Rattle.std.proofs.lemmas.Bool.{cases_eq}
+use Rattle.list_lemmas.proofs.ListOperations.{append_is_nil}
 use Rattle.bus_machine.proofs.QuantitiesAndSentRounds.{sent_most}
 use Rattle.pals_base.specs.StepSequences.{upwards}
 use Rattle.pals_model.specs.declared.design.DesignParts.{DesignParts}
@@ -26,10 +27,6 @@ use Rattle.world_gen.proofs.WorldsOnSchedule.{begun_by, ended_by, NodeFollows, L
 use Rattle.world_gen.proofs.WorldsOnSchedule.{bump_left, bump_other}
 
 -- ---- nothing comes at a time
-nil_parts : (xs ys : List Event) → xs ++ ys ≡ [] → (xs ≡ []) × (ys ≡ [])
-nil_parts [] ys none = (refl, none)
-nil_parts (x ∷ xs) ys none = absurd (cc)
-
 none_of : (o : Option ℕ) (e : ℕ → Event) → event_of o e ≡ [] → o ≡ None
 none_of None e none = refl
 none_of (Some number) e none = absurd (cc)
@@ -38,7 +35,7 @@ nothing_from : (f : ℕ → List Event) (from n j : ℕ) → flat_map f (upwards
     → j < from + n → f j ≡ []
 nothing_from f from zero j none above below = absurd (omega arith)
 nothing_from f from (suc n) j none above below =
-    let parts = nil_parts (f from) (flat_map f (upwards (suc from) n)) none in
+    let parts = append_is_nil (f from) (flat_map f (upwards (suc from) n)) none in
     elim (cases_eq from j) [
       | inl same ↦ subst (λ i. f i ≡ []) same parts.0
       | inr other ↦ nothing_from f (suc from) n j parts.1 (omega arith) (omega arith)
@@ -67,10 +64,10 @@ is_quiet design rounds time none =
     let late = present_finishes design rounds time in
     let sends = all_of count (sends_at design rounds time) in
     let arrivals = all_of (length design.links) (arrivals_at design rounds time) in
-    let one = nil_parts early (starts ++ (late ++ (sends ++ arrivals))) none in
-    let two = nil_parts starts (late ++ (sends ++ arrivals)) one.1 in
-    let three = nil_parts late (sends ++ arrivals) two.1 in
-    let four = nil_parts sends arrivals three.1 in
+    let one = append_is_nil early (starts ++ (late ++ (sends ++ arrivals))) none in
+    let two = append_is_nil starts (late ++ (sends ++ arrivals)) one.1 in
+    let three = append_is_nil late (sends ++ arrivals) two.1 in
+    let four = append_is_nil sends arrivals three.1 in
     let ends = finishes_none (nat_eq design.gamma.alpha_min 0) (finishes design rounds time) one.0 three.0 in
     record {
       starts =

@@ -1,4 +1,5 @@
 use Rattle.std.proofs.Common.{◌∷◌, ◌++◌, refl, append_assoc, arith}
+use Rattle.list_lemmas.proofs.Results.{OnOk-same}
 use Rattle.aadl_tree.specs.declared.mark.Mark.TheVariants as k
 use Rattle.aadl_tree.specs.declared.actions.Elsif.{Elsif}
 use Rattle.aadl_tree.specs.SpellingParts.{plain}
@@ -8,7 +9,7 @@ use Rattle.aadl_tree.specs.proof.ActionViews.{action_view, actions_view, mores_v
 use Rattle.aadl_tree.specs.proof.PlaceMaps.{no_place}
 use Rattle.aadl_tree.proofs.ActionViews.{view-out-choice, view-out-loop}
 use Rattle.aadl_tree.proofs.FieldViews.{view-out-actions, view-out-block}
-use Rattle.aadl_print.proofs.PrintedParts.{printed_append, next_written, last_written, closed}
+use Rattle.aadl_print.proofs.PrintedParts.{printed_append, next_written, last_written}
 use Rattle.aadl_print.proofs.actions.+action.Goals as goal
 use Rattle.aadl_print.proofs.actions.+action.Goals.{print_block-in-Some+in_ok-print_actions, print_block-in_default}
 use Rattle.aadl_print.proofs.actions.+action.Goals.{print_choice-in-Some+in_ok-mark-3+in_ok-print_actions-3}
@@ -33,7 +34,7 @@ print_actions-returns t c =
 pub print_loop-returns : goal.print_loop-returns
 print_loop-returns t c =
     let view = view-out-loop no_place c.args.turns.now in
-    closed c.print_block.result c.print_block.new.printer _ _
+    OnOk-same c.print_block.result c.print_block.new.printer _ _
     (rw view (grind (
       arith,
       printed_append,
@@ -53,7 +54,7 @@ print_loop-returns t c =
 pub print_block-returns : goal.print_block-returns
 print_block-returns t c =
     let view = view-out-block no_place c.args.block.now in
-    closed c.mark-2.result c.mark-2.new.self _ _
+    OnOk-same c.mark-2.result c.mark-2.new.self _ _
     (elim c.match-block.branch [
       | print_block-in-Some+in_ok-print_actions w ↦
           (let some = w.in-Some.is in
@@ -77,7 +78,7 @@ print_choice-returns t c =
     last_written (λ xs. elsifs_parts (elsifs_view no_place xs)) _ _ _ _ c.loop-elsif-test.false refl
     c.loop-elsif.invariant in
     let view = view-out-choice no_place c.args.choice.now in
-    closed c.mark-3.result c.mark-3.new.self _ _
+    OnOk-same c.mark-3.result c.mark-3.new.self _ _
     (elim c.match-choice.branch [
       | print_choice-in-Some+in_ok-mark-3+in_ok-print_actions-3 w ↦ (let some = w.in-Some.is in
           rw (view, printed_append, printed_append, printed_append, printed_append, some)

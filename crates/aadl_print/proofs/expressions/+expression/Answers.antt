@@ -1,4 +1,5 @@
 use Rattle.std.proofs.Common.{◌∙◌, ◌∷◌, ◌++◌, refl, ap, append_assoc}
+use Rattle.list_lemmas.proofs.Results.{OnOk-same}
 use Rattle.aadl_tree.specs.declared.expressions.Sign.{Sign}
 use Rattle.aadl_tree.specs.declared.expressions.LogicOperator.{LogicOperator}
 use Rattle.aadl_tree.specs.declared.expressions.MultiplyOperator.{MultiplyOperator}
@@ -14,7 +15,7 @@ use Rattle.aadl_tree.specs.proof.ExpressionViews.{relation_view, relations_view}
 use Rattle.aadl_tree.specs.proof.PlaceMaps.{no_place}
 use Rattle.aadl_tree.proofs.ExpressionViews.{view-Group, view-out-sum, view-out-relation, view-out-expression}
 use Rattle.aadl_tree.proofs.FieldViews.{view-out-term}
-use Rattle.aadl_print.proofs.PrintedParts.{printed_append, next_written, last_written, closed}
+use Rattle.aadl_print.proofs.PrintedParts.{printed_append, next_written, last_written}
 use Rattle.aadl_print.proofs.expressions.+expression.Goals as goal
 
 pub print_expression-loop-operator-preserved : goal.print_expression-loop-operator-preserved
@@ -69,7 +70,7 @@ print_term-returns t c =
 pub print_primary-returns-in_ok-print_expression-in-Group : goal.print_primary-returns-in_ok-print_expression-in-Group
 print_primary-returns-in_ok-print_expression-in-Group t c =
     let view = ap (primary_view no_place) c.in-Group.is ∙ view-Group no_place c.in-Group.at c.in-Group.inner in
-    closed c.mark-in-Group-2.result c.mark-in-Group-2.new.self _ _
+    OnOk-same c.mark-in-Group-2.result c.mark-in-Group-2.new.self _ _
     (rw (view, printed_append)
     (cc (c.in_ok-mark-in-Group.ensures, c.in_ok-print_expression-in-Group.ensures, c.deref.ensures)))
     c.mark-in-Group-2.ensures

@@ -1,18 +1,19 @@
 use Rattle.std.proofs.Common.{◌∙◌, ◌∷◌, refl, ap, arith}
+use Rattle.list_lemmas.proofs.Results.{OnOk-same}
 use Rattle.aadl_tree.specs.Values.{association_parts, associations_parts, value_parts, more_values_parts}
 use Rattle.aadl_tree.specs.proof.ValueViews.{value_view, association_view, associations_view, values_view}
 use Rattle.aadl_tree.specs.proof.PlaceMaps.{no_place}
 use Rattle.aadl_tree.specs.SpellingParts.{plain}
 use Rattle.aadl_tree.specs.declared.mark.Mark.TheVariants as k
 use Rattle.aadl_tree.proofs.ValueViews.{view-List, view-Record, view-Reference, view-Classifier}
-use Rattle.aadl_tree.proofs.FieldViews.{view-out-association}
-use Rattle.aadl_print.proofs.PrintedParts.{printed_append, next_written, last_written, closed, parted}
+use Rattle.aadl_tree.proofs.FieldViews.{view_out_association}
+use Rattle.aadl_print.proofs.PrintedParts.{printed_append, next_written, last_written, parted}
 use Rattle.aadl_print.proofs.values.+value.Goals as goal
 
 pub print_value-returns-in_ok-print_values-in-List : goal.print_value-returns-in_ok-print_values-in-List
 print_value-returns-in_ok-print_values-in-List t c =
     let view = ap (value_view no_place) c.in-List.is ∙ view-List no_place c.in-List.values in
-    closed c.mark-in-List.result c.mark-in-List.new.self _ _
+    OnOk-same c.mark-in-List.result c.mark-in-List.new.self _ _
     (rw (view, printed_append)
     (cc (c.in_ok-mark-in-List.ensures, c.in_ok-print_values-in-List.ensures, c.deref.ensures.value)))
     c.mark-in-List.ensures
@@ -20,7 +21,7 @@ print_value-returns-in_ok-print_values-in-List t c =
 pub print_value-returns-in_ok-print_associations-in-Record : goal.print_value-returns-in_ok-print_associations-in-Record
 print_value-returns-in_ok-print_associations-in-Record t c =
     let view = ap (value_view no_place) c.in-Record.is ∙ view-Record no_place c.in-Record.associations in
-    closed c.mark-in-Record-2.result c.mark-in-Record-2.new.self _ _
+    OnOk-same c.mark-in-Record-2.result c.mark-in-Record-2.new.self _ _
     (rw (view, printed_append)
     (cc (
       c.in_ok-mark-in-Record.ensures,
@@ -31,7 +32,7 @@ print_value-returns-in_ok-print_associations-in-Record t c =
 pub print_value-returns-in_ok-print-in-Reference : goal.print_value-returns-in_ok-print-in-Reference
 print_value-returns-in_ok-print-in-Reference t c =
     let view = ap (value_view no_place) c.in-Reference.is ∙ view-Reference no_place c.in-Reference.path in
-    closed c.mark-in-Reference-3.result c.mark-in-Reference-3.new.self _ _
+    OnOk-same c.mark-in-Reference-3.result c.mark-in-Reference-3.new.self _ _
     (rw (view, printed_append)
     (cc (
       c.in_ok-mark-in-Reference.ensures,
@@ -42,7 +43,7 @@ print_value-returns-in_ok-print-in-Reference t c =
 pub print_value-returns-in_ok-print-in-Classifier : goal.print_value-returns-in_ok-print-in-Classifier
 print_value-returns-in_ok-print-in-Classifier t c =
     let view = ap (value_view no_place) c.in-Classifier.is ∙ view-Classifier no_place c.in-Classifier.reference in
-    closed c.mark-in-Classifier-3.result c.mark-in-Classifier-3.new.self _ _
+    OnOk-same c.mark-in-Classifier-3.result c.mark-in-Classifier-3.new.self _ _
     (rw (view, printed_append)
     (cc (
       c.in_ok-mark-in-Classifier.ensures,
@@ -73,8 +74,8 @@ print_values-returns t c =
 
 pub print_association-returns : goal.print_association-returns
 print_association-returns t c =
-    let view = view-out-association no_place c.args.association.now in
-    closed c.mark-2.result c.mark-2.new.self _ _
+    let view = view_out_association no_place c.args.association.now in
+    OnOk-same c.mark-2.result c.mark-2.new.self _ _
     (rw view (grind (
       arith,
       printed_append,

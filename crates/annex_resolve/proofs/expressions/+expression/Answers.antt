@@ -2,6 +2,7 @@ use Rattle.std.proofs.Common.{◌≡◌, sym, ap, ◌∙◌, not, length, None, 
 use Rattle.std.proofs.lemmas.Int.{to_z-of_z}
 use mir.Syntax.{w64}
 use mir.Val.{SFits}
+use Rattle.list_lemmas.proofs.Options.{none_unless_some}
 use Rattle.pals_base.specs.PlainTrees.{Literal}
 use Rattle.std.specs.Option.{is_some}
 use Rattle.std.proofs.lemmas.Bool.{true≢false}
@@ -11,7 +12,7 @@ use Rattle.aadl_tree.specs.proof.ExpressionViews.{primary_view, factor_view, ter
 use Rattle.aadl_tree.proofs.ExpressionViews.{view-Whole, view-Truth, view-Group, view-Abs, view-Not, view-Plain}
 use Rattle.aadl_tree.proofs.ExpressionViews.{view-out-expression, view-out-sum, view-out-relation}
 use Rattle.aadl_tree.proofs.FieldViews.{view-out-term}
-use Rattle.annex_resolve.proofs.SeveralOperands.{empty_by, some_by, none_by}
+use Rattle.annex_resolve.proofs.SeveralOperands.{empty_by, some_by}
 use Rattle.annex_resolve.proofs.ResolvedTermsAndSums.{term_alone, term_several, sum_alone, sum_several, relation_alone}
 use Rattle.annex_resolve.proofs.ResolvedExpressions.{relation_compared, expression_alone, expression_several}
 use Rattle.annex_resolve.proofs.ResolvedExpressions.{factors_none, factors_next, of_factors, terms_none, terms_next}
@@ -84,7 +85,8 @@ resolve_sum-returns-then-is_empty t c =
     let none = empty_by (out-Sum c.args.sum.now).rest c.is_empty.result c.is_empty.ensures c.if-is_empty.true in
     rw view (sum_alone c.args.scope.now (out-Sum c.args.sum.now).sign
     (term_view kept_place (out-Sum c.args.sum.now).first) (out-Sum c.args.sum.now).rest.items _ _ _
-    (none_by (out-Sum c.args.sum.now).sign (c.is_none.ensures ∙ ap not c.if-is_none.true)) none c.in_ok-first.ensures)
+    (none_unless_some (out-Sum c.args.sum.now).sign (c.is_none.ensures ∙ ap not c.if-is_none.true)) none
+    c.in_ok-first.ensures)
 
 pub resolve_sum-returns : goal.resolve_sum-returns
 resolve_sum-returns t c =

@@ -1,4 +1,5 @@
 use Rattle.std.proofs.Common.{◌++◌, refl}
+use Rattle.list_lemmas.proofs.Results.{OnOk-same}
 use Rattle.aadl_tree.specs.declared.actions.Elsif.{Elsif}
 use Rattle.aadl_tree.specs.proof.ExpressionViews.{expression_view}
 use Rattle.aadl_tree.specs.proof.ActionViews.{action_view, actions_view, mores_view, elsifs_view}
@@ -7,7 +8,7 @@ use Rattle.aadl_tree.proofs.ActionViews.{view-out-choice, view-out-loop}
 use Rattle.aadl_tree.proofs.FieldViews.{view-out-actions}
 use Rattle.aadl_names.specs.NameUsesInAnnexes.{expression_uses, action_uses, actions_uses, mores_uses, elsifs_uses}
 use Rattle.name_faults.specs.proof.BehaviourScopes.{known_by}
-use Rattle.aadl_names.proofs.FirstFaultSoFar.{found_append, next_found, last_found, closed}
+use Rattle.aadl_names.proofs.FirstFaultSoFar.{found_append, next_found, last_found}
 use Rattle.name_faults.proofs.actions_and_expressions.+actions.Goals as goal
 
 pub check_actions-loop-action-preserved : goal.check_actions-loop-action-preserved
@@ -43,7 +44,7 @@ check_choice-returns-in-Some t c =
     c.loop-elsif.invariant in
     let view = view-out-choice kept_place c.args.choice.now in
     let some = c.in-Some.is in
-    closed c.check_actions-in-Some.result c.check_actions-in-Some.new.finder _ _
+    OnOk-same c.check_actions-in-Some.result c.check_actions-in-Some.new.finder _ _
     (rw (view, some, found_append, found_append, found_append)
     (cc (
       c.in_ok-check_expression.ensures,
@@ -67,5 +68,5 @@ check_choice-returns-in-None t c =
 pub check_loop-returns : goal.check_loop-returns
 check_loop-returns t c =
     let view = view-out-loop kept_place c.args.turns.now in
-    closed c.check_block.result c.check_block.new.finder _ _
+    OnOk-same c.check_block.result c.check_block.new.finder _ _
     (rw (view, found_append) (cc (c.in_ok-check_again.ensures, c.in_ok-inner.ensures))) c.check_block.ensures

@@ -1,4 +1,5 @@
 use Rattle.std.proofs.Common.{refl, ap, ◌∙◌}
+use Rattle.list_lemmas.proofs.Results.{OnOk-same}
 use Rattle.aadl_tree.specs.declared.expressions.Sign.{Sign}
 use Rattle.aadl_tree.specs.declared.expressions.LogicOperator.{LogicOperator}
 use Rattle.aadl_tree.specs.declared.expressions.MultiplyOperator.{MultiplyOperator}
@@ -13,7 +14,7 @@ use Rattle.aadl_tree.proofs.FieldViews.{view-out-term}
 use Rattle.aadl_names.specs.NameUsesInAnnexes.{factor_uses, factors_uses, term_uses, terms_uses, relation_uses}
 use Rattle.aadl_names.specs.NameUsesInAnnexes.{relations_uses}
 use Rattle.name_faults.specs.proof.BehaviourScopes.{known_by}
-use Rattle.aadl_names.proofs.FirstFaultSoFar.{found_append, next_found, last_found, closed}
+use Rattle.aadl_names.proofs.FirstFaultSoFar.{found_append, next_found, last_found}
 use Rattle.name_faults.proofs.actions_and_expressions.+uses.Goals as goal
 
 pub check_expression-loop-operand-preserved : goal.check_expression-loop-operand-preserved
@@ -67,14 +68,14 @@ check_term-returns t c =
 pub check_primary-returns-in-Group : goal.check_primary-returns-in-Group
 check_primary-returns-in-Group t c =
     let view = ap (primary_view kept_place) c.in-Group.is ∙ view-Group kept_place c.in-Group.at c.in-Group.inner in
-    closed c.check_expression.result c.check_expression.new.finder _ _ (rw view (cc (c.deref.ensures)))
+    OnOk-same c.check_expression.result c.check_expression.new.finder _ _ (rw view (cc (c.deref.ensures)))
     c.check_expression.ensures
 
 pub check_relation-returns-in-Some : goal.check_relation-returns-in-Some
 check_relation-returns-in-Some t c =
     let view = view-out-relation kept_place c.args.relation.now in
     let right = c.in-Some.is in
-    closed c.check_sum-in-Some.result c.check_sum-in-Some.new.finder _ _
+    OnOk-same c.check_sum-in-Some.result c.check_sum-in-Some.new.finder _ _
     (rw (view, right, found_append) (cc (c.in_ok-check_sum.ensures, c.deref.ensures)))
     c.check_sum-in-Some.ensures
 

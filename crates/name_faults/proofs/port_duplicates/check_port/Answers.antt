@@ -1,10 +1,10 @@
 use Rattle.std.proofs.Common.{◌∷◌, [], Some, None, refl, sym, ap, ◌∙◌}
 use Rattle.std.proofs.lemmas.Option.{slice_get_read, slice_get_past}
+use Rattle.list_lemmas.proofs.Results.{OnOk-same}
 use Rattle.aadl_tree.specs.proof.DeclarationViews.{feature_view}
 use Rattle.aadl_tree.specs.proof.PlaceMaps.{kept_place}
 use Rattle.aadl_names.specs.declared.fault.PackageFault.TheVariants.{Twice}
 use Rattle.aadl_names.specs.proof.FirstFaultSoFar.{found}
-use Rattle.aadl_names.proofs.FirstFaultSoFar.{closed}
 use Rattle.aadl_names.specs.proof.PortDuplicates.{entry_again}
 use Rattle.name_faults.proofs.PortEntries.{entry_there}
 use Rattle.name_faults.proofs.port_duplicates.check_port.Goals as goal
@@ -13,7 +13,7 @@ pub returns-in-Some : goal.returns-in-Some
 returns-in-Some c =
     let port = c.in-Some.port.now in
     let got = c.in-Some.ensures.lookup in
-    closed c.twice.result c.twice.new.self _ _
+    OnOk-same c.twice.result c.twice.new.self _ _
     (ap (found c.args.finder.now)
     (ap (λ name. Twice name port.name.at ∷ []) c.as_str.ensures.value
     ∙ sym (ap entry_again (entry_there (feature_view kept_place) c.args.ports.now c.args.number (Some port)

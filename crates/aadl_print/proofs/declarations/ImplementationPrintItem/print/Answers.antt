@@ -1,11 +1,12 @@
 use Rattle.std.proofs.Common.{arith}
-use Rattle.aadl_print.proofs.PrintedParts.{printed_append, closed}
+use Rattle.list_lemmas.proofs.Results.{OnOk-same}
+use Rattle.aadl_print.proofs.PrintedParts.{printed_append}
 use Rattle.aadl_print.proofs.NonemptySections.{printed_section}
 use Rattle.aadl_print.proofs.declarations.ImplementationPrintItem.print.Goals as goal
 
 pub returns : goal.returns
 returns c =
-    closed c.mark-4.result c.mark-4.new.self _ _
+    OnOk-same c.mark-4.result c.mark-4.new.self _ _
     (grind (
       arith,
       printed_append,
