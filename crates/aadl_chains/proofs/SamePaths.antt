@@ -1,5 +1,5 @@
 -- The test whether two paths are the same.
-use Rattle.std.proofs.Common.{◌≡◌, ◌∙◌, ℕ, true, ◌&&◌, nat_eq, List, [], ◌∷◌, refl, ap}
+use Rattle.std.proofs.Common.{◌≡◌, ◌∙◌, ℕ, true, nat_eq, List, [], ◌∷◌, refl, ap}
 use Rattle.std.proofs.lemmas.Bool.{and_from, and_parts, eqb-true, false≢true}
 use Rattle.list_lemmas.proofs.Numbers.{nat_eq-self}
 use Rattle.aadl_chains.specs.Links.{same_path}

@@ -7,6 +7,7 @@ use Rattle.std.proofs.lemmas.Option.{same_Some}
 use Rattle.pals_base.specs.declared.values.PortValue.{PortValue}
 use Rattle.pals_base.specs.declared.values.PortValue.TheVariants.{Absent}
 use Rattle.pals_base.specs.StepSequences.{Stepped, upwards}
+use Rattle.pals_base.proofs.UpwardNumbers.{All-map_upwards}
 use Rattle.pals_model.specs.declared.design.Component.{Component}
 use Rattle.pals_model.specs.declared.design.Link.{Link}
 use Rattle.pals_model.specs.declared.design.DesignParts.{DesignParts}
@@ -31,7 +32,6 @@ use Rattle.bus_machine.specs.NodeEvents.{slot_at}
 use Rattle.bus_machine.specs.MissedStarts.{rounds_sent_on}
 use Rattle.bus_machine.specs.Agreement.{IsAtRest, IsUnderWay, PhaseAgrees, SlotAgrees, IsCopy, Agrees}
 use Rattle.kind_laws.specs.proof.BusKinds.{BusesFit}
-use Rattle.kind_laws.proofs.ElementsByIndex.{upwards_all}
 use Rattle.kind_laws.proofs.InPortKinds.{MessagesFit, vectors_fit}
 
 -- what waits on a link before a round: nothing, or the message of the round before
@@ -104,7 +104,7 @@ module _ (run : Run) (s : BusState) (rules : IsDesign run.design) (given : EnvFi
         → All (PartFits run.design node c) n.parts
     parts_of are =
         subst (All (PartFits run.design node c)) (sym are)
-        (upwards_all (PartFits run.design node c) (λ round. part run.design run.env node round) 0 (length n.parts)
+        (All-map_upwards (PartFits run.design node c) (λ round. part run.design run.env node round) 0 (length n.parts)
         (λ round above below. parts_fit run.design run.env node round c rules given is_c))
 
   -- ---- links

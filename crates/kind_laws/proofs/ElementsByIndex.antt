@@ -1,17 +1,10 @@
 -- For the laws of kinds: elements of lists, by their places.
-use Rattle.std.proofs.Common.{◌≡◌, ℕ, zero, suc, ◌+◌, ◌<◌, ◌≤◌, Bool, true, false, if◌then◌else◌, List, [], ◌∷◌, map}
+use Rattle.std.proofs.Common.{◌≡◌, ℕ, zero, suc, ◌+◌, Bool, true, false, if◌then◌else◌, List, [], ◌∷◌, map}
 use Rattle.std.proofs.Common.{slice_index_or, All, subst, arith}
 use Rattle.std.proofs.lemmas.List.Elements.{All-nil, All-cons}
 use Rattle.pals_base.specs.StepSequences.{upwards}
 
-pub upwards_all : {X : Type 0} (P : X → Type 0) (f : ℕ → X) (from n : ℕ) → ((k : ℕ) → from ≤ k → k < from + n → P (f k))
-    → All P (map f (upwards from n))
-upwards_all P f from zero each = All-nil P
-upwards_all P f from (suc n) each =
-    All-cons P (f from) (map f (upwards (suc from) n)) (each from (omega arith) (omega arith))
-    (upwards_all P f (suc from) n (λ k above below. each k (omega arith) (omega arith)))
-
--- at a place of such a list, or past it
+-- at a place of what is made of counted numbers, or past it
 pub upwards_at : {X : Type 0} (P : X → Type 0) (f : ℕ → X) (from n k place : ℕ) (d : X) → place ≡ from + k
     → P (f place) → P d
     → P (slice_index_or (map f (upwards from n)) k d)

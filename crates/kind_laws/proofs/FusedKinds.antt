@@ -14,7 +14,7 @@ use Rattle.pals_base.specs.PeriodBound.{sent_steps}
 use Rattle.pals_base.specs.SingleStep.{initial}
 use Rattle.pals_base.specs.StepSequences.{cut, upwards}
 use Rattle.pals_base.proofs.StepTermination.{starts_well}
-use Rattle.pals_base.proofs.UpwardNumbers.{get_or-map_upwards}
+use Rattle.pals_base.proofs.UpwardNumbers.{get_or-map_upwards, All-map_upwards}
 use Rattle.pals_model.specs.declared.design.Component.{Component}
 use Rattle.pals_model.specs.declared.design.Link.{Link}
 use Rattle.pals_model.specs.declared.design.Tap.{Tap}
@@ -44,7 +44,7 @@ use Rattle.plant_fuse.proofs.StepRanks.{rank_from_round}
 use Rattle.plant_fuse.proofs.PairLinks.{back_rates, forth_is, read_from_target}
 use Rattle.plant_fuse.proofs.StepDependencies.{read_at}
 use Rattle.kind_laws.specs.proof.FusedKinds.{SolutionsFit}
-use Rattle.kind_laws.proofs.ElementsByIndex.{upwards_all, upwards_at, places_all, either_fits}
+use Rattle.kind_laws.proofs.ElementsByIndex.{upwards_at, places_all, either_fits}
 use Rattle.kind_laws.proofs.InPortKinds.{MessagesFit, link_read, reading_fits}
 use Rattle.kind_laws.proofs.OutPortKinds.{port_fits, output_fits}
 
@@ -84,7 +84,7 @@ module _ (design : DesignParts) (pairs : List Pair) (env : Env) (ins : Inputs) (
     tuple_fits : (node port round : ℕ) → (round + 1) * 128 ≤ m
         → TupleFits (out_kind (slice_get design.components node) port) (round_tuple design ins node port round)
     tuple_fits node port round past =
-        upwards_all (PortFits (out_kind (slice_get design.components node) port))
+        All-map_upwards (PortFits (out_kind (slice_get design.components node) port))
         (λ i. left_by design ins node port (round * rate_of design node + i)) 0 (rate_of design node)
         (λ i above within. left_fits node port (round * rate_of design node + i)
         (let low = rank_in_round design pairs rules node round i (omega (arith, within)) in omega (arith, low, past)))
@@ -234,7 +234,7 @@ module _ (design : DesignParts) (pairs : List Pair) (env : Env) (ins : Inputs) (
           (slice_get-map tuple (taps_of design node) k ∙ ap (option_map tuple) is_tap) in
           subst (λ o. TupleFits (out_kind o tap.out_port) (slice_index_or (map tuple (taps_of design node)) k [])) is_c
           (subst (TupleFits (out_kind (slice_get design.components node) tap.out_port)) (sym here)
-          (upwards_all (PortFits (out_kind (slice_get design.components node) tap.out_port))
+          (All-map_upwards (PortFits (out_kind (slice_get design.components node) tap.out_port))
           (λ i. left_by design ins node tap.out_port (round * rate_of design node + i)) 0 (rate_of design node)
           (λ i above within. all_left node tap.out_port (round * rate_of design node + i))));
     }

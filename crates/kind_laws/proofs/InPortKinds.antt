@@ -12,7 +12,7 @@ use Rattle.pals_base.specs.declared.values.PortValue.TheVariants.{Absent}
 use Rattle.pals_base.specs.declared.behaviour.PortDecl.{PortDecl}
 use Rattle.pals_base.specs.AllowedAdaptors.{suits_kind}
 use Rattle.pals_base.specs.StepSequences.{upwards, column}
-use Rattle.pals_base.proofs.UpwardNumbers.{get_or-map_upwards}
+use Rattle.pals_base.proofs.UpwardNumbers.{get_or-map_upwards, All-map_upwards}
 use Rattle.pals_base.proofs.StepSequences.{get_or-column}
 use Rattle.pals_model.specs.declared.design.Component.{Component}
 use Rattle.pals_model.specs.declared.design.Link.{Link}
@@ -28,7 +28,6 @@ use Rattle.pals_model.proofs.FirstMatches.{found_at, at_element}
 use Rattle.pals_model.proofs.RootInputLaws.{feed_has_root, feeds_have_root_kind}
 use Rattle.pals_model.proofs.AllElements.{index_fits}
 use Rattle.pals_model.proofs.KindsOfAdaptors.{absent_fits, adapt_fits}
-use Rattle.kind_laws.proofs.ElementsByIndex.{upwards_all}
 
 abbrev pub MessagesFit : DesignParts → List (List PortValue) → Type 0
 MessagesFit design messages =
@@ -113,7 +112,7 @@ vectors_fit design env round messages node c rules given sent is_c =
     let source : ℕ → PortSource = λ p. source_of design node p in
     let count = length c.behaviour.ins in
     let lists = map read (sources_of design node c) in
-    upwards_all (PortsFit c.behaviour.ins) (λ at. column at lists) 0 c.rate
+    All-map_upwards (PortsFit c.behaviour.ins) (λ at. column at lists) 0 c.rate
     (λ at above below p port is.
     let here : slice_index_or lists p [] ≡ read (source p) =
     ap (λ (tuples : List (List PortValue)). slice_index_or tuples p []) (map-map read source (upwards 0 count))

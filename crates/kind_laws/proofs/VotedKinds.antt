@@ -17,7 +17,7 @@ use Rattle.pals_base.specs.PeriodBound.{sent_steps}
 use Rattle.pals_base.specs.SingleStep.{HasShape}
 use Rattle.pals_base.specs.StepSequences.{upwards}
 use Rattle.pals_base.proofs.StepTermination.{starts_well}
-use Rattle.pals_base.proofs.UpwardNumbers.{length-upwards, get_or-map_upwards}
+use Rattle.pals_base.proofs.UpwardNumbers.{length-upwards, get_or-map_upwards, All-map_upwards}
 use Rattle.pals_model.specs.declared.design.Component.{Component}
 use Rattle.pals_model.specs.declared.design.Link.{Link}
 use Rattle.pals_model.specs.declared.design.Tap.{Tap}
@@ -41,7 +41,7 @@ use Rattle.triple_vote.specs.Replicas.{own_message, sent_to, vote_of, receives_o
 use Rattle.triple_vote.proofs.ListTablesAndSearches.{found}
 use Rattle.triple_vote.proofs.ReplicaRounds.{has_first, has_three}
 use Rattle.kind_laws.specs.proof.VotedKinds.{FaultFits, FaultsFit, VotesFit, ShownFit}
-use Rattle.kind_laws.proofs.ElementsByIndex.{upwards_all, either_fits}
+use Rattle.kind_laws.proofs.ElementsByIndex.{either_fits}
 use Rattle.kind_laws.proofs.InPortKinds.{MessagesFit, vectors_fit}
 use Rattle.kind_laws.proofs.OutPortKinds.{tuple_fits}
 
@@ -118,14 +118,14 @@ module _ (design : DesignParts) (env : Env) (replicated : List Bool) (rules : Is
         subst (All (Stands c.behaviour))
         (sym (frames_at design replicated (λ n r. first_frame (slice_get design.components n)) node
         (slice_get_within design.components node c is_c)))
-        (upwards_all (Stands c.behaviour) (λ r. first_frame (slice_get design.components node)) 0
+        (All-map_upwards (Stands c.behaviour) (λ r. first_frame (slice_get design.components node)) 0
         (copies_of replicated node) (λ r above below. first_stands node c is_c));
     received = λ number link is.
         let kind = link_kind design link in
         subst (All (TupleFits kind))
         (sym (tuples_at design replicated (λ l t. first_tuple design (slice_get design.links l)) number
         (slice_get_within design.links number link is)))
-        (upwards_all (TupleFits kind) (λ t. first_tuple design (slice_get design.links number)) 0
+        (All-map_upwards (TupleFits kind) (λ t. first_tuple design (slice_get design.links number)) 0
         (receivers_in replicated (slice_get design.links number))
         (λ t above below. subst (λ o. TupleFits kind (first_tuple design o)) (sym is)
         (absent_fits kind (rate_of design link.source.0))));
@@ -259,7 +259,7 @@ module _ (design : DesignParts) (env : Env) (replicated : List Bool) (rules : Is
             subst (All (Stands c.behaviour))
             (sym (frames_at design replicated (λ n r. (replica_steps design values v n r).frame) node
             (slice_get_within design.components node c is_c)))
-            (upwards_all (Stands c.behaviour) (λ r. (replica_steps design values v node r).frame) 0
+            (All-map_upwards (Stands c.behaviour) (λ r. (replica_steps design values v node r).frame) 0
             (copies_of replicated node)
             (λ r above below. steps_stand node r c is_c (omega (arith, below))));
         received = λ number link is.
@@ -268,7 +268,8 @@ module _ (design : DesignParts) (env : Env) (replicated : List Bool) (rules : Is
             λ l t. receives_on design replicated values faults v l t (slice_get design.links l) in
             subst (All (TupleFits kind))
             (sym (tuples_at design replicated received number (slice_get_within design.links number link is)))
-            (upwards_all (TupleFits kind) (received number) 0 (receivers_in replicated (slice_get design.links number))
+            (All-map_upwards (TupleFits kind) (received number) 0
+            (receivers_in replicated (slice_get design.links number))
             (λ t above below. received_fits number t link is));
       }
 

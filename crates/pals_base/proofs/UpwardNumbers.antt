@@ -1,11 +1,12 @@
 -- Numbers that count up: how many there are, what stands at each place, what is made of each, and one number more.
-use Rattle.std.proofs.Common.{◌≡◌, ℕ, ◌+◌, ◌-◌, ◌<◌, ◌≤◌, zero, suc, Bool, true, List, [], ◌∷◌, ◌++◌, length, map}
+use Rattle.std.proofs.Common.{◌≡◌, ℕ, ◌+◌, ◌-◌, ◌<◌, ◌≤◌, zero, suc, Bool, true, List, [], ◌∷◌, ◌++◌, length, map, All}
 use Rattle.std.proofs.Common.{get_or, slice_get, Some, refl, ap, ap₂, ◌∙◌, sym, arith, add-one, zero-add}
 use Rattle.std.specs.Prelude.{flat_map, option_map}
 use Rattle.std.specs.List.{list_all}
 use Rattle.std.proofs.lemmas.Bool.{and_from}
 use Rattle.std.proofs.lemmas.List.{length-map, map-append}
 use Rattle.std.proofs.lemmas.Option.{slice_get-map, get_or_from_slice_get}
+use Rattle.std.proofs.lemmas.List.Elements.{All-nil, All-cons}
 use Rattle.pals_base.specs.StepSequences.{upwards}
 
 -- ---- how many there are
@@ -59,6 +60,13 @@ list_all_upwards p from zero each = refl
 list_all_upwards p from (suc n) each =
     and_from (p from) (list_all p (upwards (suc from) n)) (each from (omega arith) (omega arith))
     (list_all_upwards p (suc from) n (λ k low high. each k (omega arith) (omega arith)))
+
+pub All-map_upwards : {A : Type 0} (P : A → Type 0) (f : ℕ → A) (from n : ℕ)
+    → ((k : ℕ) → from ≤ k → k < from + n → P (f k)) → All P (map f (upwards from n))
+All-map_upwards P f from zero each = All-nil P
+All-map_upwards P f from (suc n) each =
+    All-cons P (f from) (map f (upwards (suc from) n)) (each from (omega arith) (omega arith))
+    (All-map_upwards P f (suc from) n (λ k above below. each k (omega arith) (omega arith)))
 
 -- ---- one number more
 -- one more at the end

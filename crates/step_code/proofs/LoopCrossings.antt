@@ -1,12 +1,13 @@
 -- Whether a jump crosses the border of a loop's body, told by the innermost loops of its two places alone.
 use Rattle.std.proofs.Common.{◌≡◌, ◌∙◌, ℕ, zero, suc, ◌<◌, ◌≤◌, Bool, true, false, ◌&&◌, ◌||◌, if◌then◌else◌, cond}
-use Rattle.std.proofs.Common.{List, [], ◌∷◌, length, Option, Some, None, refl, sym, ap, subst, ⊎_elim, arith, nat_lt}
+use Rattle.std.proofs.Common.{List, ◌∷◌, length, Option, Some, None, refl, sym, ap, subst, ⊎_elim, arith, nat_lt}
 use Rattle.std.proofs.Common.{nat_eq, slice_index_or}
 use Rattle.std.specs.Prelude.{not, filter}
 use Rattle.std.specs.List.{list_all, list_any}
 use Rattle.std.proofs.lemmas.Bool.{and_parts, ltb-true, cases_lt, false≢true, le-ltb, lt-ltb}
 use Rattle.std.proofs.Math.Bool.{and-false}
 use Rattle.std.specs.Cmp.{both_ways}
+use Rattle.pals_base.proofs.SettledStates.{list_all-same}
 use Rattle.step_code.specs.declared.instr.Instr.{Instr}
 use Rattle.step_code.specs.declared.loops.LoopSpan.{LoopSpan}
 use Rattle.step_code.specs.Loops.{loop_at, with_loop, loops_below, around}
@@ -242,14 +243,10 @@ agrees_swapped_by true false = refl
 agrees_swapped_by false true = refl
 agrees_swapped_by false false = refl
 
-all_same : (f g : LoopSpan → Bool) (ls : List LoopSpan) → ((l : LoopSpan) → f l ≡ g l) → list_all f ls ≡ list_all g ls
-all_same f g [] same = refl
-all_same f g (l ∷ ls) same = ap (λ b. b && list_all f ls) (same l) ∙ ap (λ b. g l && b) (all_same f g ls same)
-
 pub stays-swapped : (code : List Instr) (p q : ℕ) → stays code p q ≡ stays code q p
 stays-swapped code p q =
-    all_same (agrees p q) (agrees q p) (loops_below code (length code))
-    (λ l. agrees_swapped_by (inside p l) (inside q l))
+    list_all-same (agrees p q) (agrees q p) (λ l. agrees_swapped_by (inside p l) (inside q l))
+    (loops_below code (length code))
 
 -- ---- whether a jump goes to no place, or into or out of a body, from a list of innermost loops
 there_not : (code : List Instr) (p q : ℕ) → q < length code → not (stays code p q) ≡ strays code p q

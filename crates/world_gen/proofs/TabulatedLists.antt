@@ -1,16 +1,13 @@
 -- Lists with an element for each number.
-use Rattle.std.proofs.Common.{◌≡◌, ℕ, ◌+◌, ◌<◌, List, [], ◌∷◌, ◌++◌, map, All, AllPairs, sym, ap, ◌∙◌, subst, subst₂}
-use Rattle.std.proofs.Common.{arith, append_assoc}
+use Rattle.std.proofs.Common.{◌≡◌, ℕ, ◌+◌, ◌<◌, List, [], ◌∷◌, ◌++◌, map, All, AllPairs, sym, ap, ◌∙◌, subst₂, arith}
+use Rattle.std.proofs.Common.{append_assoc}
 use Rattle.pals_base.specs.StepSequences.{upwards}
-use Rattle.pals_base.proofs.UpwardNumbers.{map_upwards_more, get_or-map_upwards, length-map_upwards}
+use Rattle.pals_base.proofs.UpwardNumbers.{map_upwards_more, get_or-map_upwards, length-map_upwards, All-map_upwards}
 
 -- what holds of each number, and of each two
 pub numbered_all : {X : Type 0} (P : X → Type 0) (f : ℕ → X) (n : ℕ) → ((k : ℕ) → k < n → P (f k))
     → All P (map f (upwards 0 n))
-numbered_all P f n each k d within =
-    let size = length-map_upwards f 0 n in
-    let below : k < n = omega arith in
-    subst P (sym (get_or-map_upwards f n k d below)) (each k below)
+numbered_all P f n each = All-map_upwards P f 0 n (λ k above below. each k below)
 
 pub numbered_pairs : {X : Type 0} (R : X → X → Type 0) (f : ℕ → X) (n : ℕ) → ((j k : ℕ) → j < k → k < n → R (f j) (f k))
     → AllPairs R (map f (upwards 0 n))
