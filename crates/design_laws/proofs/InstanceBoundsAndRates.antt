@@ -35,6 +35,7 @@ use Rattle.aadl_names.specs.PackageFaults as naming
 use Rattle.aadl_uses.specs.Uses.{sub_at, below, standing}
 use Rattle.aadl_uses.specs.declared.thread_locations.SubAt.{SubAt}
 use Rattle.aadl_uses.specs.ThreadLocations.{sub_in, subs_along, thread_at}
+use Rattle.aadl_uses.specs.proof.MarkedPathCounts.{Among}
 use Rattle.aadl_instance.specs.FlattenedDesign.{Parts, IsFlat}
 use Rattle.annex_resolve.specs.NamesAndFindings.{found_if}
 use Rattle.design_laws.proofs.EmptyFindingLists.{is_right, not_wrong}
@@ -62,7 +63,7 @@ use Rattle.model_violations.specs.DeclarationFindings as uses
 use Rattle.model_violations.specs.Violations.{shown_by, used_findings, carriers_of}
 use Rattle.design_laws.proofs.SoundInstanceParts.{names_clean, declared_at, implementation_clean, type_clean, is_used}
 use Rattle.design_laws.proofs.InstanceBehaviours.{first_is}
-use Rattle.design_laws.proofs.PropertyTimes.{Among, period_at_sub, period_at, skew_at, execution_at, network_at, IsGood}
+use Rattle.design_laws.proofs.PropertyTimes.{period_at_sub, period_at, skew_at, execution_at, network_at, IsGood}
 use Rattle.design_laws.proofs.PropertyTimes.{LooksGood, looks_good, first_good, first_behind, IsTime, period_good}
 use Rattle.design_laws.proofs.PropertyTimes.{skew_good, execution_good, network_good}
 use Rattle.design_laws.proofs.DeclaredStates.{declaration_clean}
@@ -124,7 +125,7 @@ module _ {tree : PackageTree ℕ} {name : List ℕ} {parts : Parts} (flat : IsFl
   -- ---- what an implementation in use, and its type, give
   module _ (p : PropertyName) (n : ℕ) (x : Implementation ℕ) (in_use : used n ≡ true)
       (is : slice_get tree.declarations n ≡ Some (implementation x))
-      (known : Among p (recognised (holders.Declaration x.category (nat_eq n parts.root)))) where
+      (known : Among (recognised (holders.Declaration x.category (nat_eq n parts.root))) p) where
     own_good : LooksGood p x.properties
     own_good =
         let faults = parts_clean tree parts.root n x (names_clean flat) is in
@@ -138,7 +139,7 @@ module _ {tree : PackageTree ℕ} {name : List ℕ} {parts : Parts} (flat : IsFl
         (append_is_nil_left (big ++ subs ++ connections) (uses.thread_findings tree x) whole)))
 
     module _ (type_known : (m : ℕ) (t : TypeDeclaration ℕ) → type_number tree x ≡ Some m
-        → Among p (recognised (holders.Declaration t.category (is_root_type tree parts.root m)))) where
+        → Among (recognised (holders.Declaration t.category (is_root_type tree parts.root m))) p) where
       type_good : (m : ℕ) (t : TypeDeclaration ℕ) → type_number tree x ≡ Some m
           → slice_get tree.declarations m ≡ Some (type t)
           → LooksGood p t.properties
@@ -249,17 +250,17 @@ module _ {tree : PackageTree ℕ} {name : List ℕ} {parts : Parts} (flat : IsFl
   type_flag x m is number =
       ap (λ o. is_number m (option_and_then (type_number tree) o)) is ∙ (ap (is_number m) number ∙ nat_eq-self m)
 
-  root_good : (p : PropertyName) → ((c : Category) → Among p (recognised (holders.Declaration c true)))
+  root_good : (p : PropertyName) → ((c : Category) → Among (recognised (holders.Declaration c true)) p)
       → AllByRecursion (LooksGood p) (root_lists tree parts.root)
   root_good p known =
       let x = root_there.0 in
       let is = root_there.1 in
       let flag : nat_eq parts.root parts.root ≡ true = nat_eq-self parts.root in
-      let own : Among p (recognised (holders.Declaration x.category (nat_eq parts.root parts.root))) = subst
-      (λ b. Among p (recognised (holders.Declaration x.category b))) (sym flag) (known x.category) in
+      let own : Among (recognised (holders.Declaration x.category (nat_eq parts.root parts.root))) p = subst
+      (λ b. Among (recognised (holders.Declaration x.category b)) p) (sym flag) (known x.category) in
       subst (λ o. AllByRecursion (LooksGood p) (own_lists tree o)) (sym is)
       (both_good p parts.root x root_used (declared_at tree parts.root x is) own
-      (λ m t number. subst (λ b. Among p (recognised (holders.Declaration t.category b)))
+      (λ m t number. subst (λ b. Among (recognised (holders.Declaration t.category b)) p)
       (sym (type_flag x m is number)) (known t.category)))
 
   -- what the root gives of a property
@@ -268,7 +269,7 @@ module _ {tree : PackageTree ℕ} {name : List ℕ} {parts : Parts} (flat : IsFl
     pub is : at_root tree parts.root p ≡ Some association
     pub good : IsGood p association
 
-  gives : (p : PropertyName) → ((c : Category) → Among p (recognised (holders.Declaration c true)))
+  gives : (p : PropertyName) → ((c : Category) → Among (recognised (holders.Declaration c true)) p)
       → is_some (at_root tree parts.root p) ≡ true
       → Gives p
   gives p known some =

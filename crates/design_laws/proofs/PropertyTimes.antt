@@ -1,6 +1,6 @@
 -- The times of properties on which nothing is found: each that is looked up has its shape, and is within the hour.
-use Rattle.std.proofs.Common.{◌≡◌, inl, inr, ◌⊎◌, ℕ, ◌≤◌, nat_le, nat_lt, Bool, true, false, not, cond, ◌&&◌, List, []}
-use Rattle.std.proofs.Common.{◌∷◌, ◌++◌, Option, Some, None, refl, ap, subst, arith}
+use Rattle.std.proofs.Common.{◌≡◌, inl, inr, ℕ, ◌≤◌, nat_le, nat_lt, Bool, true, false, not, cond, ◌&&◌, List, [], ◌∷◌}
+use Rattle.std.proofs.Common.{◌++◌, Option, Some, None, refl, ap, subst, arith, sym}
 use Rattle.std.specs.Prelude.{flat_map, filter, find}
 use Rattle.std.specs.List.{AllByRecursion}
 use Rattle.std.specs.Option.{option_and_then, option_or, is_some}
@@ -24,6 +24,8 @@ use Rattle.aadl_names.specs.RecognisedProperties.{misshapen, shape_fault, proper
 use Rattle.aadl_names.specs.ReferenceResolution.{is_thread}
 use Rattle.aadl_names.specs.DuplicateNames.{twice}
 use Rattle.aadl_names.proofs.FirstFaultSoFar.{wrong_none}
+use Rattle.aadl_uses.specs.proof.MarkedPathCounts.{Among}
+use Rattle.aadl_uses.proofs.MarkedPathCounts.{among_left, among_right}
 use Rattle.design_laws.proofs.EmptyFindingLists.{not_wrong}
 use Rattle.component_checks.specs.BoundsAndRates.{within_hour, range_within}
 use Rattle.annex_resolve.specs.declared.violation.TheConstants.{NUMBER_TOO_BIG}
@@ -33,44 +35,31 @@ use Rattle.component_checks.specs.Times.{association_big, counted_big, list_big}
 use Rattle.design_laws.proofs.PairwiseDistinctNames.{where_true, all_none, all_false}
 
 -- ---- one of a list
-abbrev pub Among : {X : Type 0} → X → List X → Type 0
-Among x [] = ⊥
-Among x (y ∷ ys) = (y ≡ x) ⊎ Among x ys
-
-pub of_among : {X : Type 0} (P : X → Type 0) (x : X) (xs : List X) → AllByRecursion P xs → Among x xs → P x
+pub of_among : {X : Type 0} (P : X → Type 0) (x : X) (xs : List X) → AllByRecursion P xs → Among xs x → P x
 of_among P x [] all a = absurd a
-of_among P x (y ∷ ys) all (inl e) = subst P e all.0
+of_among P x (y ∷ ys) all (inl e) = subst P (sym e) all.0
 of_among P x (y ∷ ys) all (inr a) = of_among P x ys all.1 a
 
-among_front : {X : Type 0} (x : X) (xs ys : List X) → Among x xs → Among x (xs ++ ys)
-among_front x [] ys a = absurd a
-among_front x (y ∷ xs) ys (inl e) = inl e
-among_front x (y ∷ xs) ys (inr a) = inr (among_front x xs ys a)
-
-among_back : {X : Type 0} (x : X) (xs ys : List X) → Among x ys → Among x (xs ++ ys)
-among_back x [] ys a = a
-among_back x (y ∷ xs) ys a = inr (among_back x xs ys a)
-
 -- ---- the properties that are recognised
-period_in : (b : Bool) → Among Period (cond b (Period ∷ Dispatch ∷ []) (Period ∷ []))
+period_in : (b : Bool) → Among (cond b (Period ∷ Dispatch ∷ []) (Period ∷ [])) Period
 period_in true = inl refl
 period_in false = inl refl
 
-pub period_at_sub : (c : Category) → Among Period (recognised (holders.Subcomponent c))
+pub period_at_sub : (c : Category) → Among (recognised (holders.Subcomponent c)) Period
 period_at_sub c = period_in (is_thread c)
 
-pub period_at : (c : Category) (of_root : Bool) → Among Period (recognised (holders.Declaration c of_root))
-period_at c true = among_front Period _ (Skew ∷ Execution ∷ Network ∷ []) (period_in (is_thread c))
+pub period_at : (c : Category) (of_root : Bool) → Among (recognised (holders.Declaration c of_root)) Period
+period_at c true = among_left _ (Skew ∷ Execution ∷ Network ∷ []) Period (period_in (is_thread c))
 period_at c false = period_in (is_thread c)
 
-pub skew_at : (c : Category) → Among Skew (recognised (holders.Declaration c true))
-skew_at c = among_back Skew _ (Skew ∷ Execution ∷ Network ∷ []) (inl refl)
+pub skew_at : (c : Category) → Among (recognised (holders.Declaration c true)) Skew
+skew_at c = among_right _ (Skew ∷ Execution ∷ Network ∷ []) Skew (inl refl)
 
-pub execution_at : (c : Category) → Among Execution (recognised (holders.Declaration c true))
-execution_at c = among_back Execution _ (Skew ∷ Execution ∷ Network ∷ []) (inr (inl refl))
+pub execution_at : (c : Category) → Among (recognised (holders.Declaration c true)) Execution
+execution_at c = among_right _ (Skew ∷ Execution ∷ Network ∷ []) Execution (inr (inl refl))
 
-pub network_at : (c : Category) → Among Network (recognised (holders.Declaration c true))
-network_at c = among_back Network _ (Skew ∷ Execution ∷ Network ∷ []) (inr (inr (inl refl)))
+pub network_at : (c : Category) → Among (recognised (holders.Declaration c true)) Network
+network_at c = among_right _ (Skew ∷ Execution ∷ Network ∷ []) Network (inr (inr (inl refl)))
 
 -- ---- one association
 -- it has the property's shape, and is within the hour
@@ -78,7 +67,7 @@ pub record IsGood (p : PropertyName) (x : Association ℕ) : Type 0 where
   pub shape : has_shape p (association_value x) ≡ true
   pub small : is_too_big p (association_value x) ≡ false
 
-good_by : (holder : PropertyHolder) (p : PropertyName) (x : Association ℕ) → Among p (recognised holder)
+good_by : (holder : PropertyHolder) (p : PropertyName) (x : Association ℕ) → Among (recognised holder) p
     → shape_fault holder x ≡ []
     → counted_big holder x ≡ [] → counts x ≡ true → is_named (name_of p) x ≡ true → IsGood p x
 good_by holder p x known shape big count named =
@@ -127,7 +116,7 @@ module _ {X : Type 0} (P : X → Type 0) (c p : X → Bool) where
 pub record LooksGood (p : PropertyName) (xs : Associations ℕ) : Type 0 where
   pub each : (x : Association ℕ) → association_named xs (name_of p) ≡ Some x → IsGood p x
 
-pub looks_good : (holder : PropertyHolder) (p : PropertyName) (xs : Associations ℕ) → Among p (recognised holder)
+pub looks_good : (holder : PropertyHolder) (p : PropertyName) (xs : Associations ℕ) → Among (recognised holder) p
     → list_faults holder xs ≡ []
     → list_big holder xs ≡ [] → LooksGood p xs
 looks_good holder p xs known faults big = record {

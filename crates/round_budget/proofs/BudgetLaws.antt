@@ -182,9 +182,6 @@ sum_by-times n w (x ∷ xs) =
     ∙ (let spread : n * w x + n * sum_by w xs ≡ n * (w x + sum_by w xs) = omega arith in spread)
     ∙ ap (λ k. n * k) (sym (sum_by-cons w x xs))
 
-cost_le : (n a b : ℕ) → a ≤ b → n * a ≤ n * b
-cost_le n a b below = mul-le n a n b (omega arith) below
-
 few_of : (design : DesignParts) (codes : List CodeParts) (nanos : ℕ) (members : List ℕ)
     → IsWithinBudget design codes nanos members
     → sum_by (λ m. nanos * most_of codes m) members ≤ design.gamma.alpha_max
@@ -198,14 +195,16 @@ responses_fit design codes nanos members rounds count sound budgeted most =
     responses_in_time design members sound budgeted.members_are rounds (λ m. nanos * most_of codes m)
     (λ x. nanos * count x)
     (few_of design codes nanos members budgeted)
-    (λ x among. cost_le nanos (count x) (most_of codes x.node) (most x (contains_of members x.node among)))
+    (λ x among. mul-le nanos (count x) nanos (most_of codes x.node) (omega arith)
+    (most x (contains_of members x.node among)))
 
 pub rounds_are_apart : RoundsAreApart
 rounds_are_apart design codes nanos members rounds count sound budgeted most =
     rounds_in_time design members sound budgeted.members_are rounds (λ m. nanos * most_of codes m)
     (λ x. nanos * count x)
     (few_of design codes nanos members budgeted)
-    (λ x among. cost_le nanos (count x) (most_of codes x.node) (most x (contains_of members x.node among)))
+    (λ x among. mul-le nanos (count x) nanos (most_of codes x.node) (omega arith)
+    (most x (contains_of members x.node among)))
 
 pub most_responses_fit : MostResponsesFit
 most_responses_fit design codes nanos members rounds sound budgeted =

@@ -21,6 +21,7 @@ use Rattle.bus_machine.specs.ActionsAndTargets.{Progress, actions, target, send_
 use Rattle.bus_machine.specs.ActionsAndTargets.{targets, next_in}
 use Rattle.run_laws.specs.NodeActions.{Turn, turn, progress_in, upcoming, Follows}
 use Rattle.run_laws.proofs.NodeActions.{IsPlan, turn_next, sized, size, bit, action_at, target_at}
+use Rattle.run_laws.proofs.TimeArithmetic.{steps_more}
 
 -- ---- the next action
 
@@ -81,15 +82,12 @@ bit_at_most : (b : Bool) → bit b ≤ 1
 bit_at_most true = omega arith
 bit_at_most false = omega arith
 
-mul_le : (a b c : ℕ) → a ≤ b → a * c ≤ b * c
-mul_le a b c le = grind (arith, common_steps)
-
 whole_rounds : (count rounds each done inside : ℕ) → 1 ≤ count → count ≤ rounds → done ≡ (count - 1) * each + inside
     → inside < each → done < rounds * each
 whole_rounds count rounds each done inside some most is below =
     let one : count ≡ (count - 1) + 1 = omega arith in
     let all : count * each ≡ (count - 1) * each + each = ap (λ c. c * each) one ∙ omega arith in
-    let more : count * each ≤ rounds * each = mul_le count rounds each most in
+    let more : count * each ≤ rounds * each = steps_more each count rounds most in
     omega arith
 
 below_by : (plan : Plan) (rounds done : ℕ) (n : NodeState) (p : Phase) (action : NodeAction) → 1 ≤ n.count
@@ -101,7 +99,7 @@ below_by plan rounds done n Waiting action some most acts is sized' =
     ap (λ c. c * (plan.rate + 1)) one ∙ omega arith in
     let next : (n.count + 1) * (plan.rate + 1) ≡ n.count * (plan.rate + 1) + (plan.rate + 1) = omega arith in
     let more : (n.count + 1) * (plan.rate + 1) ≤ rounds * (plan.rate + 1) =
-    mul_le (n.count + 1) rounds (plan.rate + 1) (omega arith) in
+    steps_more (plan.rate + 1) (n.count + 1) rounds (omega arith) in
     omega arith
 below_by plan rounds done n (Running step) action some most acts is sized' = absurd (cc)
 below_by plan rounds done n (Between steps) action some most acts is sized' =
@@ -117,7 +115,7 @@ pub is_below : (plan : Plan) (rounds done : ℕ) (n : NodeState) (action : NodeA
     → done < rounds * (plan.rate + 1)
 is_below plan rounds done n action rules some most acts (inl first) is =
     let none = first.none_done in
-    let more : 1 * (plan.rate + 1) ≤ rounds * (plan.rate + 1) = mul_le 1 rounds (plan.rate + 1) some in
+    let more : 1 * (plan.rate + 1) ≤ rounds * (plan.rate + 1) = steps_more (plan.rate + 1) 1 rounds some in
     omega arith
 is_below plan rounds done n action rules some most acts (inr after) is =
     let has : size plan (turn plan (suc after.before)).before ≡ suc after.before =
@@ -152,7 +150,7 @@ is_at_most plan rounds done n rules most (inr after) =
     within_count n.count (plan.rate + 1) p.round p.steps (bit p.sent) done after.count
     (ap (λ (q : Progress). q.round) same ∙ round_in plan n n.phase) (omega arith) (bit_at_most p.sent)
     (has.size_is ∙ sym after.done_is) in
-    let more : n.count * (plan.rate + 1) ≤ rounds * (plan.rate + 1) = mul_le n.count rounds (plan.rate + 1) most in
+    let more : n.count * (plan.rate + 1) ≤ rounds * (plan.rate + 1) = steps_more (plan.rate + 1) n.count rounds most in
     omega arith
 
 pub target_is : (plan : Plan) (rounds done : ℕ) (n : NodeState) (action : NodeAction) → IsPlan plan → 1 ≤ rounds
