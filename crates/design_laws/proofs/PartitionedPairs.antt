@@ -1,4 +1,5 @@
--- What holds of all pairs of a list holds of its images and of the two halves that a test makes.
+-- What holds of all pairs of a list, or of its images, holds of its parts, of its elements by place, and of the two
+-- halves that a test makes.
 use Rattle.std.proofs.Common.{◌≡◌, ◌∙◌, ℕ, zero, suc, ◌+◌, ◌<◌, Bool, true, false, not, cond, List, [], ◌∷◌, ◌++◌, map}
 use Rattle.std.proofs.Common.{Option, Some, refl, sym, ap, subst, arith}
 use Rattle.std.specs.Prelude.{filter, slice_get, find}

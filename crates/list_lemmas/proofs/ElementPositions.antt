@@ -1,5 +1,5 @@
--- The elements of a list by their positions: of joined, mapped and paired lists, and the first position that passes
--- a test.
+-- The elements of a list by their positions: of joined, cut, mapped, paired and numbered lists, of lists with one
+-- element throughout, and the first position that passes a test.
 use Rattle.std.proofs.Common.{◌≡◌, ◌∙◌, ℕ, zero, suc, ◌+◌, ◌-◌, ◌<◌, Bool, true, false, cond, List, [], ◌∷◌, ◌++◌, map}
 use Rattle.std.proofs.Common.{length, slice_get, get_or, replicate, Contains, Option, Some, refl, ap, ap₂, subst, arith}
 use Rattle.std.proofs.Common.{sym, add-zero, take}
