@@ -21,9 +21,9 @@ use Rattle.aadl_chains.specs.proof.EnteredPortCounts.{ComesFrom, EndsLink, Throu
 use Rattle.aadl_chains.specs.proof.EnteredPortCounts.{FromThread}
 use Rattle.aadl_chains.proofs.LimitedCounts.{no_number, one_number, both_numbers, image_number}
 use Rattle.aadl_chains.proofs.FirstIncomingConnections.{first_wire, into_first, known_into}
-use Rattle.aadl_chains.proofs.SubcomponentWalks.{last_of, same_ends, port_outer, port_inner, climb_outer, root_outer}
-use Rattle.aadl_chains.proofs.SubcomponentWalks.{Within, Itself, crossing_outer, crossing_kept, root_kept, root_crosses}
-use Rattle.aadl_chains.proofs.SubcomponentWalks.{below_of, thread_itself}
+use Rattle.aadl_chains.proofs.WalksOneLevelOut.{last_of, same_ends, port_outer, port_inner, climb_outer, root_outer}
+use Rattle.aadl_chains.proofs.WalksOneLevelOut.{Within, Itself, crossing_outer, crossing_kept, root_kept, root_crosses}
+use Rattle.aadl_chains.proofs.WalksOneLevelOut.{below_of, thread_itself}
 
 abbrev port : List ℕ → ℕ → Port
 port path p = record { path = path; port = p }

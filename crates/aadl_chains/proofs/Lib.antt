@@ -7,14 +7,14 @@ pub mod ConnectionsOnChains
 pub mod ChainConnectionEnds
 pub mod AccumulatedFaults
 pub mod EndFaults
-pub mod DeclaredEnds
+pub mod PermittedConnections
 pub mod ChainsFromEnds
 pub mod LimitedCounts
 pub mod FirstIncomingConnections
 pub mod ChainsOfWalks
 pub mod WalksOfChains
 pub mod LinksByWalks
-pub mod SubcomponentWalks
+pub mod WalksOneLevelOut
 pub mod EnteredThreadPorts
 pub mod PortCountTables
 pub mod LinkLimits

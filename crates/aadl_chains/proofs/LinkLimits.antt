@@ -32,7 +32,7 @@ use Rattle.aadl_chains.specs.proof.DeclaredEnds.{AreDeclared}
 use Rattle.aadl_chains.proofs.ConnectionsOnChains.{next_at, is_in-at}
 use Rattle.aadl_chains.specs.proof.LimitedCounts.{Distinct, IsNumber}
 use Rattle.aadl_chains.specs.proof.Walks.{OneEach}
-use Rattle.aadl_chains.specs.Links.{Ends, IsLink, OtherTarget}
+use Rattle.aadl_chains.specs.LinksFeedsAndTaps.{Ends, IsLink, OtherTarget}
 use Rattle.aadl_chains.specs.proof.EnteredPortCounts.{EndsLink, Through, Deeper, AmongFirst, FromThread}
 use Rattle.aadl_chains.proofs.LimitedCounts.{no_number, same_number, both_numbers, no_more}
 use Rattle.aadl_chains.proofs.FirstIncomingConnections.{goes_at}

@@ -18,7 +18,7 @@ use Rattle.aadl_chains.specs.Chains.{Port, Place, Goes, Leads, is_in, IsStart, I
 use Rattle.aadl_chains.specs.proof.DeclaredEnds.{AreDeclared}
 use Rattle.aadl_chains.proofs.ConnectionsOnChains.{is_in-at}
 use Rattle.aadl_chains.specs.proof.Walks.{Crossing, at_root, crosses, climb, OneEach, IsThreadPort}
-use Rattle.aadl_chains.specs.Links.{Ends, not_own, is_crossing, Carries, IsLink, IsFeed, IsTap}
+use Rattle.aadl_chains.specs.LinksFeedsAndTaps.{Ends, not_own, is_crossing, Carries, IsLink, IsFeed, IsTap}
 use Rattle.aadl_uses.specs.proof.IncomingConnections.{connection_into}
 use Rattle.aadl_chains.proofs.FirstIncomingConnections.{Entered, goes_into, known_into, into_of_goes}
 use Rattle.aadl_chains.proofs.ChainsOfWalks.{Rooted, rooted, crossed}

@@ -2,7 +2,7 @@
 use Rattle.std.proofs.Common.{◌≡◌, ◌∙◌, ℕ, true, nat_eq, List, [], ◌∷◌, refl, ap}
 use Rattle.std.proofs.lemmas.Bool.{and_from, and_parts, eqb-true, false≢true}
 use Rattle.list_lemmas.proofs.Numbers.{nat_eq-self}
-use Rattle.aadl_chains.specs.Links.{same_path}
+use Rattle.aadl_chains.specs.LinksFeedsAndTaps.{same_path}
 
 pub same_path-self : (p : List ℕ) → same_path p p ≡ true
 same_path-self [] = refl

@@ -18,7 +18,7 @@ use Rattle.aadl_chains.specs.Chains.{Port, Place, port_at, Goes, Leads, is_in, I
 use Rattle.aadl_chains.specs.proof.DeclaredEnds.{MayLeave, MayEnter, NotBothOwn, AreDeclared}
 use Rattle.aadl_chains.proofs.ConnectionsOnChains.{next_at, below_at, is_in-at, thread_from}
 use Rattle.aadl_chains.specs.proof.Walks.{Crossing, at_root, crosses, climb, OneEach}
-use Rattle.aadl_chains.specs.Links.{not_own, is_crossing}
+use Rattle.aadl_chains.specs.LinksFeedsAndTaps.{not_own, is_crossing}
 use Rattle.aadl_chains.proofs.FirstIncomingConnections.{into_of_goes, Known, known}
 use Rattle.aadl_chains.proofs.ChainsOfWalks.{climb_own, climb_inner}
 

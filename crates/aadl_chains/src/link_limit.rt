@@ -15,7 +15,7 @@ ghost use Rattle.aadl_chains.specs.proof.PortsJoinedInside.{IsInside, is_thread_
 ghost use Rattle.aadl_chains.specs.Chains.{IsEndFault};
 ghost use Rattle.aadl_chains.specs.proof.DeclaredEnds.{AreDeclared};
 ghost use Rattle.aadl_chains.specs.proof.LimitedCounts.{IsNumber};
-ghost use Rattle.aadl_chains.specs.Links.{IsLink, OtherTarget};
+ghost use Rattle.aadl_chains.specs.LinksFeedsAndTaps.{IsLink, OtherTarget};
 ghost use Rattle.aadl_chains.specs.proof.EnteredPortCounts.{EndsLink, Deeper, FromThread, AreTakenBelow};
 
 use crate::InnerJoins;

@@ -29,7 +29,7 @@ use Rattle.aadl_grammar.proofs.AdjacentTerminals.{neighbours}
 use Rattle.aadl_grammar.proofs.KeptTerminalNesting.{kept_shallow}
 use Rattle.aadl_grammar.proofs.PossibleTerminals.{Said, kept_said}
 use Rattle.aadl_grammar.proofs.CanonicalTextLexing.{outer}
-use Rattle.aadl_grammar.proofs.PossibleTokenTerminals.{text_said}
+use Rattle.aadl_grammar.proofs.PossibleLexedTerminals.{text_said}
 use Rattle.aadl_grammar.proofs.CanonicalUtf8.{text_utf8}
 
 -- tokens in order stand one behind the other

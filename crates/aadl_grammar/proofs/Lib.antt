@@ -37,6 +37,6 @@ pub mod NoAnnexEnds
 pub mod TextPieces
 pub mod CanonicalTextLexing
 pub mod KeywordAndSymbolSpellings
-pub mod PossibleTokenTerminals
+pub mod PossibleLexedTerminals
 pub mod CanonicalUtf8
 pub mod CanonicalRoundTrip

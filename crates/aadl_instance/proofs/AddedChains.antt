@@ -7,7 +7,7 @@ use Rattle.aadl_tree.specs.Declarations.{PackageTree}
 use Rattle.aadl_uses.specs.ThreadsBelow.{IsThreadAt, PathBefore}
 use Rattle.aadl_chains.specs.proof.PortsJoinedInside.{is_thread_at}
 use Rattle.aadl_chains.specs.Chains.{Port, is_in, IsEnd}
-use Rattle.aadl_chains.specs.Links.{Ends, IsLink, IsFeed, IsTap}
+use Rattle.aadl_chains.specs.LinksFeedsAndTaps.{Ends, IsLink, IsFeed, IsTap}
 use Rattle.aadl_chains.specs.declared.chain_tracing.ChainStart.{ChainStart}
 use Rattle.aadl_chains.specs.declared.chain_tracing.ChainStart.TheVariants as begins
 use Rattle.aadl_chains.specs.declared.chain_tracing.ChainRoute.{ChainRoute}

@@ -22,7 +22,7 @@ use Rattle.aadl_uses.proofs.PathOrder.{never_before}
 use Rattle.aadl_chains.specs.proof.PortsJoinedInside.{is_thread_at}
 use Rattle.aadl_chains.proofs.ConnectionsOnChains.{thread_from}
 use Rattle.aadl_chains.proofs.SamePaths.{same_path-true, same_path-self}
-use Rattle.aadl_chains.specs.Links.{same_path}
+use Rattle.aadl_chains.specs.LinksFeedsAndTaps.{same_path}
 use Rattle.aadl_instance.specs.declared.chain.ChainEnd.TheVariants.{Thread}
 use Rattle.aadl_instance.specs.proof.ChainsSoFar.{paths_of}
 use Rattle.aadl_instance.specs.Instances.{same_direction, node_at, goes_as, number_among, port_number, end_in}

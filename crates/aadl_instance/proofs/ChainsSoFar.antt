@@ -16,7 +16,7 @@ use Rattle.aadl_chains.specs.proof.PortsJoinedInside.{is_thread_at}
 use Rattle.aadl_chains.specs.Chains.{Port, is_in, IsEnd}
 use Rattle.aadl_chains.proofs.ConnectionsOnChains.{thread_from}
 use Rattle.aadl_chains.proofs.SamePaths.{same_path-self}
-use Rattle.aadl_chains.specs.Links.{Ends, IsLink, IsFeed, IsTap, same_path, TargetBefore, PortBefore}
+use Rattle.aadl_chains.specs.LinksFeedsAndTaps.{Ends, IsLink, IsFeed, IsTap, same_path, TargetBefore, PortBefore}
 use Rattle.aadl_instance.specs.declared.chain.Chain.{Chain}
 use Rattle.aadl_instance.specs.declared.chain_search.Incoming.{Incoming}
 use Rattle.aadl_instance.specs.Instances.{chain_in}

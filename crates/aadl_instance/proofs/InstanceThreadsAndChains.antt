@@ -12,8 +12,8 @@ use Rattle.aadl_uses.specs.Uses.{standing}
 use Rattle.aadl_uses.specs.ThreadsBelow.{Lists, IsThreadAt, PathBefore}
 use Rattle.aadl_uses.specs.declared.thread_locations.ThreadAt.{ThreadAt}
 use Rattle.aadl_uses.specs.ThreadLocations.{thread_at}
-use Rattle.aadl_chains.proofs.DeclaredEnds.{declared}
-use Rattle.aadl_chains.specs.Links.{IsLink, IsFeed, IsTap, TargetBefore, PortBefore}
+use Rattle.aadl_chains.proofs.PermittedConnections.{declared}
+use Rattle.aadl_chains.specs.LinksFeedsAndTaps.{IsLink, IsFeed, IsTap, TargetBefore, PortBefore}
 use Rattle.aadl_chains.proofs.LinkLimits.{one_each}
 use Rattle.aadl_instance.specs.declared.checked_package.Checked.{Checked}
 use Rattle.aadl_instance.specs.proof.CheckedPackages.{IsChecked}

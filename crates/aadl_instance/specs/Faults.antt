@@ -12,7 +12,7 @@ use Rattle.aadl_chains.specs.Chains.{IsEndFault}
 use Rattle.aadl_uses.specs.ThreadsBelow.{MoreThan, IsThreadAt, PathBefore}
 use Rattle.aadl_uses.specs.ThreadLocations.{ThreadWith, spelled_path}
 use Rattle.aadl_instance.specs.BehaviourSizes.{variable_count, state_count}
-use Rattle.aadl_chains.specs.Links.{IsLink, OtherTarget}
+use Rattle.aadl_chains.specs.LinksFeedsAndTaps.{IsLink, OtherTarget}
 
 -- there is more of something than a design may have, at the line of its limit
 abbrev pub IsOver : PackageTree ℕ → ℕ → ℕ → List ℕ → Type 0

@@ -4,7 +4,7 @@ use Rattle.aadl_tree.specs.Declarations.{PackageTree}
 use Rattle.aadl_names.specs.declared.fault.PackageFault.{PackageFault}
 use Rattle.aadl_names.specs.ReferenceResolution.{root_number}
 use Rattle.aadl_uses.specs.ThreadsBelow.{Lists, IsThreadAt, PathBefore}
-use Rattle.aadl_chains.specs.Links.{Ends, IsLink, IsFeed, IsTap, TargetBefore, PortBefore}
+use Rattle.aadl_chains.specs.LinksFeedsAndTaps.{Ends, IsLink, IsFeed, IsTap, TargetBefore, PortBefore}
 use Rattle.aadl_instance.specs.Faults.{Found}
 pub use Rattle.aadl_instance.specs.Faults.{IsOver, Found, IsFault}
 

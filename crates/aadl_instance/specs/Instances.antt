@@ -14,7 +14,7 @@ use Rattle.aadl_instance.specs.declared.chain.ChainEnd.{ChainEnd}
 use Rattle.aadl_instance.specs.declared.chain.ChainEnd.TheVariants.{Thread, Root}
 use Rattle.aadl_uses.specs.Uses.{component_at}
 use Rattle.aadl_chains.specs.Chains.{Port, port_of}
-use Rattle.aadl_chains.specs.Links.{same_path, Ends}
+use Rattle.aadl_chains.specs.LinksFeedsAndTaps.{same_path, Ends}
 use Rattle.aadl_instance.specs.FlattenedDesign.{Parts, IsFlat}
 use Rattle.aadl_tree.specs.declared.declarations.Direction.TheVariants as directions
 

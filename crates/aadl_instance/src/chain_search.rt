@@ -1,7 +1,7 @@
 //! The links, feeds and taps of a package that has no fault.
 ghost use Rattle.std.specs.Prelude.{◌≡◌, ◌+◌, true, [], reverse, IfOk, OnOk};
 ghost use Rattle.aadl_chains.specs.proof.PortsJoinedInside.{is_in_at};
-ghost use Rattle.aadl_chains.specs.Links.{IsLink, IsFeed, IsTap, TargetBefore, PortBefore};
+ghost use Rattle.aadl_chains.specs.LinksFeedsAndTaps.{IsLink, IsFeed, IsTap, TargetBefore, PortBefore};
 ghost use Rattle.aadl_instance.specs.proof.ChainsSoFar as shown;
 ghost use Rattle.aadl_instance.specs.proof.ChainSearchStates.{tree_of, paths_in, IsReady, IsNumbered, IsNode, Shows};
 ghost use Rattle.aadl_instance.specs.proof.ChainSearchStates.{ShowsInto, ShowsTaps};

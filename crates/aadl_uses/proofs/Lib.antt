@@ -4,7 +4,7 @@ pub mod ContainmentSequences
 pub mod KnownPrefixes
 pub mod MarkedPathCounts
 pub mod HeaviestPaths
-pub mod PathLists
+pub mod PathEnumeration
 pub mod PackageContainment
 pub mod FirstRecursion
 pub mod ThreadCounts

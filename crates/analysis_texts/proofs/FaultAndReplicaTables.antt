@@ -16,7 +16,7 @@ use Rattle.pals_runs.specs.declared.vote_faults_and_pairs.VoteFault.{VoteFault}
 use Rattle.analysis_fields.specs.declared.replica_faults.RoundFault.{RoundFault}
 use Rattle.analysis_fields.specs.ReplicasAndFaults.{is_among}
 use Rattle.triple_vote.specs.VotedText.{replica_name}
-use Rattle.analysis_texts.specs.VoteInputs.{faults_of}
+use Rattle.analysis_texts.specs.ReplicasAndRoundFaults.{faults_of}
 use Rattle.analysis_texts.specs.proof.ReplicaNamesAndLines.{filed}
 
 -- a table with another item at a place is a table whose items are the same elsewhere

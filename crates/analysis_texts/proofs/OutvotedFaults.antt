@@ -18,7 +18,7 @@ use Rattle.triple_vote.specs.OutvotedFaults.{AreOutvoted}
 use Rattle.triple_vote.specs.Replicas.{is_replicated}
 use Rattle.triple_vote.specs.VotedText.{vreport, thrice}
 use Rattle.triple_vote.proofs.OutvotedFaultReports.{report_is_thrice, thrice_without_replicas}
-use Rattle.analysis_texts.specs.VoteInputs.{replicated_in, faults_of}
+use Rattle.analysis_texts.specs.ReplicasAndRoundFaults.{replicated_in, faults_of}
 use Rattle.analysis_texts.proofs.WellFormedVoteFaults.{faults_keep}
 
 -- a component without replicas has no faults

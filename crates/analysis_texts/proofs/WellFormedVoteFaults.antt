@@ -13,7 +13,7 @@ use Rattle.analysis_fields.specs.proof.FaultAndProcessorFacts.{IsFaultOf}
 use Rattle.analysis_fields.specs.ReplicasAndFaults.{source_in as named_source}
 use Rattle.triple_vote.specs.Replicas.{source_in}
 use Rattle.triple_vote.specs.proof.VoteLaws.{IsFault}
-use Rattle.analysis_texts.specs.VoteInputs.{faults_of}
+use Rattle.analysis_texts.specs.ReplicasAndRoundFaults.{faults_of}
 
 same_source : (o : Option Link) → source_in o ≡ named_source o
 same_source None = refl

@@ -1,4 +1,4 @@
 pub mod BudgetedProcessors
-pub mod VoteInputs
+pub mod ReplicasAndRoundFaults
 pub mod MonitoredFormulas
 pub mod proof

@@ -1,7 +1,7 @@
 //! The faults of replicas, round by round.
 ghost use Rattle.std.specs.Prelude.{◌≡◌, [], map, IfOk, OnOk};
 ghost use Rattle.pals_base.specs.StepSequences.{upwards};
-ghost use Rattle.analysis_texts.specs.VoteInputs.{faults_of};
+ghost use Rattle.analysis_texts.specs.ReplicasAndRoundFaults.{faults_of};
 ghost use Rattle.analysis_texts.specs.proof.ReplicaNamesAndLines.{filed};
 
 use analysis_fields::RoundFault;

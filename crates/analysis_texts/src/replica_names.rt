@@ -2,7 +2,7 @@
 ghost use Rattle.std.specs.Prelude.{◌≡◌, ◌<◌, length, map, true, slice_set, IfOk};
 ghost use Rattle.pals_base.specs.StepSequences.{upwards};
 ghost use Rattle.analysis_fields.specs.ReplicasAndFaults.{is_among};
-ghost use Rattle.analysis_texts.specs.VoteInputs.{replicated_in};
+ghost use Rattle.analysis_texts.specs.ReplicasAndRoundFaults.{replicated_in};
 ghost use Rattle.analysis_texts.specs.proof.ReplicaNamesAndLines.{names_of, all_names};
 
 use pals_base::{Items, NoMemory, NodeNo, Text};

@@ -12,7 +12,7 @@ ghost use Rattle.triple_vote.specs.Replicas.{is_replicated, frame_at, vopening};
 ghost use Rattle.triple_vote.specs.proof.VotedStates.{vbegun};
 ghost use Rattle.triple_vote.specs.VotedText.{replica_lines, shown_line, vrow_lines, vreport, thrice};
 ghost use Rattle.triple_vote.specs.OutvotedFaults.{AreOutvoted};
-ghost use Rattle.analysis_texts.specs.VoteInputs.{replicated_in, faults_of};
+ghost use Rattle.analysis_texts.specs.ReplicasAndRoundFaults.{replicated_in, faults_of};
 ghost use Rattle.analysis_texts.specs.proof.ReplicaNamesAndLines.{names_of, all_names, all_lines};
 
 use crate::faults_by_round::by_round;

@@ -7,4 +7,4 @@ pub mod StateReachability
 pub mod TableCells
 pub mod TransitionTables
 pub mod MappedLists
-pub mod StateFindings
+pub mod AnnexFindings

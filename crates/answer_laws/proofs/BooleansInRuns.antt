@@ -4,7 +4,7 @@ use Rattle.pals_model.specs.declared.design.DesignParts.{DesignParts}
 use Rattle.pals_model.specs.DesignRules.{IsDesign}
 use Rattle.pals_model.proofs.KindsOfRounds.{states_fit, messages_fit, parts_fit}
 use Rattle.bundle_designs.specs.BundleMeanings.{IsAccepted}
-use Rattle.analysis_texts.specs.VoteInputs.{replicated_in, faults_of}
+use Rattle.analysis_texts.specs.ReplicasAndRoundFaults.{replicated_in, faults_of}
 use Rattle.scenario_laws.specs.proof.FusiblePairs.{PairsCanBeFused}
 use Rattle.kind_laws.proofs.VotedKinds.{voted_fit, shown_fit}
 use Rattle.kind_laws.proofs.FusedKinds.{solutions_fit}

@@ -24,7 +24,7 @@ use Rattle.analysis_fields.specs.declared.replica_faults.RoundFault.{RoundFault}
 use Rattle.analysis_fields.specs.ReplicasAndFaults.{copies_at, kind_in, kind_at, with_fault_value, fault_values}
 use Rattle.analysis_fields.specs.ReplicasAndFaults.{ends_of, fault_behind, fault_of, fault_from, fault_in}
 use Rattle.analysis_fields.specs.ReplicasAndFaults.{is_same_place, with_fault, faults_in}
-use Rattle.analysis_texts.specs.VoteInputs.{faults_of}
+use Rattle.analysis_texts.specs.ReplicasAndRoundFaults.{faults_of}
 use Rattle.scenario_json.specs.Scenarios.{field}
 use Rattle.kind_laws.specs.proof.VotedKinds.{FaultFits, FaultsFit}
 use Rattle.answer_laws.proofs.FittingInputs.{value_fits}

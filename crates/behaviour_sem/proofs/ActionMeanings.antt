@@ -13,7 +13,7 @@ use Rattle.pals_base.specs.declared.behaviour.Branch.{Branch}
 use Rattle.pals_base.specs.Actions.{Effect, act, acts, act_first, for_each, numbers, counted_from, count_of}
 use Rattle.pals_base.specs.Actions.{without_loop}
 use Rattle.pals_base.specs.PlainTrees.{Actions, For}
-use Rattle.pals_base.specs.Expressions.{on_value}
+use Rattle.pals_base.specs.ExpressionValues.{on_value}
 use Rattle.pals_base.specs.proof.TreeViews.{action_of, actions_along, branches_along}
 use Rattle.pals_base.proofs.TreeViews.{action_of-If, action_of-For}
 use Rattle.behaviour_sem.specs.declared.early_end.EarlyEnd.{EarlyEnd}

@@ -8,7 +8,7 @@ use Rattle.pals_base.specs.declared.values.Trap.{Trap}
 use Rattle.pals_base.specs.declared.values.Frame.{Frame}
 use Rattle.pals_base.specs.declared.values.PortValue.{PortValue}
 use Rattle.pals_base.specs.declared.values.PortValue.TheVariants.{Absent}
-use Rattle.pals_base.specs.Expressions.{on_value}
+use Rattle.pals_base.specs.ExpressionValues.{on_value}
 use Rattle.pals_base.specs.Actions.{Effect, acts}
 use Rattle.pals_base.specs.SingleStep.{Fired, along, held_of, holding, opens, first_open, is_complete, leaving, settled}
 use Rattle.pals_base.specs.PlainTrees.{Edge}

@@ -1,6 +1,6 @@
 //! The values of expressions.
 ghost use Rattle.std.specs.Prelude.{◌≡◌, pos, map, slice_index_or, false};
-ghost use Rattle.pals_base.specs.Expressions.{eval, eval_rest, applied, is_true, truth};
+ghost use Rattle.pals_base.specs.ExpressionValues.{eval, eval_rest, applied, is_true, truth};
 ghost use Rattle.pals_base.specs.SingleStep.{is_present};
 ghost use Rattle.pals_base.specs.proof.TreeViews.{tree_of, operands_along};
 ghost use Rattle.behaviour_sem.specs.proof.ReadableFrames.{seen, fresh};

@@ -1,7 +1,7 @@
 pub mod StoppedCounterRuns
 pub mod ListsAndOldestCopies
 pub mod InputAgreement
-pub mod LoneNodeAgreement
+pub mod NodeLocalAgreement
 pub mod AgreementChanges
 pub mod NodeEventAgreement
 pub mod MessageAndRunAgreement

@@ -34,8 +34,8 @@ use Rattle.bus_machine.specs.Agreement.{SlotAgrees, IsCopy, Agrees}
 use Rattle.bus_machine.specs.proof.AgreementLaws.{IsRunOf}
 use Rattle.bus_machine.proofs.ListsAndOldestCopies.{numbered_at}
 use Rattle.bus_machine.proofs.InputAgreement.{SlotsAgree}
-use Rattle.bus_machine.proofs.LoneNodeAgreement.{starts, steps_on, finishes, finish_keeps, sends, MaySend, may_send_of}
-use Rattle.bus_machine.proofs.LoneNodeAgreement.{sends_message}
+use Rattle.bus_machine.proofs.NodeLocalAgreement.{starts, steps_on, finishes, finish_keeps, sends, MaySend, may_send_of}
+use Rattle.bus_machine.proofs.NodeLocalAgreement.{sends_message}
 use Rattle.bus_machine.proofs.AgreementChanges.{with_stop_agrees, with_flights_agrees, node_set, is_component}
 use Rattle.bus_machine.proofs.AgreementChanges.{with_node_agrees, slots_of}
 

@@ -17,7 +17,7 @@ use Rattle.pals_model.specs.declared.design.Tap.{Tap}
 use Rattle.pals_model.specs.declared.design.DesignParts.{DesignParts}
 use Rattle.pals_model.specs.RoundTexts.{state_name}
 use Rattle.pals_model.specs.DesignRules.{IsDesign, IsComponent, IsFeed, IsTap}
-use Rattle.pals_model.specs.proof.CompositionLaws.Lines.{IsLine}
+use Rattle.pals_model.specs.proof.CompositionLaws.TextLines.{IsLine}
 use Rattle.pals_model.proofs.WordBytes.{path_inner}
 use Rattle.pals_runs.specs.JournalLines.{spaced}
 use Rattle.step_code.specs.declared.instr.Instr.{Instr}

@@ -12,7 +12,7 @@ pub mod component_property_lists;
 pub mod package_properties;
 pub mod periods;
 pub mod property_lookup;
-pub mod roots;
+pub mod root_findings;
 pub mod threads;
 pub mod times;
 pub mod types;

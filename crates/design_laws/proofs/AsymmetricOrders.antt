@@ -4,7 +4,7 @@ use Rattle.std.proofs.lemmas.Bool.{ltb-true}
 use Rattle.list_lemmas.proofs.Booleans.{or_and_cases}
 use Rattle.aadl_uses.specs.ThreadsBelow.{path_before, PathBefore}
 use Rattle.aadl_uses.proofs.PathOrder.{one_way_paths}
-use Rattle.aadl_chains.specs.Links.{Ends, same_path, TargetBefore, PortBefore}
+use Rattle.aadl_chains.specs.LinksFeedsAndTaps.{Ends, same_path, TargetBefore, PortBefore}
 use Rattle.aadl_chains.proofs.SamePaths.{same_path-true}
 
 not_both_less : (x y : ℕ) → nat_lt x y ≡ true → nat_lt y x ≡ true → ⊥

@@ -23,7 +23,7 @@ use Rattle.annex_resolve.specs.ExpressionTypesAndFindings.{kind_in}
 use Rattle.annex_resolve.specs.BehavioursAndFindings.{behaviour_of}
 use Rattle.component_checks.specs.TypeFindings as types
 use Rattle.component_checks.specs.ThreadRatesAndFindings.{thread_rate}
-use Rattle.model_violations.specs.ChainEnds.{thread_in, flat, end_kind, end_rate}
+use Rattle.model_violations.specs.ChainTargets.{thread_in, flat, end_kind, end_rate}
 use Rattle.model_violations.specs.PortsAndVariables as values
 use Rattle.model_violations.specs.PortsAndVariables.{ins_in, outs_in, named_of}
 use Rattle.model_violations.specs.ThreadBehaviours.{first_annex, behaviour_by, behaviour_in}

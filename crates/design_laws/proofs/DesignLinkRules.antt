@@ -20,9 +20,9 @@ use Rattle.pals_model.specs.DesignRules as model
 use Rattle.aadl_tree.specs.Declarations.{Feature, PackageTree}
 use Rattle.aadl_uses.specs.ThreadLocations.{thread_at}
 use Rattle.aadl_chains.specs.Chains.{Port, Leads}
-use Rattle.aadl_chains.specs.Links.{Ends, TargetBefore, PortBefore}
+use Rattle.aadl_chains.specs.LinksFeedsAndTaps.{Ends, TargetBefore, PortBefore}
 use Rattle.aadl_instance.specs.FlattenedDesign.{Parts, IsFlat}
-use Rattle.aadl_chains.specs.Links as walks
+use Rattle.aadl_chains.specs.LinksFeedsAndTaps as walks
 use Rattle.aadl_instance.specs.Instances.{port_name, chain_at}
 use Rattle.annex_resolve.specs.ExpressionTypesAndFindings.{kind_in}
 use Rattle.model_violations.specs.ChainFindings.{link_findings, feed_findings}

@@ -15,7 +15,7 @@ use Rattle.aadl_uses.specs.ThreadsBelow.{Lists, MoreThan, IsThreadOf, IsThreadAt
 use Rattle.aadl_uses.proofs.ThreadCounts.{more_threads}
 use Rattle.aadl_uses.specs.proof.MarkedPathCounts.{Among}
 use Rattle.aadl_chains.specs.proof.LimitedCounts.{Distinct}
-use Rattle.aadl_chains.specs.Links.{Ends, IsLink, TargetBefore, OtherTarget}
+use Rattle.aadl_chains.specs.LinksFeedsAndTaps.{Ends, IsLink, TargetBefore, OtherTarget}
 use Rattle.aadl_chains.proofs.LimitedCounts.{no_more}
 use Rattle.aadl_uses.specs.ThreadLocations.{ThreadWith, spelled_path}
 use Rattle.aadl_instance.specs.BehaviourSizes.{variable_count, state_count}

@@ -10,8 +10,8 @@ use Rattle.aadl_uses.proofs.PackageContainment.{within}
 use Rattle.aadl_uses.proofs.ThreadCounts.{threads_listed}
 use Rattle.aadl_uses.proofs.FirstRecursion.{no_way_back}
 use Rattle.aadl_chains.specs.proof.DeclaredEnds.{AreDeclared}
-use Rattle.aadl_chains.proofs.DeclaredEnds.{declared}
-use Rattle.aadl_chains.specs.Links.{Ends, IsLink, IsFeed, IsTap, TargetBefore, PortBefore}
+use Rattle.aadl_chains.proofs.PermittedConnections.{declared}
+use Rattle.aadl_chains.specs.LinksFeedsAndTaps.{Ends, IsLink, IsFeed, IsTap, TargetBefore, PortBefore}
 use Rattle.aadl_chains.specs.proof.Walks.{OneEach}
 use Rattle.aadl_uses.specs.proof.ContainmentGraphs.{LeadsBack}
 use Rattle.design_laws.proofs.ContainmentLists.{HasOrder}

@@ -15,7 +15,7 @@ use Rattle.aadl_uses.specs.Uses.{IsInUse, IsRecursive}
 use Rattle.aadl_uses.proofs.PackageContainment.{within, in_use_by}
 use Rattle.aadl_uses.proofs.FirstRecursion.{no_way_back}
 use Rattle.aadl_chains.specs.Chains.{IsEndFault}
-use Rattle.aadl_chains.proofs.DeclaredEnds.{declared}
+use Rattle.aadl_chains.proofs.PermittedConnections.{declared}
 use Rattle.aadl_instance.proofs.Roots.{is_root_at, root_declared}
 use Rattle.aadl_instance.proofs.FaultPrecedence.{name_fault, recursion_fault, end_fault, no_root, root_fault}
 use Rattle.design_laws.proofs.ReachedDeclarations.{reach}

@@ -7,7 +7,7 @@ use Rattle.aadl_chains.specs.proof.PortsJoinedInside.{is_thread_at}
 use Rattle.aadl_chains.specs.Chains.{Port, Leads}
 use Rattle.aadl_chains.specs.proof.DeclaredEnds.{AreDeclared}
 use Rattle.aadl_chains.specs.declared.chain_tracing.ChainStart.TheVariants as begins
-use Rattle.aadl_chains.specs.Links.{Ends, IsLink, IsFeed}
+use Rattle.aadl_chains.specs.LinksFeedsAndTaps.{Ends, IsLink, IsFeed}
 use Rattle.aadl_chains.specs.proof.TracedChains.{route_ends, IsGiver}
 use Rattle.aadl_chains.proofs.OutermostFirstWalks.{crossing_from}
 use Rattle.aadl_chains.proofs.LinksByWalks.{link_from, link_met, feed_met}

@@ -27,7 +27,7 @@ use Rattle.aadl_uses.specs.ThreadLocations.{sub_in, subs_along, thread_at}
 use Rattle.aadl_instance.specs.FlattenedDesign.{Parts, IsFlat}
 use Rattle.component_checks.specs.PropertyLookup.{sub_of, innermost}
 use Rattle.component_checks.specs.TypeFindings.{port_findings}
-use Rattle.model_violations.specs.ChainEnds.{component_of}
+use Rattle.model_violations.specs.ChainTargets.{component_of}
 use Rattle.model_violations.specs.ThreadBehaviours as threads
 use Rattle.design_laws.specs.proof.PackageNames.{HasWords, NamesDiffer, AreNamed}
 use Rattle.design_laws.proofs.PairwiseDistinctNames.{where_true}

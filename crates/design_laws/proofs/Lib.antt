@@ -9,7 +9,7 @@ pub mod AllowedAdaptors
 pub mod PlacedNames
 pub mod PairwiseDistinctNames
 pub mod DeclaredNameOrder
-pub mod WordIdentifiers
+pub mod IdentifiersAreWords
 pub mod DistinctPackageNames
 pub mod PackageNames
 pub mod PartitionedPairs

@@ -18,7 +18,7 @@ use Rattle.aadl_names.specs.DuplicatesByNamespace.{port_entries, member_entries}
 use Rattle.aadl_uses.specs.Uses.{component_at}
 use Rattle.aadl_uses.specs.ThreadsBelow.{IsThreadAt, path_before}
 use Rattle.aadl_chains.specs.Chains.{Port, port_of, is_in}
-use Rattle.aadl_chains.specs.Links.{OtherTarget, Ends, same_path, TargetBefore}
+use Rattle.aadl_chains.specs.LinksFeedsAndTaps.{OtherTarget, Ends, same_path, TargetBefore}
 use Rattle.aadl_chains.proofs.SamePaths.{same_path-true}
 use Rattle.aadl_instance.specs.FlattenedDesign.{Parts, IsFlat}
 use Rattle.aadl_instance.specs.Instances.{node_at, port_number}

@@ -18,9 +18,9 @@ use Rattle.aadl_names.specs.ReferenceResolution.{connections_of}
 use Rattle.aadl_uses.specs.ThreadsBelow.{IsThreadAt}
 use Rattle.aadl_chains.specs.Chains.{Port, Place, Leads, port_of, is_in, IsStart, IsEnd}
 use Rattle.aadl_instance.specs.declared.chain.ChainEnd.TheVariants.{Thread, Root}
-use Rattle.aadl_chains.specs.Links.{Ends, Carries}
+use Rattle.aadl_chains.specs.LinksFeedsAndTaps.{Ends, Carries}
 use Rattle.aadl_instance.specs.FlattenedDesign.{Parts, IsFlat}
-use Rattle.aadl_chains.specs.Links as walks
+use Rattle.aadl_chains.specs.LinksFeedsAndTaps as walks
 use Rattle.aadl_instance.specs.Instances.{node_at, port_number, port_name, end_by, end_in, chain_at}
 use Rattle.annex_resolve.specs.ExpressionTypesAndFindings.{kind_in}
 use Rattle.model_violations.specs.ConnectionsAndCarriers.{connection_of, adaptor_text}

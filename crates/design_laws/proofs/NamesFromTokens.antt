@@ -34,7 +34,7 @@ use Rattle.aadl_tree.specs.Declarations.{implementation_parts, declaration_parts
 use Rattle.aadl_tree.specs.TextTreesAndFaults.{IsTreeOf}
 use Rattle.aadl_names.specs.BehaviourAnnexes.{behaviours, variables_of, states_of}
 use Rattle.design_laws.specs.proof.PackageNames.{IsNamed, HasWords}
-use Rattle.design_laws.proofs.WordIdentifiers.{same_words}
+use Rattle.design_laws.proofs.IdentifiersAreWords.{same_words}
 
 -- ---- terminals that are words
 abbrev IsWordKind : Kind → Type 0

@@ -5,7 +5,7 @@ use Rattle.aadl_tree.specs.declared.package.PackageTree as source
 use Rattle.aadl_tree.specs.proof.PackageViews.{placed}
 use Rattle.design_laws.specs.proof.PackageNames.{AreNamed}
 use Rattle.design_laws.proofs.DistinctPackageNames.{differ_given}
-use Rattle.design_laws.proofs.WordIdentifiers.{have_words}
+use Rattle.design_laws.proofs.IdentifiersAreWords.{have_words}
 
 pub named : (tree : source.PackageTree) → AreNamed (placed tree)
 named tree = record {

@@ -10,7 +10,7 @@ use Rattle.std.proofs.lemmas.Option.{same_Some, slice_get-get_or}
 use Rattle.list_lemmas.proofs.PairwiseProperties.{AllPairs-slice_get}
 use Rattle.aadl_uses.specs.ThreadsBelow.{PathBefore, path_before}
 use Rattle.aadl_uses.proofs.PathOrder.{one_way_paths}
-use Rattle.aadl_chains.specs.Links.{same_path}
+use Rattle.aadl_chains.specs.LinksFeedsAndTaps.{same_path}
 use Rattle.aadl_chains.proofs.SamePaths.{same_path-true, same_path-self}
 use Rattle.aadl_instance.specs.Instances.{node_at}
 use Rattle.design_laws.proofs.InstanceBehaviours.{first_is}

@@ -17,15 +17,15 @@ use Rattle.aadl_uses.specs.Uses.{component_at}
 use Rattle.aadl_uses.specs.ThreadsBelow.{IsThreadAt}
 use Rattle.aadl_uses.specs.ThreadLocations.{thread_at}
 use Rattle.aadl_chains.specs.Chains.{Port, port_of, is_in}
-use Rattle.aadl_chains.specs.Links.{Ends}
+use Rattle.aadl_chains.specs.LinksFeedsAndTaps.{Ends}
 use Rattle.aadl_instance.specs.FlattenedDesign.{Parts, IsFlat}
-use Rattle.aadl_chains.specs.Links as walks
+use Rattle.aadl_chains.specs.LinksFeedsAndTaps as walks
 use Rattle.aadl_instance.specs.Instances.{node_at, port_number, port_name, end_in, chain_at}
 use Rattle.annex_resolve.specs.ExpressionTypesAndFindings.{kind_in}
 use Rattle.model_violations.specs.ConnectionsAndCarriers.{adaptor_text}
 use Rattle.model_violations.specs.ChainFindings.{timing_findings, adaptor_findings, on_carrier, link_findings}
 use Rattle.model_violations.specs.ChainFindings.{feed_findings}
-use Rattle.model_violations.specs.ChainEnds.{end_name, end_kind, end_rate}
+use Rattle.model_violations.specs.ChainTargets.{end_name, end_kind, end_rate}
 use Rattle.component_checks.specs.PeriodAndAdaptorFindings.{adaptor_named, kind_suits}
 use Rattle.design_laws.specs.proof.PackageNames.{HasWords}
 use Rattle.design_laws.proofs.ThreadMemberNames.{IsPort}

@@ -13,7 +13,7 @@ use Rattle.aadl_names.specs.declared.fault.PackageFault.TheVariants.{TooMany}
 use Rattle.aadl_names.specs.ReferenceResolution.{implementation_at, type_number}
 use Rattle.aadl_names.specs.PackageFaults.{package_faults}
 use Rattle.aadl_uses.specs.Uses.{standing, component_at}
-use Rattle.aadl_chains.proofs.DeclaredEnds.{implementation_in-some}
+use Rattle.aadl_chains.proofs.PermittedConnections.{implementation_in-some}
 use Rattle.aadl_instance.specs.Faults.{IsOver, FoundIn}
 use Rattle.aadl_instance.specs.FlattenedDesign.{Parts, IsFlat}
 use Rattle.design_laws.proofs.EmptyFindingLists.{none_at}

@@ -14,7 +14,7 @@ use Rattle.aadl_chains.specs.proof.PortsJoinedInside.{is_thread_at, is_in_at}
 use Rattle.aadl_chains.specs.Chains.{Port, Leads}
 use Rattle.aadl_chains.specs.proof.DeclaredEnds.{AreDeclared}
 use Rattle.aadl_chains.proofs.ConnectionsOnChains.{is_in-at, next_at}
-use Rattle.aadl_chains.specs.Links.{Ends, IsTap, PortBefore}
+use Rattle.aadl_chains.specs.LinksFeedsAndTaps.{Ends, IsTap, PortBefore}
 use Rattle.aadl_chains.specs.proof.Walks.{OneEach}
 use Rattle.aadl_chains.specs.proof.TracedChains.{IsGiver}
 use Rattle.aadl_chains.proofs.FirstIncomingConnections.{entered, inner_of}

@@ -13,7 +13,7 @@ use Rattle.aadl_uses.specs.declared.connections_by_target.Wire.{Wire}
 use Rattle.aadl_uses.specs.Wiring.{wire_of, wires_of, wires_at}
 use Rattle.aadl_uses.specs.SecondConnections.{target_in}
 use Rattle.aadl_chains.specs.Chains.{Port, Place, Leads, IsStart, IsSecondEnd}
-use Rattle.aadl_chains.proofs.DeclaredEnds.{declared}
+use Rattle.aadl_chains.proofs.PermittedConnections.{declared}
 use Rattle.aadl_chains.specs.proof.SoundConnections.{IsSound}
 use Rattle.aadl_chains.proofs.ChainsFromEnds.{one_into, none_into_start}
 use Rattle.aadl_chains.proofs.SoundConnections.{sound_by}

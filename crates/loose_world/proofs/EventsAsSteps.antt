@@ -10,7 +10,7 @@ use Rattle.bus_machine.specs.States.{Run, opening}
 use Rattle.bus_machine.specs.Machine.{BusEvent, is_allowed, IsStep}
 use Rattle.bus_machine.specs.Replay.{entries}
 use Rattle.pals_bus.specs.BusValues.{BusValue, Happens}
-use Rattle.pals_bus.specs.proof.NodeAndCodeValues.{opening_bus}
+use Rattle.pals_bus.specs.proof.OpeningBusAndNodeValues.{opening_bus}
 use Rattle.pals_bus.specs.LooseEvents.{IsRefused}
 use Rattle.loose_world.specs.declared.loose_run.LooseEnd.{LooseEnd}
 use Rattle.loose_world.specs.declared.loose_run.LooseEnd.TheVariants as end

@@ -21,9 +21,9 @@ use Rattle.bus_machine.specs.proof.AgreementLaws.{IsRunOf}
 use Rattle.bus_machine.specs.WorldTexts.{finished_by, part_shown, rounds_shown, world_rows}
 use Rattle.pals_bus.specs.BusValues.{BusValue}
 use Rattle.loose_world.specs.proof.FinishedRows.{part_of_round, finished, finished_lines, common_lines}
-use Rattle.loose_world.specs.proof.UndergoneEvents.{IsLeftBy}
+use Rattle.loose_world.specs.proof.EventEffects.{IsLeftBy}
 use Rattle.loose_world.proofs.RoundCounts.{rounds_are_finished}
-use Rattle.loose_world.proofs.UndergoneEvents.{events_replay}
+use Rattle.loose_world.proofs.EventEffects.{events_replay}
 
 -- ---- numbers from one on
 past_from : {X : Type 0} (f : ℕ → X) (from m k : ℕ) → m ≤ k → slice_get (map f (upwards from m)) k ≡ None

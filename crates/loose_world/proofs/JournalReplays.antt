@@ -5,12 +5,12 @@ use Rattle.pals_runs.specs.declared.events_and_faults.Event.{Event}
 use Rattle.bus_machine.specs.States.{Run}
 use Rattle.bus_machine.specs.proof.AgreementLaws.{IsRunOf}
 use Rattle.pals_bus.specs.BusValues.{BusValue}
-use Rattle.pals_bus.specs.proof.NodeAndCodeValues.{opening_bus}
+use Rattle.pals_bus.specs.proof.OpeningBusAndNodeValues.{opening_bus}
 use Rattle.loose_world.specs.declared.loose_run.LooseEnd.{LooseEnd}
 use Rattle.loose_world.specs.declared.loose_run.LooseEnd.TheVariants as end
 use Rattle.loose_world.specs.LooseRuns.{AllHappen, RunsLoosely}
-use Rattle.loose_world.specs.proof.UndergoneEvents.{IsReplayed}
-use Rattle.loose_world.proofs.UndergoneEvents.{undergoes_loose, left_by_loose, stays_replayed, events_replay}
+use Rattle.loose_world.specs.proof.EventEffects.{IsReplayed}
+use Rattle.loose_world.proofs.EventEffects.{undergoes_loose, left_by_loose, stays_replayed, events_replay}
 
 all_replay : (run : Run) (programs : List CodeParts) (events : List Event) (t : BusValue) (lines : List (List ℕ))
     → IsRunOf run

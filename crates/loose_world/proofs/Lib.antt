@@ -2,7 +2,7 @@ pub mod LinksFromNodes
 pub mod RowLoops
 pub mod EventsAndLines
 pub mod LooseRuns
-pub mod UndergoneEvents
+pub mod EventEffects
 pub mod StepAndSendCounts
 pub mod SentLines
 pub mod RoundCounts

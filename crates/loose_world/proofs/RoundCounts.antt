@@ -27,14 +27,14 @@ use Rattle.bus_machine.specs.Agreement.{PhaseAgrees}
 use Rattle.bus_machine.specs.proof.AgreementLaws.{IsRunOf}
 use Rattle.bus_machine.specs.WorldTexts.{is_finish, sender, sends_of, finished_by}
 use Rattle.pals_bus.specs.BusValues.{BusValue, Happens}
-use Rattle.pals_bus.specs.proof.NodeAndCodeValues.{opening_bus}
+use Rattle.pals_bus.specs.proof.OpeningBusAndNodeValues.{opening_bus}
 use Rattle.loose_world.specs.proof.StepAndSendCounts.{steps_in_hand, steps_finished, is_send, IsCounted}
 use Rattle.loose_world.specs.LooseRuns.{InTurn}
-use Rattle.loose_world.specs.proof.UndergoneEvents.{Undergoes, IsLeftBy, IsReplayed}
+use Rattle.loose_world.specs.proof.EventEffects.{Undergoes, IsLeftBy, IsReplayed}
 use Rattle.loose_world.specs.proof.SendersAndSentCopies.{with_sender, senders}
 use Rattle.loose_world.proofs.SentLines.{and_sender}
 use Rattle.loose_world.proofs.StepAndSendCounts.{step_counts}
-use Rattle.loose_world.proofs.UndergoneEvents.{stays_replayed, opens_replayed, events_replay}
+use Rattle.loose_world.proofs.EventEffects.{stays_replayed, opens_replayed, events_replay}
 
 -- ---- one event
 event_counts : (run : Run) (s t : BusValue) (e : Event) (node : ℕ) → IsRunOf run → IsReplayed run s → Undergoes s e t

@@ -30,20 +30,20 @@ use Rattle.bus_machine.specs.proof.AgreementLaws.{IsRunOf}
 use Rattle.bus_machine.specs.WorldTexts.{sender, sends_of, sent_line, sent_lines}
 use Rattle.bus_machine.proofs.MessageAndRunAgreement.{step_keeps_agreement}
 use Rattle.bus_machine.proofs.ListsAndOldestCopies.{numbered_at, oldest_is_one}
-use Rattle.bus_machine.proofs.LoneNodeAgreement.{MaySend}
+use Rattle.bus_machine.proofs.NodeLocalAgreement.{MaySend}
 use Rattle.bus_machine.proofs.AgreementChanges.{node_set}
 use Rattle.bus_machine.proofs.NodeEventAgreement.{sender_before}
 use Rattle.pals_report.specs.SentLines.{sent_line as line}
 use Rattle.pals_bus.specs.BusValues.{BusValue, Happens}
-use Rattle.pals_bus.specs.proof.NodeAndCodeValues.{opening_bus}
+use Rattle.pals_bus.specs.proof.OpeningBusAndNodeValues.{opening_bus}
 use Rattle.loose_world.specs.SentLines.{message_lines, copy_lines, sent_lines as shown_lines}
 use Rattle.loose_world.specs.LooseRuns.{InTurn, told_by}
-use Rattle.loose_world.specs.proof.UndergoneEvents.{Undergoes, IsLeftBy, IsReplayed}
+use Rattle.loose_world.specs.proof.EventEffects.{Undergoes, IsLeftBy, IsReplayed}
 use Rattle.loose_world.specs.proof.SendersAndSentCopies.{senders, HasSent}
 use Rattle.loose_world.proofs.RoundCounts.{sent_more, nothing_sent, rounds_are_sent}
 use Rattle.loose_world.proofs.SentLines.{round_lines, event_lines, and_sender, one_event}
 use Rattle.loose_world.proofs.StepAndSendCounts.{sender_is_there}
-use Rattle.loose_world.proofs.UndergoneEvents.{makes_send, stays_replayed, opens_replayed, events_replay}
+use Rattle.loose_world.proofs.EventEffects.{makes_send, stays_replayed, opens_replayed, events_replay}
 
 -- ---- the links from a node
 -- a link of the design from this node

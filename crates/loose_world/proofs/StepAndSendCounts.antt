@@ -28,11 +28,11 @@ use Rattle.bus_machine.specs.Machine.{BusEvent, Start, Step, Finish, Send, Arriv
 use Rattle.bus_machine.specs.Machine.{after_start, after_send, after_arrive, on_step, is_allowed}
 use Rattle.bus_machine.specs.Agreement.{PhaseAgrees, Agrees}
 use Rattle.bus_machine.specs.proof.AgreementLaws.{IsRunOf}
-use Rattle.bus_machine.proofs.LoneNodeAgreement.{finish_keeps, MaySend}
+use Rattle.bus_machine.proofs.NodeLocalAgreement.{finish_keeps, MaySend}
 use Rattle.bus_machine.proofs.AgreementChanges.{is_component}
 use Rattle.bus_machine.proofs.NodeEventAgreement.{is_waiting_phase, sender_before}
 use Rattle.loose_world.specs.proof.StepAndSendCounts.{steps_in_hand, steps_finished, IsCounted}
-use Rattle.loose_world.specs.proof.UndergoneEvents.{event_of}
+use Rattle.loose_world.specs.proof.EventEffects.{event_of}
 
 -- ---- the two quantities
 abbrev steps_of : Run → ℕ → NodeState → ℕ

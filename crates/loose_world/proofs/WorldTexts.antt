@@ -10,12 +10,12 @@ use Rattle.bus_machine.specs.Agreement.{Agrees}
 use Rattle.bus_machine.specs.proof.AgreementLaws.{IsRunOf}
 use Rattle.bus_machine.specs.WorldTexts.{sent_lines, world_rows, worldtext}
 use Rattle.pals_bus.specs.BusValues.{BusValue}
-use Rattle.pals_bus.specs.proof.NodeAndCodeValues.{opening_bus}
+use Rattle.pals_bus.specs.proof.OpeningBusAndNodeValues.{opening_bus}
 use Rattle.loose_world.specs.proof.FinishedRows.{finished_lines, common_lines}
 use Rattle.loose_world.specs.declared.loose_run.LooseEnd.TheVariants as end
 use Rattle.loose_world.specs.LooseRuns.{Tells}
-use Rattle.loose_world.specs.proof.UndergoneEvents.{IsLeftBy, IsReplayed}
-use Rattle.loose_world.proofs.UndergoneEvents.{left_by_loose}
+use Rattle.loose_world.specs.proof.EventEffects.{IsLeftBy, IsReplayed}
+use Rattle.loose_world.proofs.EventEffects.{left_by_loose}
 use Rattle.loose_world.proofs.JournalReplays.{journal_replays}
 use Rattle.loose_world.proofs.FinishedRows.{finished_rows, common_rows}
 use Rattle.loose_world.proofs.SentCopies.{lines_are_told}

@@ -10,7 +10,7 @@ ghost use Rattle.model_checks.specs.proof.RefusedInstances.{HasNoDesign};
 use crate::resolved_behaviours::behaviour;
 use aadl_instance::{Chain, ChainEnd, Instance, ThreadAt};
 use component_checks::Properties;
-use component_checks::roots::root_gamma;
+use component_checks::root_findings::root_gamma;
 use component_checks::threads::{root_period, thread_rate};
 use indexmap::IndexMap;
 use model_violations::carriers::carrier_of;

@@ -16,7 +16,7 @@ use crate::used_declarations::{types_used, used_below};
 use aadl_instance::{Chain, Instance, ThreadAt};
 use annex_resolve::Violation;
 use component_checks::Properties;
-use component_checks::roots::add_root_findings;
+use component_checks::root_findings::add_root_findings;
 use component_checks::threads::{add_thread_findings, greatest_rate, thread_rate};
 use pals_base::{Items, NoMemory};
 use std::alloc::Global;

@@ -7,7 +7,7 @@ ghost use Rattle.model_violations.specs.ChainFindings as spec;
 ghost use Rattle.model_violations.specs.proof.ThreadRates.{tree_of, ArePositive};
 
 use crate::carriers::carrier_of;
-use crate::chain_ends::{end_kind, end_name, end_rate};
+use crate::chain_targets::{end_kind, end_name, end_rate};
 use aadl_instance::{Chain, ThreadAt};
 use aadl_tree::Connection;
 use annex_resolve::Violation;

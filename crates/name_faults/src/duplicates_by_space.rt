@@ -12,7 +12,7 @@ ghost use Rattle.aadl_names.specs.ReferenceResolution.{type_number};
 ghost use Rattle.aadl_names.specs.proof.PortDuplicates as spec;
 ghost use Rattle.name_faults.specs.proof.TypePortNames.{AreAllNamesOf};
 
-use crate::port_duplicates::check_beside;
+use crate::names_beside_ports::check_beside;
 use crate::port_names::AllPortNames;
 use crate::space_entries::{
     implementation_entries, member_entries, state_entries, type_entries, variable_entries,

@@ -11,7 +11,7 @@ mod declarations;
 pub mod duplicates_by_space;
 mod first_fault;
 mod implementations;
-mod port_duplicates;
+mod names_beside_ports;
 pub mod port_names;
 pub mod properties;
 pub mod shapes;

@@ -18,7 +18,7 @@ use Rattle.pals_base.specs.declared.values.PortValue.TheVariants.{Absent}
 use Rattle.pals_base.specs.declared.behaviour.StateDecl.{StateDecl}
 use Rattle.pals_base.specs.declared.behaviour.BehaviourParts.{BehaviourParts}
 use Rattle.pals_base.specs.PlainTrees.{Edge, Trigger, Dispatch, Always, When}
-use Rattle.pals_base.specs.Expressions.{on_value}
+use Rattle.pals_base.specs.ExpressionValues.{on_value}
 use Rattle.pals_base.specs.Actions.{acts}
 use Rattle.pals_base.specs.SingleStep.{Fired, HasShape, holding, is_present, silence, completes, may_begin, is_complete}
 use Rattle.pals_base.specs.SingleStep.{leaving, is_dispatch, opens, first_open, along, settled, dispatched, reaction}

@@ -5,7 +5,7 @@ use Rattle.pals_base.specs.declared.values.Trap.{Trap}
 use Rattle.pals_base.specs.declared.values.Frame.{Frame}
 use Rattle.pals_base.specs.declared.values.PortValue.{PortValue}
 use Rattle.pals_base.specs.declared.values.PortValue.TheVariants.{Present}
-use Rattle.pals_base.specs.Expressions.{eval, on_value, is_true}
+use Rattle.pals_base.specs.ExpressionValues.{eval, on_value, is_true}
 use Rattle.pals_base.specs.PlainTrees.{Action, Assign, Emit, If, For, Actions, Nothing, Do, Branches, NoBranch, Where}
 
 -- the variables, and what the out ports have in this step so far

@@ -1,7 +1,7 @@
 pub mod Names
 pub mod Arithmetic
 pub mod PlainTrees
-pub mod Expressions
+pub mod ExpressionValues
 pub mod Actions
 pub mod SingleStep
 pub mod StepSequences

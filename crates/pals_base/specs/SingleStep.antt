@@ -9,7 +9,7 @@ use Rattle.pals_base.specs.declared.values.PortValue.TheVariants.{Absent, Presen
 use Rattle.pals_base.specs.declared.behaviour.BehaviourParts.{BehaviourParts}
 use Rattle.pals_base.specs.declared.behaviour.StateDecl.{StateDecl}
 use Rattle.pals_base.specs.declared.behaviour.VarDecl.{VarDecl}
-use Rattle.pals_base.specs.Expressions.{eval, on_value, is_true}
+use Rattle.pals_base.specs.ExpressionValues.{eval, on_value, is_true}
 use Rattle.pals_base.specs.Actions.{acts}
 use Rattle.pals_base.specs.PlainTrees.{Edge, Trigger, Dispatch, Always, When}
 

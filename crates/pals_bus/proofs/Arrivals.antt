@@ -23,7 +23,7 @@ use Rattle.bus_machine.specs.Machine.{Arrive, arrival, early_stop}
 use Rattle.bus_machine.specs.Replay.{Replays, goes_on, stop_entry}
 use Rattle.pals_node.specs.proof.NodeValues.{NodeValue, with_state}
 use Rattle.pals_bus.specs.declared.bus_fields.BusFields.{BusFields}
-use Rattle.pals_bus.specs.proof.NodeAndCodeValues.{node_value}
+use Rattle.pals_bus.specs.proof.OpeningBusAndNodeValues.{node_value}
 use Rattle.pals_bus.specs.BusValues.{Happens}
 use Rattle.pals_bus.specs.proof.BusInvariant.{Keeps, owed, run_of, state_of, value_of, copies_in}
 use Rattle.pals_bus.specs.proof.OutOfRangeDefaults.{no_flight, no_node_value}

@@ -7,7 +7,7 @@ pub mod QueueOpeningsAndSends
 pub mod EqualDueReadings
 pub mod EventInvariants
 pub mod LinksFrom
-pub mod NextLinks
+pub mod NextOutgoingLink
 pub mod RoundMessages
 pub mod EventEffects
 pub mod InvariantConsequences

@@ -21,10 +21,10 @@ use Rattle.bus_machine.specs.NodeEvents.{running_step, finished, fired, after_se
 use Rattle.bus_machine.specs.NodeEvents.{sent_from}
 use Rattle.bus_machine.specs.Plans.{component_at}
 use Rattle.bus_machine.specs.States.{no_node}
-use Rattle.bus_machine.proofs.LoneNodeAgreement.{finish_keeps}
+use Rattle.bus_machine.proofs.NodeLocalAgreement.{finish_keeps}
 use Rattle.pals_node.specs.proof.NodeValues.{Program, NodeValue, with_state}
 use Rattle.pals_bus.specs.declared.bus_fields.BusFields.{BusFields}
-use Rattle.pals_bus.specs.proof.NodeAndCodeValues.{AreCodes, codes_in, no_code, code_at, node_value}
+use Rattle.pals_bus.specs.proof.OpeningBusAndNodeValues.{AreCodes, codes_in, no_code, code_at, node_value}
 use Rattle.pals_bus.specs.proof.BusInvariant.{IsNodeOf, AreNodes, Keeps, owed, value_of}
 use Rattle.pals_bus.specs.proof.OutOfRangeDefaults.{no_node_value}
 

@@ -31,7 +31,7 @@ use Rattle.bus_machine.specs.Replay.{Replays, opens}
 use Rattle.bus_machine.specs.declared.plan.Plan.{Plan}
 use Rattle.pals_node.specs.proof.NodeValues.{NodeValue, Program, program_of, opening_value}
 use Rattle.pals_bus.specs.declared.bus_fields.BusFields.{BusFields}
-use Rattle.pals_bus.specs.proof.NodeAndCodeValues.{AreCodes, codes_in, code_at, no_code, opening_bus}
+use Rattle.pals_bus.specs.proof.OpeningBusAndNodeValues.{AreCodes, codes_in, code_at, no_code, opening_bus}
 use Rattle.pals_bus.specs.proof.BusInvariant.{AreNodes, HasRooms, Keeps, copies_in, owed, run_of, state_of, value_of}
 use Rattle.pals_bus.specs.proof.LinksFrom.{AreOutgoing}
 use Rattle.pals_bus.specs.proof.DueQueues.{AreQueues}

@@ -20,7 +20,7 @@ use Rattle.bus_machine.specs.Replay.{Replays, goes_on}
 use Rattle.pals_node.specs.proof.NodeValues.{NodeValue}
 use Rattle.pals_node.specs.proof.Answers.{Sends}
 use Rattle.pals_bus.specs.declared.bus_fields.BusFields.{BusFields}
-use Rattle.pals_bus.specs.proof.NodeAndCodeValues.{node_value}
+use Rattle.pals_bus.specs.proof.OpeningBusAndNodeValues.{node_value}
 use Rattle.pals_bus.specs.BusValues.{Happens}
 use Rattle.pals_bus.specs.proof.BusInvariant.{Keeps, owed, run_of, state_of, value_of}
 use Rattle.pals_bus.specs.proof.RoundMessages.{is_from, HasRoomFor, AreSent}

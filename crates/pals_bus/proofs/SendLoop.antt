@@ -20,7 +20,7 @@ use Rattle.pals_bus.specs.proof.RoundMessages.{is_from, place_of, HasRoomFor, wi
 use Rattle.pals_bus.specs.proof.DueQueues.{AreQueuesAmid, with_due}
 use Rattle.pals_bus.specs.proof.LinksFrom.{no_numbers}
 use Rattle.pals_bus.specs.proof.OutOfRangeDefaults.{no_flight, no_queue, no_link_no}
-use Rattle.pals_bus.proofs.NextLinks.{IsAt, Reaches, reaches_all, reaches_next}
+use Rattle.pals_bus.proofs.NextOutgoingLink.{IsAt, Reaches, reaches_all, reaches_next}
 use Rattle.pals_bus.proofs.QueueChanges.{amid_other, amid_room}
 use Rattle.pals_bus.proofs.QueueOpeningsAndSends.{amid_one}
 use Rattle.pals_bus.proofs.RoundMessages.{place_next, place_within, sent_other, sent_one}

@@ -17,12 +17,12 @@ use Rattle.bus_machine.specs.States.{BusState, node_at, with_node}
 use Rattle.bus_machine.specs.MissedStarts.{link_into}
 use Rattle.bus_machine.specs.Machine.{BusEvent, Start, Step, Finish, is_allowed, after, missed_stop}
 use Rattle.bus_machine.specs.Replay.{Replays, goes_on, entries, start_entry}
-use Rattle.bus_machine.proofs.LoneNodeAgreement.{finish_keeps}
+use Rattle.bus_machine.proofs.NodeLocalAgreement.{finish_keeps}
 use Rattle.pals_node.specs.declared.answers.StartEnd.TheVariants as start
 use Rattle.pals_node.specs.proof.NodeValues.{NodeValue, JobValue, with_state}
 use Rattle.pals_node.specs.proof.Answers.{Starts, StartEnds, Steps, Finishes}
 use Rattle.pals_bus.specs.declared.bus_fields.BusFields.{BusFields}
-use Rattle.pals_bus.specs.proof.NodeAndCodeValues.{node_value}
+use Rattle.pals_bus.specs.proof.OpeningBusAndNodeValues.{node_value}
 use Rattle.pals_bus.specs.BusValues.{Happens}
 use Rattle.pals_bus.specs.proof.Answers.{StartsRound, MissesMessage, StepsOn}
 use Rattle.pals_bus.specs.proof.BusInvariant.{HasRooms, Keeps, owed, run_of, state_of, value_of, copies_in}

@@ -1,5 +1,5 @@
 -- What the theorem of the program does not rest on: definitions of contracts below it, of laws, and of proofs.
-pub mod NodeAndCodeValues
+pub mod OpeningBusAndNodeValues
 pub mod OutOfRangeDefaults
 pub mod NodeLists
 pub mod BusInvariant

@@ -16,7 +16,7 @@ use Rattle.pals_base.specs.declared.behaviour.VarDecl.{VarDecl}
 use Rattle.pals_base.specs.declared.behaviour.BehaviourParts.{BehaviourParts}
 use Rattle.pals_base.specs.declared.expression_kinds.Kinds.{Kinds}
 use Rattle.pals_base.specs.Arithmetic.{negation_of, magnitude_of}
-use Rattle.pals_base.specs.Expressions.{on_value, is_true, truth, same_number, applied, combined, eval, eval_rest}
+use Rattle.pals_base.specs.ExpressionValues.{on_value, is_true, truth, same_number, applied, combined, eval, eval_rest}
 use Rattle.pals_base.specs.TypingRules.{only, allows, literal_kinds, declared_or, port_kinds, joined, kinds_of}
 use Rattle.pals_base.specs.TypingRules.{kinds_along}
 use Rattle.pals_base.specs.PlainTrees.{Expression, Literal, Variable, PortRead, Fresh, Neg, Abs, Not, Chain, Operands}

@@ -15,7 +15,7 @@ use Rattle.pals_base.specs.declared.behaviour.Kind.TheVariants.{Integer, Boolean
 use Rattle.pals_base.specs.declared.behaviour.VarDecl.{VarDecl}
 use Rattle.pals_base.specs.declared.behaviour.BehaviourParts.{BehaviourParts}
 use Rattle.pals_base.specs.Actions.{acts}
-use Rattle.pals_base.specs.Expressions.{on_value}
+use Rattle.pals_base.specs.ExpressionValues.{on_value}
 use Rattle.pals_base.specs.SingleStep.{Fired, HasShape, held_of, holding, is_present, silence, is_complete, leaving}
 use Rattle.pals_base.specs.SingleStep.{is_dispatch, opens, first_open, along, settled, dispatched, reaction, outcome}
 use Rattle.pals_base.specs.SingleStep.{unless_halted, fire, initial}

@@ -22,7 +22,7 @@ use Rattle.pals_base.specs.declared.behaviour.PortDecl.{PortDecl}
 use Rattle.pals_base.specs.declared.behaviour.VarDecl.{VarDecl}
 use Rattle.pals_base.specs.declared.behaviour.StateDecl.{StateDecl}
 use Rattle.pals_base.specs.declared.behaviour.BehaviourParts.{BehaviourParts}
-use Rattle.pals_base.specs.Expressions.{is_true}
+use Rattle.pals_base.specs.ExpressionValues.{is_true}
 use Rattle.pals_base.specs.Names.{is_word}
 use Rattle.pals_base.specs.BehaviourRules.{IsBehaviour, has_word}
 use Rattle.pals_base.specs.StepSequences.{upwards}
@@ -36,8 +36,8 @@ use Rattle.pals_model.specs.RoundTexts.{text_of, value_text, port_text, with_com
 use Rattle.pals_model.specs.RoundTexts.{variable_text, vars_text, component_line, tap_line, round_line, part_lines}
 use Rattle.pals_model.specs.RoundTexts.{tap_lines, composed_lines, report_lines, is_line_feed, line_end, row_lines}
 use Rattle.pals_model.specs.DesignRules.{IsDesign, IsComponent, IsTap}
-use Rattle.pals_model.specs.proof.CompositionLaws.Lines.{IsLine, RowHasLines, ReportHasLines, TextSplits, RowSplits}
-use Rattle.pals_model.specs.proof.CompositionLaws.Lines.{ReportSplits}
+use Rattle.pals_model.specs.proof.CompositionLaws.TextLines.{IsLine, RowHasLines, ReportHasLines, TextSplits, RowSplits}
+use Rattle.pals_model.specs.proof.CompositionLaws.TextLines.{ReportSplits}
 use Rattle.pals_model.proofs.FirstMatches.{at_element}
 use Rattle.pals_model.proofs.WordBytes.{all_pass, word_without, path_without}
 

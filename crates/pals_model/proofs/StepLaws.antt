@@ -10,7 +10,7 @@ use Rattle.pals_base.specs.declared.values.PortValue.{PortValue}
 use Rattle.pals_base.specs.declared.values.PortValue.TheVariants.{Absent}
 use Rattle.pals_base.specs.declared.behaviour.BehaviourParts.{BehaviourParts}
 use Rattle.pals_base.specs.PlainTrees.{Edge}
-use Rattle.pals_base.specs.Expressions.{on_value}
+use Rattle.pals_base.specs.ExpressionValues.{on_value}
 use Rattle.pals_base.specs.Actions.{acts}
 use Rattle.pals_base.specs.SingleStep.{Fired, HasShape, fire, holding, silence, is_present, is_complete, leaving}
 use Rattle.pals_base.specs.SingleStep.{first_open, along, settled, dispatched, reaction, outcome, unless_halted}

@@ -9,7 +9,7 @@ use Rattle.std.proofs.lemmas.List.Elements.{All-nil, All-cons, All-append, All-h
 use Rattle.std.proofs.lemmas.List.Splits.{join_with_byte-slice_split}
 use Rattle.pals_base.specs.declared.limits.TheConstants.{NAME_BYTES}
 use Rattle.pals_base.specs.Names.{is_word, is_word_byte, is_led_by_letter, is_dot, is_path}
-use Rattle.pals_model.specs.proof.CompositionLaws.Lines.{IsLine}
+use Rattle.pals_model.specs.proof.CompositionLaws.TextLines.{IsLine}
 
 -- ---- equality
 pub same_bytes : (xs : List ℕ) → bytes_eq xs xs ≡ true

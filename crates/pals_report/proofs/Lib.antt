@@ -1,5 +1,5 @@
 pub mod TextPrefixes
-pub mod ItemLines
+pub mod LinePerItem
 mod ColumnsWithinText
 mod ConcatenatedTexts
 pub mod TapPlacesAndCounts

@@ -77,7 +77,7 @@ pub fn add_components(out: &mut Vec<u8>, components: &[Component]) -> Result<(),
 }
 
 /// Adds a line for each of these links of the design.
-#[tactic(auto, using(crate::proofs::ItemLines::lines_turn))]
+#[tactic(auto, using(crate::proofs::LinePerItem::lines_turn))]
 pub fn add_links(out: &mut Vec<u8>, design: &DesignParts, links: &[Link]) -> Result<(), NoMemory>
     ensures ok { OnOk result
         (out.new.items ≡ out.old.items ++ text_of (map (link_line design.now) links.now)) }

@@ -5,7 +5,7 @@ use Rattle.pals_model.specs.RoundTexts.{report}
 use Rattle.scenario_json.specs.declared.scenario.Scenario.{Scenario}
 use Rattle.triple_vote.specs.VotedText.{vreport, thrice}
 use Rattle.triple_vote.specs.OutvotedFaults.{AreOutvoted}
-use Rattle.analysis_texts.specs.VoteInputs.{replicated_in, faults_of}
+use Rattle.analysis_texts.specs.ReplicasAndRoundFaults.{replicated_in, faults_of}
 use Rattle.pals_top.specs.declared.status.TheConstants.{DONE}
 
 -- the rows of the composition in which some components have three replicas, some of them at fault, and each reader

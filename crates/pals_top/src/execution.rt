@@ -1,7 +1,7 @@
 //! The commands that need a design, its step codes and a scenario, and no host.
 ghost use Rattle.std.specs.Prelude.{IfOk};
 ghost use Rattle.pals_model.specs.DesignRules.{IsDesign};
-ghost use Rattle.pals_bus.specs.proof.NodeAndCodeValues.{AreCodes};
+ghost use Rattle.pals_bus.specs.proof.OpeningBusAndNodeValues.{AreCodes};
 ghost use Rattle.scenario_json.specs.proof.ScenarioValidity.{IsScenarioOf};
 ghost use Rattle.step_compiler.specs.LaidOutCode.{AreLaidOut};
 ghost use Rattle.design_codes.specs.DesignBehaviours.{behaviours};

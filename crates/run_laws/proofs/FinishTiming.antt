@@ -24,7 +24,7 @@ use Rattle.bus_machine.specs.proof.AgreementLaws.{IsRunOf}
 use Rattle.bus_machine.specs.Agreement.{Agrees, PhaseAgrees, IsInRound}
 use Rattle.run_laws.specs.Deadlines.{last_before, lesser}
 use Rattle.run_laws.specs.Worlds.{World, reading_at, since_at, ready_at, sendings, moved, is_last_sent, world_after}
-use Rattle.bus_machine.proofs.LoneNodeAgreement.{finish_keeps}
+use Rattle.bus_machine.proofs.NodeLocalAgreement.{finish_keeps}
 use Rattle.bus_machine.proofs.AgreementChanges.{node_set, node_stays}
 use Rattle.bus_machine.proofs.NodeEventAgreement.{finish_keeps_all}
 use Rattle.run_laws.specs.proof.WorldInvariant.{IsInTime, IsReadySince, KeepsTime}

@@ -22,7 +22,7 @@ use Rattle.pals_base.specs.declared.behaviour.PortDecl.{PortDecl}
 use Rattle.pals_base.specs.declared.behaviour.VarDecl.{VarDecl}
 use Rattle.pals_base.specs.declared.behaviour.StateDecl.{StateDecl}
 use Rattle.pals_base.specs.declared.behaviour.BehaviourParts.{BehaviourParts}
-use Rattle.pals_base.specs.Expressions.{is_true}
+use Rattle.pals_base.specs.ExpressionValues.{is_true}
 use Rattle.pals_base.specs.Names.{is_word}
 use Rattle.pals_base.specs.BehaviourRules.{IsBehaviour, has_word, value_names}
 use Rattle.pals_base.specs.StepSequences.{upwards}

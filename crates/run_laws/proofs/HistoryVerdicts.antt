@@ -52,7 +52,7 @@ use Rattle.run_laws.proofs.EntryForms.{lines_have_forms}
 use Rattle.run_laws.proofs.MissedLinks.{missed_link}
 use Rattle.run_laws.proofs.RuleKeepingLines.{BreakNone, audited, break_append, verdict_is, not_before, none_of}
 use Rattle.run_laws.proofs.RuleKeepingLines.{none_due}
-use Rattle.run_laws.proofs.JournalVerdicts.{FirstHasForm, behind_report}
+use Rattle.run_laws.proofs.VerdictBehindReport.{FirstHasForm, behind_report}
 use Rattle.run_laws.specs.proof.SoundTraces.{TracesAreSound}
 use Rattle.run_laws.proofs.SoundEntries.{AreLast, target_within}
 use Rattle.run_laws.proofs.SoundTraces.{length-noted, noted_last, opening_many, opening_last}

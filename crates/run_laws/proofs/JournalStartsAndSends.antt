@@ -32,7 +32,7 @@ use Rattle.bus_machine.specs.Machine.{after_send, after_arrive, on_step, is_allo
 use Rattle.bus_machine.specs.Replay.{entries, start_entry, stop_entry}
 use Rattle.bus_machine.specs.Agreement.{PhaseAgrees, Agrees}
 use Rattle.bus_machine.specs.proof.AgreementLaws.{IsRunOf}
-use Rattle.bus_machine.proofs.LoneNodeAgreement.{finish_keeps, MaySend}
+use Rattle.bus_machine.proofs.NodeLocalAgreement.{finish_keeps, MaySend}
 use Rattle.bus_machine.proofs.AgreementChanges.{is_component}
 use Rattle.bus_machine.proofs.MessageAndRunAgreement.{node_opens}
 use Rattle.bus_machine.proofs.NodeEventAgreement.{is_waiting_phase, sender_before}

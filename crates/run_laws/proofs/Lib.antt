@@ -54,7 +54,7 @@ pub mod ParsedEntryRanges
 pub mod TextLines
 pub mod ReportRows
 pub mod FormlessReports
-pub mod JournalVerdicts
+pub mod VerdictBehindReport
 pub mod TwoCounterTraces
 pub mod TimeArithmetic
 pub mod Lists

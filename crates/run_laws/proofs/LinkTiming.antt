@@ -42,7 +42,7 @@ use Rattle.bus_machine.specs.Replay.{entries, start_entry}
 use Rattle.bus_machine.specs.Agreement.{Agrees}
 use Rattle.bus_machine.specs.proof.AgreementLaws.{IsRunOf}
 use Rattle.bus_machine.proofs.ListsAndOldestCopies.{numbered_at}
-use Rattle.bus_machine.proofs.LoneNodeAgreement.{finish_keeps}
+use Rattle.bus_machine.proofs.NodeLocalAgreement.{finish_keeps}
 use Rattle.bus_machine.proofs.AgreementChanges.{node_stays}
 use Rattle.bus_machine.proofs.MessageAndRunAgreement.{node_opens}
 use Rattle.bus_machine.proofs.QuantitiesAndSentRounds.{keeps_at}

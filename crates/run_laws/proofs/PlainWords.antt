@@ -5,7 +5,7 @@ use Rattle.std.specs.List.{list_all, join_with_byte}
 use Rattle.std.proofs.lemmas.Bool.{and_parts, eqb-true, false_from_ne_true}
 use Rattle.std.proofs.lemmas.List.Elements.{All-nil, All-cons, All-append}
 use Rattle.std.proofs.lemmas.List.Splits.{slice_split_none, slice_split_at}
-use Rattle.pals_model.specs.proof.CompositionLaws.Lines.{IsLine}
+use Rattle.pals_model.specs.proof.CompositionLaws.TextLines.{IsLine}
 use Rattle.pals_model.proofs.WordBytes.{is_inner, no_space, no_feed}
 use Rattle.pals_runs.specs.JournalLines.{spaced}
 use Rattle.run_laws.specs.LineForms.{is_there, words_of}

@@ -1,7 +1,7 @@
 -- The trace of a run that is over is sound, and its text has its lines.
 use Rattle.std.proofs.Common.{List, [], ◌∷◌, map, All, refl}
 use Rattle.std.proofs.lemmas.List.Elements.{All-nil, All-cons, All-head, All-tail, All-append}
-use Rattle.pals_model.specs.proof.CompositionLaws.Lines.{IsLine}
+use Rattle.pals_model.specs.proof.CompositionLaws.TextLines.{IsLine}
 use Rattle.pals_model.specs.RoundTexts.{report_lines}
 use Rattle.pals_model.specs.DesignRules.{IsDesign}
 use Rattle.pals_model.specs.declared.design.DesignParts.{DesignParts}

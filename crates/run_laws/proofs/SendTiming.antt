@@ -33,7 +33,7 @@ use Rattle.bus_machine.specs.proof.AgreementLaws.{IsRunOf}
 use Rattle.run_laws.specs.Deadlines.{last_before, lesser}
 use Rattle.run_laws.specs.Worlds.{World, reading_at, since_at, ready_at, sendings, moved, is_held, world_after}
 use Rattle.bus_machine.proofs.ListsAndOldestCopies.{numbered_at}
-use Rattle.bus_machine.proofs.LoneNodeAgreement.{MaySend, may_send_of}
+use Rattle.bus_machine.proofs.NodeLocalAgreement.{MaySend, may_send_of}
 use Rattle.bus_machine.proofs.AgreementChanges.{node_set, node_stays}
 use Rattle.bus_machine.proofs.NodeEventAgreement.{send_keeps}
 use Rattle.bus_machine.proofs.QuantitiesAndSentRounds.{keeps_at}

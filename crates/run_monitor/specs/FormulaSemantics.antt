@@ -2,7 +2,7 @@
 -- round 0.
 use Rattle.std.specs.Prelude.{ℕ, ℤ, pos, Bool, not, ◌&&◌, ◌||◌, is_some, List, [], slice_index_or, int_le, int_lt}
 use Rattle.pals_base.specs.declared.values.Frame.{Frame}
-use Rattle.pals_base.specs.Expressions.{same_number}
+use Rattle.pals_base.specs.ExpressionValues.{same_number}
 use Rattle.pals_model.specs.Composition.{no_frame}
 use Rattle.pals_runs.specs.declared.forms.Compare.{Compare}
 use Rattle.pals_runs.specs.declared.forms.Compare.TheVariants.{Eq, Ne, Lt, Le, Gt, Ge}

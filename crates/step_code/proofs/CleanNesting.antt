@@ -7,7 +7,7 @@ use Rattle.std.specs.List.{list_all}
 use Rattle.std.proofs.lemmas.Bool.{and_parts, ltb-true, false≢true, true≢false, cases_lt, lt-ltb, eqb-true}
 use Rattle.std.proofs.lemmas.Option.{slice_get_within}
 use Rattle.std.proofs.lemmas.Int.{ints}
-use Rattle.pals_base.specs.Expressions.{same_number}
+use Rattle.pals_base.specs.ExpressionValues.{same_number}
 use Rattle.step_code.specs.declared.instr.Instr.{Instr}
 use Rattle.step_code.specs.declared.instr.Instr.TheVariants.{Store, Jump, JumpZero, LoopStart, LoopNext, End}
 use Rattle.step_code.specs.declared.loops.LoopSpan.{LoopSpan}

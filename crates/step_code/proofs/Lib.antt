@@ -11,7 +11,7 @@ pub mod FaultlessInstructions
 pub mod HeightPropagation
 pub mod EntryHeights
 pub mod ReachedHeights
-pub mod LeastBadEntry
+pub mod LeastBadEntryPoint
 pub mod VerifierInvariant
 pub mod VerifiedPlaces
 pub mod CappedWeights

@@ -11,7 +11,7 @@ use Rattle.pals_base.specs.declared.values.PortValue.{PortValue as Value}
 use Rattle.pals_base.specs.declared.behaviour.Op.{Op}
 use Rattle.pals_base.specs.declared.behaviour.Op.TheVariants as op
 use Rattle.pals_base.specs.Arithmetic.{negation_of, magnitude_of}
-use Rattle.pals_base.specs.Expressions.{is_true, applied}
+use Rattle.pals_base.specs.ExpressionValues.{is_true, applied}
 use Rattle.pals_base.specs.Actions.{count_of}
 use Rattle.step_code.specs.declared.instr.Instr.{Instr}
 use Rattle.step_code.specs.declared.instr.Instr.TheVariants.{Push, Load, Store, Port, Fresh, Neg, Abs, Not, Add, Sub}

@@ -6,7 +6,7 @@ use Rattle.pals_base.specs.declared.values.PortValue.{PortValue}
 use Rattle.pals_base.specs.declared.values.PortValue.TheVariants.{Present}
 use Rattle.pals_base.specs.declared.behaviour.Op.{Op}
 use Rattle.pals_base.specs.Arithmetic.{negation_of, magnitude_of}
-use Rattle.pals_base.specs.Expressions.{is_true, truth, applied}
+use Rattle.pals_base.specs.ExpressionValues.{is_true, truth, applied}
 use Rattle.step_code.specs.declared.instr.Instr.{Instr}
 use Rattle.pals_base.specs.declared.behaviour.Op.TheVariants as op
 use Rattle.step_code.specs.declared.instr.Instr.TheVariants as code

@@ -12,7 +12,7 @@ use Rattle.pals_base.specs.declared.values.Trap.{Trap}
 use Rattle.pals_base.specs.declared.values.Frame.{Frame}
 use Rattle.pals_base.specs.declared.values.PortValue.{PortValue as Value}
 use Rattle.pals_base.specs.declared.values.PortValue.TheVariants.{Present}
-use Rattle.pals_base.specs.Expressions.{on_value}
+use Rattle.pals_base.specs.ExpressionValues.{on_value}
 use Rattle.pals_base.specs.Actions.{Effect, counted_from, for_each, with_vars, without_loop, acts}
 use Rattle.pals_base.specs.PlainTrees.{Actions}
 use Rattle.step_code.specs.declared.instr.Instr.{Instr}

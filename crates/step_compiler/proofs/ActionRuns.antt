@@ -9,7 +9,7 @@ use Rattle.pals_base.specs.declared.values.Trap.{Trap}
 use Rattle.pals_base.specs.declared.values.Frame.{Frame}
 use Rattle.pals_base.specs.declared.values.PortValue.{PortValue as Value}
 use Rattle.pals_base.specs.declared.values.PortValue.TheVariants.{Present}
-use Rattle.pals_base.specs.Expressions.{is_true, eval}
+use Rattle.pals_base.specs.ExpressionValues.{is_true, eval}
 use Rattle.pals_base.specs.Actions.{Effect, counted_from, count_of, numbers, for_each, with_vars, act, acts, act_first}
 use Rattle.pals_base.proofs.LoopNumbers.{no_numbers}
 use Rattle.pals_base.specs.PlainTrees.{Expression, Action, Assign, Emit, If, For, Actions, Nothing, Do, Branches}

@@ -7,7 +7,7 @@ use Rattle.pals_base.specs.declared.values.Trap.{Trap}
 use Rattle.pals_base.specs.declared.values.Frame.{Frame}
 use Rattle.pals_base.specs.declared.values.PortValue.{PortValue as Value}
 use Rattle.pals_base.specs.declared.behaviour.BehaviourParts.{BehaviourParts}
-use Rattle.pals_base.specs.Expressions.{is_true, on_value, eval}
+use Rattle.pals_base.specs.ExpressionValues.{is_true, on_value, eval}
 use Rattle.pals_base.specs.Actions.{Effect, acts}
 use Rattle.pals_base.specs.PlainTrees.{Edge, Trigger, Dispatch, Always, When}
 use Rattle.pals_base.specs.SingleStep.{Fired, is_complete, leaving, is_dispatch, opens, first_open, along, settled}

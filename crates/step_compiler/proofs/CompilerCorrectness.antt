@@ -14,7 +14,7 @@ use Rattle.pals_base.specs.declared.values.PortValue.TheVariants.{Absent}
 use Rattle.pals_base.specs.declared.behaviour.BehaviourParts.{BehaviourParts}
 use Rattle.pals_base.specs.declared.behaviour.StateDecl.{StateDecl}
 use Rattle.pals_base.specs.PlainTrees.{Edge}
-use Rattle.pals_base.specs.Expressions.{on_value}
+use Rattle.pals_base.specs.ExpressionValues.{on_value}
 use Rattle.pals_base.specs.Actions.{Effect, acts}
 use Rattle.pals_base.specs.SingleStep.{Fired, holding, is_present, silence, completes, may_begin, is_complete, leaving}
 use Rattle.pals_base.specs.SingleStep.{is_dispatch, first_open, along, settled, dispatched, reaction, outcome, HasShape}

@@ -8,7 +8,7 @@ use Rattle.pals_base.specs.declared.values.PortValue.{PortValue as Value}
 use Rattle.pals_base.specs.declared.behaviour.Op.{Op}
 use Rattle.pals_base.specs.declared.behaviour.Op.TheVariants as op
 use Rattle.pals_base.specs.Arithmetic.{negation_of, magnitude_of}
-use Rattle.pals_base.specs.Expressions.{is_true, truth, applied, combined, on_value, eval, eval_rest}
+use Rattle.pals_base.specs.ExpressionValues.{is_true, truth, applied, combined, on_value, eval, eval_rest}
 use Rattle.pals_base.specs.PlainTrees.{Expression, Literal, Variable, PortRead, Fresh, Neg, Abs, Not, Chain, Operands}
 use Rattle.pals_base.specs.PlainTrees.{NoMore, Then}
 use Rattle.step_code.specs.declared.instr.Instr.{Instr}

@@ -7,7 +7,7 @@ use Rattle.std.specs.List.{list_any}
 use Rattle.std.proofs.lemmas.Bool.{and_parts, cases_lt}
 use Rattle.std.proofs.lemmas.Int.{ints}
 use Rattle.list_lemmas.proofs.Numbers.{nat_eq-self}
-use Rattle.pals_base.specs.Expressions.{same_number}
+use Rattle.pals_base.specs.ExpressionValues.{same_number}
 use Rattle.pals_base.specs.PlainTrees.{Expression, Action, Assign, Emit, If, For, Actions, Nothing, Do, Branches}
 use Rattle.pals_base.specs.PlainTrees.{NoBranch, Where}
 use Rattle.step_code.specs.declared.instr.Instr.{Instr}

@@ -1,6 +1,6 @@
 //! Operators on numbers that are both there.
 ghost use Rattle.std.specs.Prelude.{◌≡◌};
-ghost use Rattle.pals_base.specs.Expressions.{applied, is_true, truth};
+ghost use Rattle.pals_base.specs.ExpressionValues.{applied, is_true, truth};
 
 use pals_base::{Op, Trap};
 

@@ -18,7 +18,7 @@ use Rattle.pals_model.proofs.ShapeLaws.{component_at}
 use Rattle.sync_product.specs.proof.RenumberedDesigns.{renumbered_link, renumbered_feed, values_of, IsRenumbered}
 use Rattle.sync_product.specs.proof.RenumberedDesigns.{AreSameInputs}
 use Rattle.sync_product.proofs.Pigeonhole.{Search, search_below, too_many}
-use Rattle.sync_product.proofs.ListImages.{images_back}
+use Rattle.sync_product.proofs.ImageMembers.{images_back}
 use Rattle.sync_product.proofs.RenumberedDesigns.{feed_back}
 
 -- ---- numbers

@@ -10,7 +10,7 @@ pub mod LinkMessages
 pub mod OpeningProducts
 pub mod ProductRounds
 pub mod ListElements
-pub mod ListImages
+pub mod ImageMembers
 pub mod RenumberedDesigns
 pub mod RenumberedInputs
 pub mod RenumberedTaps

@@ -8,7 +8,7 @@ use Rattle.pals_model.specs.declared.design.Feed.{Feed}
 use Rattle.pals_model.specs.declared.design.DesignParts.{DesignParts}
 use Rattle.pals_model.specs.ComponentInputs.{rate_of, rate_in}
 use Rattle.sync_product.specs.proof.RenumberedDesigns.{renumbered_link, renumbered_feed, IsRenumbered}
-use Rattle.sync_product.proofs.ListImages.{there, comes_from}
+use Rattle.sync_product.proofs.ImageMembers.{there, comes_from}
 
 module _ (to : ℕ → ℕ) (a b : DesignParts) (r : IsRenumbered to a b) where
   -- ---- components

@@ -22,7 +22,7 @@ use Rattle.pals_model.proofs.RootInputLaws.{root_inputs_are_feeds}
 use Rattle.sync_product.specs.proof.RenumberedDesigns.{renumbered_link, renumbered_feed, IsRenumbered, values_of}
 use Rattle.sync_product.specs.proof.RenumberedDesigns.{AreSameInputs}
 use Rattle.sync_product.proofs.ListElements.{Passes, some_or_none}
-use Rattle.sync_product.proofs.ListImages.{none_there}
+use Rattle.sync_product.proofs.ImageMembers.{none_there}
 use Rattle.sync_product.proofs.RenumberedDesigns.{rate_there, same_number, link_there, feed_there}
 
 -- ---- root in ports

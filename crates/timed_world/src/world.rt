@@ -5,7 +5,7 @@ ghost use Rattle.pals_base.specs.declared.limits.TheConstants.{COMPONENTS, LINKS
 ghost use Rattle.bus_machine.specs.proof.AgreementLaws.{IsRunOf};
 ghost use Rattle.bus_machine.specs.Plans.{plan_of};
 ghost use Rattle.pals_node.specs.proof.NodeInvariants.{IsPlan};
-ghost use Rattle.pals_bus.specs.proof.NodeAndCodeValues.{AreCodes};
+ghost use Rattle.pals_bus.specs.proof.OpeningBusAndNodeValues.{AreCodes};
 ghost use Rattle.run_laws.specs.proof.WorldInvariant.{KeepsTime};
 ghost use Rattle.run_laws.specs.Worlds.{flight_since};
 ghost use Rattle.timed_world.specs.proof.NodeFaults.{IsSound, standing_of};

@@ -9,7 +9,7 @@ use Rattle.std.proofs.Math.Nat.{div-add-mod', mod-lt, add_assoc}
 use Rattle.pals_model.specs.declared.design.DesignParts.{DesignParts}
 use Rattle.pals_model.specs.declared.inputs_parts_and_delays.Env.{Env}
 use Rattle.pals_model.specs.Composition.{part}
-use Rattle.pals_model.specs.proof.CompositionLaws.Lines.{IsLine}
+use Rattle.pals_model.specs.proof.CompositionLaws.TextLines.{IsLine}
 use Rattle.pals_model.specs.RoundTexts.{composed_lines}
 use Rattle.pals_model.specs.DesignRules.{IsDesign}
 use Rattle.pals_model.proofs.LineLaws.{row_has_lines}

@@ -8,7 +8,7 @@ use Rattle.std.proofs.lemmas.Iterator.Adapters.{position_from-zero}
 use Rattle.std.proofs.lemmas.List.{drop-drop, length-drop}
 use Rattle.std.proofs.lemmas.List.Elements.{All-head, All-tail}
 use Rattle.list_lemmas.proofs.ListOperations.{take-append_front}
-use Rattle.pals_model.specs.proof.CompositionLaws.Lines.{IsLine}
+use Rattle.pals_model.specs.proof.CompositionLaws.TextLines.{IsLine}
 use Rattle.pals_model.specs.RoundTexts.{is_line_feed, text_of}
 
 feed_from : (from : ℕ) (line rest : List ℕ) → IsLine line

@@ -1,6 +1,6 @@
 //! The lines of a row's text, one after the other.
 ghost use Rattle.std.specs.Prelude.{◌≡◌, ◌≤◌, ◌<◌, ◌++◌, ◌∷◌, ℕ, List, length, take, drop, position, bytes_eq, IfSome};
-ghost use Rattle.pals_model.specs.proof.CompositionLaws.Lines.{IsLine};
+ghost use Rattle.pals_model.specs.proof.CompositionLaws.TextLines.{IsLine};
 ghost use Rattle.pals_model.specs.RoundTexts.{is_line_feed};
 ghost use Rattle.pals_model.specs.DesignRules.{IsDesign};
 ghost use Rattle.run_laws.specs.TraceVerdicts.{row_size};

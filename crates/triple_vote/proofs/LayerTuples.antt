@@ -12,7 +12,7 @@ use Rattle.sync_product.specs.declared.component_stage.Stage.{Stage}
 use Rattle.sync_product.specs.proof.ProductSizes.{StageSize, stage_size, stage_size_of, stage_sizes}
 use Rattle.sync_product.specs.proof.Rounds.{frames_of, sent_from}
 use Rattle.sync_product.proofs.ComponentLists.{sized_at}
-use Rattle.triple_vote.specs.declared.replica_lane.Layer.{Layer}
+use Rattle.triple_vote.specs.declared.replica_layer.Layer.{Layer}
 use Rattle.triple_vote.specs.proof.ReplicaLayers.{whole_from, is_there, rows_made, AreRun, AreSent, AreWhole, IsMade}
 
 module _ (design : DesignParts) (values : List PortValue) (heard : List (List PortValue)) (layer : Layer)

@@ -23,7 +23,7 @@ use Rattle.sync_product.specs.declared.component_stage.Stage.{Stage}
 use Rattle.sync_product.specs.proof.ProductSizes.{part_size, part_size_of, stage_size}
 use Rattle.sync_product.specs.proof.Rounds.{frames_of}
 use Rattle.sync_product.proofs.ComponentLists.{count_of_sized}
-use Rattle.triple_vote.specs.declared.replica_lane.Layer.{Layer}
+use Rattle.triple_vote.specs.declared.replica_layer.Layer.{Layer}
 use Rattle.triple_vote.specs.Replicas.{copies_of, Voted, frame_at, received_at, first_frame, first_tuple, vopening}
 use Rattle.triple_vote.specs.Replicas.{vshown_by}
 use Rattle.triple_vote.specs.proof.VotedStates.{VotedState, vbegun, vadvanced}

@@ -16,7 +16,7 @@ use Rattle.pals_model.specs.Composition.{opening}
 use Rattle.sync_product.specs.proof.ProductSizes.{FrameSize, PartSize, part_size, part_size_of, message_sizes}
 use Rattle.sync_product.specs.proof.Rounds.{frames_of}
 use Rattle.sync_product.proofs.OpeningProducts.{opening_messages_fit}
-use Rattle.triple_vote.specs.declared.replica_lane.Layer.{Layer}
+use Rattle.triple_vote.specs.declared.replica_layer.Layer.{Layer}
 use Rattle.triple_vote.specs.Replicas.{is_replicated}
 use Rattle.triple_vote.specs.proof.ReplicaLayers.{lengths, opening_part, HasRoom, is_there, IsOpened}
 use Rattle.triple_vote.specs.proof.ThreeLayers.{there_in, parts_in, AreThree, HaveReplicas, AreOpened, AreHeard}

@@ -23,7 +23,7 @@ use Rattle.pals_model.proofs.FirstMatches.{at_element}
 use Rattle.pals_model.proofs.ShapeLaws.{component_at}
 use Rattle.pals_runs.specs.declared.vote_faults_and_pairs.VoteFault.{VoteFault}
 use Rattle.sync_product.specs.proof.Rounds.{frames_of}
-use Rattle.triple_vote.specs.declared.replica_lane.Layer.{Layer}
+use Rattle.triple_vote.specs.declared.replica_layer.Layer.{Layer}
 use Rattle.triple_vote.specs.Votes.{votes}
 use Rattle.triple_vote.specs.Replicas.{is_replicated, copies_of, receivers_in, Voted, for_replicas, for_receivers}
 use Rattle.triple_vote.specs.Replicas.{steps_in, replica_steps, tuple_at, is_fault, fault_or, own_message, sent_to}

@@ -10,7 +10,7 @@ ghost use Rattle.triple_vote.specs.proof.ThreeLayers.{AreTurned};
 
 use crate::fault_table::FaultTable;
 use crate::receiving::receive_all;
-use crate::replica_lane::Layer;
+use crate::replica_layer::Layer;
 use pals_base::{Items, NoMemory, PortValue, Tuple};
 use pals_model::{Design, PortSource};
 use std::alloc::Global;

@@ -9,7 +9,7 @@ mod layers;
 mod opening;
 mod product;
 mod receiving;
-mod replica_lane;
+mod replica_layer;
 mod tap_tuples;
 pub mod votes;
 

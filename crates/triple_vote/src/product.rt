@@ -10,7 +10,7 @@ ghost use Rattle.triple_vote.specs.proof.VotedStates.{vbegun, vadvanced};
 use crate::fault_table::{FaultTable, first_faults};
 use crate::layers::{opening_heard, opening_layers, receive_each, run_each, turn_each};
 use crate::opening::opening_shown;
-use crate::replica_lane::Layer;
+use crate::replica_layer::Layer;
 use crate::tap_tuples::show_each;
 use pals_base::{Frame, Items, LinkNo, NoMemory, NodeNo, PortValue, Tuple};
 use pals_model::port_sources::all_sources;

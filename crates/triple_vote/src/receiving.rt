@@ -10,7 +10,7 @@ ghost use Rattle.triple_vote.specs.proof.ThreeLayers.{FaultsFit};
 
 use crate::fault_table::{FaultTable, place};
 use crate::layer_rounds::{is_there, tuple_at};
-use crate::replica_lane::Layer;
+use crate::replica_layer::Layer;
 use crate::votes::vote_into;
 use pals_base::{Items, PortValue, Tuple};
 use pals_model::Design;

@@ -5,7 +5,7 @@ ghost use Rattle.triple_vote.specs.proof.ReplicaLayers.{lengths, tap_sizes};
 ghost use Rattle.triple_vote.specs.proof.ThreeLayers.{AreThree, shown_in, tuple_of, shown_of, AreShown, AreOfSize};
 
 use crate::layer_rounds::{is_there, tuple_at};
-use crate::replica_lane::Layer;
+use crate::replica_layer::Layer;
 use crate::votes::vote_into;
 use pals_base::{Items, PortValue, Tuple};
 use pals_model::Design;

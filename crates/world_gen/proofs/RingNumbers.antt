@@ -11,7 +11,7 @@ use Rattle.std.proofs.lemmas.Bool.{cases_lt, false≢true}
 use Rattle.pals_base.specs.declared.values.Trap.{Trap}
 use Rattle.pals_base.specs.declared.values.Frame.{Frame}
 use Rattle.pals_base.specs.declared.values.PortValue.{PortValue}
-use Rattle.pals_base.specs.Expressions.{eval, on_value}
+use Rattle.pals_base.specs.ExpressionValues.{eval, on_value}
 use Rattle.pals_base.specs.Arithmetic.{modulus_of}
 use Rattle.pals_base.specs.Actions.{Effect, acts, with_vars}
 use Rattle.pals_base.specs.PlainTrees.{Edge, Emit, Variable, Do, Nothing, Actions}

@@ -26,7 +26,7 @@ use Rattle.bus_machine.specs.proof.AgreementLaws.{IsRunOf}
 use Rattle.run_laws.specs.Deadlines.{last_before, node_deadline, message_deadline}
 use Rattle.run_laws.specs.Worlds.{World, reading_at, since_at, ready_at, sendings, world_after}
 use Rattle.run_laws.specs.EventFaults.{fault_of}
-use Rattle.bus_machine.proofs.LoneNodeAgreement.{MaySend, may_send_of}
+use Rattle.bus_machine.proofs.NodeLocalAgreement.{MaySend, may_send_of}
 use Rattle.run_laws.specs.proof.WorldInvariant.{IsInTime, copies}
 use Rattle.world_gen.specs.proof.Schedules.{step_time, finish_time, send_time, arrive_time, step_count, events_at}
 use Rattle.run_laws.proofs.WorldNodeTiming.{may_is, phase_agrees, rounds_at_most, both_in_time, sends_in_time}

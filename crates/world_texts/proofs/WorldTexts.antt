@@ -24,7 +24,7 @@ use Rattle.run_laws.specs.EventLists.{world_left}
 use Rattle.run_laws.proofs.KeptWorldInvariant.{lists_go_right}
 use Rattle.loose_world.specs.proof.FinishedRows.{finished_lines}
 use Rattle.loose_world.specs.LooseRuns.{InTurn, told_by}
-use Rattle.loose_world.specs.proof.UndergoneEvents.{Undergoes}
+use Rattle.loose_world.specs.proof.EventEffects.{Undergoes}
 use Rattle.loose_world.proofs.EventsAndLines.{turns_next, told_more}
 use Rattle.loose_world.proofs.WorldTexts.{world_is_told}
 use Rattle.timed_world.specs.proof.WorldValues.{WorldValue, world_of, opening_value, Moves}

@@ -5,7 +5,7 @@ use Rattle.aadl_uses.specs.ThreadsBelow.{IsThreadAt}
 use Rattle.aadl_chains.specs.Chains.{Port, Place, Leads, is_in, IsStart}
 use Rattle.aadl_chains.specs.declared.chain_tracing.ChainStart.{ChainStart}
 use Rattle.aadl_chains.specs.declared.chain_tracing.ChainRoute.{ChainRoute}
-use Rattle.aadl_chains.specs.Links.{Ends, IsLink, IsFeed, IsTap}
+use Rattle.aadl_chains.specs.LinksFeedsAndTaps.{Ends, IsLink, IsFeed, IsTap}
 use Rattle.aadl_chains.specs.declared.chain_tracing.ChainStart.TheVariants as begins
 
 abbrev pub begin_port : ChainStart → Port

@@ -14,7 +14,7 @@ use Rattle.aadl_chains.specs.proof.PortsJoinedInside.{is_thread_at}
 use Rattle.aadl_chains.specs.Chains.{Port}
 use Rattle.aadl_chains.specs.proof.DeclaredEnds.{AreDeclared}
 use Rattle.aadl_chains.specs.proof.Walks.{OneEach}
-use Rattle.aadl_chains.specs.Links.{Ends, IsLink, IsFeed, IsTap, TargetBefore, PortBefore}
+use Rattle.aadl_chains.specs.LinksFeedsAndTaps.{Ends, IsLink, IsFeed, IsTap, TargetBefore, PortBefore}
 use Rattle.aadl_instance.specs.declared.chain.Chain.{Chain}
 use Rattle.aadl_instance.specs.declared.chain_search.Incoming.{Incoming}
 use Rattle.aadl_instance.specs.declared.chain.ChainEnd.{ChainEnd}

@@ -6,7 +6,7 @@ use Rattle.aadl_names.specs.ReferenceResolution.{ports_of}
 use Rattle.aadl_uses.specs.ThreadsBelow.{MoreThan, IsThreadAt, PathBefore}
 use Rattle.aadl_uses.specs.ThreadLocations.{ThreadWith, spelled_path}
 use Rattle.aadl_instance.specs.BehaviourSizes.{variable_count, state_count}
-use Rattle.aadl_chains.specs.Links.{IsLink, OtherTarget}
+use Rattle.aadl_chains.specs.LinksFeedsAndTaps.{IsLink, OtherTarget}
 use Rattle.aadl_instance.specs.declared.limits.Limit.{Limit}
 use Rattle.aadl_instance.specs.declared.limits.Limit.TheVariants.{Components, Links, Ports, Variables, States, Path}
 

@@ -11,7 +11,7 @@ use Rattle.pals_model.specs.proof.FittingValues.{FrameFits, TupleFits, link_kind
 use Rattle.pals_model.specs.proof.CompositionLaws.Kinds.{PartFits}
 use Rattle.pals_runs.specs.declared.commands.Command.{Command}
 use Rattle.scenario_json.specs.declared.scenario.Scenario.{Scenario}
-use Rattle.analysis_texts.specs.VoteInputs.{replicated_in, faults_of}
+use Rattle.analysis_texts.specs.ReplicasAndRoundFaults.{replicated_in, faults_of}
 use Rattle.triple_vote.specs.Replicas.{vcomp, vshown}
 use Rattle.plant_fuse.specs.FusedComposition.{Inputs, IsFused}
 use Rattle.bus_machine.specs.States.{BusState}

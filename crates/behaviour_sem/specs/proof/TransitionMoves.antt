@@ -3,7 +3,7 @@ use Rattle.std.specs.Prelude.{ℕ, nat_eq, filter, find, Bool, false, if◌then�
 use Rattle.pals_base.specs.declared.values.Trap.{Trap}
 use Rattle.pals_base.specs.declared.values.Frame.{Frame}
 use Rattle.pals_base.specs.SingleStep.{Fired, opens, first_open, along, is_dispatch}
-use Rattle.pals_base.specs.Expressions.{on_value}
+use Rattle.pals_base.specs.ExpressionValues.{on_value}
 use Rattle.pals_base.specs.PlainTrees.{Edge}
 
 -- whether it leaves this state and its trigger lets it go

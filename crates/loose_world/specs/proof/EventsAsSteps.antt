@@ -5,7 +5,7 @@ use Rattle.pals_runs.specs.declared.events_and_faults.Event.{Event}
 use Rattle.pals_runs.specs.declared.journal.JournalEntry.{JournalEntry}
 use Rattle.bus_machine.specs.States.{Run, BusState, opening}
 use Rattle.pals_bus.specs.BusValues.{BusValue}
-use Rattle.pals_bus.specs.proof.NodeAndCodeValues.{opening_bus}
+use Rattle.pals_bus.specs.proof.OpeningBusAndNodeValues.{opening_bus}
 use Rattle.loose_world.specs.declared.loose_run.LooseEnd.{LooseEnd}
 use Rattle.loose_world.specs.LooseRuns.{RunsLoosely}
 use Rattle.loose_world.specs.MachineSteps.{AllStep, StepsToFault, StepsToStop}

@@ -5,10 +5,10 @@ use Rattle.pals_runs.specs.declared.events_and_faults.Event.{Event}
 use Rattle.bus_machine.specs.States.{Run}
 use Rattle.bus_machine.specs.proof.AgreementLaws.{IsRunOf}
 use Rattle.pals_bus.specs.BusValues.{BusValue}
-use Rattle.pals_bus.specs.proof.NodeAndCodeValues.{opening_bus}
+use Rattle.pals_bus.specs.proof.OpeningBusAndNodeValues.{opening_bus}
 use Rattle.loose_world.specs.declared.loose_run.LooseEnd.{LooseEnd}
 use Rattle.loose_world.specs.LooseRuns.{RunsLoosely}
-use Rattle.loose_world.specs.proof.UndergoneEvents.{IsReplayed}
+use Rattle.loose_world.specs.proof.EventEffects.{IsReplayed}
 
 -- however a list of loose events ends, the journal leads to where the bus stands: behind all events, where each
 -- happens without a stop; behind the event that gives a stop, up to which the journal goes; and before the event that

@@ -12,12 +12,12 @@ use Rattle.bus_machine.specs.Agreement.{Agrees}
 use Rattle.bus_machine.specs.proof.AgreementLaws.{IsRunOf}
 use Rattle.bus_machine.specs.WorldTexts.{finished_by, sends_of, sent_lines, world_rows, worldtext}
 use Rattle.pals_bus.specs.BusValues.{BusValue}
-use Rattle.pals_bus.specs.proof.NodeAndCodeValues.{opening_bus}
+use Rattle.pals_bus.specs.proof.OpeningBusAndNodeValues.{opening_bus}
 use Rattle.loose_world.specs.proof.FinishedRows.{finished_lines, common_lines}
 use Rattle.loose_world.specs.declared.loose_run.LooseEnd.TheVariants.{All, Stopped}
 use Rattle.loose_world.specs.LooseRuns.{Tells}
 use Rattle.loose_world.specs.proof.StepAndSendCounts.{IsCounted}
-use Rattle.loose_world.specs.proof.UndergoneEvents.{event_of, Undergoes, IsLeftBy, IsReplayed}
+use Rattle.loose_world.specs.proof.EventEffects.{event_of, Undergoes, IsLeftBy, IsReplayed}
 use Rattle.loose_world.specs.proof.SendersAndSentCopies.{senders, HasSent}
 use Rattle.pals_runs.specs.declared.events_and_faults.Event.TheVariants as event
 

@@ -5,7 +5,7 @@ ghost use Rattle.pals_base.specs.declared.behaviour.Op.TheVariants.{Sub};
 ghost use Rattle.pals_base.specs.Arithmetic.{quotient_of, remainder_of, modulus_of, negation_of, magnitude_of};
 ghost use Rattle.pals_base.specs.proof.Remainders.{IsRemainder, IsModulus};
 ghost use Rattle.pals_base.specs.PlainTrees.{Literal, Chain, NoMore, Then};
-ghost use Rattle.pals_base.specs.Expressions.{eval};
+ghost use Rattle.pals_base.specs.ExpressionValues.{eval};
 
 use crate::values::Trap;
 

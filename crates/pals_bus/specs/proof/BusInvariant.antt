@@ -17,7 +17,7 @@ use Rattle.bus_machine.specs.Replay.{Replays}
 use Rattle.pals_node.specs.proof.NodeValues.{NodeValue}
 use Rattle.pals_bus.specs.declared.bus_fields.BusFields.{BusFields}
 use Rattle.pals_bus.specs.BusValues.{BusValue}
-use Rattle.pals_bus.specs.proof.NodeAndCodeValues.{codes_in}
+use Rattle.pals_bus.specs.proof.OpeningBusAndNodeValues.{codes_in}
 use Rattle.pals_bus.specs.proof.OutOfRangeDefaults.{no_node_value, no_flight}
 use Rattle.pals_bus.specs.proof.LinksFrom.{AreOutgoing}
 use Rattle.pals_bus.specs.proof.DueQueues.{AreQueues}

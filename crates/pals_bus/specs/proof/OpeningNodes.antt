@@ -3,7 +3,7 @@ use Rattle.std.specs.Prelude.{◌≡◌, ℕ, ◌<◌, List, length, slice_index
 use Rattle.pals_model.specs.declared.design.DesignParts.{DesignParts}
 use Rattle.step_code.specs.declared.instr.CodeParts.{CodeParts}
 use Rattle.pals_node.specs.proof.NodeValues.{NodeValue, program_of, opening_value}
-use Rattle.pals_bus.specs.proof.NodeAndCodeValues.{code_at}
+use Rattle.pals_bus.specs.proof.OpeningBusAndNodeValues.{code_at}
 use Rattle.pals_bus.specs.proof.OutOfRangeDefaults.{no_node_value}
 
 -- each has the plan of its component and its code

@@ -7,7 +7,7 @@ use Rattle.bus_machine.specs.declared.plan.Plan.{Plan}
 use Rattle.bus_machine.specs.Plans.{no_behaviour}
 use Rattle.bus_machine.specs.States.{no_node}
 use Rattle.pals_node.specs.proof.NodeValues.{NodeValue}
-use Rattle.pals_bus.specs.proof.NodeAndCodeValues.{no_code}
+use Rattle.pals_bus.specs.proof.OpeningBusAndNodeValues.{no_code}
 
 abbrev pub no_plan : Plan
 no_plan = record {

@@ -1,6 +1,6 @@
 -- Laws of the composition, at every design and environment.
 pub mod Kinds
-pub mod Lines
+pub mod TextLines
 pub mod Names
 pub mod RootInputs
 pub mod Shapes

@@ -1,6 +1,6 @@
 //! Laws of the lines of rounds and reports.
-ghost use Rattle.pals_model.specs.proof.CompositionLaws.Lines.{RowHasLines, ReportHasLines, TextSplits, RowSplits};
-ghost use Rattle.pals_model.specs.proof.CompositionLaws.Lines.{ReportSplits};
+ghost use Rattle.pals_model.specs.proof.CompositionLaws.TextLines.{RowHasLines, ReportHasLines, TextSplits, RowSplits};
+ghost use Rattle.pals_model.specs.proof.CompositionLaws.TextLines.{ReportSplits};
 
 /// In a design no line of a row has a line feed inside, whatever the values, nor has one of a
 /// report.

@@ -3,7 +3,7 @@
 use Rattle.std.specs.Prelude.{ℕ, ◌≤◌, List, length, ◌⊎◌}
 use Rattle.pals_base.specs.declared.limits.TheConstants.{LIST_ITEMS}
 use Rattle.pals_model.specs.declared.design.DesignParts.{DesignParts}
-use Rattle.pals_bus.specs.proof.NodeAndCodeValues.{AreCodes}
+use Rattle.pals_bus.specs.proof.OpeningBusAndNodeValues.{AreCodes}
 use Rattle.step_compiler.specs.LaidOutCode.{AreLaidOut}
 use Rattle.design_codes.specs.OverlongCodes.{AreShort}
 use Rattle.design_codes.specs.DesignBehaviours.{behaviours}

@@ -16,7 +16,7 @@ use Rattle.pals_model.specs.Composition.{no_frame, opening}
 use Rattle.sync_product.specs.declared.component_stage.Stage.{Stage}
 use Rattle.sync_product.specs.proof.ProductSizes.{PartSize, part_size, part_size_of, message_sizes}
 use Rattle.sync_product.specs.proof.Rounds.{frames_of, sent_by}
-use Rattle.triple_vote.specs.declared.replica_lane.Layer.{Layer}
+use Rattle.triple_vote.specs.declared.replica_layer.Layer.{Layer}
 
 -- ---- room
 abbrev pub lengths : List (List PortValue) → List ℕ

@@ -14,7 +14,7 @@ use Rattle.pals_runs.specs.declared.vote_faults_and_pairs.VoteFault.{VoteFault}
 use Rattle.sync_product.specs.declared.component_stage.Stage.{Stage}
 use Rattle.sync_product.specs.proof.ProductSizes.{stage_size, stage_sizes, message_sizes}
 use Rattle.sync_product.specs.proof.Rounds.{frames_of}
-use Rattle.triple_vote.specs.declared.replica_lane.Layer.{Layer}
+use Rattle.triple_vote.specs.declared.replica_layer.Layer.{Layer}
 use Rattle.triple_vote.specs.Replicas.{is_replicated, copies_of, Voted, for_replicas, for_receivers, is_fault, fault_or}
 use Rattle.triple_vote.specs.Replicas.{vote_of}
 use Rattle.triple_vote.specs.proof.ReplicaLayers.{lengths, tap_sizes, HasRoom, is_there, IsMade}

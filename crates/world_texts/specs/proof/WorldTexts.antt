@@ -3,10 +3,10 @@ use Rattle.std.specs.Prelude.{◌≡◌, ℕ, false, List, ◌++◌}
 use Rattle.pals_model.specs.RoundTexts.{text_of}
 use Rattle.pals_runs.specs.declared.events_and_faults.Event.{Event}
 use Rattle.bus_machine.specs.States.{Run}
-use Rattle.pals_bus.specs.proof.NodeAndCodeValues.{opening_bus}
+use Rattle.pals_bus.specs.proof.OpeningBusAndNodeValues.{opening_bus}
 use Rattle.run_laws.specs.Worlds.{opening_world}
 use Rattle.loose_world.specs.LooseRuns.{InTurn}
-use Rattle.loose_world.specs.proof.UndergoneEvents.{Undergoes}
+use Rattle.loose_world.specs.proof.EventEffects.{Undergoes}
 use Rattle.timed_world.specs.declared.event_list.WorldEnd.{WorldEnd}
 use Rattle.timed_world.specs.proof.WorldValues.{WorldValue, world_of}
 use Rattle.timed_world.specs.proof.EventLists.{Leads, EndsAt}

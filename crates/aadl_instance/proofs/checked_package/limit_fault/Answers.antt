@@ -1,6 +1,6 @@
 use Rattle.std.proofs.Common.{◌∙◌, subst}
 use Rattle.aadl_tree.specs.proof.PackageViews.{placed}
-use Rattle.aadl_chains.proofs.DeclaredEnds.{declared}
+use Rattle.aadl_chains.proofs.PermittedConnections.{declared}
 use Rattle.aadl_instance.specs.proof.Limits.{IsFirstPassed}
 use Rattle.aadl_instance.proofs.FaultPrecedence.{silent_five, all_silent, limit_fault}
 use Rattle.aadl_instance.proofs.Roots.{root_no_thread, root_declared}

@@ -3,7 +3,7 @@ use Rattle.aadl_uses.specs.proof.MarkedPathCounts.{AreListed}
 use Rattle.aadl_uses.specs.ThreadsBelow.{path_before}
 use Rattle.aadl_uses.proofs.MarkedPathCounts.{Begun, listed_more, listed_same, all_listed, below_is}
 use Rattle.aadl_uses.specs.proof.PathTables.{paths_from}
-use Rattle.aadl_uses.proofs.PathLists.{through_all}
+use Rattle.aadl_uses.proofs.PathEnumeration.{through_all}
 use Rattle.aadl_uses.proofs.paths_to_marked.paths_of.Goals.{in-Some+in_ok-add_below, in_default}
 use Rattle.aadl_uses.proofs.paths_to_marked.paths_of.Goals as goal
 

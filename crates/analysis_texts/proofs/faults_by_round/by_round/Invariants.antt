@@ -1,6 +1,6 @@
 use Rattle.std.proofs.Common.{◌≡◌, map}
 use Rattle.pals_base.specs.StepSequences.{upwards}
-use Rattle.analysis_texts.specs.VoteInputs.{faults_of}
+use Rattle.analysis_texts.specs.ReplicasAndRoundFaults.{faults_of}
 use Rattle.analysis_texts.proofs.faults_by_round.by_round.Given as goal
 
 -- the faults so far stand with their rounds

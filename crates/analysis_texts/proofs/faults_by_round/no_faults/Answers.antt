@@ -2,7 +2,7 @@ use Rattle.std.proofs.Common.{◌∙◌, [], ◌∷◌, ◌++◌, List, map, sym
 use Rattle.pals_base.specs.StepSequences.{upwards}
 use Rattle.pals_base.proofs.UpwardNumbers.{map_upwards_more}
 use Rattle.pals_runs.specs.declared.vote_faults_and_pairs.VoteFault.{VoteFault}
-use Rattle.analysis_texts.specs.VoteInputs.{faults_of}
+use Rattle.analysis_texts.specs.ReplicasAndRoundFaults.{faults_of}
 use Rattle.analysis_texts.proofs.faults_by_round.no_faults.Goals as goal
 
 pub loop-round-preserved : goal.loop-round-preserved

@@ -3,7 +3,7 @@ use Rattle.std.specs.Prelude.{slice_index_or}
 use Rattle.std.proofs.lemmas.List.{get_or_default}
 use Rattle.std.proofs.lemmas.Simd.{map-map}
 use Rattle.pals_model.specs.RoundTexts.{line_end, text_of}
-use Rattle.pals_report.proofs.ItemLines.{lines_turn, lines_all}
+use Rattle.pals_report.proofs.LinePerItem.{lines_turn, lines_all}
 use Rattle.round_budget.specs.BudgetText.{slot_line}
 use Rattle.round_budget.specs.proof.ReleaseAndLineValues.{line_value}
 use Rattle.round_budget.specs.declared.serving.TimetableLine.{TimetableLine}

@@ -1,7 +1,7 @@
 use Rattle.std.proofs.Common.{◌≡◌, ◌++◌, false, ap, ◌∙◌, arith}
 use Rattle.std.specs.Prelude.{slice_index_or}
 use Rattle.pals_model.specs.RoundTexts.{line_end}
-use Rattle.pals_report.proofs.ItemLines.{lines_turn, lines_all}
+use Rattle.pals_report.proofs.LinePerItem.{lines_turn, lines_all}
 use Rattle.run_monitor.specs.FormulaSemantics.{holds}
 use Rattle.run_monitor.specs.WatchText.{verdict_line}
 use Rattle.analysis_texts.proofs.WatchedRounds.{verdict_at, verdict_of, round_and_verdicts}

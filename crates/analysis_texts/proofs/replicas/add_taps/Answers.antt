@@ -3,7 +3,7 @@ use Rattle.std.specs.Prelude.{slice_get, slice_index_or}
 use Rattle.std.proofs.lemmas.List.{get_or-map}
 use Rattle.pals_model.specs.PortKinds.{out_kind}
 use Rattle.pals_model.specs.RoundTexts.{line_end, tap_line}
-use Rattle.pals_report.proofs.ItemLines.{lines_turn, lines_all}
+use Rattle.pals_report.proofs.LinePerItem.{lines_turn, lines_all}
 use Rattle.triple_vote.specs.VotedText.{shown_line}
 use Rattle.analysis_texts.proofs.replicas.add_taps.Goals as goal
 

@@ -7,7 +7,7 @@ use Rattle.pals_model.specs.declared.design.Component.{Component}
 use Rattle.pals_model.specs.declared.design.DesignParts.{DesignParts}
 use Rattle.analysis_fields.specs.ReplicasAndFaults.{is_among}
 use Rattle.triple_vote.specs.proof.VotedStates.{VotedState, vbegun}
-use Rattle.analysis_texts.specs.VoteInputs.{replicated_in}
+use Rattle.analysis_texts.specs.ReplicasAndRoundFaults.{replicated_in}
 use Rattle.analysis_texts.proofs.replicas.product_of.Goals as goal
 
 pub new-requires-2 : goal.new-requires-2

@@ -6,7 +6,7 @@ use Rattle.analysis_fields.specs.proof.FaultAndProcessorFacts.{IsFaultOf}
 use Rattle.triple_vote.specs.proof.VotedStates.{VotedState, vbegun}
 use Rattle.triple_vote.specs.VotedText.{vreport, thrice}
 use Rattle.triple_vote.specs.OutvotedFaults.{AreOutvoted}
-use Rattle.analysis_texts.specs.VoteInputs.{replicated_in, faults_of}
+use Rattle.analysis_texts.specs.ReplicasAndRoundFaults.{replicated_in, faults_of}
 use Rattle.analysis_texts.proofs.OutvotedFaults.{rows_outvoted, rows_alone}
 use Rattle.analysis_texts.proofs.replicas.vote.Goals as goal
 

@@ -6,7 +6,7 @@ use Rattle.pals_model.specs.declared.design.DesignParts.{DesignParts}
 use Rattle.triple_vote.specs.Replicas.{vopening}
 use Rattle.triple_vote.specs.proof.VotedStates.{VotedState}
 use Rattle.triple_vote.specs.VotedText.{vreport}
-use Rattle.analysis_texts.specs.VoteInputs.{replicated_in, faults_of}
+use Rattle.analysis_texts.specs.ReplicasAndRoundFaults.{replicated_in, faults_of}
 use Rattle.analysis_texts.specs.proof.ReplicaNamesAndLines.{all_names}
 use Rattle.analysis_texts.proofs.WellFormedVoteFaults.{rounds_keep}
 use Rattle.analysis_texts.proofs.replicas.voted.Goals as goal

@@ -1,5 +1,5 @@
 use Rattle.annex_resolve.specs.BehavioursAndFindings.{state_rules}
-use Rattle.annex_resolve.proofs.StateFindings.{one_more_state}
+use Rattle.annex_resolve.proofs.AnnexFindings.{one_more_state}
 use Rattle.annex_resolve.proofs.annex.add_states.Goals as goal
 
 pub loop-number-preserved : goal.loop-number-preserved

@@ -2,7 +2,7 @@ use Rattle.std.proofs.Common.{◌≡◌, ◌∙◌, map, sym, ap, Ok, rules}
 use Rattle.std.proofs.lemmas.Int.{to_z-of_z}
 use mir.Syntax.{w64}
 use mir.Val.{SFits}
-use Rattle.pals_base.specs.Expressions.{eval, eval_rest, on_value}
+use Rattle.pals_base.specs.ExpressionValues.{eval, eval_rest, on_value}
 use Rattle.pals_base.specs.SingleStep.{is_present}
 use Rattle.pals_base.specs.proof.TreeViews.{tree_of, operands_along}
 use Rattle.pals_base.proofs.TreeViews.{tree_of-Chain}

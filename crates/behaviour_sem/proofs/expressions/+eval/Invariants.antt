@@ -1,5 +1,5 @@
 use Rattle.std.proofs.Common.{◌≡◌, drop}
-use Rattle.pals_base.specs.Expressions.{eval_rest}
+use Rattle.pals_base.specs.ExpressionValues.{eval_rest}
 use Rattle.pals_base.specs.proof.TreeViews.{operands_along}
 use Rattle.behaviour_sem.specs.proof.ReadableFrames.{seen, fresh}
 use Rattle.behaviour_sem.proofs.expressions.+eval.Given as goal

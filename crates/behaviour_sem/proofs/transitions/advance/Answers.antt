@@ -1,6 +1,6 @@
 use Rattle.std.proofs.Common.{◌≡◌, ◌∙◌, map, drop, sym, ap, subst, Ok, Err, true, false, add-one, rules}
 use Rattle.std.specs.Prelude.{Some, filter, nat_eq}
-use Rattle.pals_base.specs.Expressions.{on_value}
+use Rattle.pals_base.specs.ExpressionValues.{on_value}
 use Rattle.pals_base.specs.SingleStep.{is_present, first_open, along}
 use Rattle.pals_base.specs.PlainTrees.{Edge}
 use Rattle.behaviour_sem.specs.declared.early_end.EarlyEnd.TheVariants as stop

@@ -1,6 +1,6 @@
 use Rattle.std.proofs.Common.{◌≡◌, ◌∙◌, ◌+◌, ◌-◌, suc, length, map, sym, ap, subst, Ok, Err, false, rules, arith}
 use Rattle.std.specs.Prelude.{slice_get}
-use Rattle.pals_base.specs.Expressions.{on_value}
+use Rattle.pals_base.specs.ExpressionValues.{on_value}
 use Rattle.pals_base.specs.SingleStep.{is_present, is_complete, completes, settled}
 use Rattle.behaviour_sem.specs.proof.StepOutcomes.{Left}
 use Rattle.behaviour_sem.specs.proof.TransitionMoves.{move}

@@ -5,7 +5,7 @@ use Rattle.std.specs.Iterator.Adapters.{zip_first, zip_second}
 use Rattle.std.proofs.lemmas.List.{length_push}
 use Rattle.std.proofs.lemmas.Slice.Zip.{zip_turn, zip_end}
 use Rattle.pals_model.specs.RoundTexts.{line_end}
-use Rattle.pals_report.proofs.ItemLines.{lines_turn, lines_all}
+use Rattle.pals_report.proofs.LinePerItem.{lines_turn, lines_all}
 use Rattle.code_listing.specs.Listings.{state_line}
 use Rattle.code_listing.specs.NumberRanges.{EntryFits}
 use Rattle.code_listing.proofs.AddedLines.{pair_within, pair_at, pairs_end, holds_turn, holds_all}

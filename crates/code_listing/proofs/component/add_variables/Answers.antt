@@ -1,5 +1,5 @@
 use Rattle.pals_model.specs.RoundTexts.{line_end}
-use Rattle.pals_report.proofs.ItemLines.{lines_turn}
+use Rattle.pals_report.proofs.LinePerItem.{lines_turn}
 use Rattle.code_listing.specs.Listings.{variable_line}
 use Rattle.code_listing.specs.NumberRanges.{FirstFits}
 use Rattle.code_listing.proofs.AddedLines.{holds_turn}

@@ -2,7 +2,7 @@ use Rattle.std.proofs.Common.{arith}
 use Rattle.std.specs.List.{enumerate_from}
 use Rattle.std.proofs.lemmas.List.{get_or_default}
 use Rattle.pals_model.specs.RoundTexts.{line_end}
-use Rattle.pals_report.proofs.ItemLines.{lines_turn, lines_all}
+use Rattle.pals_report.proofs.LinePerItem.{lines_turn, lines_all}
 use Rattle.code_listing.specs.Listings.{instr_line}
 use Rattle.code_listing.specs.NumberRanges.{InstrFits}
 use Rattle.code_listing.proofs.AddedLines.{numbered_within, numbered_at, numbered_end, holds_turn, holds_all}

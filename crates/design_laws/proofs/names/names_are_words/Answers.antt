@@ -1,4 +1,4 @@
-use Rattle.design_laws.proofs.WordIdentifiers.{have_words}
+use Rattle.design_laws.proofs.IdentifiersAreWords.{have_words}
 use Rattle.design_laws.proofs.names.names_are_words.Goals as goal
 
 pub returns : goal.returns

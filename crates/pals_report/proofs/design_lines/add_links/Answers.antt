@@ -2,7 +2,7 @@ use Rattle.std.proofs.Common.{arith}
 use Rattle.pals_model.specs.RoundTexts.{line_end}
 use Rattle.pals_report.proofs.TextPrefixes.{begins_on_err}
 use Rattle.pals_report.specs.CheckReports.{link_line}
-use Rattle.pals_report.proofs.ItemLines.{lines_all}
+use Rattle.pals_report.proofs.LinePerItem.{lines_all}
 use Rattle.pals_report.proofs.design_lines.add_links.Goals as goal
 
 pub returns-in_err-add_link-clause-err : goal.returns-in_err-add_link-clause-err

@@ -2,7 +2,7 @@ use Rattle.std.proofs.Common.{arith}
 use Rattle.pals_model.specs.RoundTexts.{line_end}
 use Rattle.pals_report.proofs.TextPrefixes.{begins_on_err}
 use Rattle.pals_report.specs.CheckReports.{tap_line}
-use Rattle.pals_report.proofs.ItemLines.{lines_turn, lines_all}
+use Rattle.pals_report.proofs.LinePerItem.{lines_turn, lines_all}
 use Rattle.pals_report.proofs.design_lines.add_taps.Goals as goal
 
 pub returns-in_err-add_tap-clause-err : goal.returns-in_err-add_tap-clause-err

@@ -1,7 +1,7 @@
 use Rattle.std.proofs.Common.{◌++◌, ap, ◌∙◌, arith}
 use Rattle.pals_model.specs.RoundTexts.{line_end}
 use Rattle.pals_report.proofs.TextPrefixes.{begins_on_err}
-use Rattle.pals_report.proofs.ItemLines.{lines_turn, lines_all}
+use Rattle.pals_report.proofs.LinePerItem.{lines_turn, lines_all}
 use Rattle.pals_report.specs.ViolationLines.{violation_line}
 use Rattle.pals_report.proofs.violations.add_lines.Goals as goal
 

@@ -8,7 +8,7 @@ use mir.Val.{SFits}
 use Rattle.pals_base.specs.declared.values.PortValue.TheVariants as port
 use Rattle.pals_base.specs.declared.values.PortValue.{PortValue as Value}
 use Rattle.pals_base.specs.SingleStep.{is_present}
-use Rattle.pals_base.specs.Expressions.{is_true, truth}
+use Rattle.pals_base.specs.ExpressionValues.{is_true, truth}
 use Rattle.step_code.specs.declared.instr.Instr.{Instr}
 use Rattle.step_code.specs.declared.instr.Instr.TheVariants.{Store}
 use Rattle.step_code.specs.InstructionEffects.{Senses, step, on_top, on_found, on_result, Goes}

@@ -2,7 +2,7 @@ use Rattle.std.proofs.Common.{◌≡◌, ◌∙◌, ◌+◌, ◌∷◌, sym, ap,
 use Rattle.std.proofs.lemmas.Int.{to_z-of_z}
 use mir.Syntax.{w64}
 use mir.Val.{SFits}
-use Rattle.pals_base.specs.Expressions.{applied}
+use Rattle.pals_base.specs.ExpressionValues.{applied}
 use Rattle.step_code.specs.InstructionEffects.{on_two, on_result, Goes}
 use Rattle.step_vm.specs.proof.MachineAnswers.{Met}
 use Rattle.step_vm.proofs.instruction_effects.two.Goals as goal

@@ -1,7 +1,7 @@
 use Rattle.std.proofs.Common.{◌∙◌, ◌<◌, Bool, List, [], ap, sym, length, slice_get, slice_index_or, arith}
 use Rattle.std.proofs.lemmas.Option.{slice_get-get_or}
 use Rattle.pals_model.specs.declared.design.Link.{Link}
-use Rattle.triple_vote.specs.declared.replica_lane.Layer.{Layer}
+use Rattle.triple_vote.specs.declared.replica_layer.Layer.{Layer}
 use Rattle.triple_vote.specs.Replicas.{is_replicated}
 use Rattle.triple_vote.specs.proof.ReplicaLayers.{is_there}
 use Rattle.triple_vote.specs.proof.ThreeLayers.{there_in, sent_in, received_of}

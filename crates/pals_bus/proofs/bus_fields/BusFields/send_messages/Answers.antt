@@ -10,7 +10,7 @@ use Rattle.pals_bus.specs.declared.bus_fields.BusFields.{BusFields}
 use Rattle.pals_bus.specs.proof.OutOfRangeDefaults.{no_link_no, no_queue}
 use Rattle.pals_bus.specs.proof.LinksFrom.{no_numbers}
 use Rattle.pals_bus.specs.proof.DueQueues.{with_due}
-use Rattle.pals_bus.proofs.NextLinks.{reaches_more}
+use Rattle.pals_bus.proofs.NextOutgoingLink.{reaches_more}
 use Rattle.pals_bus.proofs.SendLoop.{CanSend, Sending, own_links, sending_all, sending_delay, sending_more}
 use Rattle.pals_bus.proofs.SendLoop.{sending_places, sending_room, sending_queue_room, message_left}
 use Rattle.pals_bus.proofs.bus_fields.BusFields.send_messages.Goals as goal

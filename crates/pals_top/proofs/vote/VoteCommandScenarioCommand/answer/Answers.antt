@@ -1,7 +1,7 @@
 use Rattle.std.proofs.Common.{◌≡◌, ◌∙◌, List, refl, ap}
 use Rattle.pals_base.specs.declared.values.NodeNo.{NodeNo}
 use Rattle.triple_vote.specs.VotedText.{vreport, thrice}
-use Rattle.analysis_texts.specs.VoteInputs.{replicated_in, faults_of}
+use Rattle.analysis_texts.specs.ReplicasAndRoundFaults.{replicated_in, faults_of}
 use Rattle.pals_top.proofs.vote.VoteCommandScenarioCommand.answer.Goals as goal
 
 pub returns : goal.returns

@@ -4,7 +4,7 @@ use Rattle.aadl_tree.specs.proof.PackageViews.{placed}
 use Rattle.aadl_names.specs.ReferenceResolution.{implementation_at, target_of}
 use Rattle.component_checks.specs.PropertyLookup.{sub_of}
 use Rattle.model_violations.proofs.ConnectionEndTypes.{target_below}
-use Rattle.model_violations.proofs.chain_ends.component_number.Goals as goal
+use Rattle.model_violations.proofs.chain_targets.component_number.Goals as goal
 
 pub returns-in-Some : goal.returns-in-Some
 returns-in-Some c =

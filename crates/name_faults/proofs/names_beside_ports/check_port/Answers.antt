@@ -7,7 +7,7 @@ use Rattle.aadl_names.specs.declared.fault.PackageFault.TheVariants.{Twice}
 use Rattle.aadl_names.specs.proof.FirstFaultSoFar.{found}
 use Rattle.aadl_names.specs.proof.PortDuplicates.{entry_again}
 use Rattle.name_faults.proofs.PortEntries.{entry_there}
-use Rattle.name_faults.proofs.port_duplicates.check_port.Goals as goal
+use Rattle.name_faults.proofs.names_beside_ports.check_port.Goals as goal
 
 pub returns-in-Some : goal.returns-in-Some
 returns-in-Some c =

@@ -6,7 +6,7 @@ ghost use Rattle.aadl_tree.specs.proof.PackageViews.{placed};
 ghost use Rattle.aadl_tree.specs.proof.DeclarationViews.{feature_view};
 ghost use Rattle.aadl_names.specs.ReferenceResolution.{implementation_at};
 ghost use Rattle.component_checks.specs.TypeFindings.{is_in};
-ghost use Rattle.model_violations.specs.ChainEnds as spec;
+ghost use Rattle.model_violations.specs.ChainTargets as spec;
 
 use aadl_instance::{ChainEnd, ThreadAt};
 use aadl_tree::Feature;

@@ -1,6 +1,6 @@
-use Rattle.triple_vote.specs.declared.replica_lane.Layer.{Layer}
+use Rattle.triple_vote.specs.declared.replica_layer.Layer.{Layer}
 use Rattle.triple_vote.proofs.OpeningReplicas.{is_opened}
-use Rattle.triple_vote.proofs.replica_lane.Layer.new.Goals as goal
+use Rattle.triple_vote.proofs.replica_layer.Layer.new.Goals as goal
 
 pub returns : goal.returns
 returns c =

@@ -2,10 +2,10 @@ use Rattle.std.proofs.Common.{◌∙◌, Bool, List, subst}
 use Rattle.pals_model.specs.declared.inputs_parts_and_delays.Part.{Part}
 use Rattle.sync_product.specs.declared.component_stage.Stage.{Stage}
 use Rattle.sync_product.specs.proof.Rounds.{frames_of}
-use Rattle.triple_vote.specs.declared.replica_lane.Layer.{Layer}
+use Rattle.triple_vote.specs.declared.replica_layer.Layer.{Layer}
 use Rattle.triple_vote.specs.proof.ReplicaLayers.{AreRun, AreSent, AreWhole}
 use Rattle.triple_vote.proofs.LayerTuples.{is_made}
-use Rattle.triple_vote.proofs.replica_lane.Layer.run.Goals as goal
+use Rattle.triple_vote.proofs.replica_layer.Layer.run.Goals as goal
 
 pub returns-clause-made : goal.returns-clause-made
 returns-clause-made c =

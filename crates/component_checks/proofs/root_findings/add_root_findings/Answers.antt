@@ -4,7 +4,7 @@ use Rattle.aadl_names.specs.declared.recognised_properties.PropertyName.TheVaria
 use Rattle.component_checks.specs.Times.{time_at, range_at}
 use Rattle.component_checks.specs.RootFindings.{at_root}
 use Rattle.component_checks.proofs.TimesWithinAnHour.{gamma_within}
-use Rattle.component_checks.proofs.roots.add_root_findings.Goals as goal
+use Rattle.component_checks.proofs.root_findings.add_root_findings.Goals as goal
 
 pub add_bound_findings-requires-clause-gamma : goal.add_bound_findings-requires-clause-gamma
 add_bound_findings-requires-clause-gamma c = λ x is.

@@ -13,10 +13,10 @@ use Rattle.bus_machine.specs.proof.AgreementLaws.{IsRunOf}
 use Rattle.bus_machine.specs.Replay.{Replays, opens, goes_on, entries}
 use Rattle.bus_machine.proofs.MessageAndRunAgreement.{opening_agrees, step_keeps_agreement}
 use Rattle.pals_bus.specs.BusValues.{BusValue, Happens}
-use Rattle.pals_bus.specs.proof.NodeAndCodeValues.{opening_bus}
+use Rattle.pals_bus.specs.proof.OpeningBusAndNodeValues.{opening_bus}
 use Rattle.pals_bus.specs.LooseEvents.{loose_event, HappensLoose, GoesOn}
 use Rattle.loose_world.specs.LooseRuns.{InTurn, AllHappen}
-use Rattle.loose_world.specs.proof.UndergoneEvents.{event_of, Makes, Undergoes, IsLeftBy, IsReplayed}
+use Rattle.loose_world.specs.proof.EventEffects.{event_of, Makes, Undergoes, IsLeftBy, IsReplayed}
 use Rattle.loose_world.proofs.EventsAndLines.{turns_weaker}
 
 -- ---- events of loose worlds

@@ -3,8 +3,8 @@ use Rattle.aadl_tree.specs.proof.PlaceMaps.{kept_place}
 use Rattle.aadl_tree.specs.proof.DeclarationViews.{feature_view}
 use Rattle.component_checks.specs.TypeFindings.{is_in}
 use Rattle.model_violations.proofs.NthFilteredItem.{found_here, found_later, not_here, nowhere}
-use Rattle.model_violations.proofs.chain_ends.in_port.Goals as goal
-use Rattle.model_violations.proofs.chain_ends.in_port.Goals.{then-is_in+else-left-eq0, else-is_in}
+use Rattle.model_violations.proofs.chain_targets.in_port.Goals as goal
+use Rattle.model_violations.proofs.chain_targets.in_port.Goals.{then-is_in+else-left-eq0, else-is_in}
 
 pub returns-then-left-eq0 : goal.returns-then-left-eq0
 returns-then-left-eq0 c =
