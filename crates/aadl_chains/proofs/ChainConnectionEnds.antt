@@ -17,7 +17,7 @@ use Rattle.aadl_chains.specs.proof.PortsJoinedInside.{is_thread_at, is_in_at, Re
 use Rattle.aadl_chains.specs.proof.PortsJoinedOutside.{LeadsOut, of_root, of_own, of_beside, LeadsFrom}
 use Rattle.aadl_chains.specs.Chains.{Port, Place, port_at, Goes, Leads, is_in, IsStart, IsEnd}
 use Rattle.aadl_chains.specs.proof.DeclaredEnds.{MayLeave, MayEnter, NotBothOwn, AreDeclared}
-use Rattle.aadl_chains.specs.proof.ConnectionsOnChains.{IsOnWay}
+use Rattle.aadl_chains.specs.proof.ConnectionsOnChains.{IsOnChain}
 use Rattle.aadl_chains.proofs.ConnectionsOnChains.{port, next_at, below_at, is_in-at, thread_from, wire_of_goes}
 use Rattle.aadl_chains.proofs.ConnectionsOnChains.{among_goes, Chained}
 
@@ -400,7 +400,7 @@ module _ (tree : PackageTree ℕ) (root : ℕ) where
     ahead_none p = refl
 
     pub on_way : (n k : ℕ) (wire : Wire) → slice_get (wires_at tree n) k ≡ Some wire → Chained tree root sound n k
-        → IsOnWay tree root n wire
+        → IsOnChain tree root n wire
     on_way n k wire is c =
         let at = slice_get-from_Contains c.chain c.place c.among in
         let p = parted c.chain c.place c.from c.to c.among.0 at c.is_chain.leads in

@@ -24,7 +24,7 @@ use Rattle.aadl_chains.specs.proof.PortsJoinedInside.{is_thread_at, is_in_at, Re
 use Rattle.aadl_chains.specs.proof.PortsJoinedOutside.{LeadsOut, of_root, of_own, of_beside, LeadsFrom}
 use Rattle.aadl_chains.specs.Chains.{Port, Place, port_at, Goes, Leads, is_in, IsStart, IsEnd, IsChain}
 use Rattle.aadl_chains.specs.proof.DeclaredEnds.{MayLeave, MayEnter, NotBothOwn, AreDeclared}
-use Rattle.aadl_chains.specs.proof.ConnectionsOnChains.{IsOnWay}
+use Rattle.aadl_chains.specs.proof.ConnectionsOnChains.{IsOnChain}
 
 abbrev pub port : List ℕ → ℕ → Port
 port path p = record { path = path; port = p }
@@ -331,7 +331,7 @@ module _ (tree : PackageTree ℕ) (root : ℕ) where
         g.leads g.ends
 
     pub chained : (n : ℕ) (wire : Wire) → IsInUse tree root n → (h : Contains (wires_at tree n) wire)
-        → IsOnWay tree root n wire → Chained n h.0
+        → IsOnChain tree root n wire → Chained n h.0
     chained n wire used h w =
         let d = sound.each n wire h in
         let s : d.source ≡ w.source = same_Some d.source w.source (sym d.source_is ∙ w.source_is) in

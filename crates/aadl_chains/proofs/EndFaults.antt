@@ -19,14 +19,14 @@ use Rattle.aadl_names.proofs.FirstFaultSoFar.{found_append}
 use Rattle.aadl_uses.specs.Uses.{IsInUse}
 use Rattle.aadl_uses.specs.proof.PackageContainment.{FirstIn}
 use Rattle.aadl_uses.specs.declared.connections_by_target.Wire.{Wire}
-use Rattle.aadl_uses.specs.SecondConnections.{IsSecond}
+use Rattle.aadl_uses.specs.SecondConnections.{IsDuplicate}
 use Rattle.aadl_uses.specs.Wiring.{wire_of, wires_of, wires_at}
 use Rattle.aadl_chains.specs.proof.PortsJoinedOutside.{LeadsFrom}
 use Rattle.aadl_chains.proofs.JoinedInsideByDeclaration.{one_of_two}
 use Rattle.aadl_chains.specs.Chains.{IsDeadEnd, IsEndFault}
 use Rattle.aadl_chains.specs.proof.DeclaredEnds.{AreDeclared}
-use Rattle.aadl_chains.specs.proof.ConnectionsOnChains.{IsOnWay}
-use Rattle.aadl_chains.specs.proof.ConnectionFaults.{FindsAll, IsOnWayAt, IsFoundAt, IsFoundIn, dead_end, second}
+use Rattle.aadl_chains.specs.proof.ConnectionsOnChains.{IsOnChain}
+use Rattle.aadl_chains.specs.proof.ConnectionFaults.{FindsAll, IsOnChainAt, IsFoundAt, IsFoundIn, dead_end, second}
 use Rattle.aadl_chains.proofs.AccumulatedFaults.{finds_nothing, finds_both, finds_same, first_found}
 use Rattle.aadl_chains.proofs.ConnectionsOnChains.{chained}
 use Rattle.aadl_chains.proofs.ChainConnectionEnds.{on_way}
@@ -46,7 +46,7 @@ wire_if tree (Some x) k link e = by x.connections k e
 module _ (tree : PackageTree ℕ) (root : ℕ) (sound : AreDeclared tree) where
   dead_to : (n k : ℕ) (link : Connection ℕ) → IsInUse tree root n
       → slice_get (connections_of (implementation_at tree n)) k ≡ Some link
-      → (IsOnWayAt tree root n k → ⊥) → IsDeadEnd tree root link
+      → (IsOnChainAt tree root n k → ⊥) → IsDeadEnd tree root link
   dead_to n k link used is dead = record {
     number = n;
     connection = k;
@@ -71,7 +71,7 @@ module _ (tree : PackageTree ℕ) (root : ℕ) (sound : AreDeclared tree) where
         );
   }
 
-  dead_from : (link : Connection ℕ) → (d : IsDeadEnd tree root link) → IsOnWayAt tree root d.number d.connection → ⊥
+  dead_from : (link : Connection ℕ) → (d : IsDeadEnd tree root link) → IsOnChainAt tree root d.number d.connection → ⊥
   dead_from link d w =
       let h : Contains (wires_at tree d.number) w.0 = (
         d.connection,
@@ -86,8 +86,8 @@ module _ (tree : PackageTree ℕ) (root : ℕ) (sound : AreDeclared tree) where
       → IsEndFault tree root fault
   end_fault n fault used f = by f.1.kind
     where
-      by : ((IsOnWayAt tree root n f.0 → ⊥) × (fault ≡ DeadEnd f.1.link.name.spelling f.1.link.name.at))
-          ⊎ (IsSecond (wires_at tree n) f.0 × (fault ≡ TwoSources f.1.link.name.spelling f.1.link.name.at))
+      by : ((IsOnChainAt tree root n f.0 → ⊥) × (fault ≡ DeadEnd f.1.link.name.spelling f.1.link.name.at))
+          ⊎ (IsDuplicate (wires_at tree n) f.0 × (fault ≡ TwoSources f.1.link.name.spelling f.1.link.name.at))
           → IsEndFault tree root fault
       by (inl d) = inl (f.1.link, dead_to n f.0 f.1.link used f.1.is_connection d.0, d.1)
       by (inr s) =
@@ -127,7 +127,7 @@ module _ (tree : PackageTree ℕ) (root : ℕ) (sound : AreDeclared tree) where
 module _ (tree : PackageTree ℕ) (root n k : ℕ) (link : Connection ℕ) (wire : Wire)
     (is_link : slice_get (connections_of (implementation_at tree n)) k ≡ Some link)
     (is_wire : slice_get (wires_at tree n) k ≡ Some wire) where
-  dead_each : (b : Bool) (fault : PackageFault) → (IsTrue b ↔ IsOnWay tree root n wire)
+  dead_each : (b : Bool) (fault : PackageFault) → (IsTrue b ↔ IsOnChain tree root n wire)
       → Contains (dead_end b link) fault → IsFoundAt tree root n k fault
   dead_each true fault tells h = absurd (Contains-nil fault h)
   dead_each false fault tells h = by (Contains-push_cases [] (DeadEnd link.name.spelling link.name.at) fault h)
@@ -140,12 +140,12 @@ module _ (tree : PackageTree ℕ) (root n k : ℕ) (link : Connection ℕ) (wire
         kind =
             inl (
               (λ w. false≢true (tells.1
-                  (subst (IsOnWay tree root n) (same_Some w.0 wire (sym w.1 ∙ is_wire)) w.2))),
+                  (subst (IsOnChain tree root n) (same_Some w.0 wire (sym w.1 ∙ is_wire)) w.2))),
               sym e,
             );
       }
 
-  second_each : (b : Bool) (fault : PackageFault) → (IsTrue b ↔ IsSecond (wires_at tree n) k)
+  second_each : (b : Bool) (fault : PackageFault) → (IsTrue b ↔ IsDuplicate (wires_at tree n) k)
       → Contains (second b link) fault → IsFoundAt tree root n k fault
   second_each false fault tells h = absurd (Contains-nil fault h)
   second_each true fault tells h = by (Contains-push_cases [] (TwoSources link.name.spelling link.name.at) fault h)
@@ -154,21 +154,21 @@ module _ (tree : PackageTree ℕ) (root n k : ℕ) (link : Connection ℕ) (wire
       by (inl c) = absurd (Contains-nil fault c)
       by (inr e) = record { link = link; is_connection = is_link; kind = inr (tells.0 refl, sym e) }
 
-  dead_all : (b : Bool) (fault : PackageFault) → (IsTrue b ↔ IsOnWay tree root n wire) → (IsOnWayAt tree root n k → ⊥)
+  dead_all : (b : Bool) (fault : PackageFault) → (IsTrue b ↔ IsOnChain tree root n wire) → (IsOnChainAt tree root n k → ⊥)
       → DeadEnd link.name.spelling link.name.at ≡ fault → Contains (dead_end b link) fault
   dead_all true fault tells none e = absurd (none (wire, is_wire, tells.0 refl))
   dead_all false fault tells none e = subst (Contains (DeadEnd link.name.spelling link.name.at ∷ [])) e
       (Contains-push [] (DeadEnd link.name.spelling link.name.at))
 
-  second_all : (b : Bool) (fault : PackageFault) → (IsTrue b ↔ IsSecond (wires_at tree n) k)
-      → IsSecond (wires_at tree n) k
+  second_all : (b : Bool) (fault : PackageFault) → (IsTrue b ↔ IsDuplicate (wires_at tree n) k)
+      → IsDuplicate (wires_at tree n) k
       → TwoSources link.name.spelling link.name.at ≡ fault → Contains (second b link) fault
   second_all true fault tells s e = subst (Contains (TwoSources link.name.spelling link.name.at ∷ [])) e
       (Contains-push [] (TwoSources link.name.spelling link.name.at))
   second_all false fault tells s e = absurd (false≢true (tells.1 s))
 
-  pub both_found : (b c : Bool) (old new : Option PackageFault) → (IsTrue b ↔ IsOnWay tree root n wire)
-      → (IsTrue c ↔ IsSecond (wires_at tree n) k)
+  pub both_found : (b c : Bool) (old new : Option PackageFault) → (IsTrue b ↔ IsOnChain tree root n wire)
+      → (IsTrue c ↔ IsDuplicate (wires_at tree n) k)
       → new ≡ found (found old (dead_end b link)) (second c link)
       → FindsAll (IsFoundAt tree root n k) old new
   both_found b c old new way is_second is = record {
@@ -184,8 +184,8 @@ module _ (tree : PackageTree ℕ) (root n k : ℕ) (link : Connection ℕ) (wire
       by_part f (inr h) = second_each c f is_second h
 
       by_kind : (f : PackageFault) → (a : IsFoundAt tree root n k f) → a.link ≡ link
-          → ((IsOnWayAt tree root n k → ⊥) × (f ≡ DeadEnd a.link.name.spelling a.link.name.at))
-          ⊎ (IsSecond (wires_at tree n) k × (f ≡ TwoSources a.link.name.spelling a.link.name.at))
+          → ((IsOnChainAt tree root n k → ⊥) × (f ≡ DeadEnd a.link.name.spelling a.link.name.at))
+          ⊎ (IsDuplicate (wires_at tree n) k × (f ≡ TwoSources a.link.name.spelling a.link.name.at))
           → Contains (dead_end b link ++ second c link) f
       by_kind f a same (inl d) = Contains-append_left (dead_end b link) (second c link) f
           (dead_all b f way d.0 (sym (d.1 ∙ ap (λ (x : Connection ℕ). DeadEnd x.name.spelling x.name.at) same)))
@@ -284,7 +284,7 @@ nothing_at tree root n k old none =
 pub ways_tell : (tree : PackageTree ℕ) (root n : ℕ) (wire : Wire) (s t : PortPlace) (a b : Bool) → wire.source ≡ Some s
     → wire.target ≡ Some t
     → (IsTrue a ↔ LeadsFrom tree root directions.In n s) → (IsTrue b ↔ LeadsFrom tree root directions.Out n t)
-    → IsTrue (a && b) ↔ IsOnWay tree root n wire
+    → IsTrue (a && b) ↔ IsOnChain tree root n wire
 ways_tell tree root n wire s t a b source target comes goes = (
   λ e. let both = both_true a b e in
       record {
@@ -308,9 +308,9 @@ ways_tell tree root n wire s t a b source target comes goes = (
     of_both x y e f = ap (λ z. z && y) e ∙ f
 
 pub no_source : (tree : PackageTree ℕ) (root n : ℕ) (wire : Wire) → wire.source ≡ None
-    → IsTrue false ↔ IsOnWay tree root n wire
+    → IsTrue false ↔ IsOnChain tree root n wire
 no_source tree root n wire e = (λ t. absurd (false≢true t), λ w. absurd (none-some w.source (sym e ∙ w.source_is)))
 
 pub no_target : (tree : PackageTree ℕ) (root n : ℕ) (wire : Wire) → wire.target ≡ None
-    → IsTrue false ↔ IsOnWay tree root n wire
+    → IsTrue false ↔ IsOnChain tree root n wire
 no_target tree root n wire e = (λ t. absurd (false≢true t), λ w. absurd (none-some w.target (sym e ∙ w.target_is)))

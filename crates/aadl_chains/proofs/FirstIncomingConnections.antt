@@ -16,7 +16,7 @@ use Rattle.aadl_names.specs.ReferenceResolution.{implementation_at}
 use Rattle.aadl_uses.specs.Uses.{standing}
 use Rattle.aadl_uses.specs.declared.connections_by_target.Wire.{Wire}
 use Rattle.aadl_uses.specs.proof.NumbersByPort.{is_site}
-use Rattle.aadl_uses.specs.SecondConnections.{target_in, IsSecond}
+use Rattle.aadl_uses.specs.SecondConnections.{target_in, IsDuplicate}
 use Rattle.aadl_uses.specs.proof.FirstConnections.{is_before}
 use Rattle.aadl_uses.specs.Wiring.{wire_of, wires_of, wires_at}
 use Rattle.aadl_uses.specs.proof.IncomingConnections.{first_into_at, with_source, sourced, connection_into}
@@ -128,7 +128,7 @@ module _ (tree : PackageTree ℕ) where
   -- a connection that is not behind another one into its port is the first into it
   pub first_if : (n k : ℕ) (wire : Wire) (target : PortPlace) → slice_get (wires_at tree n) k ≡ Some wire
       → wire.target ≡ Some target
-      → (IsSecond (wires_at tree n) k → ⊥) → first_into_at tree n target ≡ Some k
+      → (IsDuplicate (wires_at tree n) k → ⊥) → first_into_at tree n target ≡ Some k
   first_if n k wire target is e only =
       let some =
       some_first (λ (w : Wire). is_site target w.target) (wires_at tree n) 0 k wire is
@@ -151,7 +151,7 @@ module _ (tree : PackageTree ℕ) where
       by m w at f least (inr (inr more)) = absurd (omega arith)
 
   -- one behind another is not
-  pub second_never : (n k : ℕ) (target : PortPlace) → IsSecond (wires_at tree n) k
+  pub second_never : (n k : ℕ) (target : PortPlace) → IsDuplicate (wires_at tree n) k
       → first_into_at tree n target ≡ Some k → ⊥
   second_never n k target second first =
       let w = first_wire n target k first in

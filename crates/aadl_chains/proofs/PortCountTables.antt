@@ -19,7 +19,7 @@ use Rattle.aadl_uses.specs.proof.PackageContainment.{containment}
 use Rattle.aadl_uses.proofs.PackageContainment.{below-same}
 use Rattle.aadl_uses.proofs.ThreadCounts.{thread_by}
 use Rattle.aadl_uses.specs.declared.connections_by_target.Wire.{Wire}
-use Rattle.aadl_uses.specs.SecondConnections.{IsSecond}
+use Rattle.aadl_uses.specs.SecondConnections.{IsDuplicate}
 use Rattle.aadl_uses.specs.Wiring.{wires_at}
 use Rattle.aadl_chains.specs.declared.port_set.PortAt.{PortAt}
 use Rattle.aadl_chains.specs.proof.PortSets.{same_port}
@@ -210,7 +210,7 @@ taken-number tree limit table m p sound known = by (is_thread_at tree m) (is_in_
 module _ (tree : PackageTree ℕ) (limit n k : ℕ) where
   pub through-number : (wire : Wire) (s p : ℕ) (table : List (PortAt × ℕ)) → AreDeclared tree
       → slice_get (wires_at tree n) k ≡ Some wire
-      → wire.target ≡ Some (Inner s p) → (IsSecond (wires_at tree n) k → ⊥) → AreTakenBelow tree limit table n
+      → wire.target ≡ Some (Inner s p) → (IsDuplicate (wires_at tree n) k → ⊥) → AreTakenBelow tree limit table n
       → IsNumber limit (Through tree n k) (taken_by limit table tree (below tree n s) p)
   through-number wire s p table sound is target only known =
       let d = sound.each n wire (Contains-from_slice_get (wires_at tree n) k wire is) in
@@ -220,7 +220,7 @@ module _ (tree : PackageTree ℕ) (limit n k : ℕ) where
       (first_if tree n k wire (Inner s p) is target only) m.1
       (taken-number tree limit table m.0 p sound (known s m.0 m.1)))
 
-  pub through-second : IsSecond (wires_at tree n) k → IsNumber limit (Through tree n k) 0
+  pub through-second : IsDuplicate (wires_at tree n) k → IsNumber limit (Through tree n k) 0
   through-second second =
       no_number limit (Through tree n k) (λ x t. second_never tree n k (Inner t.sub t.inner_port) second t.first)
 

@@ -10,7 +10,7 @@ use Rattle.aadl_names.specs.ReferenceResolution.{implementation_at, connections_
 use Rattle.aadl_names.specs.PackageFaults.{goes_in}
 use Rattle.aadl_uses.specs.Uses.{standing, component_at, IsInUse}
 use Rattle.aadl_uses.specs.ThreadsBelow.{IsThreadAt}
-use Rattle.aadl_uses.specs.SecondConnections.{IsSecond}
+use Rattle.aadl_uses.specs.SecondConnections.{IsDuplicate}
 use Rattle.aadl_uses.specs.Wiring.{wires_at}
 
 -- a port of the component at a path
@@ -86,7 +86,7 @@ pub record IsSecondEnd (tree : PackageTree ℕ) (root : ℕ) (x : Connection ℕ
   pub connection : ℕ
   pub used : IsInUse tree root number
   pub is_connection : slice_get (connections_of (implementation_at tree number)) connection ≡ Some x
-  pub is_second : IsSecond (wires_at tree number) connection
+  pub is_second : IsDuplicate (wires_at tree number) connection
 
 abbrev pub IsEndFault : PackageTree ℕ → ℕ → PackageFault → Type 0
 IsEndFault tree root fault =

@@ -4,7 +4,7 @@ ghost use Rattle.aadl_tree.specs.proof.PackageViews.{placed};
 ghost use Rattle.aadl_uses.specs.proof.PackageContainment.{containment};
 ghost use Rattle.aadl_uses.specs.Uses.{IsInUse};
 ghost use Rattle.aadl_uses.specs.proof.ContainmentOrders.{IsOrder};
-ghost use Rattle.aadl_chains.specs.proof.ConnectionsOnChains.{IsOnWay, AreWays};
+ghost use Rattle.aadl_chains.specs.proof.ConnectionsOnChains.{IsOnChain, AreChainPorts};
 
 use crate::{InnerJoins, OuterJoins, PortSearch};
 use aadl_names::PortPlace;
@@ -51,7 +51,7 @@ impl JoinedPorts {
     ) -> Result<JoinedPorts, AllocError>
         requires order { IsOrder (containment (placed wires.now.uses.names.tree.now)) order.now.keys }
         requires used { (n : ℕ) → Contains used.now.keys n ↔ IsInUse (placed wires.now.uses.names.tree.now) root n }
-        ensures { IfOk result (λ ways. (ways.root ≡ root) × AreWays (placed wires.now.uses.names.tree.now) ways) }
+        ensures { IfOk result (λ ways. (ways.root ≡ root) × AreChainPorts (placed wires.now.uses.names.tree.now) ways) }
     {
         let gives = InnerJoins::of(alloc, wires, order, Direction::Out)?;
         let takes = InnerJoins::of(alloc, wires, order, Direction::In)?;
@@ -77,8 +77,8 @@ impl JoinedPorts {
     /// Whether a connection of an implementation in use is on a chain, at some place where the implementation
     /// stands.
     pub fn has(&self, wires: &Wires<'_>, number: usize, wire: Wire) -> bool
-        requires { AreWays (placed wires.now.uses.names.tree.now) self.now }
-        ensures { IsTrue result ↔ IsOnWay (placed wires.now.uses.names.tree.now) self.now.root number wire }
+        requires { AreChainPorts (placed wires.now.uses.names.tree.now) self.now }
+        ensures { IsTrue result ↔ IsOnChain (placed wires.now.uses.names.tree.now) self.now.root number wire }
     {
         match wire.source {
             Some(source) => self.goes_on(wires, number, wire, source),
@@ -88,9 +88,9 @@ impl JoinedPorts {
 
     // Whether a connection from this port is on a chain.
     fn goes_on(&self, wires: &Wires<'_>, number: usize, wire: Wire, source: PortPlace) -> bool
-        requires ways { AreWays (placed wires.now.uses.names.tree.now) self.now }
+        requires ways { AreChainPorts (placed wires.now.uses.names.tree.now) self.now }
         requires source { wire.source ≡ Some source }
-        ensures { IsTrue result ↔ IsOnWay (placed wires.now.uses.names.tree.now) self.now.root number wire }
+        ensures { IsTrue result ↔ IsOnChain (placed wires.now.uses.names.tree.now) self.now.root number wire }
     {
         match wire.target {
             Some(target) => {

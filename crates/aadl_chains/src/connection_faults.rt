@@ -10,11 +10,11 @@ ghost use Rattle.aadl_uses.specs.Wiring.{wires_at};
 ghost use Rattle.aadl_uses.specs.proof.ContainmentOrders.{IsOrder};
 ghost use Rattle.aadl_chains.specs.Chains.{IsEndFault};
 ghost use Rattle.aadl_chains.specs.proof.DeclaredEnds.{AreDeclared};
-ghost use Rattle.aadl_chains.specs.proof.ConnectionsOnChains.{AreWays};
+ghost use Rattle.aadl_chains.specs.proof.ConnectionsOnChains.{AreChainPorts};
 ghost use Rattle.aadl_chains.specs.proof.ConnectionFaults.{FindsAll, IsFoundIn, IsFoundAt, dead_end, second};
 
 use crate::chain_connections::JoinedPorts;
-use aadl_names::{Finder, PackageFault};
+use aadl_names::{FaultFinder, PackageFault};
 use aadl_tree::Connection;
 use aadl_uses::{Wire, Wires};
 use indexmap::IndexSet;
@@ -35,7 +35,7 @@ pub fn first_end_fault(
     ensures { IfOk result (FirstIn (IsEndFault (placed wires.now.uses.names.tree.now) root)) }
 {
     let ways = JoinedPorts::of(alloc, wires, order, used, root)?;
-    let mut finder = Finder::new(alloc);
+    let mut finder = FaultFinder::new(alloc);
     for at in 0..used.len() {
         if let Some(number) = used.get_index(at) {
             let number = *number;
@@ -47,12 +47,12 @@ pub fn first_end_fault(
 
 // Finds what is wrong with the ends of the connections of an implementation.
 fn check_all(
-    finder: &mut Finder,
+    finder: &mut FaultFinder,
     wires: &Wires<'_>,
     ways: &JoinedPorts,
     number: usize,
 ) -> Result<(), AllocError>
-    requires { AreWays (placed wires.now.uses.names.tree.now) ways.now }
+    requires { AreChainPorts (placed wires.now.uses.names.tree.now) ways.now }
     ensures { OnOk result (FindsAll (IsFoundIn (placed wires.now.uses.names.tree.now) ways.now.root number) finder.old finder.new) }
 {
     for (at, wire) in wires.wires(number).iter().enumerate() {
@@ -63,14 +63,14 @@ fn check_all(
 
 // Finds what is wrong with the ends of a connection.
 fn check(
-    finder: &mut Finder,
+    finder: &mut FaultFinder,
     wires: &Wires<'_>,
     ways: &JoinedPorts,
     number: usize,
     at: usize,
     wire: Wire,
 ) -> Result<(), AllocError>
-    requires ways { AreWays (placed wires.now.uses.names.tree.now) ways.now }
+    requires ways { AreChainPorts (placed wires.now.uses.names.tree.now) ways.now }
     requires wire { slice_get (wires_at (placed wires.now.uses.names.tree.now) number) at ≡ Some wire }
     ensures { OnOk result (FindsAll (IsFoundAt (placed wires.now.uses.names.tree.now) ways.now.root number at) finder.old finder.new) }
 {
@@ -86,7 +86,7 @@ fn check(
 
 // Finds that a connection is on no chain, and that it is a second one.
 fn report(
-    finder: &mut Finder,
+    finder: &mut FaultFinder,
     connection: &Connection,
     is_on_way: bool,
     is_second: bool,
@@ -99,7 +99,7 @@ fn report(
 }
 
 fn report_dead_end(
-    finder: &mut Finder,
+    finder: &mut FaultFinder,
     connection: &Connection,
     is_on_way: bool,
 ) -> Result<(), AllocError>
@@ -113,7 +113,7 @@ fn report_dead_end(
 }
 
 fn report_second(
-    finder: &mut Finder,
+    finder: &mut FaultFinder,
     connection: &Connection,
     is_second: bool,
 ) -> Result<(), AllocError>

@@ -29,7 +29,7 @@ use Rattle.aadl_grammar.proofs.AdjacentTerminals.{neighbours}
 use Rattle.aadl_grammar.proofs.KeptTerminalNesting.{kept_shallow}
 use Rattle.aadl_grammar.proofs.PossibleTerminals.{Said, kept_said}
 use Rattle.aadl_grammar.proofs.CanonicalTextLexing.{outer}
-use Rattle.aadl_grammar.proofs.PossibleLexedTerminals.{text_said}
+use Rattle.aadl_grammar.proofs.PossibleLexedTerminals.{text_terminals_possible}
 use Rattle.aadl_grammar.proofs.CanonicalUtf8.{text_utf8}
 
 -- tokens in order stand one behind the other
@@ -69,7 +69,7 @@ reads_back text tree h =
     let spelled : Spells parts first [] = written_spells parts (spots text h.tokens) [] h.written in
     let near = neighbours first (derived tree first spelled) in
     let said : Said Outside (kept parts) =
-    kept_said parts 0 Outside first spelled near (text_said text h.tokens h.lexed) in
+    kept_said parts 0 Outside first spelled near (text_terminals_possible text h.tokens h.lexed) in
     let again : Spells parts (kept parts) [] =
     subst (λ (l : List Kind). Spells parts l []) (append-nil (kept parts)) (kept_spells parts []) in
     let beside = neighbours (kept parts) (derived tree (kept parts) again) in

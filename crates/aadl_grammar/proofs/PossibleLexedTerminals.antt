@@ -131,5 +131,5 @@ said_tokens text utf8 r from (t ∷ ts) (start, some, order) (h, hs) =
     )
 
 -- The terminals of a text are terminals that a text can have.
-pub text_said : (text : List ℕ) (ts : List Token) → AreTokensOf text ts → Said Outside (kinds_of (spots text ts))
-text_said text ts h = said_tokens text h.utf8 Outside 0 ts (order_tokens text ts h) (spelled_tokens text ts h)
+pub text_terminals_possible : (text : List ℕ) (ts : List Token) → AreTokensOf text ts → Said Outside (kinds_of (spots text ts))
+text_terminals_possible text ts h = said_tokens text h.utf8 Outside 0 ts (order_tokens text ts h) (spelled_tokens text ts h)

@@ -8,14 +8,14 @@ ghost use Rattle.aadl_names.specs.proof.EarliestDeclarations.{again_by};
 ghost use Rattle.aadl_names.specs.DuplicateNames.{twice};
 
 use crate::earliest_by_name::{earliest_of, is_before};
-use crate::fault_finder::Finder;
+use crate::fault_finder::FaultFinder;
 use crate::name_table::NameTable;
 use crate::numbered_place::NumberedPlace;
 use crate::spelled_name::SpelledName;
 use std::alloc::AllocError;
 
 /// Finds the declarations that have the name of an earlier one.
-pub fn check_twice(finder: &mut Finder, entries: &[SpelledName]) -> Result<(), AllocError>
+pub fn check_twice(finder: &mut FaultFinder, entries: &[SpelledName]) -> Result<(), AllocError>
     ensures { OnOk result (finder.new ≡ found finder.old (twice entries.now)) }
 {
     let table = earliest_of(finder.alloc(), entries)?;
@@ -27,7 +27,7 @@ pub fn check_twice(finder: &mut Finder, entries: &[SpelledName]) -> Result<(), A
 
 // Finds that an entry stands behind the earliest one of its name.
 fn check_entry(
-    finder: &mut Finder,
+    finder: &mut FaultFinder,
     table: &NameTable<NumberedPlace>,
     entry: &SpelledName,
 ) -> Result<(), AllocError>

@@ -7,12 +7,12 @@ use std::marker::Model;
 
 /// The first finding so far, if anything was found.
 #[derive(Drop)]
-pub struct Finder {
+pub struct FaultFinder {
     alloc: Global,
     first: Option<PackageFault>,
 }
 
-impl Model for Finder {
+impl Model for FaultFinder {
     ghost use Rattle.std.specs.Prelude.{Option};
     ghost use Rattle.aadl_names.specs.declared.fault.PackageFault.{PackageFault};
 
@@ -21,17 +21,17 @@ impl Model for Finder {
     ghost view = { λ finder. finder.first };
 }
 
-impl Finder {
+impl FaultFinder {
     ghost use Rattle.std.specs.Prelude.{◌≡◌, OnOk, None, [], ◌∷◌};
     ghost use Rattle.aadl_names.specs.declared.fault.PackageFault.TheVariants as faults;
     ghost use Rattle.aadl_names.specs.proof.FirstFaultSoFar.{found, comes_first, as_list};
     ghost use Rattle.aadl_names.specs.FirstFaults as spec;
 
     /// A finder that has found nothing yet. It takes no memory.
-    pub fn new(alloc: Global) -> Finder
+    pub fn new(alloc: Global) -> FaultFinder
         ensures { result ≡ None }
     {
-        Finder { alloc, first: None }
+        FaultFinder { alloc, first: None }
     }
 
     /// Where memory comes from.

@@ -22,7 +22,7 @@ pub mod time_units;
 pub mod type_ports;
 
 pub use fault::PackageFault;
-pub use fault_finder::Finder;
+pub use fault_finder::FaultFinder;
 pub use name_roles::{Role, Usage};
 pub use name_table::NameTable;
 pub use numbered_place::NumberedPlace;

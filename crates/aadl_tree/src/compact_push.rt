@@ -4,7 +4,7 @@ ghost use Rattle.std.specs.Prelude.{◌≡◌, [], ◌∷◌, ◌++◌, OnOk};
 use std::alloc::AllocError;
 
 /// Adds an item. A list without room doubles it, from one item on: one of one item has room for one.
-pub fn push_exact<T: Drop>(list: &mut Vec<T>, item: T) -> Result<(), AllocError>
+pub fn push_compact<T: Drop>(list: &mut Vec<T>, item: T) -> Result<(), AllocError>
     ensures { OnOk result (list.new.items ≡ list.old.items ++ item ∷ []) }
 {
     if list.len() == list.capacity() {

@@ -26,7 +26,7 @@ pub use actions::{Action, Actions, Block, Bound, Choice, Elsif, Loop};
 pub use annex::{
     Annex, AnnexContent, AnnexTree, Guard, StateDeclaration, Transition, VariableDeclaration,
 };
-pub use compact_push::push_exact;
+pub use compact_push::push_compact;
 pub use declarations::{
     Category, Connection, ConnectionEnd, Declaration, Direction, Feature, Implementation,
     ImplementationName, Subcomponent, TypeDeclaration, With,

@@ -13,7 +13,7 @@ use Rattle.aadl_names.proofs.Lookups.{lookup-push, kept_by}
 use Rattle.aadl_uses.specs.declared.connections_by_target.Wire.{Wire}
 use Rattle.aadl_uses.specs.proof.NumbersByPort.{same_site, is_site, number_of}
 use Rattle.aadl_uses.specs.proof.FirstConnections.{first_into, is_before}
-use Rattle.aadl_uses.specs.SecondConnections.{target_in, IsSecond}
+use Rattle.aadl_uses.specs.SecondConnections.{target_in, IsDuplicate}
 
 -- ---- ports
 
@@ -128,7 +128,7 @@ first_before (w ∷ ws) target k j h =
 
 second_to : (wires : List Wire) (number : ℕ) (target : PortPlace) → target_in wires number ≡ Some target
     → (o : Option ℕ) → first_into wires target ≡ o
-    → is_before o number ≡ true → IsSecond wires number
+    → is_before o number ≡ true → IsDuplicate wires number
 second_to wires number target h None e t = absurd (true≢false (sym t))
 second_to wires number target h (Some n) e t =
     let f = first_at wires target 0 n e in
@@ -137,7 +137,7 @@ second_to wires number target h (Some n) e t =
     record { first = f.index; target = target; in_order = omega arith; earlier = f.passes; here = h }
 
 pub second_from : (wires : List Wire) (number : ℕ) (target : PortPlace) → target_in wires number ≡ Some target
-    → IsSecond wires number
+    → IsDuplicate wires number
     → is_before (first_into wires target) number ≡ true
 second_from wires number target h s =
     let same : s.target ≡ target = same_Some s.target target (sym s.here ∙ h) in
@@ -148,11 +148,11 @@ second_from wires number target h s =
 
 pub is_second-tells : (wires : List Wire) (number : ℕ) (target : PortPlace) (b : Bool)
     → target_in wires number ≡ Some target
-    → b ≡ is_before (first_into wires target) number → IsTrue b ↔ IsSecond wires number
+    → b ≡ is_before (first_into wires target) number → IsTrue b ↔ IsDuplicate wires number
 is_second-tells wires number target b h is = (
   λ t. second_to wires number target h (first_into wires target) refl (sym is ∙ t),
   λ s. is ∙ second_from wires number target h s,
 )
 
-pub no_second : (wires : List Wire) (number : ℕ) → target_in wires number ≡ None → IsTrue false ↔ IsSecond wires number
+pub no_second : (wires : List Wire) (number : ℕ) → target_in wires number ≡ None → IsTrue false ↔ IsDuplicate wires number
 no_second wires number h = (λ t. absurd (true≢false (sym t)), λ s. absurd (none-some s.target (sym h ∙ s.here)))

@@ -9,7 +9,7 @@ abbrev pub target_in : List Wire → ℕ → Option PortPlace
 target_in wires n = option_and_then (λ wire. wire.target) (slice_get wires n)
 
 -- a connection goes into a port into which one goes that stands before it
-pub record IsSecond (wires : List Wire) (second : ℕ) : Type 0 where
+pub record IsDuplicate (wires : List Wire) (second : ℕ) : Type 0 where
   pub first : ℕ
   pub target : PortPlace
   pub in_order : first < second

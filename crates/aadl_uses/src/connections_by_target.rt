@@ -75,7 +75,7 @@ impl Connections {
 
     /// Whether a connection goes into a port into which one before it goes.
     pub fn is_second(&self, number: usize) -> bool
-        ensures { IsTrue result ↔ spec.IsSecond self.now number }
+        ensures { IsTrue result ↔ spec.IsDuplicate self.now number }
     {
         match target_at(self.as_slice(), number) {
             Some(target) => is_before(self.first_into(target), number),

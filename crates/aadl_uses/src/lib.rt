@@ -27,7 +27,7 @@ pub use containment_order::order;
 pub use cycle_suspects::{leads_back, suspects};
 pub use marked_counts::counts_below;
 pub use package_wires::Wires;
-pub use path_weights::{Weights, heaviest_below};
+pub use path_weights::{SubcomponentWeights, heaviest_below};
 pub use paths_to_marked::{Paths, paths_below};
 pub use paths_to_threads::thread_paths;
 pub use reached_declarations::reached;

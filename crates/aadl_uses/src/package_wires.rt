@@ -6,7 +6,7 @@ ghost use Rattle.aadl_tree.specs.proof.DeclarationViews.{connection_view};
 ghost use Rattle.aadl_tree.specs.proof.PlaceMaps.{kept_place};
 ghost use Rattle.aadl_names.specs.ReferenceResolution.{implementation_at, connections_of, ports_at, direction_in};
 ghost use Rattle.aadl_names.specs.PackageFaults as faults;
-ghost use Rattle.aadl_uses.specs.SecondConnections.{IsSecond};
+ghost use Rattle.aadl_uses.specs.SecondConnections.{IsDuplicate};
 ghost use Rattle.aadl_uses.specs.proof.IncomingConnections.{wires_in};
 ghost use Rattle.aadl_uses.specs.Wiring.{wires_at};
 ghost use Rattle.aadl_uses.specs.proof.IncomingConnections as spec;
@@ -80,7 +80,7 @@ impl<'t> Wires<'t> {
 
     /// Whether a connection of a declaration goes into a port into which one before it goes.
     pub fn is_second(&self, number: usize, wire: usize) -> bool
-        ensures { IsTrue result ↔ IsSecond (wires_at (placed self.now.uses.names.tree.now) number) wire }
+        ensures { IsTrue result ↔ IsDuplicate (wires_at (placed self.now.uses.names.tree.now) number) wire }
     {
         match self.connections.get(number) {
             Some(connections) => connections.is_second(wire),

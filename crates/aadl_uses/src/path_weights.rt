@@ -14,11 +14,11 @@ use std::marker::Model;
 /// For each declaration, by its number, the weights of its subcomponents, in order. Contracts see
 /// the lists of these.
 #[derive(Drop)]
-pub struct Weights {
+pub struct SubcomponentWeights {
     rows: Vec<Vec<usize>>,
 }
 
-impl Model for Weights {
+impl Model for SubcomponentWeights {
     ghost use Rattle.std.specs.Prelude.{List, ℕ, map};
 
     ghost Value = { List (List ℕ) };
@@ -26,12 +26,12 @@ impl Model for Weights {
     ghost view = { λ weights. map (λ row. row.items) weights.rows.items };
 }
 
-impl Weights {
+impl SubcomponentWeights {
     /// The weights of no declarations. It takes no memory.
-    pub fn new(alloc: Global) -> Weights
+    pub fn new(alloc: Global) -> SubcomponentWeights
         ensures { result ≡ [] }
     {
-        Weights {
+        SubcomponentWeights {
             rows: Vec::new(alloc),
         }
     }
@@ -63,7 +63,7 @@ pub fn heaviest_below(
     graph: &Containment,
     marks: &[bool],
     order: &IndexSet<usize>,
-    weights: &Weights,
+    weights: &SubcomponentWeights,
     limit: usize,
 ) -> Result<Vec<Option<usize>>, AllocError>
     requires { IsOrder graph.now order.now.keys }
@@ -100,7 +100,7 @@ fn put(found: &mut Vec<Option<usize>>, number: usize, heaviest: Option<usize>)
 fn heaviest_of(
     graph: &Containment,
     marks: &[bool],
-    weights: &Weights,
+    weights: &SubcomponentWeights,
     found: &[Option<usize>],
     number: usize,
     limit: usize,

@@ -26,7 +26,7 @@ pub fn site_of(
         → port ≡ site (placed uses.now.names.tree.now) x (end_view kept_place end.now)) }
 {
     let Some(port) = &end.second else {
-        return own_site(alloc, uses, number, &end.first);
+        return own_port(alloc, uses, number, &end.first);
     };
     match uses
         .names
@@ -38,7 +38,7 @@ pub fn site_of(
 }
 
 // A port of an implementation itself.
-fn own_site(
+fn own_port(
     alloc: Global,
     uses: &Uses<'_>,
     number: usize,

@@ -212,10 +212,10 @@ all_placed_keeps : (design : DesignParts) (placed : List Processor) (left : Opti
 all_placed_keeps design placed None processors e = ok_same placed processors e
 all_placed_keeps design placed (Some node) processors e = absurd (cc)
 
-pub processors_keep : (design : DesignParts) (d : Data) (processors : List Processor)
+pub processors_are_valid : (design : DesignParts) (d : Data) (processors : List Processor)
     → processors_in design d ≡ Ok processors → All (IsProcessorOf design) processors
 unfolding processors_in
-processors_keep design d processors e =
+processors_are_valid design d processors e =
     let first : List ℕ × List Processor = (replicate (length design.components) 0, []) in
     let tail : List (List ℕ × Data) → Result (List Processor) ScenarioFault =
     λ es. through (with_processor design) first es >>= λ placing. all_placed design placing.1 (nowhere placing.0) in

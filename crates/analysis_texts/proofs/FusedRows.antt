@@ -10,7 +10,7 @@ use Rattle.pals_runs.specs.declared.vote_faults_and_pairs.Pair.{Pair}
 use Rattle.plant_fuse.specs.proof.Fusibility.{IsFirstBad}
 use Rattle.plant_fuse.specs.FusedComposition.{ArePairs, Inputs, IsFused}
 use Rattle.plant_fuse.specs.proof.FuseState.{FuseState, begun, IsAdvanced}
-use Rattle.plant_fuse.specs.FusedReport.{freport, IsFusedReport}
+use Rattle.plant_fuse.specs.FusedReport.{fused_report, IsFusedReport}
 use Rattle.plant_fuse.proofs.ExactlyOneSolution.{solution_exists}
 use Rattle.plant_fuse.proofs.StateSolutions.{StandsAt, begins, stands_next, leaves_parts}
 use Rattle.plant_fuse.proofs.ComponentPairs.{pair_at, others_apart}
@@ -22,7 +22,7 @@ pub record HasRows (design : DesignParts) (pairs : List Pair) (env : Env) (round
   pub ins : Inputs
   pub solves : IsFused design pairs env round ins
   pub stands : StandsAt design pairs round ins product
-  pub says : text ≡ freport design ins round
+  pub says : text ≡ fused_report design ins round
 
 pub rows_begin : (design : DesignParts) (pairs : List Pair) (env : Env) (product : FuseState) (text : List ℕ)
     → IsDesign design → ArePairs design pairs → product ≡ begun design pairs → text ≡ []

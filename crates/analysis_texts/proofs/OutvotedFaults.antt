@@ -16,7 +16,7 @@ use Rattle.analysis_fields.specs.proof.FaultAndProcessorFacts.{IsFaultOf}
 use Rattle.analysis_fields.specs.ReplicasAndFaults.{is_among}
 use Rattle.triple_vote.specs.OutvotedFaults.{AreOutvoted}
 use Rattle.triple_vote.specs.Replicas.{is_replicated}
-use Rattle.triple_vote.specs.VotedText.{vreport, thrice}
+use Rattle.triple_vote.specs.VotedText.{voted_report, thrice}
 use Rattle.triple_vote.proofs.OutvotedFaultReports.{report_is_thrice, thrice_without_replicas}
 use Rattle.analysis_texts.specs.ReplicasAndRoundFaults.{replicated_in, faults_of}
 use Rattle.analysis_texts.proofs.WellFormedVoteFaults.{faults_keep}
@@ -38,14 +38,14 @@ none_replicated design node = get_or-map (is_among []) (upwards 0 (length design
 module _ (design : DesignParts) (env : Env) (replicas : List NodeNo) (faults : List RoundFault) (rounds : ℕ)
     (rules : IsDesign design) (keep : All (IsFaultOf design replicas) faults) where
   pub rows_outvoted : AreOutvoted (faults_of faults)
-      → vreport design env (replicated_in design replicas) (faults_of faults) rounds
+      → voted_report design env (replicated_in design replicas) (faults_of faults) rounds
       ≡ thrice design env (replicated_in design replicas) rounds
   rows_outvoted outvoted =
       report_is_thrice design env (replicated_in design replicas) (faults_of faults) rounds rules
       (λ round. faults_keep design replicas faults round keep) outvoted
 
   pub rows_alone : replicas ≡ []
-      → vreport design env (replicated_in design replicas) (faults_of faults) rounds ≡ report design env rounds
+      → voted_report design env (replicated_in design replicas) (faults_of faults) rounds ≡ report design env rounds
   rows_alone none =
       let no_fault =
       no_faults design faults (subst (λ (rs : List NodeNo). All (IsFaultOf design rs) faults) none keep) in

@@ -11,9 +11,9 @@ use Rattle.pals_model.specs.ComponentInputs.{values_at}
 use Rattle.pals_model.specs.RoundTexts.{line_end, text_of, round_line, component_line}
 use Rattle.pals_model.proofs.LineLaws.{text_of-append}
 use Rattle.pals_runs.specs.declared.vote_faults_and_pairs.VoteFault.{VoteFault}
-use Rattle.triple_vote.specs.Replicas.{Voted, is_replicated, copies_of, frame_at, vcomp, vshown}
-use Rattle.triple_vote.specs.proof.VotedStates.{VotedState, vadvanced}
-use Rattle.triple_vote.specs.VotedText.{replica_name, shown_line, vrow_lines, voted_lines, vreport}
+use Rattle.triple_vote.specs.Replicas.{Voted, is_replicated, copies_of, frame_at, voted_composition, vshown}
+use Rattle.triple_vote.specs.proof.VotedStates.{VotedState, voted_advanced}
+use Rattle.triple_vote.specs.VotedText.{replica_name, shown_line, voted_row, voted_lines, voted_report}
 use Rattle.analysis_texts.specs.proof.ReplicaNamesAndLines.{all_lines}
 use Rattle.analysis_texts.proofs.LineBlocks.{line_before}
 use Rattle.analysis_texts.proofs.ProductRoundsAndRows.{rows_more}
@@ -37,7 +37,7 @@ pub row_of_parts : (design : DesignParts) (replicated : List Bool) (frame : ℕ 
     (round : ℕ) (t0 t1 t2 t3 : List ℕ)
     → t1 ≡ t0 ++ round_line round ++ line_end → t2 ≡ t1 ++ text_of (all_lines replicated frame 0 design.components)
     → t3 ≡ t2 ++ text_of (map (shown_line design shown) design.taps)
-    → t3 ≡ t0 ++ text_of (vrow_lines design replicated frame shown round)
+    → t3 ≡ t0 ++ text_of (voted_row design replicated frame shown round)
 row_of_parts design replicated frame shown round t0 t1 t2 t3 first second third =
     let lines = all_lines replicated frame 0 design.components in
     let taps = map (shown_line design shown) design.taps in
@@ -48,38 +48,38 @@ row_of_parts design replicated frame shown round t0 t1 t2 t3 first second third 
 -- ---- one round further
 pub record HasVoted (design : DesignParts) (env : Env) (replicated : List Bool) (faults : ℕ → List VoteFault)
     (round : ℕ) (voted : Voted) (text : List ℕ) : Type 0 where
-  pub stands : voted ≡ vcomp design env replicated faults round
-  pub rows : text ≡ vreport design env replicated faults round
+  pub stands : voted ≡ voted_composition design env replicated faults round
+  pub rows : text ≡ voted_report design env replicated faults round
 
 -- a product that has made one more round, with the round's values and faults
 pub record MakesRound (design : DesignParts) (env : Env) (replicated : List Bool) (faults : ℕ → List VoteFault)
     (round : ℕ) (old new : VotedState) : Type 0 where
   pub design_is : old.design ≡ design
   pub replicated_is : old.replicated ≡ replicated
-  pub voted_is : old.voted ≡ vcomp design env replicated faults round
-  pub made : new ≡ vadvanced old (values_at env round) (faults round)
+  pub voted_is : old.voted ≡ voted_composition design env replicated faults round
+  pub made : new ≡ voted_advanced old (values_at env round) (faults round)
 
 -- it is the one that was made from what stood there
 made_from : (design : DesignParts) (env : Env) (replicated : List Bool) (faults : ℕ → List VoteFault) (round : ℕ)
     (old new : VotedState)
     → MakesRound design env replicated faults round old new
-    → new ≡ vadvanced (record {
+    → new ≡ voted_advanced (record {
       design = design;
       replicated = replicated;
-      voted = vcomp design env replicated faults round;
+      voted = voted_composition design env replicated faults round;
       shown = old.shown;
     }) (values_at env round) (faults round)
 made_from design env replicated faults round old new h =
     let state = λ (d : DesignParts) (r : List Bool) (v : Voted).
-    vadvanced (record { design = d; replicated = r; voted = v; shown = old.shown }) (values_at env round)
+    voted_advanced (record { design = d; replicated = r; voted = v; shown = old.shown }) (values_at env round)
     (faults round) in
     h.made ∙ ap (λ d. state d old.replicated old.voted) h.design_is ∙ ap (λ r. state design r old.voted) h.replicated_is
     ∙ ap (state design replicated) h.voted_is
 
 pub stands_next : (design : DesignParts) (env : Env) (replicated : List Bool) (faults : ℕ → List VoteFault) (round : ℕ)
     (old new : VotedState)
-    → MakesRound design env replicated faults round old new → new.voted ≡ vcomp design env replicated faults (suc round)
-unfolding vcomp
+    → MakesRound design env replicated faults round old new → new.voted ≡ voted_composition design env replicated faults (suc round)
+unfolding voted_composition
 stands_next design env replicated faults round old new h =
     ap (λ (s : VotedState). s.voted) (made_from design env replicated faults round old new h)
 
@@ -97,19 +97,19 @@ shows_next design env replicated faults round old new h =
 -- and the row of the round behind the text
 pub voted_more : (design : DesignParts) (env : Env) (replicated : List Bool) (faults : ℕ → List VoteFault) (round : ℕ)
     (old new : VotedState) (text longer : List ℕ)
-    → MakesRound design env replicated faults round old new → text ≡ vreport design env replicated faults round
+    → MakesRound design env replicated faults round old new → text ≡ voted_report design env replicated faults round
     → ((shown : Tap → List PortValue) → new.shown ≡ map shown new.design.taps
-    → longer ≡ text ++ text_of (vrow_lines new.design new.replicated (frame_at new.voted) shown round))
+    → longer ≡ text ++ text_of (voted_row new.design new.replicated (frame_at new.voted) shown round))
     → HasVoted design env replicated faults (round + 1) new.voted longer
 voted_more design env replicated faults round old new text longer h rows row =
     let shown = λ (tap : Tap). vshown design env replicated faults tap round in
     let made = made_from design env replicated faults round old new h in
     let line =
-    λ (d : DesignParts) (r : List Bool) (v : Voted). text ++ text_of (vrow_lines d r (frame_at v) shown round) in
+    λ (d : DesignParts) (r : List Bool) (v : Voted). text ++ text_of (voted_row d r (frame_at v) shown round) in
     record {
       stands =
           stands_next design env replicated faults round old new h
-          ∙ ap (vcomp design env replicated faults) (sym (add-one round));
+          ∙ ap (voted_composition design env replicated faults) (sym (add-one round));
       rows = row shown (shows_next design env replicated faults round old new h)
           ∙ ap (λ (s : VotedState). line s.design new.replicated new.voted) made
           ∙ ap (λ (s : VotedState). line design s.replicated new.voted) made

@@ -8,9 +8,9 @@ ghost use Rattle.pals_model.specs.RoundTexts.{text_of, report};
 ghost use Rattle.pals_runs.specs.declared.vote_faults_and_pairs.VoteFault.{VoteFault};
 ghost use Rattle.analysis_fields.specs.proof.FaultAndProcessorFacts.{IsFaultOf};
 ghost use Rattle.triple_vote.specs.proof.VoteLaws.{IsFault};
-ghost use Rattle.triple_vote.specs.Replicas.{is_replicated, frame_at, vopening};
-ghost use Rattle.triple_vote.specs.proof.VotedStates.{vbegun};
-ghost use Rattle.triple_vote.specs.VotedText.{replica_lines, shown_line, vrow_lines, vreport, thrice};
+ghost use Rattle.triple_vote.specs.Replicas.{is_replicated, frame_at, voted_opening};
+ghost use Rattle.triple_vote.specs.proof.VotedStates.{voted_begun};
+ghost use Rattle.triple_vote.specs.VotedText.{replica_lines, shown_line, voted_row, voted_report, thrice};
 ghost use Rattle.triple_vote.specs.OutvotedFaults.{AreOutvoted};
 ghost use Rattle.analysis_texts.specs.ReplicasAndRoundFaults.{replicated_in, faults_of};
 ghost use Rattle.analysis_texts.specs.proof.ReplicaNamesAndLines.{names_of, all_names, all_lines};
@@ -41,7 +41,7 @@ pub fn vote(
 ) -> Result<Vec<u8>, NoMemory>
     requires { All (IsFaultOf design replicas.now) faults }
     ensures rows { IfOk result (λ text. text.items
-        ≡ vreport design env.now (replicated_in design replicas.now) (faults_of faults) rounds) }
+        ≡ voted_report design env.now (replicated_in design replicas.now) (faults_of faults) rounds) }
     ensures outvoted { IfOk result (λ text. AreOutvoted (faults_of faults)
         → text.items ≡ thrice design env.now (replicated_in design replicas.now) rounds) }
     ensures alone { IfOk result (λ text. replicas.now ≡ [] → text.items ≡ report design env.now rounds) }
@@ -52,7 +52,7 @@ pub fn vote(
 
 // A product of a design, before the first round, with three replicas of each of some components.
 fn product_of(alloc: Global, design: Design, replicas: &[NodeNo]) -> Result<VoteProduct, NoMemory>
-    ensures begun { IfOk result (λ product. product ≡ vbegun design (replicated_in design replicas.now)) }
+    ensures begun { IfOk result (λ product. product ≡ voted_begun design (replicated_in design replicas.now)) }
     ensures rules { OnOk result (IsDesign design) }
 {
     let replicated = replicated(alloc, design.components().len(), replicas)?;
@@ -68,10 +68,10 @@ fn voted(
     replicas: &[NodeNo],
     faults: Items<RoundFault>,
 ) -> Result<Vec<u8>, NoMemory>
-    requires product { product.old ≡ vbegun product.old.design (replicated_in product.old.design replicas.now) }
+    requires product { product.old ≡ voted_begun product.old.design (replicated_in product.old.design replicas.now) }
     requires faults { All (IsFaultOf product.old.design replicas.now) faults }
     ensures { IfOk result (λ text. text.items
-        ≡ vreport product.old.design env.now (replicated_in product.old.design replicas.now) (faults_of faults) rounds) }
+        ≡ voted_report product.old.design env.now (replicated_in product.old.design replicas.now) (faults_of faults) rounds) }
 {
     let names = replica_names(alloc, product.design(), replicas)?;
     let faults = by_round(alloc, faults, rounds)?;
@@ -86,13 +86,13 @@ fn rows(
     env: &Env,
     faults: &[Items<VoteFault>],
 ) -> Result<Vec<u8>, NoMemory>
-    requires opening { product.old.voted ≡ vopening product.old.design product.old.replicated }
+    requires opening { product.old.voted ≡ voted_opening product.old.design product.old.replicated }
     requires names { names.now ≡ all_names product.old.design.components product.old.replicated }
     requires count { length faults.now < 2 ^ 32 }
     requires faults { All (λ fs. All (IsFault product.old.design) fs) faults.now }
     ensures { (all : ℕ → List VoteFault) → faults.now ≡ map all (upwards 0 (length faults.now))
         → IfOk result (λ text. text.items
-        ≡ vreport product.old.design env.now product.old.replicated all (length faults.now)) }
+        ≡ voted_report product.old.design env.now product.old.replicated all (length faults.now)) }
 {
     let mut values = vec![in alloc; PortValue::Absent; env.lists.len()]?;
     let mut text = Vec::new(alloc);
@@ -116,7 +116,7 @@ fn add_row(
     requires shown { length product.now.shown ≡ length product.now.design.taps }
     ensures { (shown : Tap → List PortValue) → product.now.shown ≡ map shown product.now.design.taps
         → OnOk result (text.new.items ≡ text.old.items
-        ++ text_of (vrow_lines product.now.design product.now.replicated (frame_at product.now.voted) shown round)) }
+        ++ text_of (voted_row product.now.design product.now.replicated (frame_at product.now.voted) shown round)) }
 {
     add_round(text, round)?;
     add_components(text, product, names)?;

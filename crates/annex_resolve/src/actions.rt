@@ -19,7 +19,7 @@ use crate::loop_turns::{count_turns, is_too_long, signed, together};
 use crate::scope::{DeclaredName, Meaning, Scope};
 use crate::type_names::kind_named;
 use crate::violation::{BAD_TYPE, LOOP_TOO_LONG, Violation, add_if};
-use aadl_tree::{Action, Actions, Block, Choice, Expression, Loop, push_exact};
+use aadl_tree::{Action, Actions, Block, Choice, Expression, Loop, push_compact};
 use pals_base::{Act, Branch, Expr, Items, Kind, NoMemory};
 use std::alloc::Global;
 
@@ -138,10 +138,10 @@ fn resolve_actions(
 {
     let mut acts = Vec::new(alloc);
     let first = resolve_action(alloc, scope, around, &actions.first, found)?;
-    push_exact(&mut acts, first)?;
+    push_compact(&mut acts, first)?;
     for action in &actions.rest {
         let act = resolve_action(alloc, scope, around, action, found)?;
-        push_exact(&mut acts, act)?;
+        push_compact(&mut acts, act)?;
     }
     Ok(acts)
 }
@@ -188,10 +188,10 @@ fn resolve_choice(
 {
     let mut branches = Vec::new(alloc);
     let first = resolve_branch(alloc, scope, around, &choice.actions, &choice.test, found)?;
-    push_exact(&mut branches, first)?;
+    push_compact(&mut branches, first)?;
     for elsif in &choice.elsifs {
         let branch = resolve_branch(alloc, scope, around, &elsif.actions, &elsif.test, found)?;
-        push_exact(&mut branches, branch)?;
+        push_compact(&mut branches, branch)?;
     }
     let otherwise = resolve_some(alloc, scope, around, &choice.otherwise, found)?;
     Ok(Act::If {

@@ -9,7 +9,7 @@ ghost use Rattle.annex_resolve.specs.BehavioursAndFindings.{transitions_of, part
 ghost use Rattle.annex_resolve.specs.BehavioursAndFindings.{behaviour_of, annex_findings};
 
 use crate::cycles::cyclic_states;
-use crate::departures::{Departure, breaks_dispatch, lacks_otherwise, legs_of};
+use crate::departures::{Departure, breaks_dispatch, lacks_otherwise, departures_of};
 use crate::ports_and_variables::DeclaredValues;
 use crate::scope::Scope;
 use crate::states::{StateAt, declared_states, first_initial, has_initial, states_of};
@@ -149,7 +149,7 @@ fn add_rules(
         ++ rule_findings at parts.now states.now (map (transition_view kept_place) transitions.now)) }
 {
     add_if(alloc, found, !has_initial(states), at, NO_INITIAL)?;
-    let legs = legs_of(alloc, states, transitions)?;
+    let legs = departures_of(alloc, states, transitions)?;
     let cyclic = cyclic_states(alloc, parts)?;
     let graph = StateGraph {
         parts,

@@ -69,7 +69,7 @@ fn leg_of(states: &[StateAt], transition: &aadl_tree::Transition) -> Result<Depa
 }
 
 /// The legs of transitions, in order.
-pub fn legs_of(
+pub fn departures_of(
     alloc: Global,
     states: &[StateAt],
     transitions: &[aadl_tree::Transition],

@@ -27,7 +27,7 @@ use crate::scope::{DeclaredName, Meaning, Scope};
 use crate::violation::{BAD_TYPE, Violation, add_if};
 use aadl_tree::{
     Expression, Factor, Identifier, LeadingSign, LogicOperator, MultiplyOperator, Primary,
-    Relation, RelationOperator, Sign, Sum, Term, push_exact,
+    Relation, RelationOperator, Sign, Sum, Term, push_compact,
 };
 use operators::{is_equality, logic_op, multiply_op, relation_op, sign_op};
 use pals_base::{Expr, Items, Kind, NoMemory, Operand};
@@ -228,7 +228,7 @@ fn resolve_relations(
             op: logic_op(*operator),
             right: typed.expr,
         };
-        push_exact(&mut operands, operand)?;
+        push_compact(&mut operands, operand)?;
     }
     Ok(operands)
 }
@@ -322,7 +322,7 @@ fn resolve_terms(
             op: sign_op(*sign),
             right: typed.expr,
         };
-        push_exact(&mut operands, operand)?;
+        push_compact(&mut operands, operand)?;
     }
     Ok(operands)
 }
@@ -373,7 +373,7 @@ fn resolve_factors(
             op: multiply_op(*operator),
             right: typed.expr,
         };
-        push_exact(&mut operands, operand)?;
+        push_compact(&mut operands, operand)?;
     }
     Ok(operands)
 }

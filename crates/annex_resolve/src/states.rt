@@ -122,7 +122,7 @@ fn initial_count(states: &[StateAt]) -> usize
 }
 
 // Whether those that are initial are complete.
-fn begin_complete(states: &[StateAt]) -> bool
+fn initial_are_complete(states: &[StateAt]) -> bool
     ensures { result ≡ list_all (λ s. s.complete) (filter (λ s. s.initial) states.now) }
 {
     states
@@ -135,7 +135,7 @@ fn begin_complete(states: &[StateAt]) -> bool
 pub fn has_initial(states: &[StateAt]) -> bool
     ensures { result ≡ has_initial states.now }
 {
-    initial_count(states) == 1 && begin_complete(states)
+    initial_count(states) == 1 && initial_are_complete(states)
 }
 
 /// The states as a behaviour has them.

@@ -7,7 +7,7 @@ use Rattle.pals_top.specs.ExecutionAnswers.{command_of, IsScenarioRefusedIn, IsE
 use Rattle.answer_laws.specs.proof.BundleContents.{HasTree, MeansDesign, MeansScenario, HasLongCode, LacksScenario}
 use Rattle.answer_laws.specs.proof.BundleContents.{GivesStatus}
 use Rattle.pals_top.specs.proof.PrivateFunctions.{is_run}
-use Rattle.answer_laws.proofs.UniquenessPremises.{OneDesign, ExecutionLaws}
+use Rattle.answer_laws.proofs.UniquenessPremises.{OneDesign, ExecutionPremises}
 use Rattle.answer_laws.proofs.AnswerStatuses.{no_tree, no_design, refused_tree, has_tree}
 use Rattle.answer_laws.proofs.BundleScenarios.{meant_or_refused}
 use Rattle.answer_laws.proofs.UniqueResults.{IsMade, execution_status, no_refused_run, apart}
@@ -160,13 +160,13 @@ module _ (one_design : OneDesign) (what : Execution) (root bundle : List ℕ) wh
       λ s x y. absurd (apart n n (execution_status what y.design y.scenario n y.text y.makes) refl which)
 
   -- a command that is no run makes one
-  pub one_made : ExecutionLaws → is_run (command_of what root) ≡ false → (n : ℕ) → IsAlone what root bundle n
+  pub one_made : ExecutionPremises → is_run (command_of what root) ≡ false → (n : ℕ) → IsAlone what root bundle n
   one_made laws not_run n =
       λ s x y. (executions_agree one_design what root bundle laws not_run s n x.text y.text (executed s x)
       (executed n y)).0
 
 -- a run makes none of status 5
-pub alone_at_scenario : OneDesign → ExecutionLaws → (what : Execution) (root bundle : List ℕ)
+pub alone_at_scenario : OneDesign → ExecutionPremises → (what : Execution) (root bundle : List ℕ)
     → IsAlone what root bundle 5
 alone_at_scenario one_design laws (Run trace) root bundle =
     λ s x y. absurd (no_refused_run y.design y.scenario trace y.text y.makes)

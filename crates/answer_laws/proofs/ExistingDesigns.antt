@@ -7,7 +7,7 @@ use Rattle.model_violations.specs.Violations.{shown_by, AreViolations}
 use Rattle.pals_model.specs.declared.design.DesignParts.{DesignParts}
 use Rattle.pals_model.specs.DesignRules.{IsDesign}
 use Rattle.pals_model.specs.RoundTexts.{line_end, text_of as lines_text}
-use Rattle.pals_report.specs.PackageFaultLines.{flat_fault_line}
+use Rattle.pals_report.specs.PackageFaultLines.{package_fault_line}
 use Rattle.pals_report.specs.ViolationLines.{violation_lines}
 use Rattle.bundle_designs.specs.BundleMeanings.{IsRefusedIn, IsAccepted}
 use Rattle.pals_top.specs.declared.status.TheConstants.{TEXT_REFUSED, DESIGN_REFUSED}
@@ -61,7 +61,7 @@ module _ (laws : ExistenceLaws) (root bundle : List ℕ) where
   by_package : (t : HasTree bundle) → HasFirstFault t.tree root ⊎ HasInstance t.tree root
       → HasDesign root bundle ⊎ HasRefusal root bundle
   by_package t (inl (fault, is)) =
-      inr (refused_in root bundle t (flat_fault_line t.text fault ++ line_end)
+      inr (refused_in root bundle t (package_fault_line t.text fault ++ line_end)
       (inl (record { fault = fault; faulty = is; named = laws.named t.tree root fault is; text_is = refl })))
   by_package t (inr (parts, flat)) = let l = laws.list t.tree root parts flat in by_list t parts flat l.0 l.1
 

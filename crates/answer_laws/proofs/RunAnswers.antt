@@ -17,7 +17,7 @@ use Rattle.bus_machine.specs.States.{finished_by_all}
 use Rattle.run_laws.specs.TextLines.{lines_of}
 use Rattle.run_laws.specs.TraceVerdicts.{verdict}
 use Rattle.run_laws.proofs.FinalStops.{told as stop_is_last}
-use Rattle.run_laws.specs.proof.TimelyRunsAndEnds.{InTime, NoneStops, BoundsAreInTime, EndsAreOne, AllPicked}
+use Rattle.run_laws.specs.proof.TimelyRunsAndEnds.{InTime, NoneStops, BoundsAreInTime, EndsAgree, AllPicked}
 use Rattle.run_laws.specs.proof.TimelyRunsAndEnds.{PickedAreDone}
 use Rattle.run_texts.specs.RunTexts.{journal_text}
 use Rattle.pals_top.specs.ExecutionCommands as execution
@@ -134,7 +134,7 @@ pub record RunLaws : Type 0 where
   pub suit : ScenariosSuit
   pub stop : NoneStops
   pub bounds : BoundsAreInTime
-  pub end : EndsAreOne
+  pub end : EndsAgree
   pub done : PickedAreDone
 
 module _ (laws : RunLaws) (design : DesignParts) (scenario : Scenario) (rules : IsRunOf (run_of design scenario))

@@ -15,7 +15,7 @@ use Rattle.bus_machine.specs.Nodes.{NodeState}
 use Rattle.bus_machine.specs.Plans.{plan_of}
 use Rattle.bus_machine.specs.States.{Run, BusState, node_at, no_node}
 use Rattle.run_laws.specs.TimelyRounds.{AllAtEnd}
-use Rattle.run_laws.specs.proof.TimelyRunsAndEnds.{InTime, NoneStops, EndsFirst, EndsAreOne, AllPicked, PickedAreDone}
+use Rattle.run_laws.specs.proof.TimelyRunsAndEnds.{InTime, NoneStops, EndsFirst, EndsAgree, AllPicked, PickedAreDone}
 use Rattle.run_laws.specs.Meetings.{AllDone}
 use Rattle.run_laws.specs.NodeActions.{upcoming}
 use Rattle.run_laws.proofs.TimelyRunsAndEnds.{done_or_ended, one_first}
@@ -58,7 +58,7 @@ module _ (run : Run) (clocks : Clocks) (rules : IsRunOf run) where
   ends_first : (a : List ℕ) → (x : IsEndedRun run clocks a) → EndsFirst run x.outcome.later x.outcome.state x.node x.goal
   ends_first a x = first_of run x.outcome.later x.outcome.state x.node x.goal x.outcome.keeps.agrees x.ends x.first
 
-  module _ (one_end : EndsAreOne) where
+  module _ (one_end : EndsAgree) where
     by_end : (x y : RunOutcome run clocks) → AllAtEnd run x.later x.state → AllAtEnd run y.later y.state
         → (AllDone run x.state × AllDone run y.state)
         ⊎ ((node goal : ℕ) × EndsFirst run x.later x.state node goal × EndsFirst run y.later y.state node goal)

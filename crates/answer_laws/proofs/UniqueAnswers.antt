@@ -22,7 +22,7 @@ use Rattle.pals_top.specs.AnalysisAnswers.{command_of, Makes, IsAnalysed, IsAnal
 use Rattle.pals_top.specs.ExecutionAnswers.{command_of as execution_command, IsExecutionAnswer}
 use Rattle.pals_top.specs.Answers.{IsCommandAnswer}
 use Rattle.pals_top.specs.proof.PrivateFunctions.{is_run}
-use Rattle.answer_laws.proofs.UniquenessPremises.{OneDesign, OneFault, AnalysisLaws, ExecutionLaws}
+use Rattle.answer_laws.proofs.UniquenessPremises.{OneDesign, OneFault, AnalysisPremises, ExecutionPremises}
 use Rattle.answer_laws.proofs.UniqueDesignsAndRefusals.{one_tree, read_or_refused, one_refused_text, one_accepted}
 use Rattle.answer_laws.proofs.UniqueDesignsAndRefusals.{accepted_or_refused, package_or_text, one_refused_package}
 use Rattle.answer_laws.proofs.UniqueScenariosAndReports.{one_report}
@@ -48,7 +48,7 @@ print_agrees bundle s t a b (inr x) (inl y) =
     absurd (read_or_refused bundle y.1.design y.1.scenario y.1.tree a y.1.parsed x.1)
 print_agrees bundle s t a b (inr x) (inr y) = alike 3 s t a b x.0 y.0 (one_refused_text bundle a b x.1 y.1)
 
-module _ (one_design : OneDesign) (one_fault : OneFault) (made : AnalysisLaws) (laws : ExecutionLaws) where
+module _ (one_design : OneDesign) (one_fault : OneFault) (made : AnalysisPremises) (laws : ExecutionPremises) where
   -- ---- refusals
   refusals_agree : (root bundle : List ℕ) (s t : ℕ) (a b : List ℕ) → IsBundleRefused root bundle s a
       → IsBundleRefused root bundle t b → Agree s a t b

@@ -12,7 +12,7 @@ use Rattle.annex_resolve.specs.declared.violation.Violation.{Violation}
 use Rattle.model_violations.specs.Violations.{shown_by, AreViolations}
 use Rattle.aadl_names.specs.declared.fault.PackageFault.{PackageFault}
 use Rattle.pals_report.specs.TextFaultLines.{text_fault_line}
-use Rattle.pals_report.specs.PackageFaultLines.{flat_fault_line}
+use Rattle.pals_report.specs.PackageFaultLines.{package_fault_line}
 use Rattle.pals_report.specs.ViolationLines.{violation_lines}
 use Rattle.design_laws.specs.PackageDesigns as laws
 use Rattle.design_laws.proofs.UniqueInstancesAndDesigns.{one_instance, one_list, no_list}
@@ -120,7 +120,7 @@ module _ (one_fault : OneFault) where
       → IsFaulty text tree root b → a ≡ b
   one_fault_text text tree root a b read x y =
       let same = one_fault text tree root x.fault y.fault read x.faulty y.faulty in
-      x.text_is ∙ (ap (λ (f : PackageFault). flat_fault_line text f ++ line_end) same ∙ sym y.text_is)
+      x.text_is ∙ (ap (λ (f : PackageFault). package_fault_line text f ++ line_end) same ∙ sym y.text_is)
 
   same_refusal : (text : List ℕ) (tree : PackageTree ℕ) (root a b : List ℕ) → IsTreeOf text tree
       → IsRefusedIn text tree root a

@@ -13,7 +13,7 @@ use Rattle.pals_top.specs.ExecutionAnswers.{command_of, Makes, IsExecuted, IsSce
 use Rattle.pals_top.specs.ExecutionAnswers.{code_fault_line}
 use Rattle.answer_laws.specs.proof.BundleContents.{HasLongCode}
 use Rattle.pals_top.specs.proof.PrivateFunctions.{is_run}
-use Rattle.answer_laws.proofs.UniquenessPremises.{OneDesign, ExecutionLaws}
+use Rattle.answer_laws.proofs.UniquenessPremises.{OneDesign, ExecutionPremises}
 use Rattle.answer_laws.proofs.UniqueDesignsAndRefusals.{one_accepted}
 use Rattle.answer_laws.proofs.BundleScenarios.{one_meaning, one_scenario_fault, meant_or_refused}
 use Rattle.answer_laws.proofs.UniqueResults.{Agree, one_execution}
@@ -82,7 +82,7 @@ module _ (one_design : OneDesign) (root bundle : List ℕ) where
 
 module _ (one_design : OneDesign) (what : Execution) (root bundle : List ℕ) where
   -- ---- what is made
-  pub executions_agree : ExecutionLaws → is_run (command_of what root) ≡ false → (s t : ℕ) (a b : List ℕ)
+  pub executions_agree : ExecutionPremises → is_run (command_of what root) ≡ false → (s t : ℕ) (a b : List ℕ)
       → IsExecuted what root bundle s a → IsExecuted what root bundle t b → Agree s a t b
   executions_agree laws not_run s t a b x y =
       let same =
@@ -109,7 +109,7 @@ module _ (one_design : OneDesign) (what : Execution) (root bundle : List ℕ) wh
   refused_or_made s t a b x y =
       meant_or_refused one_design root bundle (command_of what root) y.design y.scenario a y.means x.faulty
 
-  pub one_answered : ExecutionLaws → is_run (command_of what root) ≡ false → (s t : ℕ) (a b : List ℕ)
+  pub one_answered : ExecutionPremises → is_run (command_of what root) ≡ false → (s t : ℕ) (a b : List ℕ)
       → IsAnswered what root bundle s a → IsAnswered what root bundle t b → Agree s a t b
   one_answered laws not_run s t a b (inl x) (inl y) =
       (x.status_is ∙ sym y.status_is, one_code_fault one_design root bundle s t a b x y)

@@ -14,7 +14,7 @@ use Rattle.loose_world.specs.declared.loose_run.LooseEnd.{LooseEnd}
 use Rattle.loose_world.specs.declared.loose_run.LooseEnd.TheVariants as end
 use Rattle.loose_world.specs.MachineSteps.{AllStep, StepsToStop, StepsToFault}
 use Rattle.loose_world.specs.proof.EventsAsSteps.{StepsTo}
-use Rattle.loose_world.specs.proof.UniqueEnds.{IsOneLeft, AreOneEnd, OneEnd}
+use Rattle.loose_world.specs.proof.UniqueEnds.{IsOneLeft, AreSameEnd, OneEnd}
 use Rattle.pals_top.specs.proof.PrivateFunctions.{status_at}
 use Rattle.pals_top.specs.LooseWorlds.{run_of, IsWorldAnswer}
 
@@ -86,7 +86,7 @@ one_world one_end design scenario s t a b x y =
     let events : List Event = scenario.events in
     let one : Leaves run events x.how = leaves run events x.how x.ends in
     let two : Leaves run events y.how = leaves run events y.how y.ends in
-    let both : AreOneEnd x.how y.how one.0 two.0 one.1 two.1 =
+    let both : AreSameEnd x.how y.how one.0 two.0 one.1 two.1 =
     one_end run events x.how y.how one.0 two.0 one.1 two.1 one.2 two.2 in
     let told =
     told_alike run events x.how one.0 two.0 one.1 two.1 both.left

@@ -14,7 +14,7 @@ use Rattle.pals_top.specs.ExecutionAnswers.{command_of, Makes as executes}
 use Rattle.design_codes.specs.DesignBehaviours.{behaviours}
 use Rattle.pals_top.specs.Budget.{processors_of}
 use Rattle.pals_top.specs.proof.PrivateFunctions.{is_run}
-use Rattle.answer_laws.proofs.UniquenessPremises.{ExecutionLaws}
+use Rattle.answer_laws.proofs.UniquenessPremises.{ExecutionPremises}
 use Rattle.pals_top.specs.TimedWorlds.{world_of}
 use Rattle.answer_laws.proofs.TimedWorldAnswers.{one_timed}
 use Rattle.answer_laws.proofs.UniqueLooseWorldAnswers.{end_of, one_world}
@@ -58,7 +58,7 @@ analysis_status Vote design scenario s a x = let e : s ≡ 0 = x.status_is in om
 analysis_status Fuse design scenario s a x = let e : s ≡ 0 = x.status_is in omega arith
 
 -- ---- executions
-pub one_execution : ExecutionLaws → (what : Execution) (root : List ℕ) → is_run (command_of what root) ≡ false
+pub one_execution : ExecutionPremises → (what : Execution) (root : List ℕ) → is_run (command_of what root) ≡ false
     → (design : DesignParts) (scenario : Scenario)
     (s t : ℕ) (a b : List ℕ) → executes what design scenario s a → executes what design scenario t b → Agree s a t b
 one_execution laws TimedWorld root not_run design scenario s t a b x y =

@@ -33,14 +33,14 @@ KeepsRules =
 
 -- what a command makes that needs no step codes is one: there is one report of a fused composition, of designs that
 -- keep the rules and pairs that can be fused
-pub record AnalysisLaws : Type 0 where
+pub record AnalysisPremises : Type 0 where
   pub rules : KeepsRules
   pub pairs : PairsCanBeFused
   pub one_report : ReportIsOne
 
 -- what a command that needs step codes makes is one: a list of loose events has one end, and there is one text of
 -- round budgets
-pub record ExecutionLaws : Type 0 where
+pub record ExecutionPremises : Type 0 where
   pub one_end : OneEnd
   pub one_text : TextIsOne
   pub one_verdict : VerdictIsOne

@@ -17,7 +17,7 @@ use crate::expressions::expression;
 use aadl_grammar::{ParseFault, Parsed, Reader, identifier, reference};
 use aadl_tree::{
     Action, Actions, Block, Bound, Choice, Elsif, Expression, Identifier, Loop, Mark, Reference,
-    push_exact,
+    push_compact,
 };
 
 /// `"(" expression ")"`
@@ -208,7 +208,7 @@ fn elsifs(reader: &Reader<'_>, at: usize, room: usize) -> Parsed<Vec<Elsif>>
     while let Some(behind) = reader.take(rest, Mark::Elsif) {
         let (test, behind) = test(reader, behind, room)?;
         let (actions, behind) = actions(reader, behind, room)?;
-        push_exact(&mut found, Elsif { test, actions })?;
+        push_compact(&mut found, Elsif { test, actions })?;
         rest = behind;
     }
     Ok((found, rest))
@@ -244,7 +244,7 @@ fn actions(reader: &Reader<'_>, at: usize, room: usize) -> Parsed<Actions>
             return Ok((actions, behind));
         }
         let (next, behind) = action(reader, behind, room)?;
-        push_exact(&mut others, next)?;
+        push_compact(&mut others, next)?;
         rest = behind;
     }
     let actions = Actions {

@@ -14,7 +14,7 @@ ghost use Rattle.behaviour_parse.specs.proof.LogicOperators.{Joins};
 use aadl_grammar::{ParseFault, Parsed, Reader, narrow};
 use aadl_tree::{
     Expression, Factor, LeadingSign, LogicOperator, Mark, MultiplyOperator, Primary, Relation,
-    RelationOperator, Sign, Sum, Term, push_exact,
+    RelationOperator, Sign, Sum, Term, push_compact,
 };
 
 /// `[ "'" "fresh" ]`
@@ -122,7 +122,7 @@ fn term(reader: &Reader<'_>, at: usize, room: usize) -> Parsed<Term>
     let mut others = Vec::new(reader.alloc);
     while let Some((operator, behind)) = multiplying(reader, rest) {
         let (operand, behind) = factor(reader, behind, room)?;
-        push_exact(&mut others, (operator, operand))?;
+        push_compact(&mut others, (operator, operand))?;
         rest = behind;
     }
     let term = Term {
@@ -142,7 +142,7 @@ fn terms(reader: &Reader<'_>, at: usize, room: usize) -> Parsed<(Term, Vec<(Sign
     let mut others = Vec::new(reader.alloc);
     while let Some((sign, behind)) = reader.sign(rest) {
         let (next, behind) = term(reader, behind, room)?;
-        push_exact(&mut others, (sign, next))?;
+        push_compact(&mut others, (sign, next))?;
         rest = behind;
     }
     Ok(((first, others), rest))
@@ -248,7 +248,7 @@ pub fn expression(reader: &Reader<'_>, at: usize, room: usize) -> Parsed<Express
     let mut others = Vec::new(reader.alloc);
     while let Some((operator, behind)) = joining(reader, rest) {
         let (next, behind) = relation(reader, behind, room)?;
-        push_exact(&mut others, (operator, next))?;
+        push_compact(&mut others, (operator, next))?;
         rest = behind;
     }
     let expression = Expression {

@@ -9,7 +9,7 @@ use Rattle.model_violations.specs.Violations.{shown_by, AreViolations}
 use Rattle.design_laws.specs.PackageDesigns.{IsDesignIn}
 use Rattle.pals_model.specs.declared.design.DesignParts.{DesignParts}
 use Rattle.pals_model.specs.RoundTexts.{line_end, text_of as lines_text}
-use Rattle.pals_report.specs.PackageFaultLines.{flat_fault_line}
+use Rattle.pals_report.specs.PackageFaultLines.{package_fault_line}
 use Rattle.pals_report.specs.ViolationLines.{violation_lines}
 use Rattle.bundle_designs.specs.ParsedBundles.{IsParsed}
 use Rattle.aadl_names.specs.declared.fault.PackageFault.TheVariants as flat
@@ -20,7 +20,7 @@ pub record IsFaulty (text : List ℕ) (tree : PackageTree ℕ) (root written : L
   pub fault : PackageFault
   pub faulty : IsFault tree root fault
   pub named : fault ≢ flat.Memory
-  pub text_is : written ≡ flat_fault_line text fault ++ line_end
+  pub text_is : written ≡ package_fault_line text fault ++ line_end
 
 -- Something is wrong with the instance, and the text names all that is.
 pub record HasViolations (text : List ℕ) (tree : PackageTree ℕ) (root written : List ℕ) : Type 0 where

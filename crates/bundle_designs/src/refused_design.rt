@@ -2,13 +2,13 @@
 ghost use Rattle.std.specs.Prelude.{◌≡◌, ◌≢◌, ◌++◌, IfOk, OnOk};
 ghost use Rattle.aadl_names.specs.declared.fault.PackageFault.{PackageFault};
 ghost use Rattle.pals_model.specs.RoundTexts.{line_end, text_of as lines_text};
-ghost use Rattle.pals_report.specs.PackageFaultLines.{flat_fault_line};
+ghost use Rattle.pals_report.specs.PackageFaultLines.{package_fault_line};
 ghost use Rattle.pals_report.specs.ViolationLines.{violation_lines};
 
 use aadl_instance::PackageFault;
 use annex_resolve::Violation;
 use pals_base::NoMemory;
-use pals_report::{add_flat_fault, add_violations};
+use pals_report::{add_package_fault, add_violations};
 use std::alloc::{AllocError, Global};
 
 /// The text of a package with this fault. That there is not enough memory is no fault of a package,
@@ -18,14 +18,14 @@ pub fn refused_package(
     text: &[u8],
     fault: &PackageFault,
 ) -> Result<Vec<u8>, NoMemory>
-    ensures text { IfOk result (λ line. line.items ≡ flat_fault_line text.now fault.now ++ line_end) }
+    ensures text { IfOk result (λ line. line.items ≡ package_fault_line text.now fault.now ++ line_end) }
     ensures named { OnOk result (fault.now ≢ PackageFault.Memory) }
 {
     if let PackageFault::Memory = fault {
         return Err(AllocError);
     }
     let mut line = Vec::new(alloc);
-    add_flat_fault(&mut line, text, fault)?;
+    add_package_fault(&mut line, text, fault)?;
     Ok(line)
 }
 

@@ -35,9 +35,9 @@ early_steps : AreSteps (counters 1) (opening (counters 1)) early_arrival
 unfolding digits fire
 early_steps = (refl, refl, (refl, refl, (refl, refl, (refl, refl, tt))))
 
-pub early_row : Tells (counters 1) early_arrival early_lines
+pub early_run : Tells (counters 1) early_arrival early_lines
 unfolding digits fire
-early_row = record { replays = is_run (counters 1) early_arrival early_steps; lines_are = refl }
+early_run = record { replays = is_run (counters 1) early_arrival early_steps; lines_are = refl }
 
 lost_steps : AreSteps (counters 2) (opening (counters 2)) lost_message
 unfolding digits fire
@@ -67,6 +67,6 @@ lost_steps = (
   ),
 )
 
-pub lost_row : Tells (counters 2) lost_message lost_lines
+pub lost_run : Tells (counters 2) lost_message lost_lines
 unfolding digits fire
-lost_row = record { replays = is_run (counters 2) lost_message lost_steps; lines_are = refl }
+lost_run = record { replays = is_run (counters 2) lost_message lost_steps; lines_are = refl }

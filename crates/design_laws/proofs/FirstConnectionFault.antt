@@ -13,7 +13,7 @@ use Rattle.aadl_names.specs.ReferenceResolution.{implementation_at, connections_
 use Rattle.aadl_uses.specs.proof.PackageContainment.{containment, FirstIn}
 use Rattle.aadl_uses.specs.Uses.{IsInUse}
 use Rattle.aadl_uses.specs.declared.connections_by_target.Wire.{Wire}
-use Rattle.aadl_uses.specs.SecondConnections.{IsSecond, target_in}
+use Rattle.aadl_uses.specs.SecondConnections.{IsDuplicate, target_in}
 use Rattle.aadl_uses.specs.proof.FirstConnections.{is_before, first_into}
 use Rattle.aadl_uses.specs.Wiring.{wires_at}
 use Rattle.aadl_uses.proofs.FirstConnectionTables.{is_second-tells, no_second}
@@ -22,7 +22,7 @@ use Rattle.aadl_chains.specs.proof.PortsJoinedOutside.{opposite, LeadsFrom, lead
 use Rattle.aadl_chains.proofs.JoinedOutsideByConnection.{leads_to, leads_found}
 use Rattle.aadl_chains.specs.Chains.{IsEndFault}
 use Rattle.aadl_chains.specs.proof.DeclaredEnds.{AreDeclared}
-use Rattle.aadl_chains.specs.proof.ConnectionsOnChains.{IsOnWay}
+use Rattle.aadl_chains.specs.proof.ConnectionsOnChains.{IsOnChain}
 use Rattle.aadl_chains.specs.proof.ConnectionFaults.{IsFoundAt, IsFoundIn, dead_end, second}
 use Rattle.aadl_chains.proofs.EndFaults.{both_found, nothing_at, ways_tell, no_source, no_target, end_fault}
 use Rattle.aadl_chains.proofs.EndFaults.{found_fault, wire_if}
@@ -34,7 +34,7 @@ record Told (P : Type 0) : Type 0 where
   answer : Bool
   tells : IsTrue answer ↔ P
 
-second_by : (wires : List Wire) (k : ℕ) (o : Option PortPlace) → target_in wires k ≡ o → Told (IsSecond wires k)
+second_by : (wires : List Wire) (k : ℕ) (o : Option PortPlace) → target_in wires k ≡ o → Told (IsDuplicate wires k)
 second_by wires k None e = record { answer = false; tells = no_second wires k e }
 second_by wires k (Some target) e =
     record {
@@ -59,7 +59,7 @@ module _ (tree : PackageTree ℕ) (root : ℕ) (sound : AreDeclared tree) (keys 
       }
 
   by_target : (n : ℕ) (wire : Wire) (s : PortPlace) (o : Option PortPlace) → wire.source ≡ Some s → wire.target ≡ o
-      → Told (IsOnWay tree root n wire)
+      → Told (IsOnChain tree root n wire)
   by_target n wire s None e f = record { answer = false; tells = no_target tree root n wire f }
   by_target n wire s (Some t) e f =
       let a = leads directions.In n s in
@@ -69,7 +69,7 @@ module _ (tree : PackageTree ℕ) (root : ℕ) (sound : AreDeclared tree) (keys 
         tells = ways_tell tree root n wire s t a.answer b.answer e f a.tells b.tells;
       }
 
-  by_source : (n : ℕ) (wire : Wire) (o : Option PortPlace) → wire.source ≡ o → Told (IsOnWay tree root n wire)
+  by_source : (n : ℕ) (wire : Wire) (o : Option PortPlace) → wire.source ≡ o → Told (IsOnChain tree root n wire)
   by_source n wire None e = record { answer = false; tells = no_source tree root n wire e }
   by_source n wire (Some s) e = by_target n wire s wire.target e refl
 

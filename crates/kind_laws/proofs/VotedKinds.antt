@@ -36,8 +36,8 @@ use Rattle.pals_model.proofs.KindsOfRounds.{cut_fits}
 use Rattle.pals_runs.specs.declared.vote_faults_and_pairs.VoteFault.{VoteFault}
 use Rattle.triple_vote.specs.Votes.{same_port, vote, votes}
 use Rattle.triple_vote.specs.Replicas.{is_replicated, copies_of, receivers_in, Voted, frame_at, heard_by, first_frame}
-use Rattle.triple_vote.specs.Replicas.{first_tuple, vopening, steps_in, replica_steps, tuple_at, is_fault, fault_or}
-use Rattle.triple_vote.specs.Replicas.{own_message, sent_to, vote_of, receives_on, vnext, vcomp, vshown_by, vshown}
+use Rattle.triple_vote.specs.Replicas.{first_tuple, voted_opening, steps_in, replica_steps, tuple_at, is_fault, fault_or}
+use Rattle.triple_vote.specs.Replicas.{own_message, sent_to, vote_of, receives_on, vnext, voted_composition, vshown_by, vshown}
 use Rattle.triple_vote.proofs.ListTablesAndSearches.{found}
 use Rattle.triple_vote.proofs.ReplicaRounds.{has_first, has_three}
 use Rattle.kind_laws.specs.proof.VotedKinds.{FaultFits, FaultsFit, VotesFit, ShownFit}
@@ -111,7 +111,7 @@ module _ (design : DesignParts) (env : Env) (replicated : List Bool) (rules : Is
       subst (λ o. Stands c.behaviour (first_frame o)) (sym is_c)
       (starts_well c.behaviour sound, initial_fits c.behaviour sound)
 
-  opening_keeps : Keeps design replicated (vopening design replicated)
+  opening_keeps : Keeps design replicated (voted_opening design replicated)
   opening_keeps = record {
     count = λ node within. count_at design replicated (λ n r. first_frame (slice_get design.components n)) node within;
     frames = λ node c is_c.
@@ -275,11 +275,11 @@ module _ (design : DesignParts) (env : Env) (replicated : List Bool) (rules : Is
 
   -- ---- all rounds
   module _ (faults : ℕ → List VoteFault) (fit : FaultsFit design faults) where
-    rounds_keep : (rounds : ℕ) → Keeps design replicated (vcomp design env replicated faults rounds)
-    unfolding vcomp
+    rounds_keep : (rounds : ℕ) → Keeps design replicated (voted_composition design env replicated faults rounds)
+    unfolding voted_composition
     rounds_keep zero = opening_keeps
     rounds_keep (suc round) =
-        next_keeps (vcomp design env replicated faults round) round (rounds_keep round) (faults round) (fit round)
+        next_keeps (voted_composition design env replicated faults round) round (rounds_keep round) (faults round) (fit round)
 
 pub voted_fit : VotesFit
 voted_fit design env replicated faults rounds rules given fit =
@@ -287,12 +287,12 @@ voted_fit design env replicated faults rounds rules given fit =
     record {
       frames = λ node c is_c.
           All-weaker (Stands c.behaviour) (FrameFits c.behaviour) (λ frame stands'. stands'.1)
-          (slice_index_or (vcomp design env replicated faults rounds).frames node []) (keeps.frames node c is_c);
+          (slice_index_or (voted_composition design env replicated faults rounds).frames node []) (keeps.frames node c is_c);
       received = keeps.received;
     }
 
 pub shown_fit : ShownFit
 unfolding vshown
 shown_fit design env replicated faults tap round rules given fit =
-    shown_fits design env replicated rules given (vcomp design env replicated faults round) round
+    shown_fits design env replicated rules given (voted_composition design env replicated faults round) round
     (rounds_keep design env replicated rules given faults fit round) tap

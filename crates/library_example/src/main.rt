@@ -11,7 +11,7 @@ ghost use Rattle.pals_bus.specs.BusValues.{Happens};
 
 use bundle_designs::accept;
 use design_codes::compile_all;
-use loose_world::add_finished;
+use loose_world::add_finished_rows;
 use pals_base::{LinkNo, NoMemory, NodeNo, PortValue, Text};
 use pals_bus::Bus;
 use pals_model::Design;
@@ -73,7 +73,7 @@ fn bus_of(alloc: Global, design: Arc<Design>, scenario: &[u8], root: Text) -> Re
 fn run_nodes(alloc: Global, mut bus: Bus, text: &mut Vec<u8>) -> Result<()> {
     let sent = goes_round(&mut bus, NodeNo(0)) && goes_round(&mut bus, NodeNo(1));
     let _again = sent && arrives(&mut bus, LinkNo(3), 0) && goes_round(&mut bus, NodeNo(1));
-    Ok(add_finished(alloc, text, &bus)?)
+    Ok(add_finished_rows(alloc, text, &bus)?)
 }
 
 // Whether a node of rate 1 makes a round without clocks. Whatever happens, the bus agrees with the composition.

@@ -56,7 +56,7 @@ fn place_behind_earlier(ring: &Ring, round: u32) -> usize
 }
 
 /// A top for one more copy of this round.
-pub fn top_with(ring: &Ring, round: u32) -> u32
+pub fn bound_with(ring: &Ring, round: u32) -> u32
     requires { AreTopped ring.now.items }
     ensures own { round ≤ result }
     ensures ahead { All (λ s. s.copy.round ≤ result) ring.now.items }

@@ -17,7 +17,7 @@ use Rattle.loose_world.specs.declared.loose_run.LooseEnd.TheVariants as end
 use Rattle.loose_world.specs.LooseRuns.{IsFaultOf}
 use Rattle.loose_world.specs.MachineSteps.{AllStep, ComesTo, StepsToStop, StepsToFault}
 use Rattle.loose_world.specs.proof.EventsAsSteps.{StepsTo}
-use Rattle.loose_world.specs.proof.UniqueEnds.{AreOneEnd}
+use Rattle.loose_world.specs.proof.UniqueEnds.{AreSameEnd}
 use Rattle.loose_world.proofs.UniqueFaults.{one_fault}
 
 -- ---- one event
@@ -167,7 +167,7 @@ module _ (run : Run) (events : List Event) where
   -- ---- two ends of one list
   both_stop : {why other : Stop} {t u : BusState} {journal more : List JournalEntry}
       → StepsToStop run events why t journal
-      → StepsToStop run events other u more → AreOneEnd (end.Stopped why) (end.Stopped other) t u journal more
+      → StepsToStop run events other u more → AreSameEnd (end.Stopped why) (end.Stopped other) t u journal more
   both_stop {why} {other} {t} {u} x y =
       let place = one_place (stop_is_last x) (stop_is_last y) in
       let is_what = subst (λ (e : Event). loose_event e ≡ Some x.what) place.event x.is_what in
@@ -183,7 +183,7 @@ module _ (run : Run) (events : List Event) where
   both_refuse : {index count : ℕ} {fault other : EventFault} {t u : BusState} {journal more : List JournalEntry}
       → StepsToFault run events index fault
       → StepsToFault run events count other
-      → AreOneEnd (end.Refused index fault) (end.Refused count other) t u journal more
+      → AreSameEnd (end.Refused index fault) (end.Refused count other) t u journal more
   both_refuse {index} {count} {fault} {other} x y =
       let place = one_place (fault_is_last x) (fault_is_last y) in
       let why =
@@ -205,7 +205,7 @@ module _ (run : Run) (events : List Event) where
 -- ---- the law
 pub one_end : (run : Run) (events : List Event) (how other : LooseEnd) (s t : BusState)
     (journal more : List JournalEntry)
-    → StepsTo run events how s journal → StepsTo run events other t more → AreOneEnd how other s t journal more
+    → StepsTo run events how s journal → StepsTo run events other t more → AreSameEnd how other s t journal more
 one_end run events end.All end.All s t journal more x y =
     record { end = refl; left = all_once run events (opening run) s t journal more x y }
 one_end run events end.All (end.Stopped why) s t journal more x y =

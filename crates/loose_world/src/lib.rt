@@ -10,6 +10,6 @@ mod row_text;
 pub mod world_laws;
 
 pub use journal_text::add_journal;
-pub use loose_run::{LooseEnd, run_loose, tell_messages};
+pub use loose_run::{LooseEnd, run_loose, add_sent_messages};
 pub use message_text::OutLinks;
-pub use row_text::{add_finished, add_finished_by_all};
+pub use row_text::{add_finished_rows, add_common_rows};

@@ -57,14 +57,14 @@ pub fn run_loose(
             Err(LooseFault::Timed) => unreachable!(),
             Err(LooseFault::Memory) => return Err(AllocError),
         }
-        tell_messages(links, sent, bus, &events[index])?;
+        add_sent_messages(links, sent, bus, &events[index])?;
     }
     Ok(LooseEnd::All)
 }
 
 /// Adds a line for each message that an event has sent, where the bus stands behind it. If there is not
 /// enough memory, nothing is added.
-pub fn tell_messages(
+pub fn add_sent_messages(
     links: &OutLinks,
     sent: &mut Vec<u8>,
     bus: &Bus,

@@ -58,7 +58,7 @@ fn add_each_row(alloc: Global, out: &mut Vec<u8>, bus: &Bus, rounds: u32) -> Res
 
 /// Adds the rows of all rounds that some node has finished, each with those components that have.
 /// If there is not enough memory, nothing is added.
-pub fn add_finished(alloc: Global, out: &mut Vec<u8>, bus: &Bus) -> Result<(), NoMemory>
+pub fn add_finished_rows(alloc: Global, out: &mut Vec<u8>, bus: &Bus) -> Result<(), NoMemory>
     ensures ok { OnOk result (out.new.items ≡ out.old.items ++ text_of (finished_lines bus.now)) }
     ensures err { OnErr result (out.new.items ≡ out.old.items) }
 {
@@ -67,7 +67,7 @@ pub fn add_finished(alloc: Global, out: &mut Vec<u8>, bus: &Bus) -> Result<(), N
 
 /// Adds the rows of all rounds that every node has finished: in a run without nodes, of all of its
 /// rounds. If there is not enough memory, nothing is added.
-pub fn add_finished_by_all(alloc: Global, out: &mut Vec<u8>, bus: &Bus) -> Result<(), NoMemory>
+pub fn add_common_rows(alloc: Global, out: &mut Vec<u8>, bus: &Bus) -> Result<(), NoMemory>
     ensures ok { OnOk result (out.new.items ≡ out.old.items ++ text_of (common_lines bus.now)) }
     ensures err { OnErr result (out.new.items ≡ out.old.items) }
 {

@@ -10,7 +10,7 @@ ghost use Rattle.model_violations.specs.proof.UnsortedFindings as inner;
 
 use crate::carriers::Carriers;
 use crate::chain_findings::{RatedThreads, add_feed_findings, add_link_findings, add_tap_findings};
-use crate::declaration_findings::{UsedPackage, add_declarations_findings};
+use crate::declaration_findings::{UsedPackage, add_package_findings};
 use crate::sorted_findings::in_order;
 use crate::used_declarations::{types_used, used_below};
 use aadl_instance::{Chain, Instance, ThreadAt};
@@ -164,7 +164,7 @@ fn add_used_findings(
         types: &types,
         carriers: &carriers,
     };
-    add_declarations_findings(alloc, &in_use, found)?;
+    add_package_findings(alloc, &in_use, found)?;
     Ok(())
 }
 

@@ -157,7 +157,7 @@ fn add_declaration_findings(
 }
 
 /// Adds what is wrong with the declarations that are in use of a package.
-pub fn add_declarations_findings(
+pub fn add_package_findings(
     alloc: Global,
     in_use: &UsedPackage<'_>,
     found: &mut Items<Violation>,

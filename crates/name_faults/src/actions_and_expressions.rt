@@ -12,7 +12,7 @@ ghost use Rattle.aadl_names.specs.NameUsesInAnnexes as spec;
 ghost use Rattle.name_faults.specs.proof.BehaviourScopes.{known_by};
 
 use crate::behaviour_scope::BehaviourScope;
-use aadl_names::{Finder, Usage};
+use aadl_names::{FaultFinder, Usage};
 use aadl_tree::{
     Action, Actions, Block, Choice, Expression, Factor, Identifier, Loop, Primary, Relation, Sum,
     Term,
@@ -20,7 +20,7 @@ use aadl_tree::{
 use std::alloc::AllocError;
 
 fn check_use(
-    finder: &mut Finder,
+    finder: &mut FaultFinder,
     scope: &BehaviourScope<'_>,
     usage: Usage,
     name: &Identifier,
@@ -38,7 +38,7 @@ fn check_use(
 
 // Finds the variable of a loop whose name stands for something already.
 fn check_again(
-    finder: &mut Finder,
+    finder: &mut FaultFinder,
     scope: &BehaviourScope<'_>,
     variable: &Identifier,
 ) -> Result<(), AllocError>
@@ -53,7 +53,7 @@ fn check_again(
 
 #[cycle(uses)]
 fn check_primary(
-    finder: &mut Finder,
+    finder: &mut FaultFinder,
     scope: &BehaviourScope<'_>,
     primary: &Primary,
 ) -> Result<(), AllocError>
@@ -72,7 +72,7 @@ fn check_primary(
 
 #[cycle(uses)]
 fn check_factor(
-    finder: &mut Finder,
+    finder: &mut FaultFinder,
     scope: &BehaviourScope<'_>,
     factor: &Factor,
 ) -> Result<(), AllocError>
@@ -87,7 +87,7 @@ fn check_factor(
 
 #[cycle(uses)]
 fn check_term(
-    finder: &mut Finder,
+    finder: &mut FaultFinder,
     scope: &BehaviourScope<'_>,
     term: &Term,
 ) -> Result<(), AllocError>
@@ -101,7 +101,7 @@ fn check_term(
 }
 
 #[cycle(uses)]
-fn check_sum(finder: &mut Finder, scope: &BehaviourScope<'_>, sum: &Sum) -> Result<(), AllocError>
+fn check_sum(finder: &mut FaultFinder, scope: &BehaviourScope<'_>, sum: &Sum) -> Result<(), AllocError>
     ensures { OnOk result (finder.new ≡ found finder.old (spec.sum_uses (known_by scope.now) (sum_view kept_place sum.now))) }
 {
     check_term(finder, scope, &sum.first)?;
@@ -113,7 +113,7 @@ fn check_sum(finder: &mut Finder, scope: &BehaviourScope<'_>, sum: &Sum) -> Resu
 
 #[cycle(uses)]
 fn check_relation(
-    finder: &mut Finder,
+    finder: &mut FaultFinder,
     scope: &BehaviourScope<'_>,
     relation: &Relation,
 ) -> Result<(), AllocError>
@@ -129,7 +129,7 @@ fn check_relation(
 /// Finds how an expression uses names wrongly.
 #[cycle(uses)]
 pub fn check_expression(
-    finder: &mut Finder,
+    finder: &mut FaultFinder,
     scope: &BehaviourScope<'_>,
     expression: &Expression,
 ) -> Result<(), AllocError>
@@ -144,7 +144,7 @@ pub fn check_expression(
 
 #[cycle(actions)]
 fn check_action(
-    finder: &mut Finder,
+    finder: &mut FaultFinder,
     scope: &BehaviourScope<'_>,
     action: &Action,
 ) -> Result<(), AllocError>
@@ -166,7 +166,7 @@ fn check_action(
 
 #[cycle(actions)]
 fn check_choice(
-    finder: &mut Finder,
+    finder: &mut FaultFinder,
     scope: &BehaviourScope<'_>,
     choice: &Choice,
 ) -> Result<(), AllocError>
@@ -186,7 +186,7 @@ fn check_choice(
 
 #[cycle(actions)]
 fn check_loop(
-    finder: &mut Finder,
+    finder: &mut FaultFinder,
     scope: &BehaviourScope<'_>,
     turns: &Loop,
 ) -> Result<(), AllocError>
@@ -199,7 +199,7 @@ fn check_loop(
 
 #[cycle(actions)]
 fn check_actions(
-    finder: &mut Finder,
+    finder: &mut FaultFinder,
     scope: &BehaviourScope<'_>,
     actions: &Actions,
 ) -> Result<(), AllocError>
@@ -215,7 +215,7 @@ fn check_actions(
 /// Finds how actions use names wrongly.
 #[cycle(actions)]
 pub fn check_block(
-    finder: &mut Finder,
+    finder: &mut FaultFinder,
     scope: &BehaviourScope<'_>,
     block: &Block,
 ) -> Result<(), AllocError>

@@ -18,7 +18,7 @@ use crate::behaviour_sections::transitions_in;
 use crate::thread_category::is_thread;
 use crate::{BehaviourScope, check_transitions, state_names, variable_roles};
 use aadl_names::declarations_by_number::type_numbered;
-use aadl_names::{Finder, NameTable, Role};
+use aadl_names::{FaultFinder, NameTable, Role};
 use aadl_tree::{Annex, AnnexContent, AnnexTree, Implementation, PackageTree};
 use std::alloc::{AllocError, Global};
 
@@ -61,7 +61,7 @@ fn scope_of<'t>(
 
 // Finds how a behaviour of an implementation uses names wrongly.
 fn check_behaviour(
-    finder: &mut Finder,
+    finder: &mut FaultFinder,
     typed: &TypedImplementation<'_>,
     behaviour: &AnnexTree,
 ) -> Result<(), AllocError>
@@ -83,7 +83,7 @@ fn check_behaviour(
 
 // Finds what is wrong with an annex, where a behaviour is expected or is one too many.
 fn check_annex(
-    finder: &mut Finder,
+    finder: &mut FaultFinder,
     typed: &TypedImplementation<'_>,
     expected: bool,
     annex: &Annex,
@@ -123,7 +123,7 @@ fn still_expected(expected: bool, annex: &Annex) -> bool
 /// Finds how the first behaviour of a thread's implementation uses names wrongly, and each behaviour
 /// that is one too many.
 pub fn check_behaviours(
-    finder: &mut Finder,
+    finder: &mut FaultFinder,
     typed: &TypedImplementation<'_>,
 ) -> Result<(), AllocError>
     requires of_type { typed.now.of_type

@@ -14,7 +14,7 @@ ghost use Rattle.name_faults.specs.proof.NumberedImplementations.{StandsAt};
 use crate::check_properties;
 use aadl_names::name_texts::spelled_end;
 use aadl_names::type_ports::port_direction;
-use aadl_names::{Finder, PortPlace, PropertyHolder};
+use aadl_names::{FaultFinder, PortPlace, PropertyHolder};
 use aadl_tree::{Connection, ConnectionEnd, Direction, Implementation};
 use aadl_uses::{Uses, Wires};
 use std::alloc::AllocError;
@@ -69,7 +69,7 @@ fn may_leave(site: PortPlace, direction: Option<Direction>) -> bool
 }
 
 fn check_source(
-    finder: &mut Finder,
+    finder: &mut FaultFinder,
     end: &ConnectionEnd,
     at: usize,
     port: Option<(PortPlace, Option<Direction>)>,
@@ -86,7 +86,7 @@ fn check_source(
 }
 
 fn check_target(
-    finder: &mut Finder,
+    finder: &mut FaultFinder,
     end: &ConnectionEnd,
     at: usize,
     port: Option<(PortPlace, Option<Direction>)>,
@@ -103,7 +103,7 @@ fn check_target(
     }
 }
 
-fn unknown_end(finder: &mut Finder, end: &ConnectionEnd) -> Result<(), AllocError>
+fn unknown_end(finder: &mut FaultFinder, end: &ConnectionEnd) -> Result<(), AllocError>
     ensures { OnOk result (finder.new ≡ found finder.old (spec.unknown_end (end_view kept_place end.now))) }
 {
     let name = spelled_end(finder.alloc(), end)?;
@@ -122,7 +122,7 @@ fn is_own(port: Option<(PortPlace, Option<Direction>)>) -> bool
 
 // Finds what is wrong with a connection that joins these ports.
 fn check_connection(
-    finder: &mut Finder,
+    finder: &mut FaultFinder,
     source: Option<(PortPlace, Option<Direction>)>,
     target: Option<(PortPlace, Option<Direction>)>,
     connection: &Connection,
@@ -142,7 +142,7 @@ fn check_connection(
 
 /// Finds what is wrong with the connections of the implementation of a number.
 pub fn check_connections(
-    finder: &mut Finder,
+    finder: &mut FaultFinder,
     wires: &Wires<'_>,
     number: usize,
     x: &Implementation,

@@ -18,7 +18,7 @@ use crate::behaviours::{TypedImplementation, check_behaviours};
 use crate::implementations::check_outside_behaviours;
 use crate::types_and_annexes::check_type;
 use crate::{AllPortNames, names_at};
-use aadl_names::Finder;
+use aadl_names::FaultFinder;
 use aadl_names::name_texts::spelled_name;
 use aadl_tree::{Declaration, Implementation, PackageTree};
 use aadl_uses::{Uses, Wires};
@@ -37,7 +37,7 @@ fn is_root_type(uses: &Uses<'_>, root: usize, number: usize) -> bool
 
 // Finds what is wrong with the names in the implementation of a number.
 fn check_implementation(
-    finder: &mut Finder,
+    finder: &mut FaultFinder,
     wires: &Wires<'_>,
     all: &AllPortNames,
     number: usize,
@@ -62,7 +62,7 @@ fn check_implementation(
 
 // Finds what is wrong with the names in the declaration of a number.
 fn check_declaration(
-    finder: &mut Finder,
+    finder: &mut FaultFinder,
     wires: &Wires<'_>,
     all: &AllPortNames,
     root: usize,
@@ -83,7 +83,7 @@ fn check_declaration(
 }
 
 // Finds another name at the package's end.
-fn check_end_name(finder: &mut Finder, tree: &PackageTree) -> Result<(), AllocError>
+fn check_end_name(finder: &mut FaultFinder, tree: &PackageTree) -> Result<(), AllocError>
     ensures { OnOk result (finder.new ≡ found finder.old
         (wrong_if (not (same_name (spelled_name (placed tree.now).end_name) (spelled_name (placed tree.now).name)))
         (placed tree.now).end_name.first.at)) }
@@ -100,7 +100,7 @@ fn check_end_name(finder: &mut Finder, tree: &PackageTree) -> Result<(), AllocEr
 
 /// Finds what is wrong with the names in all declarations, and another name at the package's end.
 pub fn check_declarations(
-    finder: &mut Finder,
+    finder: &mut FaultFinder,
     wires: &Wires<'_>,
     all: &AllPortNames,
     root: usize,

@@ -12,14 +12,14 @@ ghost use Rattle.aadl_names.specs.ReferenceResolution.{type_number};
 ghost use Rattle.aadl_names.specs.proof.PortDuplicates as spec;
 ghost use Rattle.name_faults.specs.proof.TypePortNames.{AreAllNamesOf};
 
-use crate::names_beside_ports::check_beside;
+use crate::names_beside_ports::check_port_duplicates;
 use crate::port_names::AllPortNames;
 use crate::space_entries::{
     implementation_entries, member_entries, state_entries, type_entries, variable_entries,
 };
 use crate::thread_category::is_thread;
 use crate::type_ports::{names_at, ports_at};
-use aadl_names::Finder;
+use aadl_names::FaultFinder;
 use aadl_names::duplicate_names::check_twice;
 use aadl_tree::{Annex, AnnexContent, AnnexTree, Declaration, Implementation, PackageTree};
 use aadl_uses::Uses;
@@ -27,7 +27,7 @@ use std::alloc::AllocError;
 
 // Finds two of one name among the ports and variables of a behaviour, and among its states.
 fn check_in_behaviour(
-    finder: &mut Finder,
+    finder: &mut FaultFinder,
     tree: &PackageTree,
     all: &AllPortNames,
     of_type: Option<usize>,
@@ -41,7 +41,7 @@ fn check_in_behaviour(
 {
     let alloc = finder.alloc();
     let variables = variable_entries(alloc, behaviour)?;
-    check_beside(
+    check_port_duplicates(
         finder,
         ports_at(tree, of_type),
         names_at(all, of_type),
@@ -67,7 +67,7 @@ pub fn first_behaviour(annexes: &[Annex]) -> Option<&AnnexTree>
 // Finds two of one name among the ports and variables of the first behaviour of a thread's
 // implementation, and among its states.
 fn check_in_first(
-    finder: &mut Finder,
+    finder: &mut FaultFinder,
     tree: &PackageTree,
     all: &AllPortNames,
     of_type: Option<usize>,
@@ -90,7 +90,7 @@ fn check_in_first(
 
 // Finds two of one name in an implementation.
 fn check_in_implementation(
-    finder: &mut Finder,
+    finder: &mut FaultFinder,
     tree: &PackageTree,
     all: &AllPortNames,
     of_type: Option<usize>,
@@ -103,7 +103,7 @@ fn check_in_implementation(
 {
     let alloc = finder.alloc();
     let members = member_entries(alloc, x)?;
-    check_beside(
+    check_port_duplicates(
         finder,
         ports_at(tree, of_type),
         names_at(all, of_type),
@@ -113,7 +113,7 @@ fn check_in_implementation(
 }
 
 fn check_in(
-    finder: &mut Finder,
+    finder: &mut FaultFinder,
     uses: &Uses<'_>,
     all: &AllPortNames,
     number: usize,
@@ -133,8 +133,8 @@ fn check_in(
 
 /// Finds two types or two implementations of one name, and two of one name in an implementation.
 #[tactic(auto, unfolding(aadl_names::specs::proof::PortDuplicates::beside_names))]
-pub fn check_spaces(
-    finder: &mut Finder,
+pub fn check_duplicates(
+    finder: &mut FaultFinder,
     uses: &Uses<'_>,
     all: &AllPortNames,
 ) -> Result<(), AllocError>

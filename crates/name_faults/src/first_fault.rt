@@ -5,8 +5,8 @@ ghost use Rattle.aadl_names.specs.FirstFaults.{FirstOf};
 ghost use Rattle.aadl_names.specs.PackageFaults.{package_faults};
 
 use crate::declarations::check_declarations;
-use crate::{all_port_names, check_spaces};
-use aadl_names::{Finder, PackageFault};
+use crate::{all_port_names, check_duplicates};
+use aadl_names::{FaultFinder, PackageFault};
 use aadl_uses::Wires;
 use std::alloc::{AllocError, Global};
 
@@ -19,9 +19,9 @@ pub fn first_name_fault(
 ) -> Result<Option<PackageFault>, AllocError>
     ensures { IfOk result (FirstOf (package_faults (placed wires.now.uses.names.tree.now) root)) }
 {
-    let mut finder = Finder::new(alloc);
+    let mut finder = FaultFinder::new(alloc);
     let all = all_port_names(alloc, wires.uses.names.tree)?;
     check_declarations(&mut finder, wires, &all, root)?;
-    check_spaces(&mut finder, &wires.uses, &all)?;
+    check_duplicates(&mut finder, &wires.uses, &all)?;
     Ok(finder.finish())
 }

@@ -16,7 +16,7 @@ use crate::subcomponents_and_ports::{check_subcomponents, same_category};
 use crate::types_and_annexes::check_variables;
 use aadl_names::declarations_by_number::type_numbered;
 use aadl_names::name_texts::spelled_implementation;
-use aadl_names::{Finder, PropertyHolder};
+use aadl_names::{FaultFinder, PropertyHolder};
 use aadl_tree::{Category, Implementation, PackageTree};
 use aadl_uses::Wires;
 use std::alloc::AllocError;
@@ -33,7 +33,7 @@ fn has_type(tree: &PackageTree, of_type: Option<usize>, category: Category) -> b
 
 // Finds another name at the end, and that the type is not there or of another category.
 fn check_heading(
-    finder: &mut Finder,
+    finder: &mut FaultFinder,
     tree: &PackageTree,
     of_type: Option<usize>,
     x: &Implementation,
@@ -55,7 +55,7 @@ fn check_heading(
 /// Finds what is wrong with the names in the implementation of a number, except what its behaviour
 /// does with names.
 pub fn check_outside_behaviours(
-    finder: &mut Finder,
+    finder: &mut FaultFinder,
     wires: &Wires<'_>,
     number: usize,
     of_root: bool,

@@ -25,7 +25,7 @@ mod types_and_annexes;
 pub mod variable_and_state_names;
 
 pub use behaviour_scope::BehaviourScope;
-pub use duplicates_by_space::{check_spaces, first_behaviour};
+pub use duplicates_by_space::{check_duplicates, first_behaviour};
 pub use first_fault::first_name_fault;
 pub use port_names::{AllPortNames, PortNames};
 pub use properties::check_properties;

@@ -11,12 +11,12 @@ ghost use Rattle.name_faults.specs.proof.TypePortNames.{AreNamesOf};
 
 use crate::port_names::PortNames;
 use aadl_names::earliest_by_name::{earliest_of, is_before};
-use aadl_names::{Finder, NumberedPlace, SpelledName};
+use aadl_names::{FaultFinder, NumberedPlace, SpelledName};
 use aadl_tree::Feature;
 use std::alloc::AllocError;
 
 // Finds that a port is declared again.
-fn check_port(finder: &mut Finder, ports: &[Feature], number: usize) -> Result<(), AllocError>
+fn check_port(finder: &mut FaultFinder, ports: &[Feature], number: usize) -> Result<(), AllocError>
     ensures { OnOk result (finder.new ≡ found finder.old
         (spec.entry_again (slice_get (port_entries (map (feature_view kept_place) ports.now)) number))) }
 {
@@ -28,7 +28,7 @@ fn check_port(finder: &mut Finder, ports: &[Feature], number: usize) -> Result<(
 
 // Finds that the earliest port of its name stands behind something.
 fn check_earliest(
-    finder: &mut Finder,
+    finder: &mut FaultFinder,
     ports: &[Feature],
     port: NumberedPlace,
     entry: &SpelledName,
@@ -44,7 +44,7 @@ fn check_earliest(
 
 // Finds that something stands behind one of its name.
 fn check_behind(
-    finder: &mut Finder,
+    finder: &mut FaultFinder,
     port: Option<NumberedPlace>,
     other: Option<NumberedPlace>,
     entry: &SpelledName,
@@ -60,7 +60,7 @@ fn check_behind(
 
 // Finds that something stands behind one of its name, or the earliest port of its name behind it.
 fn check_one(
-    finder: &mut Finder,
+    finder: &mut FaultFinder,
     ports: &[Feature],
     port: Option<NumberedPlace>,
     other: Option<NumberedPlace>,
@@ -77,8 +77,8 @@ fn check_one(
 
 /// Finds what is declared twice among ports and what stands beside them.
 #[tactic(auto, unfolding(aadl_names::specs::proof::PortDuplicates::beside))]
-pub fn check_beside(
-    finder: &mut Finder,
+pub fn check_port_duplicates(
+    finder: &mut FaultFinder,
     ports: &[Feature],
     names: &PortNames,
     others: &[SpelledName],

@@ -18,7 +18,7 @@ use crate::shapes::has_shape;
 use aadl_names::duplicate_names::check_twice;
 use aadl_names::name_comparison::is_spelled;
 use aadl_names::name_texts::spelled_name;
-use aadl_names::{Finder, PropertyHolder, SpelledName};
+use aadl_names::{FaultFinder, PropertyHolder, SpelledName};
 use aadl_tree::{Association, Name, Value};
 use pals_base::Items;
 use std::alloc::{AllocError, Global};
@@ -33,7 +33,7 @@ fn is_misshapen(holder: PropertyHolder, name: &Name, value: &Value) -> bool
 }
 
 // Finds the value of another shape of one property. What applies elsewhere does not count.
-fn check_property(finder: &mut Finder, holder: PropertyHolder, association: &Association)
+fn check_property(finder: &mut FaultFinder, holder: PropertyHolder, association: &Association)
     ensures { finder.new ≡ found finder.old (spec.shape_fault holder (association_view kept_place association.now)) }
 {
     if association.applies_to.is_empty() {
@@ -45,7 +45,7 @@ fn check_property(finder: &mut Finder, holder: PropertyHolder, association: &Ass
 }
 
 // Finds the values of other shapes in one list of properties.
-fn check_shapes(finder: &mut Finder, holder: PropertyHolder, list: &[Association])
+fn check_shapes(finder: &mut FaultFinder, holder: PropertyHolder, list: &[Association])
     ensures { finder.new ≡ found finder.old (flat_map (spec.shape_fault holder) (spec.listed (associations_view kept_place list.now))) }
 {
     for association in list {
@@ -90,7 +90,7 @@ fn property_entries(alloc: Global, list: &[Association]) -> Result<Items<Spelled
 
 // Finds the properties that are given twice in one list.
 #[tactic(auto, using(crate::proofs::SinglePropertyLists::none_twice))]
-fn check_repeated(finder: &mut Finder, list: &[Association]) -> Result<(), AllocError>
+fn check_repeated(finder: &mut FaultFinder, list: &[Association]) -> Result<(), AllocError>
     ensures { OnOk result (finder.new ≡ found finder.old (twice (property_entries (associations_view kept_place list.now)))) }
 {
     if list.len() < 2 {
@@ -103,7 +103,7 @@ fn check_repeated(finder: &mut Finder, list: &[Association]) -> Result<(), Alloc
 /// Finds the values of other shapes, and properties that are given twice, in one list of properties.
 /// What applies elsewhere does not count.
 pub fn check_properties(
-    finder: &mut Finder,
+    finder: &mut FaultFinder,
     holder: PropertyHolder,
     list: &[Association],
 ) -> Result<(), AllocError>

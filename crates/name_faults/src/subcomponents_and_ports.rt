@@ -15,7 +15,7 @@ ghost use Rattle.name_faults.specs.proof.NumberedImplementations.{StandsAt};
 use crate::check_properties;
 use aadl_names::declarations_by_number::implementation_at;
 use aadl_names::name_texts::spelled_reference;
-use aadl_names::{Finder, PropertyHolder};
+use aadl_names::{FaultFinder, PropertyHolder};
 use aadl_tree::{Category, Feature, Implementation, PackageTree, Reference, Subcomponent};
 use aadl_uses::Uses;
 use std::alloc::AllocError;
@@ -55,7 +55,7 @@ fn implementation_of(tree: &PackageTree, number: Option<usize>) -> Option<&Imple
     implementation_at(tree, number?)
 }
 
-fn unknown_target(finder: &mut Finder, reference: &Reference) -> Result<(), AllocError>
+fn unknown_target(finder: &mut FaultFinder, reference: &Reference) -> Result<(), AllocError>
     ensures { OnOk result (finder.new ≡ found finder.old (spec.unknown_reference (reference_view kept_place reference.now))) }
 {
     let name = spelled_reference(finder.alloc(), reference)?;
@@ -64,7 +64,7 @@ fn unknown_target(finder: &mut Finder, reference: &Reference) -> Result<(), Allo
 
 // Finds that the implementation of a subcomponent is not declared, or of another category.
 fn check_declared(
-    finder: &mut Finder,
+    finder: &mut FaultFinder,
     implementation: Option<&Implementation>,
     sub: &Subcomponent,
 ) -> Result<(), AllocError>
@@ -83,7 +83,7 @@ fn check_declared(
 // Finds that a subcomponent names no implementation, none that is declared, or one of another
 // category.
 fn check_target(
-    finder: &mut Finder,
+    finder: &mut FaultFinder,
     tree: &PackageTree,
     target: Option<usize>,
     sub: &Subcomponent,
@@ -104,7 +104,7 @@ fn check_target(
 
 // Finds what is wrong with a subcomponent of a component of the category.
 fn check_subcomponent(
-    finder: &mut Finder,
+    finder: &mut FaultFinder,
     tree: &PackageTree,
     category: Category,
     target: Option<usize>,
@@ -125,7 +125,7 @@ fn check_subcomponent(
 
 /// Finds what is wrong with the subcomponents of the implementation of a number.
 pub fn check_subcomponents(
-    finder: &mut Finder,
+    finder: &mut FaultFinder,
     uses: &Uses<'_>,
     number: usize,
     x: &Implementation,
@@ -142,14 +142,14 @@ pub fn check_subcomponents(
 }
 
 // Finds what is wrong with the properties of a port.
-fn check_port(finder: &mut Finder, port: &Feature) -> Result<(), AllocError>
+fn check_port(finder: &mut FaultFinder, port: &Feature) -> Result<(), AllocError>
     ensures { OnOk result (finder.new ≡ found finder.old (spec.port_faults (feature_view kept_place port.now))) }
 {
     check_properties(finder, PropertyHolder::Port, port.properties.as_slice())
 }
 
 /// Finds what is wrong with the properties of ports.
-pub fn check_ports(finder: &mut Finder, ports: &[Feature]) -> Result<(), AllocError>
+pub fn check_ports(finder: &mut FaultFinder, ports: &[Feature]) -> Result<(), AllocError>
     ensures { OnOk result (finder.new ≡ found finder.old (flat_map spec.port_faults (map (feature_view kept_place) ports.now))) }
 {
     for port in ports {

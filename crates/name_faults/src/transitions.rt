@@ -12,13 +12,13 @@ ghost use Rattle.name_faults.specs.proof.BehaviourScopes.{known_by, is_state_by}
 
 use crate::actions_and_expressions::{check_block, check_expression};
 use crate::behaviour_scope::BehaviourScope;
-use aadl_names::{Finder, NameTable};
+use aadl_names::{FaultFinder, NameTable};
 use aadl_tree::{Block, Guard, Identifier, Transition};
 use std::alloc::AllocError;
 
 // Finds that a name is no state's.
 fn check_state(
-    finder: &mut Finder,
+    finder: &mut FaultFinder,
     states: &NameTable<()>,
     name: &Identifier,
 ) -> Result<(), AllocError>
@@ -33,7 +33,7 @@ fn check_state(
 
 // Finds how a guard uses names wrongly.
 fn check_guard(
-    finder: &mut Finder,
+    finder: &mut FaultFinder,
     scope: &BehaviourScope<'_>,
     guard: &Option<Guard>,
 ) -> Result<(), AllocError>
@@ -49,7 +49,7 @@ fn check_guard(
 
 // Finds how what a transition does uses names wrongly.
 fn check_effect(
-    finder: &mut Finder,
+    finder: &mut FaultFinder,
     scope: &BehaviourScope<'_>,
     effect: &Option<Block>,
 ) -> Result<(), AllocError>
@@ -63,7 +63,7 @@ fn check_effect(
 
 // Finds how a transition uses names wrongly.
 fn check_transition(
-    finder: &mut Finder,
+    finder: &mut FaultFinder,
     states: &NameTable<()>,
     scope: &BehaviourScope<'_>,
     x: &Transition,
@@ -79,7 +79,7 @@ fn check_transition(
 
 /// Finds how transitions use names wrongly.
 pub fn check_transitions(
-    finder: &mut Finder,
+    finder: &mut FaultFinder,
     states: &NameTable<()>,
     scope: &BehaviourScope<'_>,
     transitions: &[Transition],

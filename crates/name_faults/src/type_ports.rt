@@ -18,7 +18,7 @@ use crate::space_entries::port_entries;
 use aadl_names::declarations_by_number::type_numbered;
 use aadl_names::duplicate_names::check_twice;
 use aadl_names::earliest_by_name::earliest_of;
-use aadl_names::{Finder, NameTable, PackageFault, Role, SpelledName};
+use aadl_names::{FaultFinder, NameTable, PackageFault, Role, SpelledName};
 use aadl_tree::{Declaration, Direction, Feature, PackageTree};
 use pals_base::Items;
 use std::alloc::{AllocError, Global};
@@ -57,7 +57,7 @@ fn port_roles(alloc: Global, ports: &[Feature]) -> Result<NameTable<Role>, Alloc
 fn first_again(alloc: Global, entries: &[SpelledName]) -> Result<Option<PackageFault>, AllocError>
     ensures { IfOk result (λ first. first ≡ found None (twice entries.now)) }
 {
-    let mut finder = Finder::new(alloc);
+    let mut finder = FaultFinder::new(alloc);
     check_twice(&mut finder, entries)?;
     Ok(finder.finish())
 }

@@ -11,7 +11,7 @@ ghost use Rattle.aadl_names.specs.PackageFaults as spec;
 use crate::check_properties;
 use crate::subcomponents_and_ports::check_ports;
 use aadl_names::package_names::same_word;
-use aadl_names::{Finder, PropertyHolder};
+use aadl_names::{FaultFinder, PropertyHolder};
 use aadl_tree::{Annex, AnnexContent, TypeDeclaration, VariableDeclaration};
 use std::alloc::AllocError;
 
@@ -28,14 +28,14 @@ fn variables_in(annex: &Annex) -> &[VariableDeclaration]
     }
 }
 
-fn check_variable(finder: &mut Finder, x: &VariableDeclaration) -> Result<(), AllocError>
+fn check_variable(finder: &mut FaultFinder, x: &VariableDeclaration) -> Result<(), AllocError>
     ensures { OnOk result (finder.new ≡ found finder.old (spec.variable_faults (variable_view kept_place x.now))) }
 {
     check_properties(finder, PropertyHolder::Variable, x.properties.as_slice())
 }
 
 fn check_variable_list(
-    finder: &mut Finder,
+    finder: &mut FaultFinder,
     variables: &[VariableDeclaration],
 ) -> Result<(), AllocError>
     ensures { OnOk result (finder.new ≡ found finder.old (flat_map spec.variable_faults (map (variable_view kept_place) variables.now))) }
@@ -46,14 +46,14 @@ fn check_variable_list(
     Ok(())
 }
 
-fn check_annex_variables(finder: &mut Finder, annex: &Annex) -> Result<(), AllocError>
+fn check_annex_variables(finder: &mut FaultFinder, annex: &Annex) -> Result<(), AllocError>
     ensures { OnOk result (finder.new ≡ found finder.old (spec.variables_faults (annex_view kept_place annex.now))) }
 {
     check_variable_list(finder, variables_in(annex))
 }
 
 /// Finds what is wrong with the properties of variables in annexes.
-pub fn check_variables(finder: &mut Finder, annexes: &[Annex]) -> Result<(), AllocError>
+pub fn check_variables(finder: &mut FaultFinder, annexes: &[Annex]) -> Result<(), AllocError>
     ensures { OnOk result (finder.new ≡ found finder.old (flat_map spec.variables_faults (map (annex_view kept_place) annexes.now))) }
 {
     for annex in annexes {
@@ -62,7 +62,7 @@ pub fn check_variables(finder: &mut Finder, annexes: &[Annex]) -> Result<(), All
     Ok(())
 }
 
-fn check_stray(finder: &mut Finder, annex: &Annex)
+fn check_stray(finder: &mut FaultFinder, annex: &Annex)
     ensures { finder.new ≡ found finder.old (spec.stray_faults (annex_view kept_place annex.now)) }
 {
     match &annex.content {
@@ -72,7 +72,7 @@ fn check_stray(finder: &mut Finder, annex: &Annex)
 }
 
 /// Finds behaviours where none may stand.
-pub fn check_no_behaviour(finder: &mut Finder, annexes: &[Annex])
+pub fn check_no_behaviour(finder: &mut FaultFinder, annexes: &[Annex])
     ensures { finder.new ≡ found finder.old (flat_map spec.stray_faults (map (annex_view kept_place) annexes.now)) }
 {
     for annex in annexes {
@@ -81,7 +81,7 @@ pub fn check_no_behaviour(finder: &mut Finder, annexes: &[Annex])
 }
 
 /// Finds what is wrong with the names in a type.
-pub fn check_type(finder: &mut Finder, of_root: bool, x: &TypeDeclaration) -> Result<(), AllocError>
+pub fn check_type(finder: &mut FaultFinder, of_root: bool, x: &TypeDeclaration) -> Result<(), AllocError>
     ensures { OnOk result (finder.new ≡ found finder.old (spec.type_faults of_root (type_view kept_place x.now))) }
 {
     finder.wrong_if(!same_word(&x.end_name, &x.name), x.end_name.at);

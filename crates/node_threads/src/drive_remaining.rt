@@ -15,7 +15,7 @@ use std::mem::swap;
 use std::sync::Wait;
 
 /// What comes of the kept run once all threads have ended, with what came out of the lock.
-pub fn drive_with_spare<R: Wait, G: Gate>(
+pub fn end_run<R: Wait, G: Gate>(
     rt: &R,
     alloc: Global,
     out: SharedRun,
@@ -24,11 +24,11 @@ pub fn drive_with_spare<R: Wait, G: Gate>(
 ) -> Result<RunEnd, NoMemory>
     ensures { IfOk result (λ end. IsOutcome kept.bus kept.clocks end.bus end.ends) }
 {
-    driven(rt, alloc, held_or_spare(out, kept), gate)
+    driven(rt, alloc, held_or_kept(out, kept), gate)
 }
 
 // What came out of the lock where it is of the kept run, and else that run at its opening.
-fn held_or_spare(mut out: SharedRun, mut kept: SharedRun) -> SharedRun
+fn held_or_kept(mut out: SharedRun, mut kept: SharedRun) -> SharedRun
     ensures { Stays kept result }
 {
     restore(&mut out, &mut kept);
@@ -75,14 +75,14 @@ fn drive<R: Wait, G: Gate>(
         if course.is_over() {
             return course.ends(alloc);
         }
-        go_round(course, gate);
+        turn_all(course, gate);
     }
     unreachable!()
 }
 
 // One turn of each node.
 #[tactic(auto, using(crate::proofs::ChangesUnderLock::stays_on))]
-fn go_round<G: Gate>(course: &mut SharedRun, gate: &G)
+fn turn_all<G: Gate>(course: &mut SharedRun, gate: &G)
     ensures { Stays course.old course.new }
 {
     for number in 0..course.count() {

@@ -7,7 +7,7 @@ ghost use Rattle.node_threads.specs.proof.NodeEndsAndOutcomes.{IsOutcome};
 ghost use Rattle.node_threads.specs.declared.node_end.NodeEnd.TheVariants as ended;
 
 use crate::course::SharedRun;
-use crate::drive_remaining::drive_with_spare;
+use crate::drive_remaining::end_run;
 use crate::host::Host;
 use crate::job_gate::Gate;
 use crate::locked_state::Locked;
@@ -58,7 +58,7 @@ pub fn run_threads<R: Threads + Wait + Sync, W: Starter, G: Gate + Sync>(
     let (lock, bells) = shared(alloc, course)?;
     work_all(runtime, &lock, &bells, count, starter, gate);
     let out = lock.into_inner().into_course();
-    drive_with_spare(runtime, alloc, out, kept, gate)
+    end_run(runtime, alloc, out, kept, gate)
 }
 
 // A course under a lock, and the bells of its nodes.

@@ -11,7 +11,7 @@ use Rattle.pals_model.specs.DesignRules.{IsTap}
 use Rattle.pals_model.specs.RoundTexts.{text_of, round_line, part_lines, tap_lines, taps_before, row_lines}
 use Rattle.pals_model.specs.RoundTexts.{composed_lines}
 use Rattle.pals_model.proofs.LineLaws.{text_of-append}
-use Rattle.pals_report.specs.proof.RowLines.{lines_at_place, components_from, taps_from, ArePartsOf}
+use Rattle.pals_report.specs.proof.RowLines.{lines_at_place, component_lines_from, tap_lines_from, ArePartsOf}
 
 -- lines behind those before them, where others are left
 pub lines_turn : (out new total : List ℕ) (shown first rest : List (List ℕ)) → new ≡ out ++ text_of shown
@@ -29,14 +29,14 @@ at_place design number place tap (Some p) is = ap (λ k. lines_at_place design k
 
 -- ---- the parts of the composition
 components_same : (f g : ℕ → Option Part) (k : ℕ) (cs : List Component)
-    → ((node : ℕ) → node < k + length cs → f node ≡ g node) → components_from f k cs ≡ components_from g k cs
+    → ((node : ℕ) → node < k + length cs → f node ≡ g node) → component_lines_from f k cs ≡ component_lines_from g k cs
 components_same f g k [] same = refl
 components_same f g k (c ∷ cs) same =
     ap₂ (λ a b. a ++ b) (ap (part_lines c) (same k (omega arith)))
     (components_same f g (k + 1) cs (λ node within. same node (omega arith)))
 
 taps_same : (design : DesignParts) (f g : ℕ → Option Part) (k : ℕ) (taps : List Tap)
-    → All (λ (tap : Tap). f tap.source.0 ≡ g tap.source.0) taps → taps_from design f k taps ≡ taps_from design g k taps
+    → All (λ (tap : Tap). f tap.source.0 ≡ g tap.source.0) taps → tap_lines_from design f k taps ≡ tap_lines_from design g k taps
 taps_same design f g k [] same = refl
 taps_same design f g k (tap ∷ taps) same =
     ap₂ (λ a b. a ++ b) (ap (tap_lines design k tap) (same 0 tap (omega arith)))

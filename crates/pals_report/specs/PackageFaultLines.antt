@@ -11,17 +11,17 @@ abbrev pub and_word : List ℕ → List ℕ
 and_word word = codes " " ++ word
 
 -- what is wrong, with the name or what is above its limit, and with the place, each where it has one
-abbrev pub flat_words : List ℕ → PackageFault → List ℕ
-flat_words text NoRoot = codes "NoRoot"
-flat_words text (Unknown name at) = codes "Unknown" ++ and_word name ++ and_word (position_text text at)
-flat_words text (Twice name at) = codes "Twice" ++ and_word name ++ and_word (position_text text at)
-flat_words text (WrongKind at) = codes "WrongKind" ++ and_word (position_text text at)
-flat_words text (Recursive name at) = codes "Recursive" ++ and_word name ++ and_word (position_text text at)
-flat_words text (DeadEnd name at) = codes "DeadEnd" ++ and_word name ++ and_word (position_text text at)
-flat_words text (TwoSources name at) = codes "TwoSources" ++ and_word name ++ and_word (position_text text at)
-flat_words text (TooMany what) = codes "TooMany" ++ and_word what
-flat_words text Memory = codes "Memory"
+abbrev pub package_fault_words : List ℕ → PackageFault → List ℕ
+package_fault_words text NoRoot = codes "NoRoot"
+package_fault_words text (Unknown name at) = codes "Unknown" ++ and_word name ++ and_word (position_text text at)
+package_fault_words text (Twice name at) = codes "Twice" ++ and_word name ++ and_word (position_text text at)
+package_fault_words text (WrongKind at) = codes "WrongKind" ++ and_word (position_text text at)
+package_fault_words text (Recursive name at) = codes "Recursive" ++ and_word name ++ and_word (position_text text at)
+package_fault_words text (DeadEnd name at) = codes "DeadEnd" ++ and_word name ++ and_word (position_text text at)
+package_fault_words text (TwoSources name at) = codes "TwoSources" ++ and_word name ++ and_word (position_text text at)
+package_fault_words text (TooMany what) = codes "TooMany" ++ and_word what
+package_fault_words text Memory = codes "Memory"
 
 -- `flat NUMBER NAME` and what belongs to it
-abbrev pub flat_fault_line : List ℕ → PackageFault → List ℕ
-flat_fault_line text fault = codes "flat " ++ decimal (number_of fault) ++ and_word (flat_words text fault)
+abbrev pub package_fault_line : List ℕ → PackageFault → List ℕ
+package_fault_line text fault = codes "flat " ++ decimal (number_of fault) ++ and_word (package_fault_words text fault)

@@ -10,7 +10,7 @@ use pals_runs::{Stop, TraceRule, Verdict};
 
 /// Adds the line of a node whose list holds no reading for its next target, in nanoseconds. If there is
 /// not enough memory, nothing is added.
-pub fn add_clock_end(
+pub fn add_clock_end_line(
     out: &mut Vec<u8>,
     design: &Design,
     node: NodeNo,

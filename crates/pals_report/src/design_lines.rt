@@ -114,7 +114,7 @@ pub fn add_taps(out: &mut Vec<u8>, design: &DesignParts, taps: &[Tap]) -> Result
 }
 
 /// Adds a line for each name that means nothing.
-pub fn add_ignored_names(out: &mut Vec<u8>, names: &[Text]) -> Result<(), NoMemory>
+pub fn add_ignored_name_lines(out: &mut Vec<u8>, names: &[Text]) -> Result<(), NoMemory>
     ensures ok { OnOk result
         (out.new.items ≡ out.old.items ++ text_of (map ignored_line names.now)) }
     ensures err { OnErr result (BeginsWith out.new.items out.old.items) }

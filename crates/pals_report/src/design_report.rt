@@ -4,7 +4,7 @@ ghost use Rattle.pals_model.specs.RoundTexts.{text_of};
 ghost use Rattle.pals_report.specs.proof.PartialWrites.{BeginsWith};
 ghost use Rattle.pals_report.specs.CheckReports.{check_lines, IsCheckReport};
 
-use crate::design_lines::{add_components, add_feeds, add_ignored_names, add_links, add_taps};
+use crate::design_lines::{add_components, add_feeds, add_ignored_name_lines, add_links, add_taps};
 use crate::periods::{add_periods, rates};
 use crate::whole_or_none;
 use bound_checker::least_multiple;
@@ -42,5 +42,5 @@ fn add_lines(
     add_links(out, design, design.links.as_slice())?;
     add_feeds(out, design, design.feeds.as_slice())?;
     add_taps(out, design, design.taps.as_slice())?;
-    add_ignored_names(out, design.ignored.as_slice())
+    add_ignored_name_lines(out, design.ignored.as_slice())
 }

@@ -2,7 +2,7 @@
 ghost use Rattle.std.specs.Prelude.{◌≡◌, ◌++◌, OnOk, OnErr};
 ghost use Rattle.pals_model.specs.RoundTexts.{line_end};
 ghost use Rattle.pals_report.specs.proof.PartialWrites.{BeginsWith};
-ghost use Rattle.pals_report.specs.PackageFaultLines.{and_word, flat_words, flat_fault_line};
+ghost use Rattle.pals_report.specs.PackageFaultLines.{and_word, package_fault_words, package_fault_line};
 ghost use Rattle.pals_report.specs.Positions.{position_text};
 
 use crate::{Cursor, whole_or_none};
@@ -12,9 +12,9 @@ use pals_base::{NoMemory, Text};
 
 /// Adds the line of a package's fault: its number, its name, and the name and place in the text
 /// that belong to it. If there is not enough memory, nothing is added.
-pub fn add_flat_fault(out: &mut Vec<u8>, text: &[u8], fault: &PackageFault) -> Result<(), NoMemory>
+pub fn add_package_fault(out: &mut Vec<u8>, text: &[u8], fault: &PackageFault) -> Result<(), NoMemory>
     ensures ok { OnOk result
-        (out.new.items ≡ out.old.items ++ flat_fault_line text.now fault.now ++ line_end) }
+        (out.new.items ≡ out.old.items ++ package_fault_line text.now fault.now ++ line_end) }
     ensures err { OnErr result (out.new.items ≡ out.old.items) }
 {
     let start = out.len();
@@ -24,7 +24,7 @@ pub fn add_flat_fault(out: &mut Vec<u8>, text: &[u8], fault: &PackageFault) -> R
 
 fn add_line(out: &mut Vec<u8>, text: &[u8], fault: &PackageFault) -> Result<(), NoMemory>
     ensures ok { OnOk result
-        (out.new.items ≡ out.old.items ++ flat_fault_line text.now fault.now ++ line_end) }
+        (out.new.items ≡ out.old.items ++ package_fault_line text.now fault.now ++ line_end) }
     ensures err { OnErr result (BeginsWith out.new.items out.old.items) }
 {
     out.extend_from_slice(b"flat ")?;
@@ -35,7 +35,7 @@ fn add_line(out: &mut Vec<u8>, text: &[u8], fault: &PackageFault) -> Result<(), 
 }
 
 fn add_words(out: &mut Vec<u8>, text: &[u8], fault: &PackageFault) -> Result<(), NoMemory>
-    ensures ok { OnOk result (out.new.items ≡ out.old.items ++ flat_words text.now fault.now) }
+    ensures ok { OnOk result (out.new.items ≡ out.old.items ++ package_fault_words text.now fault.now) }
     ensures err { OnErr result (BeginsWith out.new.items out.old.items) }
 {
     match fault {

@@ -5,7 +5,7 @@ ghost use Rattle.pals_model.specs.RoundTexts.{text_of, line_end, round_line, row
 ghost use Rattle.pals_model.specs.DesignRules.{IsDesign};
 ghost use Rattle.pals_report.specs.proof.PartialWrites.{BeginsWith};
 ghost use Rattle.pals_report.specs.proof.TapPlaces.{tap_places};
-ghost use Rattle.pals_report.specs.proof.RowLines.{components_from, taps_from};
+ghost use Rattle.pals_report.specs.proof.RowLines.{component_lines_from, tap_lines_from};
 
 use crate::component_state::add_part_line;
 use crate::round_parts::RoundParts;
@@ -33,7 +33,7 @@ fn add_component_lines<P: RoundParts>(
 ) -> Result<(), NoMemory>
     requires { length components.now ≤ COMPONENTS }
     ensures ok { OnOk result (out.new.items
-        ≡ out.old.items ++ text_of (components_from (P.part_of parts.now) 0 components.now)) }
+        ≡ out.old.items ++ text_of (component_lines_from (P.part_of parts.now) 0 components.now)) }
     ensures err { OnErr result (BeginsWith out.new.items out.old.items) }
 {
     for (node, component) in components.iter().enumerate() {
@@ -51,7 +51,7 @@ fn add_tap_lines<P: RoundParts>(
 ) -> Result<(), NoMemory>
     requires { places.now ≡ tap_places design.now.taps }
     ensures ok { OnOk result (out.new.items
-        ≡ out.old.items ++ text_of (taps_from design.now (P.part_of parts.now) 0 design.now.taps)) }
+        ≡ out.old.items ++ text_of (tap_lines_from design.now (P.part_of parts.now) 0 design.now.taps)) }
     ensures err { OnErr result (BeginsWith out.new.items out.old.items) }
 {
     for (number, tap) in design.taps.as_slice().iter().enumerate() {

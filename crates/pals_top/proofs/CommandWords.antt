@@ -6,7 +6,7 @@ use Rattle.std.specs.List.{list_all}
 use Rattle.std.proofs.lemmas.Bool.{eqb-true, true≢false}
 use Rattle.std.proofs.lemmas.Slice.Eq.{bytes_eq-Decides}
 use Rattle.pals_runs.specs.declared.commands.Command.{Command}
-use Rattle.pals_top.specs.CommandWords.{is_plain, is_flag, flags, plain_words, rooted_form, plain_form, form_by, form}
+use Rattle.pals_top.specs.CommandWords.{is_plain, is_flag, flags, plain_words, rooted_command, plain_form, command_by, form}
 
 -- ---- flags
 either : (w x y : List ℕ) → (bytes_eq w x || bytes_eq w y) ≡ true → is_plain x ≡ false → is_plain y ≡ false
@@ -30,16 +30,16 @@ begins c e = not-false (nat_eq c 45) e where
   not-false true e = refl
   not-false false e = absurd (true≢false e)
 
-flag_alone : (word root : List ℕ) → is_plain word ≡ false → rooted_form word root ≡ None
+flag_alone : (word root : List ℕ) → is_plain word ≡ false → rooted_command word root ≡ None
 flag_alone [] root e = absurd (true≢false e)
-flag_alone (c ∷ cs) root e = ap (λ b. rooted_form (b ∷ cs) root) (eqb-true c 45 (begins c e))
+flag_alone (c ∷ cs) root e = ap (λ b. rooted_command (b ∷ cs) root) (eqb-true c 45 (begins c e))
 
 -- ---- words by which of them are flags
 abbrev kept : Bool → List ℕ → List (List ℕ) → List (List ℕ)
 kept keep w rest = cond keep (w ∷ rest) rest
 
 abbrev by_parts : List (List ℕ) → List (List ℕ) → Option Command
-by_parts plain chosen = cond (list_all is_plain plain) (form_by plain chosen) None
+by_parts plain chosen = cond (list_all is_plain plain) (command_by plain chosen) None
 
 abbrev two : Bool → Bool → List ℕ → List ℕ → Option Command
 two x y a b = by_parts (kept (not x) a (kept (not y) b [])) (kept x a (kept y b []))
@@ -54,28 +54,28 @@ idle false command e = refl
 
 -- ---- two words
 rooted_by : (x y : Bool) (a b : List ℕ) → is_flag a ≡ x → is_flag b ≡ y → is_plain b ≡ true
-    → two x y a b ≡ rooted_form a b
+    → two x y a b ≡ rooted_command a b
 rooted_by x true a b ex ey plain = absurd (true≢false (sym plain ∙ flag_begins b ey))
 rooted_by true false a b ex ey plain =
-    idle (list_all is_plain (b ∷ [])) (form_by (b ∷ []) (a ∷ [])) refl ∙ sym (flag_alone a b (flag_begins a ex))
+    idle (list_all is_plain (b ∷ [])) (command_by (b ∷ []) (a ∷ [])) refl ∙ sym (flag_alone a b (flag_begins a ex))
 rooted_by false false a b ex ey plain =
-    both (is_plain a) (is_plain b) (rooted_form a b) plain (λ e. flag_alone a b e) where
+    both (is_plain a) (is_plain b) (rooted_command a b) plain (λ e. flag_alone a b e) where
       both : (first second : Bool) (command : Option Command) → second ≡ true → (first ≡ false → command ≡ None)
           → cond (first && (second && true)) command None ≡ command
       both true true command e none = refl
       both true false command e none = absurd (true≢false (sym e))
       both false second command e none = sym (none refl)
 
-pub form_rooted : (a b : List ℕ) → is_plain b ≡ true → form (a ∷ b ∷ []) ≡ rooted_form a b
+pub form_rooted : (a b : List ℕ) → is_plain b ≡ true → form (a ∷ b ∷ []) ≡ rooted_command a b
 form_rooted a b plain = rooted_by (is_flag a) (is_flag b) a b refl refl plain
 
 none_by : (x y : Bool) (a b : List ℕ) → is_plain b ≡ false → two x y a b ≡ None
 none_by true true a b plain = refl
-none_by false true a b plain = idle (list_all is_plain (a ∷ [])) (form_by (a ∷ []) (b ∷ [])) refl
-none_by true false a b plain = ap (λ p. cond (p && true) (form_by (b ∷ []) (a ∷ [])) None) plain
+none_by false true a b plain = idle (list_all is_plain (a ∷ [])) (command_by (a ∷ []) (b ∷ [])) refl
+none_by true false a b plain = ap (λ p. cond (p && true) (command_by (b ∷ []) (a ∷ [])) None) plain
 none_by false false a b plain =
-    ap (λ p. cond (is_plain a && (p && true)) (rooted_form a b) None) plain
-    ∙ nothing (is_plain a) (rooted_form a b) where
+    ap (λ p. cond (is_plain a && (p && true)) (rooted_command a b) None) plain
+    ∙ nothing (is_plain a) (rooted_command a b) where
       nothing : (p : Bool) (command : Option Command) → cond (p && (false && true)) command None ≡ None
       nothing true command = refl
       nothing false command = refl
@@ -130,7 +130,7 @@ counts : (words : List (List ℕ)) → length (plain_words words) + length (flag
 counts [] = refl
 counts (w ∷ words) = one_more (is_flag w) w (plain_words words) (flags words) (length words) (counts words)
 
-no_form : (plain chosen : List (List ℕ)) → 4 ≤ length plain + length chosen → form_by plain chosen ≡ None
+no_form : (plain chosen : List (List ℕ)) → 4 ≤ length plain + length chosen → command_by plain chosen ≡ None
 no_form [] [] many = absurd (omega arith)
 no_form (a ∷ []) [] many = absurd (omega arith)
 no_form (a ∷ b ∷ []) [] many = absurd (omega arith)
@@ -145,7 +145,7 @@ no_form plain (f ∷ g ∷ chosen) many = refl
 pub form_long : (words : List (List ℕ)) → 4 ≤ length words → form words ≡ None
 form_long words many =
     let count = counts words in
-    idle (list_all is_plain (plain_words words)) (form_by (plain_words words) (flags words))
+    idle (list_all is_plain (plain_words words)) (command_by (plain_words words) (flags words))
     (no_form (plain_words words) (flags words) (omega (arith, many, count)))
 
 -- ---- lists by their length

@@ -43,8 +43,8 @@ number_in least most word =
 
 -- ---- a command by its plain words, without flags or with one
 -- the command of a word with a root
-abbrev pub rooted_form : List ℕ → List ℕ → Option Command
-rooted_form word root =
+abbrev pub rooted_command : List ℕ → List ℕ → Option Command
+rooted_command word root =
     if bytes_eq word (codes "check") then Some (Check root) else if bytes_eq word (codes "sync") then Some (Sync root)
     else if bytes_eq word (codes "world") then Some (World root false) else if bytes_eq word (codes "run") then Some
     (Run root false)
@@ -61,7 +61,7 @@ ring_form _ _ = None
 
 abbrev pub plain_form : List (List ℕ) → Option Command
 plain_form (word ∷ []) = if bytes_eq word (codes "print") then Some Print else None
-plain_form (word ∷ root ∷ []) = rooted_form word root
+plain_form (word ∷ root ∷ []) = rooted_command word root
 plain_form (word ∷ nodes ∷ rounds ∷ []) =
     if bytes_eq word (codes "self") then ring_form (number_in 2 RING_NODES nodes)
     (number_in 1 RING_ROUNDS rounds) else None
@@ -80,14 +80,14 @@ flag_form flag (word ∷ root ∷ []) =
     word root else None
 flag_form flag _ = None
 
-abbrev pub form_by : List (List ℕ) → List (List ℕ) → Option Command
-form_by plain [] = plain_form plain
-form_by plain (flag ∷ []) = flag_form flag plain
-form_by plain _ = None
+abbrev pub command_by : List (List ℕ) → List (List ℕ) → Option Command
+command_by plain [] = plain_form plain
+command_by plain (flag ∷ []) = flag_form flag plain
+command_by plain _ = None
 
 -- The command that the words are. No plain word begins with `-`.
 abbrev pub form : List (List ℕ) → Option Command
-form words = if list_all is_plain (plain_words words) then form_by (plain_words words) (flags words) else None
+form words = if list_all is_plain (plain_words words) then command_by (plain_words words) (flags words) else None
 
 -- what the form of a command keeps: the numbers of a ring are within their limits
 abbrev pub HasForm : Command → Type 0

@@ -3,7 +3,7 @@ use Rattle.std.specs.Prelude.{◌≡◌, ℕ, List, []}
 use Rattle.pals_model.specs.declared.design.DesignParts.{DesignParts}
 use Rattle.pals_model.specs.RoundTexts.{report}
 use Rattle.scenario_json.specs.declared.scenario.Scenario.{Scenario}
-use Rattle.triple_vote.specs.VotedText.{vreport, thrice}
+use Rattle.triple_vote.specs.VotedText.{voted_report, thrice}
 use Rattle.triple_vote.specs.OutvotedFaults.{AreOutvoted}
 use Rattle.analysis_texts.specs.ReplicasAndRoundFaults.{replicated_in, faults_of}
 use Rattle.pals_top.specs.declared.status.TheConstants.{DONE}
@@ -12,7 +12,7 @@ use Rattle.pals_top.specs.declared.status.TheConstants.{DONE}
 -- votes
 pub record IsVoted (design : DesignParts) (scenario : Scenario) (status : ℕ) (text : List ℕ) : Type 0 where
   pub status_is : status ≡ DONE
-  pub text_is : text ≡ vreport design scenario.env (replicated_in design scenario.replicas) (faults_of scenario.faults)
+  pub text_is : text ≡ voted_report design scenario.env (replicated_in design scenario.replicas) (faults_of scenario.faults)
       scenario.rounds
   -- where no two replicas are at fault towards one reader in one round, they are the composition's, with each line of a
   -- replicated component three times

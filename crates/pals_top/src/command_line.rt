@@ -1,7 +1,7 @@
 //! The words of the command line.
 ghost use Rattle.std.specs.Prelude.{◌≡◌, [], ◌∷◌, true};
 ghost use Rattle.std.specs.List.{list_all};
-ghost use Rattle.pals_top.specs.CommandWords.{form, plain_form, rooted_form, is_flag, is_plain, is_digit, is_number};
+ghost use Rattle.pals_top.specs.CommandWords.{form, plain_form, rooted_command, is_flag, is_plain, is_digit, is_number};
 ghost use Rattle.pals_top.specs.CommandWords.{value_of, number_in, IsRead};
 ghost use Rattle.pals_top.specs.proof.PrivateFunctions.{flagged_form};
 
@@ -68,7 +68,7 @@ fn alone(word: &Text) -> Result<Command, WordsEnd>
 
 // The command of a word with a root.
 fn rooted(alloc: Global, word: &Text, root: &Text) -> Result<Command, WordsEnd>
-    ensures { IsRead (rooted_form word.now root.now) result }
+    ensures { IsRead (rooted_command word.now root.now) result }
 {
     match word.as_str() {
         "check" => Ok(Command::Check {

@@ -21,7 +21,7 @@ use crate::execution::{ExecutionCommand, keeps_rules};
 use crate::opening_bus::opened;
 use crate::refused_scenario::refused_event;
 use loose_world::world_laws::{events_are_steps, texts_are_told};
-use loose_world::{LooseEnd, OutLinks, add_finished, add_finished_by_all, add_journal, run_loose};
+use loose_world::{LooseEnd, OutLinks, add_finished_rows, add_common_rows, add_journal, run_loose};
 use pals_base::{Items, NoMemory, Text};
 use pals_bus::Bus;
 use pals_model::Design;
@@ -115,7 +115,7 @@ fn finished(alloc: Global, bus: &Bus, sent: &[u8]) -> Result<Answer, NoMemory>
     ensures { IfOk result (Says DONE (lines_text (finished_lines bus.now) ++ sent.now)) }
 {
     let mut text = Vec::new(alloc);
-    add_finished(alloc, &mut text, bus)?;
+    add_finished_rows(alloc, &mut text, bus)?;
     text.extend_from_slice(sent)?;
     Ok(Answer::Done(text))
 }
@@ -125,7 +125,7 @@ fn stopped(alloc: Global, bus: &Bus) -> Result<Answer, NoMemory>
     ensures { IfOk result (Says STOPPED (lines_text (common_lines bus.now) ++ lines_text (map (entry_line bus.now.run.design) bus.now.journal))) }
 {
     let mut text = Vec::new(alloc);
-    add_finished_by_all(alloc, &mut text, bus)?;
+    add_common_rows(alloc, &mut text, bus)?;
     add_journal(&mut text, bus)?;
     Ok(Answer::Stopped(text))
 }

@@ -13,7 +13,7 @@ use Rattle.pals_model.specs.DesignRules.{IsDesign}
 use Rattle.pals_runs.specs.declared.vote_faults_and_pairs.Pair.{Pair}
 use Rattle.plant_fuse.specs.FusedComposition.{ArePairs, Inputs, IsFused}
 use Rattle.plant_fuse.specs.proof.FusedRounds.{first_rounds}
-use Rattle.plant_fuse.specs.FusedReport.{fused_parts, fused_lines, freport}
+use Rattle.plant_fuse.specs.FusedReport.{fused_parts, fused_lines, fused_report}
 use Rattle.plant_fuse.specs.proof.FusedLaws.{ReportExists, ReportIsOne}
 use Rattle.plant_fuse.proofs.ExactlyOneSolution.{solution_exists, solution_is_one}
 use Rattle.plant_fuse.proofs.SolutionPrefixes.{solution_goes_on}
@@ -35,15 +35,15 @@ module _ (design : DesignParts) (pairs : List Pair) (env : Env) (rounds : ℕ) (
   first = first_rounds design rounds ins
 
   -- the rows of fewer rounds are those of the solution for these
-  earlier_rows : freport design first rounds ≡ freport design ins rounds
+  earlier_rows : fused_report design first rounds ≡ fused_report design ins rounds
   earlier_rows =
       ap text_of
       (flat_map_upwards_same (fused_lines design first) (fused_lines design ins) 0 rounds
       (λ round above below. ap (λ (parts : List Part). row_lines design (λ node. slice_get parts node) round)
       (earlier_parts design pairs env rounds ins sound are solves round (omega (arith, below)))))
 
-  pub report_goes_on : freport design ins (suc rounds)
-      ≡ freport design first rounds ++ text_of (fused_lines design ins rounds)
+  pub report_goes_on : fused_report design ins (suc rounds)
+      ≡ fused_report design first rounds ++ text_of (fused_lines design ins rounds)
   report_goes_on =
       more (fused_lines design ins) rounds ∙ ap (λ t. t ++ text_of (fused_lines design ins rounds)) (sym earlier_rows)
 
@@ -51,9 +51,9 @@ module _ (design : DesignParts) (pairs : List Pair) (env : Env) (rounds : ℕ) (
 pub reported_more : (design : DesignParts) (pairs : List Pair) (env : Env) (rounds : ℕ) (before ins : Inputs)
     (text new : List ℕ) (parts : List Part) → IsDesign design → ArePairs design pairs
     → IsFused design pairs env rounds before → IsFused design pairs env (suc rounds) ins
-    → text ≡ freport design before rounds → parts ≡ fused_parts design ins rounds
+    → text ≡ fused_report design before rounds → parts ≡ fused_parts design ins rounds
     → new ≡ text ++ text_of (row_lines design (λ node. slice_get parts node) rounds)
-    → new ≡ freport design ins (suc rounds)
+    → new ≡ fused_report design ins (suc rounds)
 reported_more design pairs env rounds before ins text new parts sound are solves_before solves says left added =
     let first = first_rounds design rounds ins in
     let same : before ≡ first =
@@ -61,18 +61,18 @@ reported_more design pairs env rounds before ins text new parts sound are solves
     (solution_goes_on design pairs env rounds ins sound are solves) in
     added
     ∙ ap₂ (λ (t : List ℕ) (ps : List Part). t ++ text_of (row_lines design (λ node. slice_get ps node) rounds))
-    (says ∙ ap (λ (v : Inputs). freport design v rounds) same) left
+    (says ∙ ap (λ (v : Inputs). fused_report design v rounds) same) left
     ∙ sym (report_goes_on design pairs env rounds ins sound are solves)
 
 -- ---- there is one report
 pub report_exists : ReportExists
 report_exists design pairs env rounds sound are =
     let solution = solution_exists design pairs env rounds sound are in
-    (freport design solution.0 rounds, record { ins = solution.0; solves = solution.1; says = refl })
+    (fused_report design solution.0 rounds, record { ins = solution.0; solves = solution.1; says = refl })
 
 pub report_is_one : ReportIsOne
 report_is_one design pairs env rounds text other sound are is_text is_other =
     is_text.says
-    ∙ ap (λ (v : Inputs). freport design v rounds)
+    ∙ ap (λ (v : Inputs). fused_report design v rounds)
     (solution_is_one design pairs env rounds is_text.ins is_other.ins sound are is_text.solves is_other.solves)
     ∙ sym is_other.says

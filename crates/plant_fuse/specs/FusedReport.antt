@@ -30,12 +30,12 @@ abbrev pub fused_lines : DesignParts → Inputs → ℕ → List (List ℕ)
 fused_lines design ins round = row_lines design (λ node. slice_get (fused_parts design ins round) node) round
 
 -- the rows of the first rounds
-abbrev pub freport : DesignParts → Inputs → ℕ → List ℕ
-freport design ins rounds = text_of (flat_map (fused_lines design ins) (upwards 0 rounds))
+abbrev pub fused_report : DesignParts → Inputs → ℕ → List ℕ
+fused_report design ins rounds = text_of (flat_map (fused_lines design ins) (upwards 0 rounds))
 
 -- a text is the report of the first rounds of fused composition: that of a solution of its equations for these rounds
 pub record IsFusedReport (design : DesignParts) (pairs : List Pair) (env : Env) (rounds : ℕ)
     (text : List ℕ) : Type 0 where
   pub ins : Inputs
   pub solves : IsFused design pairs env rounds ins
-  pub says : text ≡ freport design ins rounds
+  pub says : text ≡ fused_report design ins rounds

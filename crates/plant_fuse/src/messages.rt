@@ -10,7 +10,7 @@ use crate::design_tables::Tables;
 use pals_base::{Items, NodeNo, Tuple};
 use pals_model::{Design, Link};
 use sync_product::component_stage::Stage;
-use sync_product::tuple_columns::write_column;
+use sync_product::tuple_columns::write_port_tuple;
 
 /// Writes the message of each link, from the rows of its source: whole inside a pair, and else cut.
 pub fn send_all(design: &Design, tables: &Tables, stages: &[Stage], messages: &mut Items<Tuple>)
@@ -27,7 +27,7 @@ pub fn send_all(design: &Design, tables: &Tables, stages: &[Stage], messages: &m
         let stage = &stages[source];
         let count = sent_count(inside, stage);
         let message = &mut messages[number];
-        write_column(
+        write_port_tuple(
             message,
             stage.rows.as_slice(),
             link.out_port as usize,

@@ -30,7 +30,7 @@ pub struct FusedPair<'a> {
 
 /// Makes the steps of a round of a plant and its controller. At Ok the parts and the rows of the stages
 /// are those of the steps; the sizes stay in every case.
-pub fn run_sides(
+pub fn make_pair_steps(
     round: RoundInputs,
     fused: FusedPair,
     plant_stage: &mut Stage,

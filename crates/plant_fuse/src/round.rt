@@ -7,7 +7,7 @@ ghost use Rattle.plant_fuse.specs.proof.DesignTables.{AreTables};
 ghost use Rattle.plant_fuse.specs.proof.RoundWork.{IsPaired, IsRunAlone, AreAlone, IsRun, AreRun, StayBeside};
 
 use crate::design_tables::Tables;
-use crate::pair_steps::{FusedPair, PairedComponent, run_sides};
+use crate::pair_steps::{FusedPair, PairedComponent, make_pair_steps};
 use crate::taken_stages_and_parts::{put_stage, take_part, take_stage};
 use pals_base::{Items, NoMemory, NodeNo};
 use pals_model::{Design, Part};
@@ -116,7 +116,7 @@ fn run_pair(
     // What the plant has is taken out meanwhile, so that both sides can be changed.
     let mut stage = take_stage(stages, plant);
     let mut part = take_part(stage.alloc, next, plant);
-    let run = run_sides(
+    let run = make_pair_steps(
         round,
         fused,
         &mut stage,

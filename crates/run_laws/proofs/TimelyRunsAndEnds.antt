@@ -30,7 +30,7 @@ use Rattle.run_laws.specs.TimelyRounds.{IsTimely, PicksAll, PicksEndAt, ListStop
 use Rattle.run_laws.specs.Meetings.{AllDone, MeetingStop}
 use Rattle.run_laws.specs.proof.ReadingsAndStops.{StopFits}
 use Rattle.run_laws.specs.proof.RunTermination.{IsFirstEnded}
-use Rattle.run_laws.specs.proof.TimelyRunsAndEnds.{InTime, NoneStops, BoundsAreInTime, EndsFirst, EndsAreOne}
+use Rattle.run_laws.specs.proof.TimelyRunsAndEnds.{InTime, NoneStops, BoundsAreInTime, EndsFirst, EndsAgree}
 use Rattle.run_laws.specs.proof.TimelyRunsAndEnds.{PickedAreDone}
 use Rattle.run_laws.proofs.NodePicks.{runs_agree, node_agrees}
 use Rattle.run_laws.proofs.JournalStartsAndSends.{rounds_are_shown}
@@ -253,7 +253,7 @@ lists_end run one two journal more s t rules runs others same over end =
       ]
     ]
 
-pub ends_are_one : EndsAreOne
+pub ends_are_one : EndsAgree
 ends_are_one run Meet Meet journal more s t rules runs others same over end = inl (over, end)
 ends_are_one run Meet (Lists two) journal more s t rules runs others same over end = absurd (cc)
 ends_are_one run (Lists one) Meet journal more s t rules runs others same over end = absurd (cc)

@@ -3,7 +3,7 @@ ghost use Rattle.run_laws.specs.proof.StopBounds.{StopsAreBounded};
 ghost use Rattle.run_laws.specs.proof.RunGuarantees.{ClausesAreKept};
 ghost use Rattle.run_laws.specs.proof.RunTermination.{EachGoesOn, EachRunEnds, EndsAreNamed, JournalsEnd};
 ghost use Rattle.run_laws.specs.proof.RisingReadings.{HourIsLeast, ReadingsRise};
-ghost use Rattle.run_laws.specs.proof.TimelyRunsAndEnds.{BoundsAreInTime, EndsAreOne, NoneStops, PickedAreDone};
+ghost use Rattle.run_laws.specs.proof.TimelyRunsAndEnds.{BoundsAreInTime, EndsAgree, NoneStops, PickedAreDone};
 ghost use Rattle.run_laws.specs.proof.StepsUnderLock.{DueArrives, EndsStay, ListEnds, ListPicks, RunsReplay};
 ghost use Rattle.run_laws.specs.proof.MeetingLaws.{MeetingsEnd, MeetingsShowTargets, MeetingsStop, NoMeetingStops};
 ghost use Rattle.run_laws.specs.proof.ListPicks.{LinesArePicks, NodesPick, ReadingsArePicks};
@@ -126,7 +126,7 @@ pub fn each_run_ends()
 pub fn runs_in_time()
     ensures stop { NoneStops }
     ensures bounds { BoundsAreInTime }
-    ensures end { EndsAreOne }
+    ensures end { EndsAgree }
     ensures done { PickedAreDone }
 {}
 

@@ -11,11 +11,11 @@ ghost use Rattle.run_texts.specs.RunTexts.{TellsRun};
 ghost use Rattle.run_texts.specs.proof.NodeEnds.{journal_lines};
 
 use crate::first_ended::first_ended;
-use loose_world::{add_finished_by_all, add_journal};
+use loose_world::{add_common_rows, add_journal};
 use node_threads::RunEnd;
 use pals_base::{Nanos, NoMemory, NodeNo};
 use pals_bus::Bus;
-use pals_report::add_clock_end;
+use pals_report::add_clock_end_line;
 use run_laws::laws::clauses_are_kept;
 use std::alloc::Global;
 
@@ -56,7 +56,7 @@ fn traced_text(alloc: Global, bus: &Bus, trace: bool) -> Result<Vec<u8>, NoMemor
     ensures { IfOk result (λ text. text.items ≡ text_of (common_lines bus.now) ++ (if trace then journal_lines bus.now else [])) }
 {
     let mut text = Vec::new(alloc);
-    add_finished_by_all(alloc, &mut text, bus)?;
+    add_common_rows(alloc, &mut text, bus)?;
     if trace {
         add_journal(&mut text, bus)?;
     }
@@ -73,6 +73,6 @@ fn clock_end_text(
     ensures { IfOk result (λ text. text.items ≡ clock_end_line bus.now.run.design node.0 target ++ line_end) }
 {
     let mut text = Vec::new(alloc);
-    add_clock_end(&mut text, bus.design(), node, target)?;
+    add_clock_end_line(&mut text, bus.design(), node, target)?;
     Ok(text)
 }

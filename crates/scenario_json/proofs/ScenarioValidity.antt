@@ -35,7 +35,7 @@ use Rattle.analysis_fields.specs.NamedFormulas.{PropertyValue}
 use Rattle.analysis_fields.specs.ReplicasAndFaults.{faults_in}
 use Rattle.analysis_fields.specs.Processors.{processors_in}
 use Rattle.analysis_fields.proofs.ReplicaFaultFacts.{faults_keep}
-use Rattle.analysis_fields.proofs.ProcessorFacts.{processors_keep}
+use Rattle.analysis_fields.proofs.ProcessorFacts.{processors_are_valid}
 use Rattle.scenario_json.specs.declared.scenario.Scenario.{Scenario}
 use Rattle.scenario_json.specs.proof.ScenarioValidity.{IsScenarioOf}
 use Rattle.scenario_json.specs.Scenarios.{field, small_enough, needs_processors, rounds_in, inputs_field, events_field}
@@ -157,7 +157,7 @@ plants_on d design command s x r f keeps faults e =
     all_kept design x r f pl pr s keeps faults
     (field_keeps (λ ps. All (IsProcessorOf design) ps) (codes "processors") (needs_processors command) []
     (processors_in design) (get (codes "processors") d) pr (All-nil (IsProcessorOf design))
-    (λ y read. processors_keep design y pr read) is_pr)
+    (λ y read. processors_are_valid design y pr read) is_pr)
     last))
 
 replicas_on : (d : Data) (design : DesignParts) (command : Command) (s : Scenario) (x : Read) → Keeps design x

@@ -14,7 +14,7 @@ use Rattle.pals_model.specs.Composition.{no_frame}
 use Rattle.sync_product.specs.declared.round_inputs.RoundInputs.{RoundInputs}
 use Rattle.sync_product.specs.declared.component_stage.Stage.{Stage}
 use Rattle.sync_product.specs.proof.ProductSizes.{tap_ports}
-use Rattle.sync_product.specs.proof.Rounds.{IsStepped, frames_of, own_part, own_rows, own_vectors, vectors}
+use Rattle.sync_product.specs.proof.Rounds.{IsStepped, frames_of, own_part, own_rows, own_step_inputs, vectors}
 use Rattle.sync_product.proofs.ComponentLists.{slice_get-set_same, slice_get-set_other}
 
 pub stepped_more : (round : RoundInputs) (frames : List Frame) (next : List Part) (stages : List Stage) (node : ℕ)
@@ -63,7 +63,7 @@ pub rows_by : (round : RoundInputs) (parts : List Part) (node : ℕ) (item : Com
 rows_by round parts node item part sources rows within part_is sources_are is =
     is
     ∙ ap (λ ss. outputs item.behaviour part.frame (vectors round item ss)) sources_are
-    ∙ ap (λ (f : Frame). outputs item.behaviour f (own_vectors round node item))
+    ∙ ap (λ (f : Frame). outputs item.behaviour f (own_step_inputs round node item))
     (ap (λ (p : Part). p.frame) part_is ∙ sym (get_or-map (λ (p : Part). p.frame) parts node part no_frame within))
 
 pub part_by : (round : RoundInputs) (parts : List Part) (node : ℕ) (item : Component) (part : Part)
@@ -79,6 +79,6 @@ part_by round parts node item part sources taps rows part' within part_is source
     ap₂ (λ (f : Frame) (os : List (List PortValue)). let p : Part = record { frame = f; outs = os } in p)
     (frame_is
     ∙ ap (λ ss. frame_after item.behaviour part.frame (vectors round item ss)) sources_are
-    ∙ ap (λ (f : Frame). frame_after item.behaviour f (own_vectors round node item))
+    ∙ ap (λ (f : Frame). frame_after item.behaviour f (own_step_inputs round node item))
     (ap (λ (p : Part). p.frame) part_is ∙ sym (get_or-map (λ (p : Part). p.frame) parts node part no_frame within)))
     (outs_are ∙ ap₂ (λ (rs : List (List PortValue)) (ts : List ℕ). map (λ port. column port rs) ts) rows_are taps_are)

@@ -7,7 +7,7 @@ ghost use Rattle.sync_product.specs.proof.ProductSizes.{frame_size, part_size, s
 ghost use Rattle.sync_product.specs.proof.ProductSizes.{stage_size_of};
 
 use crate::round_inputs::{RoundInputs, write_inputs};
-use crate::tuple_columns::write_column;
+use crate::tuple_columns::write_port_tuple;
 use crate::wiring::WiredComponent;
 use behaviour_sem::fire_into;
 use pals_base::tuples::absent;
@@ -153,6 +153,6 @@ pub fn write_taps(outs: &mut Items<Tuple>, rows: &[Tuple], taps: &[u32])
     ensures sizes { map (λ tuple. length tuple) outs.new ≡ map (λ tuple. length tuple) outs.old }
 {
     for at in 0..taps.len() {
-        write_column(&mut outs[at], rows, taps[at] as usize, rows.len());
+        write_port_tuple(&mut outs[at], rows, taps[at] as usize, rows.len());
     }
 }

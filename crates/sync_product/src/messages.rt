@@ -5,7 +5,7 @@ ghost use Rattle.sync_product.specs.proof.ProductSizes.{stage_size, stage_sizes,
 ghost use Rattle.sync_product.specs.proof.Rounds.{sent_by};
 
 use crate::component_stage::Stage;
-use crate::tuple_columns::write_column;
+use crate::tuple_columns::write_port_tuple;
 use pals_base::{Items, Tuple};
 use pals_model::Design;
 
@@ -20,7 +20,7 @@ pub fn send_all(design: &Design, stages: &[Stage], messages: &mut Items<Tuple>)
     for (number, link) in design.links().iter().enumerate() {
         let stage = &stages[link.source.0 as usize];
         let message = &mut messages[number];
-        write_column(
+        write_port_tuple(
             message,
             stage.rows.as_slice(),
             link.out_port as usize,

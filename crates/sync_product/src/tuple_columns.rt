@@ -7,7 +7,7 @@ use pals_base::tuples::place;
 use pals_base::{PortValue, Tuple};
 
 /// Writes the place `port` of each row, one row a place, and absent places after the first `count`.
-pub fn write_column(to: &mut Tuple, rows: &[Tuple], port: usize, count: usize)
+pub fn write_port_tuple(to: &mut Tuple, rows: &[Tuple], port: usize, count: usize)
     requires { length to.old ≡ length rows.now }
     ensures { to.new ≡ cut count (column port rows.now) }
 {

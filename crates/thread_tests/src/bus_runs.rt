@@ -5,7 +5,7 @@ ghost use Rattle.node_threads.specs.proof.SharedCourses.{AreClocksOf};
 
 use crate::designs::design_of;
 use design_codes::compile_all;
-use loose_world::add_finished_by_all;
+use loose_world::add_common_rows;
 use node_threads::{Gate, Host, NodeEnd, RunEnd, Starter, run_threads};
 use pals_base::{Items, Nanos, NoMemory, PortValue};
 use pals_bus::Bus;
@@ -73,7 +73,7 @@ fn run<R: Threads + Wait + Sync, W: Starter, G: Gate + Sync>(
 // The rows of the rounds that all nodes have finished, and a line for the end of each node.
 fn told(alloc: Global, end: &RunEnd) -> Result<Vec<u8>, NoMemory> {
     let mut text = Vec::new(alloc);
-    add_finished_by_all(alloc, &mut text, &end.bus)?;
+    add_common_rows(alloc, &mut text, &end.bus)?;
     for number in 0..end.ends.len() {
         let line = end_line(alloc, end.ends[number])?;
         text.extend_from_slice(line.as_bytes())?;

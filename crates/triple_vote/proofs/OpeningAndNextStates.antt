@@ -24,9 +24,9 @@ use Rattle.sync_product.specs.proof.ProductSizes.{part_size, part_size_of, stage
 use Rattle.sync_product.specs.proof.Rounds.{frames_of}
 use Rattle.sync_product.proofs.ComponentLists.{count_of_sized}
 use Rattle.triple_vote.specs.declared.replica_layer.Layer.{Layer}
-use Rattle.triple_vote.specs.Replicas.{copies_of, Voted, frame_at, received_at, first_frame, first_tuple, vopening}
+use Rattle.triple_vote.specs.Replicas.{copies_of, Voted, frame_at, received_at, first_frame, first_tuple, voted_opening}
 use Rattle.triple_vote.specs.Replicas.{vshown_by}
-use Rattle.triple_vote.specs.proof.VotedStates.{VotedState, vbegun, vadvanced}
+use Rattle.triple_vote.specs.proof.VotedStates.{VotedState, voted_begun, voted_advanced}
 use Rattle.triple_vote.specs.proof.ReplicaLayers.{lengths, frame_sizes, tap_sizes}
 use Rattle.triple_vote.specs.proof.ThreeLayers.{there_in, parts_in, frame_of, tuple_of, voted_of, AreThree}
 use Rattle.triple_vote.specs.proof.ThreeLayers.{HaveReplicas, AreOpened, StayPut, AreMade, AllReceived, AreShown}
@@ -42,7 +42,7 @@ vstate design replicated voted shown = record { design = design; replicated = re
 voted_opened : (design : DesignParts) (replicated : List Bool) (layers : List Layer)
     (heard : List (List (List PortValue))) → AreOpened design replicated layers
     → heard ≡ replicate 3 (opening design).messages
-    → voted_of design replicated (parts_in layers) heard ≡ vopening design replicated
+    → voted_of design replicated (parts_in layers) heard ≡ voted_opening design replicated
 voted_opened design replicated layers heard opened silent =
     let begins : Component → Frame = λ (c : Component). initial c.behaviour in
     let first : Link → List PortValue = λ (x : Link). replicate (rate_of design x.source.0) Absent in
@@ -71,7 +71,7 @@ pub state_begun : (design : DesignParts) (replicated : List Bool) (layers : List
     (heard : List (List (List PortValue))) (shown : List (List PortValue))
     → AreOpened design replicated layers → heard ≡ replicate 3 (opening design).messages
     → shown ≡ map (λ (tap : Tap). replicate (rate_of design tap.source.0) Absent) design.taps
-    → vstate design replicated (voted_of design replicated (parts_in layers) heard) shown ≡ vbegun design replicated
+    → vstate design replicated (voted_of design replicated (parts_in layers) heard) shown ≡ voted_begun design replicated
 state_begun design replicated layers heard shown opened silent absent =
     ap₂ (vstate design replicated) (voted_opened design replicated layers heard opened silent) absent
 
@@ -84,7 +84,7 @@ pub state_advanced : (design : DesignParts) (replicated : List Bool) (values : L
     → AreShown design replicated layers shown
     → lengths shown ≡ tap_sizes design → AreTurned layers turned
     → vstate design replicated (voted_of design replicated (parts_in turned) next) shown
-    ≡ vadvanced (vstate design replicated (voted_of design replicated (parts_in old) heard) shown_before) values faults
+    ≡ voted_advanced (vstate design replicated (voted_of design replicated (parts_in old) heard) shown_before) values faults
 state_advanced design replicated values faults heard next old layers turned shown_before shown rules are replicas stay
     made received shows sizes turns =
     let there : HaveReplicas design replicated (there_in layers) =
@@ -98,7 +98,7 @@ state_advanced design replicated values faults heard next old layers turned show
     (shown_is design replicated values heard layers rules are.three there made shown count shows)
     ∙ ap (λ w. vstate design replicated w (map (vshown_by design replicated values (before heard)) design.taps))
     (voted_is design replicated values heard layers rules are.three there made faults next received)
-    ∙ ap (λ ps. vadvanced (vstate design replicated (voted_of design replicated ps heard) shown_before) values
+    ∙ ap (λ ps. voted_advanced (vstate design replicated (voted_of design replicated ps heard) shown_before) values
     faults) stay.parts
 
 -- ---- what is read of it
@@ -193,7 +193,7 @@ pub state_advanced_by : (design d1 d2 d3 : DesignParts) (replicated marked : Lis
     → AllReceived d2 marked faults seen next → AreShown d3 marked seen shown → lengths shown ≡ tap_sizes d3
     → AreTurned layers turned
     → vstate design replicated (voted_of design replicated (parts_in turned) next) shown
-    ≡ vadvanced (vstate design replicated (voted_of design replicated (parts_in old) heard) shown_before) values faults
+    ≡ voted_advanced (vstate design replicated (voted_of design replicated (parts_in old) heard) shown_before) values faults
 state_advanced_by design d1 d2 d3 replicated marked values faults heard before next old layers seen turned shown_before
     shown e1 e2 e3 marks reads sees rules are replicas stay made received
     shows sizes turns =

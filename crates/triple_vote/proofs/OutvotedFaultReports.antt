@@ -21,8 +21,8 @@ use Rattle.pals_model.specs.Composition.{state, steps_of_round, tuple_of, taps_o
 use Rattle.pals_model.specs.RoundTexts.{text_of, round_line, component_line, tap_line, part_lines, tap_lines}
 use Rattle.pals_model.specs.RoundTexts.{taps_before, composed_lines}
 use Rattle.pals_model.proofs.CompositionLaws.{state_goes_on, part_from_steps}
-use Rattle.triple_vote.specs.Replicas.{is_replicated, copies_of, frame_at, vcomp, vshown}
-use Rattle.triple_vote.specs.VotedText.{replica_name, replica_lines, shown_line, vrow_lines, voted_lines, thrice_lines}
+use Rattle.triple_vote.specs.Replicas.{is_replicated, copies_of, frame_at, voted_composition, vshown}
+use Rattle.triple_vote.specs.VotedText.{replica_name, replica_lines, shown_line, voted_row, voted_lines, thrice_lines}
 use Rattle.triple_vote.specs.proof.VoteLaws.{ReportIsThrice, ThriceWithoutReplicas}
 use Rattle.triple_vote.proofs.OutvotedFaults.{replicas_are_states, taps_show_tuples}
 
@@ -61,7 +61,7 @@ row-same : (design : DesignParts) (replicated : List Bool) (f g : ℕ → ℕ �
     → ((node replica : ℕ) → node < length design.components → replica < copies_of replicated node
     → f node replica ≡ g node replica)
     → ((n : ℕ) (tap : Tap) → slice_get design.taps n ≡ Some tap → shown tap ≡ other tap)
-    → vrow_lines design replicated f shown round ≡ vrow_lines design replicated g other round
+    → voted_row design replicated f shown round ≡ voted_row design replicated g other round
 row-same design replicated f g shown other round frames taps =
     ap₂ (row_of round)
     (numbered-same (λ numbered. replica_lines replicated f numbered.0 numbered.1)
@@ -81,7 +81,7 @@ row-same design replicated f g shown other round frames taps =
 pub report_is_thrice : ReportIsThrice
 report_is_thrice design env replicated faults n sound are outvoted =
     ap text_of (rounds-same (voted_lines design env replicated faults) (thrice_lines design env replicated)
-    (λ round. row-same design replicated (frame_at (vcomp design env replicated faults (suc round)))
+    (λ round. row-same design replicated (frame_at (voted_composition design env replicated faults (suc round)))
     (λ node replica. state design env node (suc round))
     (λ tap. vshown design env replicated faults tap round)
     (λ tap. tuple_of (steps_of_round design env round) tap.source.0 tap.out_port) round

@@ -16,7 +16,7 @@ use Rattle.pals_model.specs.Composition.{no_frame, comp, state, msg}
 use Rattle.pals_model.proofs.CompositionLaws.{one_frame_each, one_message_each}
 use Rattle.pals_runs.specs.declared.vote_faults_and_pairs.VoteFault.{VoteFault}
 use Rattle.triple_vote.specs.Replicas.{is_replicated, copies_of, receivers_in, Voted, for_replicas, for_receivers}
-use Rattle.triple_vote.specs.Replicas.{first_frame, first_tuple, replica_steps, receives_on, vcomp}
+use Rattle.triple_vote.specs.Replicas.{first_frame, first_tuple, replica_steps, receives_on, voted_composition}
 use Rattle.triple_vote.specs.proof.VoteLaws.{ReplicasAreStates, ReceivedAreMessages, TapsShowTuples, alone}
 use Rattle.triple_vote.specs.proof.VoteLaws.{NoReplicasAreComposition}
 use Rattle.triple_vote.proofs.ListTablesAndSearches.{table-is}
@@ -116,14 +116,14 @@ none_overruled design replicated faults none l target link m is three size =
     absurd (true≢false (sym three ∙ none link.source.0))
 
 pub no_replicas_are_composition : NoReplicasAreComposition
-unfolding vcomp
+unfolding voted_composition
 no_replicas_are_composition design env replicated faults zero sound none =
     composed design env replicated none
     (λ node replica. first_frame (slice_get design.components node))
     (λ l replica. first_tuple design (slice_get design.links l)) 0
     (agrees_after design env replicated sound faults (λ round. none_overruled design replicated (faults round) none) 0)
 no_replicas_are_composition design env replicated faults (suc round) sound none =
-    let v = vcomp design env replicated faults round in
+    let v = voted_composition design env replicated faults round in
     composed design env replicated none
     (λ node replica. (replica_steps design (values_at env round) v node replica).frame)
     (λ l target. receives_on design replicated (values_at env round) (faults round) v l target

@@ -23,9 +23,9 @@ use Rattle.pals_model.proofs.ShapeLaws.{component_at, message_has_rate}
 use Rattle.pals_runs.specs.declared.vote_faults_and_pairs.VoteFault.{VoteFault}
 use Rattle.triple_vote.specs.Votes.{votes}
 use Rattle.triple_vote.specs.Replicas.{is_replicated, copies_of, receivers_in, Voted, frame_at, received_at}
-use Rattle.triple_vote.specs.Replicas.{for_replicas, for_receivers, first_frame, first_tuple, vopening, steps_in}
+use Rattle.triple_vote.specs.Replicas.{for_replicas, for_receivers, first_frame, first_tuple, voted_opening, steps_in}
 use Rattle.triple_vote.specs.Replicas.{replica_steps, tuple_at, is_fault, fault_or, own_message, sent_to, vote_of}
-use Rattle.triple_vote.specs.Replicas.{receives_on, vnext, vcomp, vshown_by, vshown}
+use Rattle.triple_vote.specs.Replicas.{receives_on, vnext, voted_composition, vshown_by, vshown}
 use Rattle.triple_vote.proofs.MajorityVotes.{votes-first_two}
 use Rattle.triple_vote.proofs.ReplicaInputs.{same_inputs}
 
@@ -78,7 +78,7 @@ AreOverruled design replicated faults =
 
 module _ (design : DesignParts) (env : Env) (replicated : List Bool) (sound : IsDesign design) where
   -- ---- the beginning
-  opening_agrees : Agrees design env replicated (vopening design replicated) 0
+  opening_agrees : Agrees design env replicated (voted_opening design replicated) 0
   opening_agrees = record {
     frames = λ node replica within below.
         (let at = component_at design node within in
@@ -195,11 +195,11 @@ module _ (design : DesignParts) (env : Env) (replicated : List Bool) (sound : Is
 
   -- ---- all rounds
   module _ (faults : ℕ → List VoteFault) (overruled : (round : ℕ) → AreOverruled design replicated (faults round)) where
-    pub agrees_after : (rounds : ℕ) → Agrees design env replicated (vcomp design env replicated faults rounds) rounds
-    unfolding vcomp
+    pub agrees_after : (rounds : ℕ) → Agrees design env replicated (voted_composition design env replicated faults rounds) rounds
+    unfolding voted_composition
     agrees_after zero = opening_agrees
     agrees_after (suc round) =
-        next_agrees (vcomp design env replicated faults round) round (agrees_after round) (faults round)
+        next_agrees (voted_composition design env replicated faults round) round (agrees_after round) (faults round)
         (overruled round)
 
     pub shows_after : (n round : ℕ) (tap : Tap) → slice_get design.taps n ≡ Some tap
@@ -208,4 +208,4 @@ module _ (design : DesignParts) (env : Env) (replicated : List Bool) (sound : Is
     unfolding vshown
     shows_after n round tap is =
         let rules = at_element (IsTap design) design.taps n tap sound.taps.each is in
-        shows (vcomp design env replicated faults round) round (agrees_after round) tap rules.source.node_is
+        shows (voted_composition design env replicated faults round) round (agrees_after round) tap rules.source.node_is

@@ -2,12 +2,12 @@
 use Rattle.std.proofs.Common.{◌∙◌, zero, suc, map, refl, ap, ap₂}
 use Rattle.pals_model.specs.declared.design.DesignParts.{DesignParts}
 use Rattle.pals_model.specs.ComponentInputs.{values_at}
-use Rattle.triple_vote.specs.Replicas.{Voted, vnext, vcomp, vshown_by, vshown}
-use Rattle.triple_vote.specs.proof.VotedStates.{VotedState, vstate_after}
+use Rattle.triple_vote.specs.Replicas.{Voted, vnext, voted_composition, vshown_by, vshown}
+use Rattle.triple_vote.specs.proof.VotedStates.{VotedState, voted_state_after}
 use Rattle.triple_vote.specs.proof.VoteLaws.{StandsAtVotes, ShowsVotes}
 
 pub stands_at_votes : StandsAtVotes
-unfolding vcomp
+unfolding voted_composition
 stands_at_votes design env replicated faults zero = record { design_is = refl; replicated_is = refl; voted_is = refl }
 stands_at_votes design env replicated faults (suc round) =
     let before = stands_at_votes design env replicated faults round in
@@ -16,7 +16,7 @@ stands_at_votes design env replicated faults (suc round) =
       design_is = before.design_is;
       replicated_is = before.replicated_is;
       voted_is =
-          ap₂ (λ d r. vnext d r values (faults round) (vstate_after design env replicated faults round).voted)
+          ap₂ (λ d r. vnext d r values (faults round) (voted_state_after design env replicated faults round).voted)
           before.design_is before.replicated_is
           ∙ ap (vnext design replicated values (faults round)) before.voted_is;
     }
@@ -26,6 +26,6 @@ unfolding vshown
 shows_votes design env replicated faults round =
     let before = stands_at_votes design env replicated faults round in
     let values = values_at env round in
-    let state : VotedState = vstate_after design env replicated faults round in
+    let state : VotedState = voted_state_after design env replicated faults round in
     ap₂ (λ (d : DesignParts) r. map (vshown_by d r values state.voted) d.taps) before.design_is before.replicated_is
     ∙ ap (λ (v : Voted). map (vshown_by design replicated values v) design.taps) before.voted_is

@@ -67,8 +67,8 @@ abbrev pub first_tuple : DesignParts → Option Link → List PortValue
 first_tuple design None = []
 first_tuple design (Some link) = replicate (rate_of design link.source.0) Absent
 
-abbrev pub vopening : DesignParts → List Bool → Voted
-vopening design replicated = record {
+abbrev pub voted_opening : DesignParts → List Bool → Voted
+voted_opening design replicated = record {
   frames = for_replicas design replicated (λ node replica. first_frame (slice_get design.components node));
   received = for_receivers design replicated (λ l replica. first_tuple design (slice_get design.links l));
 }
@@ -131,10 +131,10 @@ vnext design replicated values faults v = record {
 }
 
 -- after a number of rounds, with the faults of each round
-unfoldable pub vcomp : DesignParts → Env → List Bool → (ℕ → List VoteFault) → ℕ → Voted
-vcomp design env replicated faults zero = vopening design replicated
-vcomp design env replicated faults (suc round) =
-    vnext design replicated (values_at env round) (faults round) (vcomp design env replicated faults round)
+unfoldable pub voted_composition : DesignParts → Env → List Bool → (ℕ → List VoteFault) → ℕ → Voted
+voted_composition design env replicated faults zero = voted_opening design replicated
+voted_composition design env replicated faults (suc round) =
+    vnext design replicated (values_at env round) (faults round) (voted_composition design env replicated faults round)
 
 -- ---- what is seen of it
 -- the whole tuple that a root out port shows: of a component that has three replicas, the vote
@@ -145,4 +145,4 @@ vshown_by design replicated values v tap =
 
 unfoldable pub vshown : DesignParts → Env → List Bool → (ℕ → List VoteFault) → Tap → ℕ → List PortValue
 vshown design env replicated faults tap round =
-    vshown_by design replicated (values_at env round) (vcomp design env replicated faults round) tap
+    vshown_by design replicated (values_at env round) (voted_composition design env replicated faults round) tap

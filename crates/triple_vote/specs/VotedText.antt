@@ -13,7 +13,7 @@ use Rattle.pals_model.specs.PortKinds.{out_kind}
 use Rattle.pals_model.specs.Composition.{state, steps_of_round, tuple_of}
 use Rattle.pals_model.specs.RoundTexts.{text_of, round_line, component_line, tap_line}
 use Rattle.pals_runs.specs.declared.vote_faults_and_pairs.VoteFault.{VoteFault}
-use Rattle.triple_vote.specs.Replicas.{is_replicated, copies_of, frame_at, vcomp, vshown}
+use Rattle.triple_vote.specs.Replicas.{is_replicated, copies_of, frame_at, voted_composition, vshown}
 
 -- ---- the lines of a component: PATH, or PATH#1, PATH#2 and PATH#3
 abbrev pub replica_name : List ℕ → Bool → ℕ → List ℕ
@@ -29,8 +29,8 @@ shown_line design shown tap =
     tap_line (out_kind (slice_get design.components tap.source.0) tap.out_port) tap (shown tap)
 
 -- the row of a round, from the frames of replicas, and from what root out ports show
-abbrev pub vrow_lines : DesignParts → List Bool → (ℕ → ℕ → Frame) → (Tap → List PortValue) → ℕ → List (List ℕ)
-vrow_lines design replicated frame shown round =
+abbrev pub voted_row : DesignParts → List Bool → (ℕ → ℕ → Frame) → (Tap → List PortValue) → ℕ → List (List ℕ)
+voted_row design replicated frame shown round =
     round_line round
     ∷ flat_map (λ numbered. replica_lines replicated frame numbered.0 numbered.1) (enumerate_from 0 design.components)
     ++ map (shown_line design shown) design.taps
@@ -38,16 +38,16 @@ vrow_lines design replicated frame shown round =
 -- ---- the report of *votes*
 abbrev pub voted_lines : DesignParts → Env → List Bool → (ℕ → List VoteFault) → ℕ → List (List ℕ)
 voted_lines design env replicated faults round =
-    vrow_lines design replicated (frame_at (vcomp design env replicated faults (suc round)))
+    voted_row design replicated (frame_at (voted_composition design env replicated faults (suc round)))
     (λ tap. vshown design env replicated faults tap round) round
 
-abbrev pub vreport : DesignParts → Env → List Bool → (ℕ → List VoteFault) → ℕ → List ℕ
-vreport design env replicated faults n = text_of (flat_map (voted_lines design env replicated faults) (upwards 0 n))
+abbrev pub voted_report : DesignParts → Env → List Bool → (ℕ → List VoteFault) → ℕ → List ℕ
+voted_report design env replicated faults n = text_of (flat_map (voted_lines design env replicated faults) (upwards 0 n))
 
 -- ---- the report of the composition, with each line of a replicated component three times
 abbrev pub thrice_lines : DesignParts → Env → List Bool → ℕ → List (List ℕ)
 thrice_lines design env replicated round =
-    vrow_lines design replicated (λ node replica. state design env node (suc round))
+    voted_row design replicated (λ node replica. state design env node (suc round))
     (λ tap. tuple_of (steps_of_round design env round) tap.source.0 tap.out_port) round
 
 abbrev pub thrice : DesignParts → Env → List Bool → ℕ → List ℕ

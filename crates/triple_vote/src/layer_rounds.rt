@@ -10,7 +10,7 @@ use pals_base::{Items, NoMemory, NodeNo, PortValue, Tuple};
 use pals_model::{Design, Part, PortSource};
 use sync_product::component_stage::Stage;
 use sync_product::round_inputs::RoundInputs;
-use sync_product::tuple_columns::write_column;
+use sync_product::tuple_columns::write_port_tuple;
 use sync_product::wiring::WiredComponent;
 
 /// What a table says of a component, false past its end.
@@ -78,7 +78,7 @@ pub fn send_all(design: &Design, there: &[bool], stages: &[Stage], sent: &mut It
         }
         let stage = &stages[link.source.0 as usize];
         let message = &mut sent[number];
-        write_column(
+        write_port_tuple(
             message,
             stage.rows.as_slice(),
             link.out_port as usize,
@@ -100,6 +100,6 @@ pub fn show_all(design: &Design, there: &[bool], stages: &[Stage], shown: &mut I
         }
         let rows = stages[tap.source.0 as usize].rows.as_slice();
         let tuple = &mut shown[number];
-        write_column(tuple, rows, tap.out_port as usize, rows.len());
+        write_port_tuple(tuple, rows, tap.out_port as usize, rows.len());
     }
 }

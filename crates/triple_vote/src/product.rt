@@ -5,7 +5,7 @@ ghost use Rattle.std.specs.Arc.{arc_value};
 ghost use Rattle.pals_model.specs.declared.design.Link.{Link};
 ghost use Rattle.triple_vote.specs.Replicas.{copies_of, frame_at, received_at};
 ghost use Rattle.triple_vote.specs.proof.VoteLaws.{IsFault};
-ghost use Rattle.triple_vote.specs.proof.VotedStates.{vbegun, vadvanced};
+ghost use Rattle.triple_vote.specs.proof.VotedStates.{voted_begun, voted_advanced};
 
 use crate::fault_table::{FaultTable, first_faults};
 use crate::layers::{opening_heard, opening_layers, receive_each, run_each, turn_each};
@@ -82,7 +82,7 @@ impl VoteProduct {
         replicated: Vec<bool>,
     ) -> Result<VoteProduct, NoMemory>
         requires { length replicated.items ≡ length (arc_value design).components }
-        ensures { IfOk result (λ product. product ≡ vbegun (arc_value design) replicated.items) }
+        ensures { IfOk result (λ product. product ≡ voted_begun (arc_value design) replicated.items) }
     {
         let sources = all_sources(alloc, &design)?;
         let stages = stages(alloc, &design)?;
@@ -109,7 +109,7 @@ impl VoteProduct {
     /// Its time is in line with the design and the faults.
     pub fn advance(&mut self, values: &[PortValue], faults: &[VoteFault]) -> Result<(), NoMemory>
         requires { All (IsFault self.old.design) faults.now }
-        ensures ok { OnOk result (self.new ≡ vadvanced self.old values.now faults.now) }
+        ensures ok { OnOk result (self.new ≡ voted_advanced self.old values.now faults.now) }
         ensures err { OnErr result (self.new ≡ self.old) }
     {
         let links = self.design.links().len();

@@ -23,9 +23,9 @@ use Rattle.world_gen.specs.declared.event_series.EventSeries.{EventSeries}
 use Rattle.world_gen.specs.proof.Schedules.{step_time, finish_time, send_time, arrive_time, which, event_of, all_of}
 use Rattle.world_gen.specs.proof.Schedules.{step_count, begins, starts_at, finishes_at, sends_at, arrivals_at, finishes}
 use Rattle.world_gen.specs.proof.Schedules.{earlier_finishes, present_finishes, events_at}
-use Rattle.world_gen.specs.proof.EventSeries.{IsEventSeries, time_of, course_events, events_of, begin_course}
-use Rattle.world_gen.specs.proof.EventSeries.{finish_course, send_course, arrive_course, each_of, begin_courses}
-use Rattle.world_gen.specs.proof.EventSeries.{finish_courses, send_courses, arrive_courses, earlier_courses}
+use Rattle.world_gen.specs.proof.EventSeries.{IsEventSeries, time_of, series_events, events_of, begin_course}
+use Rattle.world_gen.specs.proof.EventSeries.{finish_course, send_course, arrive_course, each_of, all_begins}
+use Rattle.world_gen.specs.proof.EventSeries.{all_finishes, all_sends, all_arrivals, earlier_courses}
 use Rattle.world_gen.specs.proof.EventSeries.{present_courses, timetable}
 use Rattle.world_gen.proofs.TabulatedLists.{numbered_all}
 use Rattle.world_gen.proofs.ScheduleTimes.{whole, some_rate, some_step, step_at, send_before}
@@ -53,15 +53,15 @@ same_events one other count moment e same = ap (λ o. event_of o e) (same_which 
 
 -- ---- courses that stand in a row
 each_from : (moment : ℕ) (course : ℕ → EventSeries) (f : ℕ → List Event) (from n count : ℕ) → from + n ≡ count
-    → ((j : ℕ) → j < count → course_events moment (course j) ≡ f j)
-    → flat_map (course_events moment) (map course (upwards from n)) ≡ flat_map f (upwards from n)
+    → ((j : ℕ) → j < count → series_events moment (course j) ≡ f j)
+    → flat_map (series_events moment) (map course (upwards from n)) ≡ flat_map f (upwards from n)
 each_from moment course f from zero count is same = refl
 each_from moment course f from (suc n) count is same =
     ap₂ (λ (a b : List Event). a ++ b) (same from (omega arith))
     (each_from moment course f (suc from) n count (omega arith) same)
 
 each_events : (moment : ℕ) (course : ℕ → EventSeries) (f : ℕ → List Event) (count : ℕ)
-    → ((j : ℕ) → j < count → course_events moment (course j) ≡ f j)
+    → ((j : ℕ) → j < count → series_events moment (course j) ≡ f j)
     → events_of (each_of count course) moment ≡ all_of count f
 each_events moment course f count same = each_from moment course f 0 count count (omega arith) same
 
@@ -80,7 +80,7 @@ no_courses false moment courses events same = same
 both_events : (moment : ℕ) (xs ys : List EventSeries) (as' bs : List Event) → events_of xs moment ≡ as'
     → events_of ys moment ≡ bs → events_of (xs ++ ys) moment ≡ as' ++ bs
 both_events moment xs ys as' bs one two =
-    flat_map-append (course_events moment) xs ys ∙ ap₂ (λ (a b : List Event). a ++ b) one two
+    flat_map-append (series_events moment) xs ys ∙ ap₂ (λ (a b : List Event). a ++ b) one two
 
 -- ---- a design's courses
 -- times of all rounds are readings
@@ -118,24 +118,24 @@ module _ (design : DesignParts) (rules : IsDesign design) (rounds : ℕ) where
 
   -- ---- what they do
   module _ (moment : ℕ) where
-    ends : events_of (finish_courses design rounds) moment ≡ finishes design rounds moment
+    ends : events_of (all_finishes design rounds) moment ≡ finishes design rounds moment
     ends = each_events moment (finish_course design rounds) (finishes_at design rounds moment) many
         (λ node below. same_events (time_of (finish_course design rounds node)) (finish_time design node)
         (step_count design rounds node) moment
         (λ n. event.Finish (record { 0 = node })) (finish_times node below))
 
-    starts : events_of (begin_courses design rounds) moment ≡ all_of many (starts_at design rounds moment)
+    starts : events_of (all_begins design rounds) moment ≡ all_of many (starts_at design rounds moment)
     starts = each_events moment (begin_course design rounds) (starts_at design rounds moment) many
         (λ node below. same_events (time_of (begin_course design rounds node)) (step_time design node)
         (step_count design rounds node) moment
         (begins (plan_of design node).rate node) (begin_times node below))
 
-    sends : events_of (send_courses design rounds) moment ≡ all_of many (sends_at design rounds moment)
+    sends : events_of (all_sends design rounds) moment ≡ all_of many (sends_at design rounds moment)
     sends = each_events moment (send_course design rounds) (sends_at design rounds moment) many
         (λ node below. same_events (time_of (send_course design rounds node)) (send_time design node) rounds moment
         (λ round. event.Send (record { 0 = node })) (send_times node))
 
-    arrivals : events_of (arrive_courses design rounds) moment
+    arrivals : events_of (all_arrivals design rounds) moment
         ≡ all_of (length design.links) (arrivals_at design rounds moment)
     arrivals = each_events moment (arrive_course design rounds) (arrivals_at design rounds moment) (length design.links)
         (λ link below. same_events (time_of (arrive_course design rounds link)) (arrive_time design link) rounds moment
@@ -144,25 +144,25 @@ module _ (design : DesignParts) (rules : IsDesign design) (rounds : ℕ) where
     pub events_are : events_of (timetable design rounds) moment ≡ events_at design rounds moment
     events_are =
         let instant = nat_eq design.gamma.alpha_min 0 in
-        let earlier = no_courses instant moment (finish_courses design rounds) (finishes design rounds moment) ends in
-        let present = some_courses instant moment (finish_courses design rounds) (finishes design rounds moment) ends in
+        let earlier = no_courses instant moment (all_finishes design rounds) (finishes design rounds moment) ends in
+        let present = some_courses instant moment (all_finishes design rounds) (finishes design rounds moment) ends in
         let starts_of = all_of many (starts_at design rounds moment) in
         let sends_of = all_of many (sends_at design rounds moment) in
         let arrivals_of = all_of (length design.links) (arrivals_at design rounds moment) in
         let late =
-        both_events moment (send_courses design rounds) (arrive_courses design rounds) sends_of arrivals_of
+        both_events moment (all_sends design rounds) (all_arrivals design rounds) sends_of arrivals_of
         sends arrivals in
         let later =
         both_events moment (present_courses design rounds)
-        (send_courses design rounds ++ arrive_courses design rounds)
+        (all_sends design rounds ++ all_arrivals design rounds)
         (present_finishes design rounds moment) (sends_of ++ arrivals_of) present late in
         let begun =
-        both_events moment (begin_courses design rounds)
-        (present_courses design rounds ++ (send_courses design rounds ++ arrive_courses design rounds))
+        both_events moment (all_begins design rounds)
+        (present_courses design rounds ++ (all_sends design rounds ++ all_arrivals design rounds))
         starts_of (present_finishes design rounds moment ++ (sends_of ++ arrivals_of)) starts later in
         both_events moment (earlier_courses design rounds)
-        (begin_courses design rounds
-        ++ (present_courses design rounds ++ (send_courses design rounds ++ arrive_courses design rounds)))
+        (all_begins design rounds
+        ++ (present_courses design rounds ++ (all_sends design rounds ++ all_arrivals design rounds)))
         (earlier_finishes design rounds moment)
         (starts_of ++ (present_finishes design rounds moment ++ (sends_of ++ arrivals_of))) earlier begun
 
@@ -224,20 +224,20 @@ module _ (design : DesignParts) (rules : IsDesign design) (rounds : ℕ) where
     timetable_is_sound =
         let instant = nat_eq design.gamma.alpha_min 0 in
         let ends = numbered_all IsEventSeries (finish_course design rounds) many finish_is in
-        let earlier = if_all instant [] (finish_courses design rounds) (All-nil IsEventSeries) ends in
-        let present = if_all instant (finish_courses design rounds) [] ends (All-nil IsEventSeries) in
+        let earlier = if_all instant [] (all_finishes design rounds) (All-nil IsEventSeries) ends in
+        let present = if_all instant (all_finishes design rounds) [] ends (All-nil IsEventSeries) in
         let starts = numbered_all IsEventSeries (begin_course design rounds) many begin_is in
         let sends = numbered_all IsEventSeries (send_course design rounds) many send_is in
         let arrivals = numbered_all IsEventSeries (arrive_course design rounds) (length design.links) arrive_is in
-        let late = All-append IsEventSeries (send_courses design rounds) (arrive_courses design rounds) sends arrivals in
+        let late = All-append IsEventSeries (all_sends design rounds) (all_arrivals design rounds) sends arrivals in
         let later =
         All-append IsEventSeries (present_courses design rounds)
-        (send_courses design rounds ++ arrive_courses design rounds) present late in
+        (all_sends design rounds ++ all_arrivals design rounds) present late in
         let begun =
-        All-append IsEventSeries (begin_courses design rounds)
-        (present_courses design rounds ++ (send_courses design rounds ++ arrive_courses design rounds))
+        All-append IsEventSeries (all_begins design rounds)
+        (present_courses design rounds ++ (all_sends design rounds ++ all_arrivals design rounds))
         starts later in
         All-append IsEventSeries (earlier_courses design rounds)
-        (begin_courses design rounds
-        ++ (present_courses design rounds ++ (send_courses design rounds ++ arrive_courses design rounds)))
+        (all_begins design rounds
+        ++ (present_courses design rounds ++ (all_sends design rounds ++ all_arrivals design rounds)))
         earlier begun

@@ -10,7 +10,7 @@ use Rattle.pals_runs.specs.declared.events_and_faults.Event.{Event}
 use Rattle.run_laws.specs.Deadlines.{lesser}
 use Rattle.world_gen.specs.declared.event_series.EventSeries.{EventSeries}
 use Rattle.world_gen.specs.proof.Schedules.{which, event_of}
-use Rattle.world_gen.specs.proof.EventSeries.{IsEventSeries, time_of, next_of, deed_event, course_events, events_of}
+use Rattle.world_gen.specs.proof.EventSeries.{IsEventSeries, time_of, next_of, event_of_kind, series_events, events_of}
 use Rattle.world_gen.specs.proof.EventSeries.{next_moment}
 use Rattle.world_gen.proofs.NextSeriesEvents.{is_next, quiet_until, quiet_after, next_comes}
 use Rattle.world_gen.proofs.ExactlyOneSchedule.{nothing_of, nil_both}
@@ -135,8 +135,8 @@ none_before : (from moment : ℕ) (courses : List EventSeries) → AreLate from 
     → time < moment → events_of courses time ≡ []
 none_before from moment [] late time after before = refl
 none_before from moment (c ∷ cs) late time after before =
-    nil_both (course_events time c) (events_of cs time)
-    (nothing_of (which (time_of c) c.count time) (deed_event c.deed)
+    nil_both (series_events time c) (events_of cs time)
+    (nothing_of (which (time_of c) c.count time) (event_of_kind c.deed)
     (late_next c from moment (next_of c from) refl late.0 time after before))
     (none_before from moment cs late.1 time after before)
 
@@ -144,8 +144,8 @@ none_after : (from : ℕ) (courses : List EventSeries) → AreOver from courses 
     → events_of courses time ≡ []
 none_after from [] over time after = refl
 none_after from (c ∷ cs) over time after =
-    nil_both (course_events time c) (events_of cs time)
-    (nothing_of (which (time_of c) c.count time) (deed_event c.deed)
+    nil_both (series_events time c) (events_of cs time)
+    (nothing_of (which (time_of c) c.count time) (event_of_kind c.deed)
     (quiet_after c from time (over_next c from (next_of c from) refl over.0) after))
     (none_after from cs over.1 time after)
 
@@ -168,15 +168,15 @@ some_at from moment (c ∷ cs) sound (inl here) =
     let comes = comes_next c from moment (next_of c from) (All-head IsEventSeries c cs sound) refl here in
     record {
       something =
-          some_left (course_events moment c) (events_of cs moment) (deed_event c.deed comes.number)
-          (ap (λ o. event_of o (deed_event c.deed)) comes.comes);
+          some_left (series_events moment c) (events_of cs moment) (event_of_kind c.deed comes.number)
+          (ap (λ o. event_of o (event_of_kind c.deed)) comes.comes);
       after = comes.after;
       reading = comes.reading;
     }
 some_at from moment (c ∷ cs) sound (inr later) =
     let rest = some_at from moment cs (All-tail IsEventSeries c cs sound) later in
     record {
-      something = some_right (course_events moment c) (events_of cs moment) rest.something;
+      something = some_right (series_events moment c) (events_of cs moment) rest.something;
       after = rest.after;
       reading = rest.reading;
     }

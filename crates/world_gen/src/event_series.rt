@@ -1,7 +1,7 @@
 //! Event series: what is done over and over in a schedule, at equal distances in time. All times are nanoseconds.
 ghost use Rattle.std.specs.Prelude.{◌≡◌, ◌<◌, IfSome, option_map};
 ghost use Rattle.world_gen.specs.proof.Schedules.{which};
-ghost use Rattle.world_gen.specs.proof.EventSeries.{HasSteps, deed_event, IsEventSeries, time_of, next_of};
+ghost use Rattle.world_gen.specs.proof.EventSeries.{HasSteps, event_of_kind, IsEventSeries, time_of, next_of};
 
 use pals_base::{LinkNo, Nanos, NodeNo};
 use pals_runs::Event;
@@ -23,7 +23,7 @@ impl EventKind {
     /// The deed of a number as an event.
     pub fn event(self, number: u32) -> Event
         requires { HasSteps self }
-        ensures { result ≡ deed_event self number }
+        ensures { result ≡ event_of_kind self number }
     {
         match self {
             EventKind::Begin { node, rate } => {

@@ -4,8 +4,8 @@ ghost use Rattle.pals_base.specs.declared.limits.TheConstants.{ROUNDS};
 ghost use Rattle.run_laws.specs.Deadlines.{lesser};
 ghost use Rattle.world_gen.specs.proof.Schedules.{send_time};
 ghost use Rattle.world_gen.specs.proof.EventSeries.{IsEventSeries, begin_course, finish_course, send_course};
-ghost use Rattle.world_gen.specs.proof.EventSeries.{arrive_course, begin_courses, finish_courses, send_courses};
-ghost use Rattle.world_gen.specs.proof.EventSeries.{arrive_courses, timetable, next_moment, events_of};
+ghost use Rattle.world_gen.specs.proof.EventSeries.{arrive_course, all_begins, all_finishes, all_sends};
+ghost use Rattle.world_gen.specs.proof.EventSeries.{all_arrivals, timetable, next_moment, events_of};
 
 use crate::event_series::{EventKind, EventSeries};
 use pals_base::period_bound::step_period;
@@ -93,7 +93,7 @@ fn add_begins(
     rounds: u32,
 ) -> Result<(), NoMemory>
     requires { rounds ≤ ROUNDS }
-    ensures { OnOk result (courses.new ≡ courses.old ++ begin_courses design.now rounds) }
+    ensures { OnOk result (courses.new ≡ courses.old ++ all_begins design.now rounds) }
 {
     for node in 0..design.components().len() {
         courses.push(begin_course(design, rounds, NodeNo(node as u32)))?;
@@ -108,7 +108,7 @@ fn add_finishes(
     rounds: u32,
 ) -> Result<(), NoMemory>
     requires { rounds ≤ ROUNDS }
-    ensures { OnOk result (courses.new ≡ courses.old ++ finish_courses design.now rounds) }
+    ensures { OnOk result (courses.new ≡ courses.old ++ all_finishes design.now rounds) }
 {
     for node in 0..design.components().len() {
         courses.push(finish_course(design, rounds, NodeNo(node as u32)))?;
@@ -118,7 +118,7 @@ fn add_finishes(
 
 #[tactic(auto, using(crate::proofs::TabulatedLists::add_numbered))]
 fn add_sends(courses: &mut Items<EventSeries>, design: &Design, rounds: u32) -> Result<(), NoMemory>
-    ensures { OnOk result (courses.new ≡ courses.old ++ send_courses design.now rounds) }
+    ensures { OnOk result (courses.new ≡ courses.old ++ all_sends design.now rounds) }
 {
     for node in 0..design.components().len() {
         courses.push(send_course(design, rounds, NodeNo(node as u32)))?;
@@ -132,7 +132,7 @@ fn add_arrivals(
     design: &Design,
     rounds: u32,
 ) -> Result<(), NoMemory>
-    ensures { OnOk result (courses.new ≡ courses.old ++ arrive_courses design.now rounds) }
+    ensures { OnOk result (courses.new ≡ courses.old ++ all_arrivals design.now rounds) }
 {
     for link in 0..design.links().len() {
         courses.push(arrive_course(design, rounds, LinkNo(link as u32)))?;

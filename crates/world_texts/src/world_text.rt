@@ -9,7 +9,7 @@ ghost use Rattle.loose_world.specs.proof.FinishedRows.{finished_lines};
 ghost use Rattle.loose_world.specs.SentLines.{AreOutLinks};
 ghost use Rattle.world_texts.specs.proof.WorldTexts.{IsOpening, TellsEvents, TellsWorld};
 
-use loose_world::{OutLinks, add_finished, tell_messages};
+use loose_world::{OutLinks, add_finished_rows, add_sent_messages};
 use pals_base::{Items, NoMemory};
 use pals_model::{Design, Env};
 use pals_runs::{Event, EventFault};
@@ -91,7 +91,7 @@ fn tell_events(
                 return Ok(WorldEnd::At { index, fault });
             }
         }
-        tell_messages(links, sent, world.bus(), &events[index])?;
+        add_sent_messages(links, sent, world.bus(), &events[index])?;
     }
     Ok(WorldEnd::All)
 }
@@ -101,7 +101,7 @@ fn finished(alloc: Global, world: &World, sent: &[u8]) -> Result<Vec<u8>, NoMemo
     ensures { IfOk result (λ text. text.items ≡ text_of (finished_lines world.now.bus) ++ sent.now) }
 {
     let mut text = Vec::new(alloc);
-    add_finished(alloc, &mut text, world.bus())?;
+    add_finished_rows(alloc, &mut text, world.bus())?;
     text.extend_from_slice(sent)?;
     Ok(text)
 }

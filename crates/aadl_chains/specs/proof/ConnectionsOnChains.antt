@@ -8,7 +8,7 @@ use Rattle.aadl_chains.specs.proof.PortsJoinedOutside.{LeadsFrom, IsOutside}
 use Rattle.aadl_chains.specs.declared.chain_connections.JoinedPorts.{JoinedPorts}
 use Rattle.aadl_tree.specs.declared.declarations.Direction.TheVariants as directions
 
-pub record IsOnWay (tree : PackageTree ℕ) (root n : ℕ) (wire : Wire) : Type 0 where
+pub record IsOnChain (tree : PackageTree ℕ) (root n : ℕ) (wire : Wire) : Type 0 where
   pub source : PortPlace
   pub target : PortPlace
   pub source_is : wire.source ≡ Some source
@@ -17,7 +17,7 @@ pub record IsOnWay (tree : PackageTree ℕ) (root n : ℕ) (wire : Wire) : Type 
   pub goes : LeadsFrom tree root directions.Out n target
 
 -- the sets are those of all ports that threads give to or take from, and that are fed or led outside
-pub record AreWays (tree : PackageTree ℕ) (ways : JoinedPorts) : Type 0 where
+pub record AreChainPorts (tree : PackageTree ℕ) (ways : JoinedPorts) : Type 0 where
   pub gives_out : ways.gives.direction ≡ directions.Out
   pub gives : IsInside tree directions.Out ways.gives.ports
   pub takes_in : ways.takes.direction ≡ directions.In

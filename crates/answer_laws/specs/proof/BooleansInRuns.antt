@@ -12,7 +12,7 @@ use Rattle.pals_model.specs.proof.CompositionLaws.Kinds.{PartFits}
 use Rattle.pals_runs.specs.declared.commands.Command.{Command}
 use Rattle.scenario_json.specs.declared.scenario.Scenario.{Scenario}
 use Rattle.analysis_texts.specs.ReplicasAndRoundFaults.{replicated_in, faults_of}
-use Rattle.triple_vote.specs.Replicas.{vcomp, vshown}
+use Rattle.triple_vote.specs.Replicas.{voted_composition, vshown}
 use Rattle.plant_fuse.specs.FusedComposition.{Inputs, IsFused}
 use Rattle.bus_machine.specs.States.{BusState}
 use Rattle.bus_machine.specs.Agreement.{Agrees}
@@ -56,7 +56,7 @@ FaultsOfScenariosFit = OfScenarios (λ design scenario. FaultsFit design (faults
 -- so do those of each replica's frame, and of all that a replica receives
 abbrev pub VotesOfScenariosFit : Type 0
 VotesOfScenariosFit = OfScenarios (λ design scenario. (rounds : ℕ)
-    → VotedFits design (vcomp design scenario.env (replicated_in design scenario.replicas)
+    → VotedFits design (voted_composition design scenario.env (replicated_in design scenario.replicas)
     (faults_of scenario.faults) rounds))
 
 -- and those of each root out port

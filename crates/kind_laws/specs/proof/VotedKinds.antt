@@ -9,7 +9,7 @@ use Rattle.pals_model.specs.PortKinds.{out_kind}
 use Rattle.pals_model.specs.DesignRules.{IsDesign}
 use Rattle.pals_model.specs.proof.FittingValues.{FrameFits, TupleFits, link_kind, EnvFits}
 use Rattle.pals_runs.specs.declared.vote_faults_and_pairs.VoteFault.{VoteFault}
-use Rattle.triple_vote.specs.Replicas.{Voted, vcomp, vshown}
+use Rattle.triple_vote.specs.Replicas.{Voted, voted_composition, vshown}
 
 -- ---- faults
 -- what a fault sends in place of its replica's own message fits the kind of the link
@@ -34,7 +34,7 @@ abbrev pub VotesFit : Type 0
 VotesFit =
     (design : DesignParts) (env : Env) (replicated : List Bool) (faults : ℕ → List VoteFault) (rounds : ℕ)
     → IsDesign design → EnvFits design env → FaultsFit design faults
-    → VotedFits design (vcomp design env replicated faults rounds)
+    → VotedFits design (voted_composition design env replicated faults rounds)
 
 -- so does what each root out port shows
 abbrev pub ShownFit : Type 0

@@ -15,7 +15,7 @@ IsOneLeft (end.Refused index fault) s t journal more = ⊤
 
 -- two ends are one: in both all events are steps, or the same stop is given, or the same event is not allowed, for
 -- the same fault; and what they leave is one
-pub record AreOneEnd (how other : LooseEnd) (s t : BusState) (journal more : List JournalEntry) : Type 0 where
+pub record AreSameEnd (how other : LooseEnd) (s t : BusState) (journal more : List JournalEntry) : Type 0 where
   pub end : how ≡ other
   pub left : IsOneLeft how s t journal more
 
@@ -23,4 +23,4 @@ pub record AreOneEnd (how other : LooseEnd) (s t : BusState) (journal more : Lis
 abbrev pub OneEnd : Type 0
 OneEnd =
     (run : Run) (events : List Event) (how other : LooseEnd) (s t : BusState) (journal more : List JournalEntry)
-    → StepsTo run events how s journal → StepsTo run events other t more → AreOneEnd how other s t journal more
+    → StepsTo run events how s journal → StepsTo run events other t more → AreSameEnd how other s t journal more

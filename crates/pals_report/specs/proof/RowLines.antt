@@ -19,13 +19,13 @@ lines_at_place design place tap (Some part) =
     (slice_index_or part.outs place []) ∷ []
 
 -- the lines of components, which are numbered from a number on
-abbrev pub components_from : (ℕ → Option Part) → ℕ → List Component → List (List ℕ)
-components_from part_of node components =
+abbrev pub component_lines_from : (ℕ → Option Part) → ℕ → List Component → List (List ℕ)
+component_lines_from part_of node components =
     flat_map (λ numbered. part_lines numbered.1 (part_of numbered.0)) (enumerate_from node components)
 
 -- the lines of root out ports, which are numbered from a number on
-abbrev pub taps_from : DesignParts → (ℕ → Option Part) → ℕ → List Tap → List (List ℕ)
-taps_from design part_of number taps =
+abbrev pub tap_lines_from : DesignParts → (ℕ → Option Part) → ℕ → List Tap → List (List ℕ)
+tap_lines_from design part_of number taps =
     flat_map (λ numbered. tap_lines design numbered.0 numbered.1 (part_of numbered.1.source.0))
     (enumerate_from number taps)
 

@@ -9,12 +9,12 @@ use Rattle.loose_world.specs.declared.loose_run.LooseEnd.{LooseEnd}
 use Rattle.loose_world.specs.proof.FinishedRows.{finished_lines, common_lines}
 use Rattle.pals_report.specs.EventFaultLines.{event_fault_line}
 use Rattle.pals_top.specs.declared.status.TheConstants.{DONE, SCENARIO_REFUSED, STOPPED}
-use Rattle.pals_top.specs.CommandWords.{is_plain, form_by}
+use Rattle.pals_top.specs.CommandWords.{is_plain, command_by}
 use Rattle.loose_world.specs.declared.loose_run.LooseEnd.TheVariants as end
 
 -- a word with a root and one flag
 abbrev pub flagged_form : List ℕ → List ℕ → List ℕ → Option Command
-flagged_form flag word root = if is_plain word && is_plain root then form_by (word ∷ root ∷ []) (flag ∷ []) else None
+flagged_form flag word root = if is_plain word && is_plain root then command_by (word ∷ root ∷ []) (flag ∷ []) else None
 
 -- the one command that is given the program's host
 abbrev pub is_run : Command → Bool

@@ -21,22 +21,22 @@ use Rattle.bus_machine.specs.declared.node_action.NodeAction.TheVariants as acti
 
 -- ---- in time
 -- with list clocks the message of a link's round is due after each start of that round, and of those before it
-abbrev pub IsAfterStarts : Run → List ClockState → ℕ → ℕ → Type 0
-IsAfterStarts run clocks number round = let link = link_at run.design number in
+abbrev pub IsDueAfterStarts : Run → List ClockState → ℕ → ℕ → Type 0
+IsDueAfterStarts run clocks number round = let link = link_at run.design number in
     (begins start send : ℕ) → begins ≤ round → IsPickFor run clocks link.target.0 (action.Start begins) start
     → IsPickFor run clocks link.source.0 (action.Send round) send → start < send + delay_of run.delays number round
 
 -- where nodes meet it is due after its round's alarm
-abbrev pub IsAfterAlarm : Run → ℕ → ℕ → Type 0
-IsAfterAlarm run number round = let source = (link_at run.design number).source.0 in
+abbrev pub IsDueAfterAlarm : Run → ℕ → ℕ → Type 0
+IsDueAfterAlarm run number round = let source = (link_at run.design number).source.0 in
     round < run.rounds → 0 < (plan_of run.design source).release_offset + delay_of run.delays number round
 
 -- each message is in time for the start that takes it, and none is due at a start of its own round, or of an earlier
 -- one
 abbrev pub InTime : Run → Clocks → Type 0
-InTime run Meet = EachLink run (λ number. (round : ℕ) → (IsLate run number round → ⊥) × IsAfterAlarm run number round)
+InTime run Meet = EachLink run (λ number. (round : ℕ) → (IsLate run number round → ⊥) × IsDueAfterAlarm run number round)
 InTime run (Lists clocks) =
-    EachLink run (λ number. (round : ℕ) → IsTimely run clocks number round × IsAfterStarts run clocks number round)
+    EachLink run (λ number. (round : ℕ) → IsTimely run clocks number round × IsDueAfterStarts run clocks number round)
 
 -- in a run with such lists no stop stands
 abbrev pub NoneStops : Type 0
@@ -57,8 +57,8 @@ EndsFirst run (Lists clocks) s node goal =
 
 -- two runs with the same lists whose nodes have come to their ends are both done, or the same node ends first in
 -- both, at the same target
-abbrev pub EndsAreOne : Type 0
-EndsAreOne =
+abbrev pub EndsAgree : Type 0
+EndsAgree =
     (run : Run) (one two : Clocks) (journal more : List JournalEntry) (s t : BusState) → IsRunOf run
     → Runs run one journal s
     → Runs run two more t → lists_in one ≡ lists_in two → AllAtEnd run one s → AllAtEnd run two t

@@ -4,7 +4,7 @@ use Rattle.std.specs.Prelude.{slice_get, refl}
 use Rattle.std.specs.Coded.{Coded, code_by, coded×, coded_bool, coded_list}
 use Rattle.pals_base.specs.declared.values.Frame.{Frame}
 use Rattle.pals_runs.specs.Formula.{Formula}
-use Rattle.pals_runs.specs.proof.FormulaEncoding.{formula_code}
+use Rattle.pals_runs.specs.proof.FormulaEncoding.{coded_formula}
 use Rattle.run_monitor.specs.FormulaSemantics.{frame_in, holds}
 use Rattle.run_monitor.specs.proof.BitPerFormula.{further}
 use Rattle.run_monitor.specs.declared.flat_form.FlatForm.{FlatForm}
@@ -25,7 +25,7 @@ pub record MonitorState : Type 0 where
 abbrev pub state_code : Coded MonitorState
 state_code =
     code_by (List Formula × (Bool × (List Bool × List Bool)))
-    (coded× (coded_list formula_code) (coded× coded_bool (coded× (coded_list coded_bool) (coded_list coded_bool))))
+    (coded× (coded_list coded_formula) (coded× coded_bool (coded× (coded_list coded_bool) (coded_list coded_bool))))
     (λ m. (m.forms, (m.begun, (m.kept, m.seen))))
     (λ p. record { forms = p.0; begun = p.1.0; kept = p.1.1.0; seen = p.1.1.1 })
     (λ _. refl)

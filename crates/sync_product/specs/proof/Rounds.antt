@@ -30,15 +30,15 @@ abbrev pub frames_of : List Part → List Frame
 frames_of parts = map (λ (p : Part). p.frame) parts
 
 -- what a component's steps of a round leave: its frame, its outputs in each step, and its part
-abbrev pub own_vectors : RoundInputs → ℕ → Component → List (List PortValue)
-own_vectors round node c = vectors round c (sources_of round.design.now node c)
+abbrev pub own_step_inputs : RoundInputs → ℕ → Component → List (List PortValue)
+own_step_inputs round node c = vectors round c (sources_of round.design.now node c)
 
 abbrev pub own_rows : RoundInputs → List Frame → ℕ → Component → List (List PortValue)
-own_rows round frames node c = outputs c.behaviour (slice_index_or frames node no_frame) (own_vectors round node c)
+own_rows round frames node c = outputs c.behaviour (slice_index_or frames node no_frame) (own_step_inputs round node c)
 
 abbrev pub own_part : RoundInputs → List Frame → ℕ → Component → Part
 own_part round frames node c = record {
-  frame = frame_after c.behaviour (slice_index_or frames node no_frame) (own_vectors round node c);
+  frame = frame_after c.behaviour (slice_index_or frames node no_frame) (own_step_inputs round node c);
   outs = map (λ port. column port (own_rows round frames node c)) (tap_ports round.design.now.taps node);
 }
 

@@ -8,8 +8,8 @@ use Rattle.pals_model.specs.proof.TwoCounters.{two_counters}
 use Rattle.pals_model.specs.ComponentInputs.{no_env}
 use Rattle.pals_runs.specs.declared.vote_faults_and_pairs.VoteFault.{VoteFault}
 use Rattle.pals_model.specs.RoundTexts.{line_end}
-use Rattle.triple_vote.specs.Replicas.{Voted, vcomp}
-use Rattle.triple_vote.specs.VotedText.{vreport}
+use Rattle.triple_vote.specs.Replicas.{Voted, voted_composition}
+use Rattle.triple_vote.specs.VotedText.{voted_report}
 use Rattle.triple_vote.specs.OutvotedFaults.{AreOutvoted}
 use Rattle.triple_vote.specs.proof.VoteLaws.{AreFaults, NameOneEach}
 
@@ -35,7 +35,7 @@ xs_in v = flat_map (λ frames. map (λ (frame : Frame). slice_index_or frame.var
 
 abbrev pub counted : List VoteFault → List (List ℤ)
 counted faults =
-    map (λ round. xs_in (vcomp two_counters no_env (true ∷ false ∷ []) (first_round faults) (suc round))) (upwards 0 3)
+    map (λ round. xs_in (voted_composition two_counters no_env (true ∷ false ∷ []) (first_round faults) (suc round))) (upwards 0 3)
 
 abbrev pub four : ℕ → List ℤ
 four x = pos x ∷ pos x ∷ pos x ∷ pos x ∷ []
@@ -51,7 +51,7 @@ abbrev line : List ℕ → List ℕ
 line text = text ++ line_end
 
 abbrev text_with : List VoteFault → List ℕ
-text_with faults = vreport two_counters no_env (true ∷ false ∷ []) (first_round faults) 3
+text_with faults = voted_report two_counters no_env (true ∷ false ∷ []) (first_round faults) 3
 
 abbrev pub OneLiarText : Type 0
 OneLiarText = text_with (liar 2 ∷ []) ≡

@@ -14,10 +14,10 @@ use Rattle.pals_model.specs.DesignRules.{IsDesign}
 use Rattle.pals_runs.specs.declared.vote_faults_and_pairs.VoteFault.{VoteFault}
 use Rattle.pals_model.specs.RoundTexts.{report}
 use Rattle.triple_vote.specs.Votes.{vote}
-use Rattle.triple_vote.specs.Replicas.{source_in, is_replicated, copies_of, Voted, frame_at, received_at, vcomp, vshown}
-use Rattle.triple_vote.specs.VotedText.{vreport, thrice}
+use Rattle.triple_vote.specs.Replicas.{source_in, is_replicated, copies_of, Voted, frame_at, received_at, voted_composition, vshown}
+use Rattle.triple_vote.specs.VotedText.{voted_report, thrice}
 use Rattle.triple_vote.specs.OutvotedFaults.{AreOutvoted}
-use Rattle.triple_vote.specs.proof.VotedStates.{vstate_after}
+use Rattle.triple_vote.specs.proof.VotedStates.{voted_state_after}
 
 -- ---- the vote of three: what two agree on wins, and where no two agree it is absent
 pub record VotesOfThree : Type 0 where
@@ -54,7 +54,7 @@ ReplicasAreStates =
     (design : DesignParts) (env : Env) (replicated : List Bool) (faults : ℕ → List VoteFault) → IsDesign design
     → AreFaults design faults → AreOutvoted faults
     → (node replica rounds : ℕ) → node < length design.components → replica < copies_of replicated node
-    → frame_at (vcomp design env replicated faults rounds) node replica ≡ state design env node rounds
+    → frame_at (voted_composition design env replicated faults rounds) node replica ≡ state design env node rounds
 
 -- each replica receives the message of the composition
 abbrev pub ReceivedAreMessages : Type 0
@@ -63,7 +63,7 @@ ReceivedAreMessages =
     → AreFaults design faults → AreOutvoted faults
     → (l target round : ℕ) (link : Link) → slice_get design.links l ≡ Some link
     → target < copies_of replicated link.target.0
-    → received_at (vcomp design env replicated faults (suc round)) l target ≡ msg design env l round
+    → received_at (voted_composition design env replicated faults (suc round)) l target ≡ msg design env l round
 
 -- each root out port shows the tuple of the composition
 abbrev pub TapsShowTuples : Type 0
@@ -79,7 +79,7 @@ abbrev pub ReportIsThrice : Type 0
 ReportIsThrice =
     (design : DesignParts) (env : Env) (replicated : List Bool) (faults : ℕ → List VoteFault) (n : ℕ) → IsDesign design
     → AreFaults design faults → AreOutvoted faults
-    → vreport design env replicated faults n ≡ thrice design env replicated n
+    → voted_report design env replicated faults n ≡ thrice design env replicated n
 
 -- which without replicas is the report of the composition
 abbrev pub ThriceWithoutReplicas : Type 0
@@ -101,14 +101,14 @@ NoReplicasAreComposition =
     (design : DesignParts) (env : Env) (replicated : List Bool) (faults : ℕ → List VoteFault) (rounds : ℕ)
     → IsDesign design
     → ((node : ℕ) → is_replicated replicated node ≡ false)
-    → vcomp design env replicated faults rounds ≡ alone (comp design env rounds)
+    → voted_composition design env replicated faults rounds ≡ alone (comp design env rounds)
 
 -- ---- what contracts see after a number of rounds
 pub record StandsAt (design : DesignParts) (env : Env) (replicated : List Bool) (faults : ℕ → List VoteFault)
     (rounds : ℕ) : Type 0 where
-  pub design_is : (vstate_after design env replicated faults rounds).design ≡ design
-  pub replicated_is : (vstate_after design env replicated faults rounds).replicated ≡ replicated
-  pub voted_is : (vstate_after design env replicated faults rounds).voted ≡ vcomp design env replicated faults rounds
+  pub design_is : (voted_state_after design env replicated faults rounds).design ≡ design
+  pub replicated_is : (voted_state_after design env replicated faults rounds).replicated ≡ replicated
+  pub voted_is : (voted_state_after design env replicated faults rounds).voted ≡ voted_composition design env replicated faults rounds
 
 abbrev pub StandsAtVotes : Type 0
 StandsAtVotes =
@@ -119,5 +119,5 @@ StandsAtVotes =
 abbrev pub ShowsVotes : Type 0
 ShowsVotes =
     (design : DesignParts) (env : Env) (replicated : List Bool) (faults : ℕ → List VoteFault) (round : ℕ)
-    → (vstate_after design env replicated faults (suc round)).shown
+    → (voted_state_after design env replicated faults (suc round)).shown
     ≡ map (λ tap. vshown design env replicated faults tap round) design.taps

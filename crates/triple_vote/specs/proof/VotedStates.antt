@@ -12,7 +12,7 @@ use Rattle.pals_model.specs.declared.design.DesignParts.{DesignParts}
 use Rattle.pals_model.specs.declared.inputs_parts_and_delays.Env.{Env}
 use Rattle.pals_model.specs.ComponentInputs.{rate_of, values_at}
 use Rattle.pals_runs.specs.declared.vote_faults_and_pairs.VoteFault.{VoteFault}
-use Rattle.triple_vote.specs.Replicas.{Voted, vopening, vnext, vshown_by}
+use Rattle.triple_vote.specs.Replicas.{Voted, voted_opening, vnext, vshown_by}
 
 -- a design, which of its components have replicas, what stands after some rounds, and what the root out ports showed
 -- in the last
@@ -40,17 +40,17 @@ voted_code =
     (λ _. refl)
 
 -- before the first round
-abbrev pub vbegun : DesignParts → List Bool → VotedState
-vbegun design replicated = record {
+abbrev pub voted_begun : DesignParts → List Bool → VotedState
+voted_begun design replicated = record {
   design = design;
   replicated = replicated;
-  voted = vopening design replicated;
+  voted = voted_opening design replicated;
   shown = map (λ (tap : Tap). replicate (rate_of design tap.source.0) Absent) design.taps;
 }
 
 -- one round further, with these values of the root in ports and these faults
-abbrev pub vadvanced : VotedState → List PortValue → List VoteFault → VotedState
-vadvanced s values faults = record {
+abbrev pub voted_advanced : VotedState → List PortValue → List VoteFault → VotedState
+voted_advanced s values faults = record {
   design = s.design;
   replicated = s.replicated;
   voted = vnext s.design s.replicated values faults s.voted;
@@ -58,7 +58,7 @@ vadvanced s values faults = record {
 }
 
 -- after a number of rounds of an environment, with the faults of each round
-abbrev pub vstate_after : DesignParts → Env → List Bool → (ℕ → List VoteFault) → ℕ → VotedState
-vstate_after design env replicated faults zero = vbegun design replicated
-vstate_after design env replicated faults (suc round) =
-    vadvanced (vstate_after design env replicated faults round) (values_at env round) (faults round)
+abbrev pub voted_state_after : DesignParts → Env → List Bool → (ℕ → List VoteFault) → ℕ → VotedState
+voted_state_after design env replicated faults zero = voted_begun design replicated
+voted_state_after design env replicated faults (suc round) =
+    voted_advanced (voted_state_after design env replicated faults round) (values_at env round) (faults round)

@@ -39,19 +39,19 @@ abbrev pub next_of : EventSeries → ℕ → Option ℕ
 next_of course from = position (λ number. nat_le from (time_of course number)) (upwards 0 course.count)
 
 -- the deed of a number as an event
-abbrev pub deed_event : EventKind → ℕ → Event
-deed_event (Begin node rate) number = begins rate node.0 number
-deed_event (Finish node) number = event.Finish node
-deed_event (Send node) number = event.Send node
-deed_event (Arrive link) number = event.Arrive link number
+abbrev pub event_of_kind : EventKind → ℕ → Event
+event_of_kind (Begin node rate) number = begins rate node.0 number
+event_of_kind (Finish node) number = event.Finish node
+event_of_kind (Send node) number = event.Send node
+event_of_kind (Arrive link) number = event.Arrive link number
 
-abbrev pub course_events : ℕ → EventSeries → List Event
-course_events moment course = event_of (which (time_of course) course.count moment) (deed_event course.deed)
+abbrev pub series_events : ℕ → EventSeries → List Event
+series_events moment course = event_of (which (time_of course) course.count moment) (event_of_kind course.deed)
 
 -- ---- courses
 -- what they do at a moment
 abbrev pub events_of : List EventSeries → ℕ → List Event
-events_of courses moment = flat_map (course_events moment) courses
+events_of courses moment = flat_map (series_events moment) courses
 
 -- a Pass to a moment, and what they do at it
 abbrev pub moment_events : ℕ → List EventSeries → ℕ → List Event
@@ -105,30 +105,30 @@ arrive_course design rounds link = record {
 abbrev pub each_of : ℕ → (ℕ → EventSeries) → List EventSeries
 each_of count course = map course (upwards 0 count)
 
-abbrev pub begin_courses : DesignParts → ℕ → List EventSeries
-begin_courses design rounds = each_of (length design.components) (begin_course design rounds)
+abbrev pub all_begins : DesignParts → ℕ → List EventSeries
+all_begins design rounds = each_of (length design.components) (begin_course design rounds)
 
-abbrev pub finish_courses : DesignParts → ℕ → List EventSeries
-finish_courses design rounds = each_of (length design.components) (finish_course design rounds)
+abbrev pub all_finishes : DesignParts → ℕ → List EventSeries
+all_finishes design rounds = each_of (length design.components) (finish_course design rounds)
 
-abbrev pub send_courses : DesignParts → ℕ → List EventSeries
-send_courses design rounds = each_of (length design.components) (send_course design rounds)
+abbrev pub all_sends : DesignParts → ℕ → List EventSeries
+all_sends design rounds = each_of (length design.components) (send_course design rounds)
 
-abbrev pub arrive_courses : DesignParts → ℕ → List EventSeries
-arrive_courses design rounds = each_of (length design.links) (arrive_course design rounds)
+abbrev pub all_arrivals : DesignParts → ℕ → List EventSeries
+all_arrivals design rounds = each_of (length design.links) (arrive_course design rounds)
 
 -- a step that takes no time is finished in the moment in which it begins
 abbrev pub earlier_courses : DesignParts → ℕ → List EventSeries
-earlier_courses design rounds = if nat_eq design.gamma.alpha_min 0 then [] else finish_courses design rounds
+earlier_courses design rounds = if nat_eq design.gamma.alpha_min 0 then [] else all_finishes design rounds
 
 abbrev pub present_courses : DesignParts → ℕ → List EventSeries
-present_courses design rounds = if nat_eq design.gamma.alpha_min 0 then finish_courses design rounds else []
+present_courses design rounds = if nat_eq design.gamma.alpha_min 0 then all_finishes design rounds else []
 
 -- all of them, in the order in which they go on at one moment
 abbrev pub timetable : DesignParts → ℕ → List EventSeries
 timetable design rounds =
     earlier_courses design rounds
-    ++ (begin_courses design rounds
+    ++ (all_begins design rounds
     ++ (present_courses design rounds
-    ++ (send_courses design rounds
-    ++ arrive_courses design rounds)))
+    ++ (all_sends design rounds
+    ++ all_arrivals design rounds)))

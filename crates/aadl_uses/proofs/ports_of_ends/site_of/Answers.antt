@@ -12,9 +12,9 @@ pub returns-in_default : goal.returns-in_default
 returns-in_default c =
     let tree = placed c.args.uses.now.names.tree.now in
     let end = end_view kept_place c.args.end.now in
-    IfOk-weaker _ _ c.own_site.result
+    IfOk-weaker _ _ c.own_port.result
     (λ port e x is. e ∙ own_is tree c.args.number x end is
-    (ap (option_map (identifier_view kept_place)) c.in_default.is)) c.own_site.ensures
+    (ap (option_map (identifier_view kept_place)) c.in_default.is)) c.own_port.ensures
 
 pub returns-in-Some-2 : goal.returns-in-Some-2
 returns-in-Some-2 c =

@@ -6,7 +6,7 @@ use Rattle.pals_base.proofs.UpwardNumbers.{length-map_upwards}
 use Rattle.pals_model.specs.declared.design.Component.{Component}
 use Rattle.pals_model.specs.declared.design.DesignParts.{DesignParts}
 use Rattle.analysis_fields.specs.ReplicasAndFaults.{is_among}
-use Rattle.triple_vote.specs.proof.VotedStates.{VotedState, vbegun}
+use Rattle.triple_vote.specs.proof.VotedStates.{VotedState, voted_begun}
 use Rattle.analysis_texts.specs.ReplicasAndRoundFaults.{replicated_in}
 use Rattle.analysis_texts.proofs.replicas.product_of.Goals as goal
 
@@ -27,6 +27,6 @@ returns-clause-begun c =
     =
     c.in_ok-replicated.ensures
     ∙ ap (λ (cs : List Component). map (is_among replicas) (upwards 0 (length cs))) c.components.ensures.value in
-    IfOk-weaker c.new-2.result (λ (product : VotedState). product ≡ vbegun held marks)
-    (λ (product : VotedState). product ≡ vbegun design (replicated_in design replicas))
-    (λ product is. is ∙ ap₂ vbegun c.in_ok-new.ensures.ok marked) c.new-2.ensures
+    IfOk-weaker c.new-2.result (λ (product : VotedState). product ≡ voted_begun held marks)
+    (λ (product : VotedState). product ≡ voted_begun design (replicated_in design replicas))
+    (λ product is. is ∙ ap₂ voted_begun c.in_ok-new.ensures.ok marked) c.new-2.ensures

@@ -9,15 +9,15 @@ use Rattle.pals_model.specs.ComponentInputs.{values_at}
 use Rattle.pals_model.proofs.ShapeLaws.{length-values_at}
 use Rattle.pals_runs.specs.declared.vote_faults_and_pairs.VoteFault.{VoteFault}
 use Rattle.triple_vote.specs.proof.VoteLaws.{IsFault}
-use Rattle.triple_vote.specs.Replicas.{vcomp, vshown_by}
-use Rattle.triple_vote.specs.proof.VotedStates.{VotedState, vadvanced}
-use Rattle.triple_vote.specs.VotedText.{vreport}
+use Rattle.triple_vote.specs.Replicas.{voted_composition, vshown_by}
+use Rattle.triple_vote.specs.proof.VotedStates.{VotedState, voted_advanced}
+use Rattle.triple_vote.specs.VotedText.{voted_report}
 use Rattle.analysis_texts.specs.proof.ReplicaNamesAndLines.{all_names}
 use Rattle.analysis_texts.proofs.VotedRows.{MakesRound, voted_more}
 use Rattle.analysis_texts.proofs.replicas.rows.Goals as goal
 
 pub loop-round-init : goal.loop-round-init
-unfolding vcomp
+unfolding voted_composition
 loop-round-init c = record {
   design = refl;
   replicated = refl;
@@ -39,7 +39,7 @@ add_row-requires c =
     let old = c.loop-round.product in
     let new = c.advance.new.self in
     let values = c.as_slice.result.now in
-    let advanced : new ≡ vadvanced old values c.as_slice-in-loop-round.result.now = c.in_ok-advance.ensures.ok in
+    let advanced : new ≡ voted_advanced old values c.as_slice-in-loop-round.result.now = c.in_ok-advance.ensures.ok in
     let design = ap (λ (s : VotedState). s.design) advanced ∙ c.loop-round.invariant.design in
     let replicated = ap (λ (s : VotedState). s.replicated) advanced ∙ c.loop-round.invariant.replicated in
     record {
@@ -68,7 +68,7 @@ loop-round-preserved c =
     take-written_whole values.len written values.items (omega arith) (wide ∙ sym c.loop-round.invariant.values) in
     let here : c.as_slice.result.now ≡ values_at env round = c.as_slice.ensures.value ∙ whole
     ∙ c.write_values.ensures in
-    let advanced : new ≡ vadvanced old c.as_slice.result.now c.as_slice-in-loop-round.result.now =
+    let advanced : new ≡ voted_advanced old c.as_slice.result.now c.as_slice-in-loop-round.result.now =
     c.in_ok-advance.ensures.ok in
     record {
       design = ap (λ (s : VotedState). s.design) advanced ∙ c.loop-round.invariant.design;
@@ -86,7 +86,7 @@ loop-round-preserved c =
             design_is = c.loop-round.invariant.design;
             replicated_is = c.loop-round.invariant.replicated;
             voted_is = before.stands;
-            made = advanced ∙ ap₂ (vadvanced old) here faults;
+            made = advanced ∙ ap₂ (voted_advanced old) here faults;
           } in
           voted_more design env replicated all round old new c.loop-round.text.items c.add_row.new.text.items makes
           before.rows c.in_ok-add_row.ensures);
@@ -98,4 +98,4 @@ returns c = λ all are.
     let product = c.args.product.now in
     let done = c.loop-round.invariant.voted all are in
     let count : c.loop-round.round ≡ length c.args.faults.now = omega arith in
-    done.rows ∙ ap (vreport product.design c.args.env.now product.replicated all) count
+    done.rows ∙ ap (voted_report product.design c.args.env.now product.replicated all) count

@@ -3,9 +3,9 @@ use Rattle.std.proofs.lemmas.Result.{IfOk-weaker}
 use Rattle.pals_base.specs.StepSequences.{upwards}
 use Rattle.pals_base.proofs.UpwardNumbers.{length-map_upwards}
 use Rattle.pals_model.specs.declared.design.DesignParts.{DesignParts}
-use Rattle.triple_vote.specs.Replicas.{vopening}
+use Rattle.triple_vote.specs.Replicas.{voted_opening}
 use Rattle.triple_vote.specs.proof.VotedStates.{VotedState}
-use Rattle.triple_vote.specs.VotedText.{vreport}
+use Rattle.triple_vote.specs.VotedText.{voted_report}
 use Rattle.analysis_texts.specs.ReplicasAndRoundFaults.{replicated_in, faults_of}
 use Rattle.analysis_texts.specs.proof.ReplicaNamesAndLines.{all_names}
 use Rattle.analysis_texts.proofs.WellFormedVoteFaults.{rounds_keep}
@@ -20,7 +20,7 @@ rows-requires c =
     ap (λ (s : VotedState). s.replicated) c.requires.product in
     let listed = c.as_slice-2.ensures.value ∙ c.in_ok-faults.ensures in
     record {
-      opening = ap (λ (s : VotedState). s.voted) c.requires.product ∙ ap (vopening design) (sym marked);
+      opening = ap (λ (s : VotedState). s.voted) c.requires.product ∙ ap (voted_opening design) (sym marked);
       names =
           c.as_slice.ensures.value ∙ c.in_ok-names.ensures
           ∙ ap (λ (d : DesignParts). all_names d.components (replicated_in d replicas)) c.design.ensures
@@ -47,9 +47,9 @@ returns c =
     ap (λ (s : VotedState). s.replicated) c.requires.product in
     let listed : table ≡ map faults (upwards 0 c.args.rounds) = c.as_slice-2.ensures.value ∙ c.in_ok-faults.ensures in
     let count : length table ≡ c.args.rounds = ap length listed ∙ length-map_upwards faults 0 c.args.rounds in
-    IfOk-weaker c.rows.result (λ text. text.items ≡ vreport design env product.replicated faults (length table))
-    (λ text. text.items ≡ vreport design env (replicated_in design replicas) faults c.args.rounds)
+    IfOk-weaker c.rows.result (λ text. text.items ≡ voted_report design env product.replicated faults (length table))
+    (λ text. text.items ≡ voted_report design env (replicated_in design replicas) faults c.args.rounds)
     (λ text is.
-    is ∙ ap (λ (r : List Bool). vreport design env r faults (length table)) marked
-    ∙ ap (vreport design env (replicated_in design replicas) faults) count)
+    is ∙ ap (λ (r : List Bool). voted_report design env r faults (length table)) marked
+    ∙ ap (voted_report design env (replicated_in design replicas) faults) count)
     (c.rows.ensures faults (listed ∙ ap (λ n. map faults (upwards 0 n)) (sym count)))

@@ -71,12 +71,12 @@ resolve_some-returns-in-Some t c =
 pub resolve_actions-loop-action-init : goal.resolve_actions-loop-action-init
 resolve_actions-loop-action-init t c =
     one_action c.args.scope.now c.args.around _ c.in_ok-first.first _ _ _ _ c.in_ok-first.ensures
-    c.new-acts.ensures.items c.in_ok-push_exact.ensures
+    c.new-acts.ensures.items c.in_ok-push_compact.ensures
 
 pub resolve_actions-loop-action-preserved : goal.resolve_actions-loop-action-preserved
 resolve_actions-loop-action-preserved t c =
     next_action c.args.scope.now c.args.around _ _ _ _ c.in_ok-act.act _ _ _ _ _ c.loop-action-test.true
-    c.action-item.is c.loop-action.invariant c.in_ok-act.ensures c.in_ok-push_exact-2.ensures
+    c.action-item.is c.loop-action.invariant c.in_ok-act.ensures c.in_ok-push_compact-2.ensures
 
 pub resolve_actions-returns : goal.resolve_actions-returns
 resolve_actions-returns t c =
@@ -97,12 +97,12 @@ resolve_branch-returns t c =
 pub resolve_choice-loop-elsif-init : goal.resolve_choice-loop-elsif-init
 resolve_choice-loop-elsif-init t c =
     one_branch c.args.scope.now c.args.around _ _ c.in_ok-first.first _ _ _ _ c.in_ok-first.ensures
-    c.new-branches.ensures.items c.in_ok-push_exact.ensures
+    c.new-branches.ensures.items c.in_ok-push_compact.ensures
 
 pub resolve_choice-loop-elsif-preserved : goal.resolve_choice-loop-elsif-preserved
 resolve_choice-loop-elsif-preserved t c =
     next_branch c.args.scope.now c.args.around _ _ _ _ _ c.in_ok-branch.branch _ _ _ _ _ c.loop-elsif-test.true
-    c.elsif-item.is c.loop-elsif.invariant c.in_ok-branch.ensures c.in_ok-push_exact-2.ensures
+    c.elsif-item.is c.loop-elsif.invariant c.in_ok-branch.ensures c.in_ok-push_compact-2.ensures
 
 pub resolve_choice-returns : goal.resolve_choice-returns
 resolve_choice-returns t c =

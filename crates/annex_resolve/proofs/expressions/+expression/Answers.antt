@@ -53,7 +53,7 @@ pub resolve_relations-loop-operator-preserved : goal.resolve_relations-loop-oper
 resolve_relations-loop-operator-preserved t c =
     relations_next _ _ _ _ c.logic_op.result c.at.result c.in_ok-typed.typed _ _ _ _ _ _ c.loop-operator-test.true
     c.loop-operator-item.is c.loop-operator.invariant c.in_ok-typed.ensures
-    c.at.ensures c.in_ok-expect.ensures c.logic_op.ensures c.in_ok-push_exact.ensures
+    c.at.ensures c.in_ok-expect.ensures c.logic_op.ensures c.in_ok-push_compact.ensures
 
 -- ---- relations
 pub resolve_relation-returns-in-None : goal.resolve_relation-returns-in-None
@@ -111,7 +111,7 @@ pub resolve_terms-loop-sign-preserved : goal.resolve_terms-loop-sign-preserved
 resolve_terms-loop-sign-preserved t c =
     terms_next _ _ _ _ c.sign_op.result c.at.result c.in_ok-typed.typed _ _ _ _ _ _ c.loop-sign-test.true
     c.loop-sign-item.is c.loop-sign.invariant c.in_ok-typed.ensures
-    c.at.ensures c.in_ok-expect.ensures c.sign_op.ensures c.in_ok-push_exact.ensures
+    c.at.ensures c.in_ok-expect.ensures c.sign_op.ensures c.in_ok-push_compact.ensures
 
 pub resolve_term-returns-then-is_empty : goal.resolve_term-returns-then-is_empty
 resolve_term-returns-then-is_empty t c =
@@ -140,7 +140,7 @@ pub resolve_factors-loop-operator-preserved : goal.resolve_factors-loop-operator
 resolve_factors-loop-operator-preserved t c =
     factors_next _ _ _ _ c.multiply_op.result c.at.result c.in_ok-typed.typed _ _ _ _ _ _ c.loop-operator-test.true
     c.loop-operator-item.is c.loop-operator.invariant c.in_ok-typed.ensures
-    c.at.ensures c.in_ok-expect.ensures c.multiply_op.ensures c.in_ok-push_exact.ensures
+    c.at.ensures c.in_ok-expect.ensures c.multiply_op.ensures c.in_ok-push_compact.ensures
 
 -- ---- factors
 pub resolve_factor-returns-in_ok-new-in-Abs : goal.resolve_factor-returns-in_ok-new-in-Abs

@@ -1,5 +1,5 @@
 use Rattle.std.proofs.Common.{inl, inr, refl}
-use Rattle.answer_laws.proofs.UniquenessPremises.{ExecutionLaws}
+use Rattle.answer_laws.proofs.UniquenessPremises.{ExecutionPremises}
 use Rattle.answer_laws.proofs.ExecutionStatuses.{exactly, at_scenario, never_made, one_made, alone_at_scenario}
 use Rattle.answer_laws.proofs.statuses.statuses_of_executions.Goals as goal
 
@@ -21,7 +21,7 @@ returns-clause-code c what root bundle s a x =
 
 pub returns-clause-scenario : goal.returns-clause-scenario
 returns-clause-scenario c what root bundle s a x =
-    let laws : ExecutionLaws =
+    let laws : ExecutionPremises =
     record {
       one_end = c.one_end.ensures;
       one_text = c.text_is_one.ensures.text;
@@ -32,7 +32,7 @@ returns-clause-scenario c what root bundle s a x =
 
 pub returns-clause-done : goal.returns-clause-done
 returns-clause-done c what root bundle s a not_run x =
-    let laws : ExecutionLaws =
+    let laws : ExecutionPremises =
     record {
       one_end = c.one_end.ensures;
       one_text = c.text_is_one.ensures.text;
@@ -43,7 +43,7 @@ returns-clause-done c what root bundle s a not_run x =
 
 pub returns-clause-not_so : goal.returns-clause-not_so
 returns-clause-not_so c what root bundle s a not_run x =
-    let laws : ExecutionLaws =
+    let laws : ExecutionPremises =
     record {
       one_end = c.one_end.ensures;
       one_text = c.text_is_one.ensures.text;
@@ -54,7 +54,7 @@ returns-clause-not_so c what root bundle s a not_run x =
 
 pub returns-clause-stop : goal.returns-clause-stop
 returns-clause-stop c what root bundle s a not_run x =
-    let laws : ExecutionLaws =
+    let laws : ExecutionPremises =
     record {
       one_end = c.one_end.ensures;
       one_text = c.text_is_one.ensures.text;

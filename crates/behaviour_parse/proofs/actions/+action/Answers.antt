@@ -247,8 +247,8 @@ elsifs-loop-behind-preserved t c = record {
       ∙ c.in_ok-test.ensures.runs outer (s.actions ∷ s.elsifs ∷ below) (omega arith)
       ∙ c.in_ok-actions.ensures.runs outer (s.elsifs ∷ below) (omega arith);
   reads =
-      elsifs_push c.loop-behind.found.items c.push_exact.new.list.items c.in_ok-test.test c.in_ok-actions.actions
-      c.in_ok-push_exact.ensures c.loop-behind.invariant.reads
+      elsifs_push c.loop-behind.found.items c.push_compact.new.list.items c.in_ok-test.test c.in_ok-actions.actions
+      c.in_ok-push_compact.ensures c.loop-behind.invariant.reads
       (marked c.in-Some.ensures (then c.in_ok-test.ensures.reads c.in_ok-actions.ensures.reads));
 }
 
@@ -358,7 +358,7 @@ actions-loop-behind-preserved t c = record {
       ∙ c.in_ok-next.ensures.runs outer (s.mores ∷ below) (omega arith);
   reads =
       mores_push (action_parts (action_view kept_place c.in_ok-first.first)) c.loop-behind.others.items
-      c.push_exact.new.list.items c.in_ok-next.next c.in_ok-push_exact.ensures c.loop-behind.invariant.reads
+      c.push_compact.new.list.items c.in_ok-next.next c.in_ok-push_compact.ensures c.loop-behind.invariant.reads
       (marked c.in-Some.ensures c.in_ok-next.ensures.reads);
 }
 

@@ -271,7 +271,7 @@ term-loop-operator-preserved t c = record {
       ∙ c.in_ok-operand.ensures.runs outer (s.factors ∷ below) (omega arith);
   reads =
       factors_push (factor_parts (factor_view kept_place c.in_ok-first.first)) c.loop-operator.others.items
-      c.push_exact.new.list.items c.in-Some.operator c.in_ok-operand.operand c.in_ok-push_exact.ensures
+      c.push_compact.new.list.items c.in-Some.operator c.in_ok-operand.operand c.in_ok-push_compact.ensures
       c.loop-operator.invariant.reads (marked c.in-Some.ensures c.in_ok-operand.ensures.reads);
 }
 
@@ -329,7 +329,7 @@ terms-loop-sign-preserved t c = record {
       ∙ c.in_ok-next.ensures.runs outer (s.terms ∷ below) (omega arith);
   reads =
       terms_push (term_parts (term_view kept_place c.in_ok-first.first)) c.loop-sign.others.items
-      c.push_exact.new.list.items c.in-Some.sign c.in_ok-next.next c.in_ok-push_exact.ensures
+      c.push_compact.new.list.items c.in-Some.sign c.in_ok-next.next c.in_ok-push_compact.ensures
       c.loop-sign.invariant.reads (marked c.in-Some.ensures c.in_ok-next.ensures.reads);
 }
 
@@ -496,7 +496,7 @@ expression-loop-operator-preserved t c = record {
       ∙ c.in_ok-next.ensures.runs outer (s.relations ∷ below) (omega arith);
   reads =
       relations_push (relation_parts (relation_view kept_place c.in_ok-first.first)) c.loop-operator.others.items
-      c.push_exact.new.list.items c.in-Some.operator c.in_ok-next.next c.in_ok-push_exact.ensures
+      c.push_compact.new.list.items c.in-Some.operator c.in_ok-next.next c.in_ok-push_compact.ensures
       c.loop-operator.invariant.reads (joined_reads c.in-Some.operator c.in-Some.ensures c.in_ok-next.ensures.reads);
 }
 

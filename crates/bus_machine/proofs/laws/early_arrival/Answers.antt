@@ -1,5 +1,5 @@
-use Rattle.bus_machine.proofs.StoppedCounterRuns.{early_row}
+use Rattle.bus_machine.proofs.StoppedCounterRuns.{early_run}
 use Rattle.bus_machine.proofs.laws.early_arrival.Goals as goal
 
 pub returns : goal.returns
-returns c = early_row
+returns c = early_run

@@ -19,12 +19,12 @@ loop-index-preserved c =
     let within = c.loop-index-test.true in
     let goes = subst (λ (e : Event). GoesOn t e u) c.index-events-index.is c.in-Ok.ensures.ok in
     let same = c.index-events-index-in-loop-index.is ∙ get_or_default events first told done within in
-    let lines = c.in_ok-tell_messages.ensures.ok ∙ ap (λ (e : Event). mid ++ text_of (told_by u e)) same in
-    done_more c.args.bus.now events first t u c.args.sent.now.items mid c.tell_messages.new.sent.items done within
+    let lines = c.in_ok-add_sent_messages.ensures.ok ∙ ap (λ (e : Event). mid ++ text_of (told_by u e)) same in
+    done_more c.args.bus.now events first t u c.args.sent.now.items mid c.add_sent_messages.new.sent.items done within
     c.loop-index.invariant goes lines
 
-pub returns-in_err-tell_messages-clause-err : goal.returns-in_err-tell_messages-clause-err
-returns-in_err-tell_messages-clause-err c =
+pub returns-in_err-add_sent_messages-clause-err : goal.returns-in_err-add_sent_messages-clause-err
+returns-in_err-add_sent_messages-clause-err c =
     let events = c.args.events.now in
     let first = c.loop-index.index in
     let t = c.loop-index.bus in
@@ -33,7 +33,7 @@ returns-in_err-tell_messages-clause-err c =
     let done = c.index-events-index.result in
     let within = c.loop-index-test.true in
     let goes = subst (λ (e : Event). GoesOn t e u) c.index-events-index.is c.in-Ok.ensures.ok in
-    let kept = c.in_err-tell_messages.ensures.err in
+    let kept = c.in_err-add_sent_messages.ensures.err in
     on_err c.from_residual.result
-    (cut_behind c.args.bus.now events first t u c.args.sent.now.items mid c.tell_messages.new.sent.items done within
+    (cut_behind c.args.bus.now events first t u c.args.sent.now.items mid c.add_sent_messages.new.sent.items done within
     c.loop-index.invariant goes kept)

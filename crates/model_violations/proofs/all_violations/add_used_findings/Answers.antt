@@ -8,8 +8,8 @@ use Rattle.model_violations.proofs.all_violations.add_used_findings.Goals as goa
 pub used_below-requires : goal.used_below-requires
 used_below-requires c = root_within c.args.instance.now.flat
 
-pub add_declarations_findings-requires : goal.add_declarations_findings-requires
-add_declarations_findings-requires c =
+pub add_package_findings-requires : goal.add_package_findings-requires
+add_package_findings-requires c =
     are_small (has c.in_ok-used.used.keys) c.args.instance.now.flat c.in_ok-used.ensures
 
 pub returns : goal.returns
@@ -19,5 +19,5 @@ returns c = record {
   added =
       used_found (placed c.args.instance.now.wires.uses.names.tree.now) (shown c.args.instance.now)
       c.in_ok-used.used.keys c.in_ok-types.types.keys c.in_ok-carriers.carriers _ _ c.in_ok-types.ensures
-      c.in_ok-carriers.ensures c.in_ok-add_declarations_findings.ensures;
+      c.in_ok-carriers.ensures c.in_ok-add_package_findings.ensures;
 }

@@ -11,7 +11,7 @@ pub returns : goal.returns
 returns c =
     let tree = placed c.args.wires.now.uses.names.tree.now in
     first_fault tree c.args.root c.finish.result
-    (c.finish.ensures ∙ (c.in_ok-check_spaces.ensures
+    (c.finish.ensures ∙ (c.in_ok-check_duplicates.ensures
     ∙ (ap (λ o. found o (beside_names tree))
     (c.in_ok-check_declarations.ensures ∙ ap (λ o. found o (wrong_names tree c.args.root)) c.new-finder.ensures)
     ∙ sym (found_append None (wrong_names tree c.args.root) (beside_names tree)))))

@@ -27,10 +27,10 @@ returns-clause-ok c =
     six_lists (period_lines design c.args.shortest) (map component_line design.components)
     (map (link_line design) design.links) (map (feed_line design) design.feeds) (map (tap_line design) design.taps)
     (map ignored_line design.ignored) in
-    last_on_ok c.add_ignored_names.result _ c.add_taps.new.out.items c.args.out.now.items _ _ _ first
+    last_on_ok c.add_ignored_name_lines.result _ c.add_taps.new.out.items c.args.out.now.items _ _ _ first
     (ap (λ xs. (text_of (period_lines design c.args.shortest)
     ++ (text_of (map component_line design.components)
     ++ (text_of (map (link_line design) design.links)
     ++ (text_of (map (feed_line design) design.feeds) ++ text_of (map (tap_line design) design.taps)))))
     ++ text_of (map ignored_line xs)) c.as_slice-5.ensures.value ∙ lines)
-    c.add_ignored_names.ensures.ok
+    c.add_ignored_name_lines.ensures.ok

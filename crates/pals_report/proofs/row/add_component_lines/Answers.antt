@@ -1,7 +1,7 @@
 use Rattle.std.proofs.Common.{◌≡◌, ◌+◌, ◌∷◌, drop, ap, arith}
 use Rattle.std.proofs.lemmas.Grind.{common_steps}
 use Rattle.pals_model.specs.RoundTexts.{part_lines}
-use Rattle.pals_report.specs.proof.RowLines.{components_from}
+use Rattle.pals_report.specs.proof.RowLines.{component_lines_from}
 use Rattle.pals_report.proofs.RowLines.{lines_turn}
 use Rattle.pals_report.proofs.TextPrefixes.{begins_more}
 use Rattle.pals_report.proofs.row.add_component_lines.Goals as goal
@@ -19,6 +19,6 @@ loop-node-preserved g c =
       begun = begins_more _ _ _ _ c.loop-node.invariant.begun added;
       rest =
           lines_turn c.loop-node.out.items _ _ _ (part_lines component (part_of at))
-          (components_from part_of (at + 1) (drop (at + 1) c.args.components.now)) added
+          (component_lines_from part_of (at + 1) (drop (at + 1) c.args.components.now)) added
           (ap (part_lines component) c.part.ensures) before;
     }

@@ -1,7 +1,7 @@
 use Rattle.std.proofs.Common.{◌≡◌, ◌+◌, ◌∷◌, length, drop, get_or, ap, ◌∙◌, arith}
 use Rattle.std.proofs.lemmas.Grind.{common_steps}
 use Rattle.pals_model.specs.RoundTexts.{tap_lines, taps_before}
-use Rattle.pals_report.specs.proof.RowLines.{taps_from}
+use Rattle.pals_report.specs.proof.RowLines.{tap_lines_from}
 use Rattle.pals_report.proofs.TapPlacesAndCounts.{length-tap_places, place_at}
 use Rattle.pals_report.proofs.RowLines.{lines_turn, at_place}
 use Rattle.pals_report.proofs.TextPrefixes.{begins_more}
@@ -27,6 +27,6 @@ loop-number-preserved g c =
       begun = begins_more _ _ _ _ c.loop-number.invariant.begun added;
       rest =
           lines_turn c.loop-number.out.items _ _ _ (tap_lines design at tap (part_of tap.source.0))
-          (taps_from design part_of (at + 1) (drop (at + 1) design.taps)) added
+          (tap_lines_from design part_of (at + 1) (drop (at + 1) design.taps)) added
           (at_place design at c.place.result tap _ place ∙ ap (tap_lines design at tap) c.part-part.ensures) before;
     }

@@ -1,6 +1,6 @@
 use Rattle.std.proofs.Common.{inl, inr, ◌≡◌, ◌∷◌, [], ap, ◌∙◌, sym, subst, arith}
 use Rattle.std.proofs.lemmas.Bool.Decides.{nat_tests}
-use Rattle.pals_top.specs.CommandWords.{is_plain, form, rooted_form, IsRead}
+use Rattle.pals_top.specs.CommandWords.{is_plain, form, rooted_command, IsRead}
 use Rattle.pals_top.proofs.CommandWords.{form_rooted, form_none, form_unplain, form_long, is_same, no_items, two_items}
 use Rattle.pals_top.proofs.CommandWords.{three_items}
 use Rattle.pals_top.proofs.command_line.read_words.Goals.{in_default-via-then-words-lt1}
@@ -17,7 +17,7 @@ returns-in-len2 c =
     let root = c.root-item.result in
     let words : c.args.words.now ≡ word ∷ root ∷ [] =
     two_items _ _ _ c.in-len2.len_at_least c.in-len2.len_below c.word-item-then-words-lt3.is c.root-item.is in
-    let same : form c.args.words.now ≡ rooted_form word root = ap form words
+    let same : form c.args.words.now ≡ rooted_command word root = ap form words
     ∙ form_rooted word root (sym c.is_plain.ensures ∙ c.if-is_plain.true) in
     subst (λ o. IsRead o c.rooted.result) (sym same) c.rooted.ensures
 

@@ -43,8 +43,8 @@ index-requires c =
     let inside = kept.source.node_is in
     omega (arith, inside, count_of_partners design c.args.tables.now.pairs c.args.tables.now c.requires.tables)
 
-pub write_column-requires : goal.write_column-requires
-write_column-requires c =
+pub write_port_tuple-requires : goal.write_port_tuple-requires
+write_port_tuple-requires c =
     let design = c.args.design.now in
     let number = c.loop-number.number in
     let link = slice_index_or c.links-link-items.result.now number no_link in
@@ -66,7 +66,7 @@ loop-number-preserved c =
     let number = c.loop-number.number in
     let link = slice_index_or items number no_link in
     let message = c.index_mut-message.result.now in
-    let written = c.write_column.new.to in
+    let written = c.write_port_tuple.new.to in
     let is = link_is design items number c.links-link-items.ensures.value c.loop-number-test.true in
     let kept = at_element (IsLink design) design.links number link c.links-link-items.ensures.rules.links.each is in
     let node = kept.source.node_is in
@@ -75,7 +75,7 @@ loop-number-preserved c =
     c.requires.stages c.loop-number.invariant.sizes is refl node c.index_mut-message.ensures.value
     c.index-stages-source.is in
     let size : length written ≡ length message =
-    (ap length c.write_column.ensures
+    (ap length c.write_port_tuple.ensures
     ∙ length-cut c.sent_count-count.result _
     ∙ length-column c.as_slice.result.now link.out_port
     ∙ ap length c.as_slice.ensures.value
@@ -98,7 +98,7 @@ loop-number-preserved c =
     c.is_inside-inside.result c.sent_count-count.result
     c.loop-number-test.true (omega (arith, node, rooms)) c.index-stages-source.is c.as_slice.ensures.value
     (c.is_inside-inside.ensures ∙ ap (λ o. is_inside o link) partner) c.sent_count-count.ensures
-    c.write_column.ensures in
+    c.write_port_tuple.ensures in
     record {
       sizes =
           same_sizes (λ (tuple : List PortValue). length tuple) messages number message written within

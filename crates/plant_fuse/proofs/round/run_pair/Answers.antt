@@ -31,8 +31,8 @@ index_mut-requires-2 c =
           c.take_part-part.ensures,
     )
 
-pub run_sides-run-requires-clause-plant : goal.run_sides-run-requires-clause-plant
-run_sides-run-requires-clause-plant c =
+pub make_pair_steps-run-requires-clause-plant : goal.make_pair_steps-run-requires-clause-plant
+make_pair_steps-run-requires-clause-plant c =
     paired_fits c.args.round.design.now c.args.parts.now c.args.next.now c.args.stages.now.items
     c.args.pair.now.plant.0 c.args.pair.now.controller.0 c.paired.result c.take_stage-stage.result
     c.take_part-part.result c.paired.ensures c.requires.parts c.requires.next c.requires.stages c.take_stage-stage.ensures.was
@@ -45,8 +45,8 @@ module _ {X : Type 0} (old new : List X) (pair : Pair) (x y : X) (taken : TakenF
   stands : slice_get old pair.controller.0 ≡ Some y
   stands = kept_get old new pair.plant.0 pair.controller.0 x y taken (λ same. two (sym same)) within is
 
-pub run_sides-run-requires-clause-controller : goal.run_sides-run-requires-clause-controller
-run_sides-run-requires-clause-controller c =
+pub make_pair_steps-run-requires-clause-controller : goal.make_pair_steps-run-requires-clause-controller
+make_pair_steps-run-requires-clause-controller c =
     let design = c.args.round.design.now in
     let pair = c.args.pair.now in
     let next = c.args.next.now in
@@ -72,7 +72,7 @@ set-requires c =
       count_of_parts c.args.round.design.now c.args.next.now c.requires.next,
       kept_length c.args.next.now c.take_part-part.new.parts c.args.pair.now.plant.0 c.take_part-part.result
           c.take_part-part.ensures,
-      length-set c.take_part-part.new.parts c.args.pair.now.controller.0 c.run_sides-run.new.controller_part,
+      length-set c.take_part-part.new.parts c.args.pair.now.controller.0 c.make_pair_steps-run.new.controller_part,
     )
 
 pub returns : goal.returns
@@ -88,8 +88,8 @@ returns c =
     let next = c.args.next.now in
     let mid = c.take_part-part.new.parts in
     let next' = c.set.new.self in
-    let plant_part = c.run_sides-run.new.plant_part in
-    let controller_part = c.run_sides-run.new.controller_part in
+    let plant_part = c.make_pair_steps-run.new.plant_part in
+    let controller_part = c.make_pair_steps-run.new.controller_part in
     let count = count_of_parts design next c.requires.next in
     let plant_in : plant < length next = (let inside = is_pair.plant in omega (arith, inside, count)) in
     let controller_in : controller < length next = (let inside = is_pair.controller in omega (arith, inside, count)) in
@@ -102,8 +102,8 @@ returns c =
     let stages = c.args.stages.now.items in
     let mid_s = c.take_stage-stage.new.stages.items in
     let stages' = c.put_stage.new.stages.items in
-    let plant_stage = c.run_sides-run.new.plant_stage in
-    let controller_stage = c.run_sides-run.new.controller_stage in
+    let plant_stage = c.make_pair_steps-run.new.plant_stage in
+    let controller_stage = c.make_pair_steps-run.new.controller_stage in
     let count_s = count_of_stages design stages c.requires.stages in
     let plant_in_s : plant < length stages = (let inside = is_pair.plant in omega (arith, inside, count_s)) in
     let controller_in_s : controller < length stages =
@@ -117,7 +117,7 @@ returns c =
     let second_side = c.paired-2.result in
     record {
       run =
-          OnOk-weaker c.run_sides-run.result
+          OnOk-weaker c.make_pair_steps-run.result
           (AreSidesRun round first_side second_side plant_stage controller_stage plant_part controller_part)
           (IsRun round (frames_of parts) next' stages' pair)
           (pair_is_run round parts next' stages' pair first_side second_side plant_stage controller_stage plant_part
@@ -130,9 +130,9 @@ returns c =
           taken_s put_s is_pair.two plant_in_s controller_in_s)
           (back_second stages mid_s stages' plant controller c.take_stage-stage.result plant_stage controller_stage
           taken_s put_s is_pair.two plant_in_s controller_in_s))
-          c.run_sides-run.ensures.run;
+          c.make_pair_steps-run.ensures.run;
       others =
-          OnOk-always c.run_sides-run.result (StayBeside plant controller next next' stages stages')
+          OnOk-always c.make_pair_steps-run.result (StayBeside plant controller next next' stages stages')
           (record {
             parts_stay =
                 back_other next mid next' plant controller c.take_part-part.result plant_part controller_part taken put
@@ -148,9 +148,9 @@ returns c =
       parts =
           seen_back next mid next' plant controller c.take_part-part.result plant_part controller_part taken put
           is_pair.two plant_in controller_in part_size c.index_mut-2.result.now second
-          c.run_sides-run.ensures.plant_part c.run_sides-run.ensures.controller_part;
+          c.make_pair_steps-run.ensures.plant_part c.make_pair_steps-run.ensures.controller_part;
       stages =
           seen_back stages mid_s stages' plant controller c.take_stage-stage.result plant_stage controller_stage taken_s
           put_s is_pair.two plant_in_s controller_in_s stage_size c.index_mut.result.now second_s
-          c.run_sides-run.ensures.plant_stage c.run_sides-run.ensures.controller_stage;
+          c.make_pair_steps-run.ensures.plant_stage c.make_pair_steps-run.ensures.controller_stage;
     }

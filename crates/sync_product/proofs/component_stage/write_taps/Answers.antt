@@ -9,8 +9,8 @@ use Rattle.sync_product.proofs.PortColumns.{length-column}
 use Rattle.sync_product.proofs.TupleLengths.{size_of_out, count_of_outs}
 use Rattle.sync_product.proofs.component_stage.write_taps.Goals as goal
 
-pub write_column-requires : goal.write_column-requires
-write_column-requires c =
+pub write_port_tuple-requires : goal.write_port_tuple-requires
+write_port_tuple-requires c =
     size_of_out c.loop-at.outs c.args.taps.now (length c.args.rows.now) c.loop-at.at c.index_mut.result.now
     (c.loop-at.invariant.sizes ∙ c.requires) c.loop-at-test.true c.index_mut.ensures.value
 
@@ -21,10 +21,10 @@ loop-at-preserved c =
     let rows = c.args.rows.now in
     let taps = c.args.taps.now in
     let out = c.index_mut.result.now in
-    let tuple = c.write_column.new.to in
+    let tuple = c.write_port_tuple.new.to in
     let port = slice_index_or taps at 0 in
     let sizes = c.loop-at.invariant.sizes ∙ c.requires in
-    let whole : tuple ≡ column port rows = c.write_column.ensures
+    let whole : tuple ≡ column port rows = c.write_port_tuple.ensures
     ∙ cut_whole (length rows) (column port rows) (omega (arith, length-column rows port)) in
     let same : length tuple ≡ length out = ap length whole ∙ length-column rows port
     ∙ sym (size_of_out outs taps (length rows) at out sizes c.loop-at-test.true c.index_mut.ensures.value) in

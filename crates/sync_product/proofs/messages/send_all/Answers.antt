@@ -18,8 +18,8 @@ use Rattle.sync_product.proofs.PortColumns.{length-column}
 use Rattle.pals_model.specs.ComponentInputs.{rate_of}
 use Rattle.sync_product.proofs.messages.send_all.Goals as goal
 
-pub write_column-requires : goal.write_column-requires
-write_column-requires c =
+pub write_port_tuple-requires : goal.write_port_tuple-requires
+write_port_tuple-requires c =
     let design = c.args.design.now in
     let items = c.links-link-items.result.now in
     let number = c.loop-number.number in
@@ -39,7 +39,7 @@ loop-number-preserved c =
     let messages = c.loop-number.messages in
     let number = c.loop-number.number in
     let message = c.index_mut-message.result.now in
-    let written = c.write_column.new.to in
+    let written = c.write_port_tuple.new.to in
     let same = c.links-link-items.ensures.value in
     let is = ap (λ l. slice_get l number) (sym same) ∙ slice_get-get_or items number _ c.loop-number-test.true in
     let kept = at_element (IsLink design) design.links number _ c.links-link-items.ensures.rules.links.each is in
@@ -48,7 +48,7 @@ loop-number-preserved c =
     c.loop-number.invariant.sizes is refl kept.source.node_is c.index_mut-message.ensures.value
     c.index-stages-link.is in
     let size : length written ≡ length message =
-    (ap length c.write_column.ensures ∙ length-cut _ _ ∙ length-column c.as_slice.result.now _
+    (ap length c.write_port_tuple.ensures ∙ length-cut _ _ ∙ length-column c.as_slice.result.now _
     ∙ ap length c.as_slice.ensures.value ∙ sym sized) in
     let many : length (message_sizes design) ≡ length design.links =
     length-map design.links (λ (l : Link). rate_of design l.source.0) in
@@ -65,7 +65,7 @@ loop-number-preserved c =
     let wants : length wanted ≡ length items = length-map items (sent_by stages) in
     let item =
     sent_item stages items number _ c.as_slice.result.now c.index-stages-link.result written c.loop-number-test.true
-    inside c.index-stages-link.is c.as_slice.ensures.value c.write_column.ensures in
+    inside c.index-stages-link.is c.as_slice.ensures.value c.write_port_tuple.ensures in
     record {
       sizes =
           same_sizes (λ (tuple : List PortValue). length tuple) messages number message written (omega arith)

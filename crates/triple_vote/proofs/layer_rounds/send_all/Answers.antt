@@ -6,8 +6,8 @@ use Rattle.triple_vote.proofs.SelectiveListWrites.{filled_all}
 use Rattle.triple_vote.proofs.StageMessages.{message_fits, message_sizes_stay, message_sent}
 use Rattle.triple_vote.proofs.layer_rounds.send_all.Goals as goal
 
-pub write_column-requires : goal.write_column-requires
-write_column-requires c =
+pub write_port_tuple-requires : goal.write_port_tuple-requires
+write_port_tuple-requires c =
     message_fits c.args.design.now c.links-link-items.ensures.rules c.args.there.now c.args.stages.now c.requires.stages
     c.loop-number.sent c.loop-number.invariant.sizes
     c.links-link-items.result.now c.loop-number.number _ c.index_mut-message.result.now c.index-stages-link.result
@@ -22,15 +22,15 @@ loop-number-preserved c = record {
       c.requires.stages c.loop-number.sent c.loop-number.invariant.sizes
       c.links-link-items.result.now c.loop-number.number _ c.index_mut-message.result.now c.index-stages-link.result
       c.links-link-items.ensures.value c.loop-number-test.true
-      c.index_mut-message.ensures.value c.index-stages-link.is c.as_slice.result.now c.write_column.new.to
-      c.as_slice.ensures.value c.write_column.ensures;
+      c.index_mut-message.ensures.value c.index-stages-link.is c.as_slice.result.now c.write_port_tuple.new.to
+      c.as_slice.ensures.value c.write_port_tuple.ensures;
   done =
       message_sent c.args.design.now c.links-link-items.ensures.rules c.args.there.now c.args.stages.now
       c.requires.stages c.loop-number.sent c.loop-number.invariant.sizes
       c.links-link-items.result.now c.loop-number.number _ c.index_mut-message.result.now c.index-stages-link.result
       c.links-link-items.ensures.value c.loop-number-test.true
-      c.index_mut-message.ensures.value c.index-stages-link.is c.as_slice.result.now c.write_column.new.to
-      c.as_slice.ensures.value c.write_column.ensures
+      c.index_mut-message.ensures.value c.index-stages-link.is c.as_slice.result.now c.write_port_tuple.new.to
+      c.as_slice.ensures.value c.write_port_tuple.ensures
       c.loop-number.invariant.done;
 }
 

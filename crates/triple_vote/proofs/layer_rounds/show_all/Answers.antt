@@ -7,8 +7,8 @@ use Rattle.triple_vote.proofs.SelectiveListWrites.{filled_all}
 use Rattle.triple_vote.proofs.StageMessages.{tuple_fits, tuple_sizes_stay, tuple_shown}
 use Rattle.triple_vote.proofs.layer_rounds.show_all.Goals as goal
 
-pub write_column-requires : goal.write_column-requires
-write_column-requires c =
+pub write_port_tuple-requires : goal.write_port_tuple-requires
+write_port_tuple-requires c =
     tuple_fits c.args.design.now c.taps-tap-items.ensures.rules c.args.there.now c.args.stages.now c.requires.stages
     c.loop-number.shown c.loop-number.invariant.sizes
     c.taps-tap-items.result.now c.loop-number.number c.tap-item.result c.index_mut-tuple.result.now
@@ -24,18 +24,18 @@ loop-number-preserved c = record {
       c.taps-tap-items.result.now c.loop-number.number c.tap-item.result c.index_mut-tuple.result.now
       c.index-stages-tap.result c.taps-tap-items.ensures.value c.loop-number-test.true
       c.tap-item.is c.index_mut-tuple.ensures.value c.index-stages-tap.is c.as_slice-rows.result.now
-      c.write_column.new.to (length c.as_slice-rows.result.now)
+      c.write_port_tuple.new.to (length c.as_slice-rows.result.now)
       (c.as_slice-rows.ensures.value ∙ ap (λ (s : Stage). s.rows) (sym c.index-stages-tap.is)) refl
-      c.write_column.ensures;
+      c.write_port_tuple.ensures;
   done =
       tuple_shown c.args.design.now c.taps-tap-items.ensures.rules c.args.there.now c.args.stages.now c.requires.stages
       c.loop-number.shown c.loop-number.invariant.sizes
       c.taps-tap-items.result.now c.loop-number.number c.tap-item.result c.index_mut-tuple.result.now
       c.index-stages-tap.result c.taps-tap-items.ensures.value c.loop-number-test.true
       c.tap-item.is c.index_mut-tuple.ensures.value c.index-stages-tap.is c.as_slice-rows.result.now
-      c.write_column.new.to (length c.as_slice-rows.result.now)
+      c.write_port_tuple.new.to (length c.as_slice-rows.result.now)
       (c.as_slice-rows.ensures.value ∙ ap (λ (s : Stage). s.rows) (sym c.index-stages-tap.is)) refl
-      c.write_column.ensures c.loop-number.invariant.done;
+      c.write_port_tuple.ensures c.loop-number.invariant.done;
 }
 
 pub returns-clause-shown : goal.returns-clause-shown

@@ -25,8 +25,8 @@ loop-index-preserved c =
     let moves = subst (λ (e : Event). Moves old e new) c.index-events-index.is c.in-Ok.ensures.moves in
     let same = c.index-events-index-in-loop-index.is ∙ get_or_default events first told done within in
     let lines =
-    c.in_ok-tell_messages.ensures.ok
+    c.in_ok-add_sent_messages.ensures.ok
     ∙ ap (λ (b : BusValue). so_far ++ text_of (told_by b told)) c.bus.ensures
     ∙ ap (λ (e : Event). so_far ++ text_of (told_by new.bus e)) same in
-    telling_more c.args.world.now old new events first done c.args.sent.now.items so_far c.tell_messages.new.sent.items
+    telling_more c.args.world.now old new events first done c.args.sent.now.items so_far c.add_sent_messages.new.sent.items
     within c.loop-index.invariant fine moves lines

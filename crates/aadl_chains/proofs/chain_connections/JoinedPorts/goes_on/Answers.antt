@@ -2,7 +2,7 @@ use Rattle.std.proofs.Common.{◌↔◌, IsTrue, subst, sym}
 use Rattle.aadl_tree.specs.proof.PackageViews.{placed}
 use Rattle.aadl_chains.specs.declared.outer_joins.PortSearch.{PortSearch}
 use Rattle.aadl_chains.specs.proof.PortsJoinedOutside.{LeadsFrom}
-use Rattle.aadl_chains.specs.proof.ConnectionsOnChains.{IsOnWay}
+use Rattle.aadl_chains.specs.proof.ConnectionsOnChains.{IsOnChain}
 use Rattle.aadl_chains.proofs.EndFaults.{ways_tell, no_target}
 use Rattle.aadl_chains.proofs.chain_connections.JoinedPorts.goes_on.Goals as goal
 
@@ -13,7 +13,7 @@ returns-in-Some c =
     let n = c.args.number in
     let comes = c.leads-comes.result in
     let goes = c.leads-goes.result in
-    subst (λ b. IsTrue b ↔ IsOnWay tree root n c.args.wire) (sym c.both.ensures)
+    subst (λ b. IsTrue b ↔ IsOnChain tree root n c.args.wire) (sym c.both.ensures)
     (ways_tell tree root n c.args.wire c.args.source c.in-Some.target comes goes c.requires.source c.in-Some.is
     (subst (λ (x : PortSearch). IsTrue comes ↔ LeadsFrom tree x.root x.direction n c.args.source)
     c.requires.ways.fed_side c.leads-comes.ensures)

@@ -10,7 +10,7 @@ invariant_of-self c =
     let room = c.self.inside.ring.capacity in
     let s : RingEntry = record {
       copy = record { round = c.args.round; due = c.args.due; tuple = c.args.tuple };
-      top = c.top_with-top.result;
+      top = c.bound_with-top.result;
     } in
     let more : 1 ≤ room - length xs = rw (← c.self.view_is) at c.requires in
     let long = length-append xs (s ∷ []) in
@@ -21,5 +21,5 @@ invariant_of-self c =
     let within : length (xs ++ s ∷ []) ≤ room = omega arith in (
       rw (items, same) within,
       subst AreTopped (sym items)
-          (topped_push xs s c.self.invariant.1 c.top_with-top.ensures.own c.top_with-top.ensures.ahead),
+          (topped_push xs s c.self.invariant.1 c.bound_with-top.ensures.own c.bound_with-top.ensures.ahead),
     )

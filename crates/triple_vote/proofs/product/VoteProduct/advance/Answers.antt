@@ -2,7 +2,7 @@ use Rattle.std.proofs.Common.{◌∙◌, ap, subst}
 use Rattle.std.specs.Arc.{arc_value}
 use Rattle.pals_model.specs.declared.design.DesignParts.{DesignParts}
 use Rattle.triple_vote.specs.proof.ReplicaLayers.{tap_sizes}
-use Rattle.triple_vote.specs.proof.VotedStates.{VotedState, vadvanced}
+use Rattle.triple_vote.specs.proof.VotedStates.{VotedState, voted_advanced}
 use Rattle.triple_vote.specs.proof.ThreeLayers.{AreThree, AreHeard}
 use Rattle.triple_vote.proofs.OpeningAndNextStates.{tables_stay, replicas_turn, state_advanced_by}
 use Rattle.triple_vote.proofs.product.VoteProduct.advance.Goals as goal
@@ -40,4 +40,4 @@ returns-clause-ok c =
     c.self.invariant.1.layers_are
     c.in_ok-run_each.ensures.stay c.in_ok-run_each.ensures.made c.receive_each.ensures.received
     c.show_each.ensures.shown c.show_each.ensures.sizes c.turn_each.ensures
-    ∙ ap (λ (s : VotedState). vadvanced s values faults) c.self.view_is
+    ∙ ap (λ (s : VotedState). voted_advanced s values faults) c.self.view_is

@@ -7,7 +7,7 @@ use Rattle.pals_model.specs.declared.design.DesignParts.{DesignParts}
 use Rattle.pals_model.specs.ComponentInputs.{rate_of, all_sources}
 use Rattle.pals_model.specs.Composition.{opening}
 use Rattle.sync_product.specs.proof.ProductSizes.{stage_sizes}
-use Rattle.triple_vote.specs.proof.VotedStates.{vbegun}
+use Rattle.triple_vote.specs.proof.VotedStates.{voted_begun}
 use Rattle.triple_vote.specs.proof.ReplicaLayers.{lengths}
 use Rattle.triple_vote.specs.proof.ThreeLayers.{AreOpened}
 use Rattle.triple_vote.proofs.OpeningReplicas.{shown_fits, are_heard}
@@ -54,4 +54,4 @@ returns c =
     state_begun design marked layers c.in_ok-heard.heard.items c.in_ok-shown.shown opened
     (c.in_ok-heard.ensures ∙ ap silent c.deref-4.ensures)
     (c.in_ok-shown.ensures ∙ ap absent_taps c.deref-5.ensures)
-    ∙ ap (vbegun design) c.from_vec.ensures
+    ∙ ap (voted_begun design) c.from_vec.ensures

@@ -8,7 +8,7 @@ use Rattle.model_violations.specs.ConnectionsAndCarriers.{carries}
 use Rattle.component_checks.proofs.EnumeratedLists.{one_more}
 use Rattle.model_violations.specs.UsedDeclarations.{has}
 use Rattle.model_violations.specs.DeclarationFindings.{declaration_findings}
-use Rattle.model_violations.proofs.declaration_findings.add_declarations_findings.Goals as goal
+use Rattle.model_violations.proofs.declaration_findings.add_package_findings.Goals as goal
 
 pub add_declaration_findings-requires-clause-number : goal.add_declaration_findings-requires-clause-number
 add_declaration_findings-requires-clause-number c =

@@ -7,7 +7,7 @@ use Rattle.aadl_tree.specs.proof.PackageViews.{placed}
 use Rattle.model_violations.specs.ConnectionsAndCarriers.{carries}
 use Rattle.model_violations.specs.UsedDeclarations.{has}
 use Rattle.model_violations.specs.DeclarationFindings.{declaration_findings}
-use Rattle.model_violations.proofs.declaration_findings.add_declarations_findings.Given as goal
+use Rattle.model_violations.proofs.declaration_findings.add_package_findings.Given as goal
 
 abbrev pub invariant-loop-number : goal.invariant-loop-number
 invariant-loop-number l =

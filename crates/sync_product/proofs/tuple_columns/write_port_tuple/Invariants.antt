@@ -1,6 +1,6 @@
 use Rattle.std.proofs.Common.{◌≡◌, length, take}
 use Rattle.pals_base.specs.StepSequences.{column, cut}
-use Rattle.sync_product.proofs.tuple_columns.write_column.Given as goal
+use Rattle.sync_product.proofs.tuple_columns.write_port_tuple.Given as goal
 
 -- the first places are written
 abbrev pub invariant-loop-at : goal.invariant-loop-at

@@ -5,7 +5,7 @@ use Rattle.aadl_tree.specs.proof.PlaceMaps.{kept_place}
 use Rattle.aadl_names.specs.proof.FirstFaultSoFar.{found}
 use Rattle.aadl_names.specs.DuplicatesByNamespace.{port_entries}
 use Rattle.aadl_names.specs.proof.PortDuplicates.{beside_each}
-use Rattle.name_faults.proofs.names_beside_ports.check_beside.Given as goal
+use Rattle.name_faults.proofs.names_beside_ports.check_port_duplicates.Given as goal
 
 -- what is left is still to be looked at
 abbrev pub invariant-loop-entry : goal.invariant-loop-entry

@@ -1,5 +1,5 @@
 use Rattle.node_threads.specs.proof.SharedCourses.{Stays}
-use Rattle.node_threads.proofs.drive_remaining.go_round.Given as goal
+use Rattle.node_threads.proofs.drive_remaining.turn_all.Given as goal
 
 -- the run and its lists stay
 abbrev pub invariant-loop-number : goal.invariant-loop-number

@@ -3,7 +3,7 @@ use Rattle.pals_model.specs.RoundTexts.{line_end}
 use Rattle.pals_report.proofs.TextPrefixes.{begins_on_err}
 use Rattle.pals_report.specs.CheckReports.{ignored_line}
 use Rattle.pals_report.proofs.LinePerItem.{lines_turn, lines_all}
-use Rattle.pals_report.proofs.design_lines.add_ignored_names.Goals as goal
+use Rattle.pals_report.proofs.design_lines.add_ignored_name_lines.Goals as goal
 
 pub returns-in_err-add_ignored-clause-err : goal.returns-in_err-add_ignored-clause-err
 returns-in_err-add_ignored-clause-err c =

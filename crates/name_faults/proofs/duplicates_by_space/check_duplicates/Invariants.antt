@@ -5,7 +5,7 @@ use Rattle.aadl_tree.specs.proof.DeclarationViews.{declaration_view}
 use Rattle.aadl_tree.specs.proof.PlaceMaps.{kept_place}
 use Rattle.aadl_names.specs.proof.FirstFaultSoFar.{found}
 use Rattle.aadl_names.specs.proof.PortDuplicates.{beside_in}
-use Rattle.name_faults.proofs.duplicates_by_space.check_spaces.Given as goal
+use Rattle.name_faults.proofs.duplicates_by_space.check_duplicates.Given as goal
 
 -- what is left is still to be looked at
 abbrev pub invariant-loop-number : goal.invariant-loop-number

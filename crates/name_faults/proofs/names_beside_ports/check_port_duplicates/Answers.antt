@@ -8,7 +8,7 @@ use Rattle.aadl_names.specs.proof.EarliestDeclarations.{earliest}
 use Rattle.aadl_names.specs.DuplicatesByNamespace.{port_entries}
 use Rattle.aadl_names.specs.proof.PortDuplicates.{beside_one, beside_each, beside}
 use Rattle.aadl_names.proofs.FirstFaultSoFar.{next_found, last_found, found_append}
-use Rattle.name_faults.proofs.names_beside_ports.check_beside.Goals as goal
+use Rattle.name_faults.proofs.names_beside_ports.check_port_duplicates.Goals as goal
 
 pub loop-entry-preserved : goal.loop-entry-preserved
 loop-entry-preserved c =

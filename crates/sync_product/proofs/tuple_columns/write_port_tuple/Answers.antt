@@ -5,7 +5,7 @@ use Rattle.pals_base.specs.StepSequences.{column, cut}
 use Rattle.pals_base.proofs.StepSequences.{length-cut}
 use Rattle.sync_product.specs.proof.Rounds.{place_before}
 use Rattle.sync_product.proofs.PortColumns.{cut_column-at, length-column}
-use Rattle.sync_product.proofs.tuple_columns.write_column.Goals as goal
+use Rattle.sync_product.proofs.tuple_columns.write_port_tuple.Goals as goal
 
 pub loop-at-preserved : goal.loop-at-preserved
 loop-at-preserved c =

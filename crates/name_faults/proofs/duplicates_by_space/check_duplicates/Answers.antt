@@ -11,7 +11,7 @@ use Rattle.aadl_names.specs.DuplicatesByNamespace.{type_entry, implementation_en
 use Rattle.aadl_names.specs.proof.PortDuplicates.{beside_in, beside_names}
 use Rattle.aadl_names.proofs.FirstFaultSoFar.{next_found, last_found, found_append}
 use Rattle.name_faults.proofs.NumberedFindings.{numbered}
-use Rattle.name_faults.proofs.duplicates_by_space.check_spaces.Goals as goal
+use Rattle.name_faults.proofs.duplicates_by_space.check_duplicates.Goals as goal
 
 -- three lists of findings one behind the other
 three_found : (first one two last : (Option PackageFault)) (a b c : List PackageFault) → one ≡ found first a
