@@ -10,7 +10,7 @@ ghost use Rattle.aadl_instance.specs.proof.PathLengths as spec;
 ghost use Rattle.aadl_uses.specs.ThreadLocations.{ThreadWith, spelled_path};
 
 use aadl_tree::{Declaration, Subcomponent};
-use aadl_uses::{Uses, SubcomponentWeights, heaviest_below};
+use aadl_uses::{SubcomponentWeights, Uses, heaviest_below};
 use indexmap::IndexSet;
 use pals_base::NoMemory;
 use pals_base::limits::PATH_BYTES;
@@ -54,7 +54,10 @@ fn is_over(found: &[Option<usize>], root: usize) -> bool
 }
 
 // The bytes of the names of subcomponents, each with a dot.
-fn name_weights(alloc: Global, declarations: &[Declaration]) -> Result<SubcomponentWeights, NoMemory>
+fn name_weights(
+    alloc: Global,
+    declarations: &[Declaration],
+) -> Result<SubcomponentWeights, NoMemory>
     ensures { IfOk result (λ weights. weights ≡ map spec.weights_in (map (declaration_view kept_place) declarations.now)) }
 {
     let mut weights = SubcomponentWeights::new(alloc);

@@ -9,7 +9,7 @@ ghost use Rattle.annex_resolve.specs.BehavioursAndFindings.{transitions_of, part
 ghost use Rattle.annex_resolve.specs.BehavioursAndFindings.{behaviour_of, annex_findings};
 
 use crate::cycles::cyclic_states;
-use crate::departures::{Departure, breaks_dispatch, lacks_otherwise, departures_of};
+use crate::departures::{Departure, breaks_dispatch, departures_of, lacks_otherwise};
 use crate::ports_and_variables::DeclaredValues;
 use crate::scope::Scope;
 use crate::states::{StateAt, declared_states, first_initial, has_initial, states_of};

@@ -36,8 +36,9 @@ use Rattle.pals_model.proofs.KindsOfRounds.{cut_fits}
 use Rattle.pals_runs.specs.declared.vote_faults_and_pairs.VoteFault.{VoteFault}
 use Rattle.triple_vote.specs.Votes.{same_port, vote, votes}
 use Rattle.triple_vote.specs.Replicas.{is_replicated, copies_of, receivers_in, Voted, frame_at, heard_by, first_frame}
-use Rattle.triple_vote.specs.Replicas.{first_tuple, voted_opening, steps_in, replica_steps, tuple_at, is_fault, fault_or}
-use Rattle.triple_vote.specs.Replicas.{own_message, sent_to, vote_of, receives_on, vnext, voted_composition, vshown_by, vshown}
+use Rattle.triple_vote.specs.Replicas.{first_tuple, voted_opening, steps_in, replica_steps, tuple_at, is_fault}
+use Rattle.triple_vote.specs.Replicas.{fault_or, own_message, sent_to, vote_of, receives_on, vnext, voted_composition}
+use Rattle.triple_vote.specs.Replicas.{vshown_by, vshown}
 use Rattle.triple_vote.proofs.ListTablesAndSearches.{found}
 use Rattle.triple_vote.proofs.ReplicaRounds.{has_first, has_three}
 use Rattle.kind_laws.specs.proof.VotedKinds.{FaultFits, FaultsFit, VotesFit, ShownFit}

@@ -4,7 +4,7 @@ ghost use Rattle.std.specs.Prelude.{option_map, is_some, if◌then◌else◌};
 ghost use Rattle.pals_model.specs.Flights.{oldest, without_oldest};
 ghost use Rattle.link_buffers.specs.proof.Flights.{flight_of, due_rounds, least};
 
-use crate::ring_entries::{Ring, RingEntry, least_due, place_of_oldest, bound_with};
+use crate::ring_entries::{Ring, RingEntry, bound_with, least_due, place_of_oldest};
 use crate::ring_middle::{standing_at, take_at};
 use pals_base::{Nanos, NoMemory, Tuple};
 use pals_model::FlightCopy;

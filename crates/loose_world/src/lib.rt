@@ -10,6 +10,6 @@ mod row_text;
 pub mod world_laws;
 
 pub use journal_text::add_journal;
-pub use loose_run::{LooseEnd, run_loose, add_sent_messages};
+pub use loose_run::{LooseEnd, add_sent_messages, run_loose};
 pub use message_text::OutLinks;
-pub use row_text::{add_finished_rows, add_common_rows};
+pub use row_text::{add_common_rows, add_finished_rows};

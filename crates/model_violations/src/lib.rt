@@ -5,8 +5,8 @@
 pub mod all_violations;
 pub mod behaviour_values_and_scope;
 pub mod carriers;
-pub mod chain_targets;
 pub mod chain_findings;
+pub mod chain_targets;
 pub mod connection_findings;
 pub mod declaration_findings;
 pub mod declared_ports;

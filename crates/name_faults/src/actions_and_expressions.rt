@@ -101,7 +101,11 @@ fn check_term(
 }
 
 #[cycle(uses)]
-fn check_sum(finder: &mut FaultFinder, scope: &BehaviourScope<'_>, sum: &Sum) -> Result<(), AllocError>
+fn check_sum(
+    finder: &mut FaultFinder,
+    scope: &BehaviourScope<'_>,
+    sum: &Sum,
+) -> Result<(), AllocError>
     ensures { OnOk result (finder.new ≡ found finder.old (spec.sum_uses (known_by scope.now) (sum_view kept_place sum.now))) }
 {
     check_term(finder, scope, &sum.first)?;

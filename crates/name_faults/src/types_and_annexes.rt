@@ -81,7 +81,11 @@ pub fn check_no_behaviour(finder: &mut FaultFinder, annexes: &[Annex])
 }
 
 /// Finds what is wrong with the names in a type.
-pub fn check_type(finder: &mut FaultFinder, of_root: bool, x: &TypeDeclaration) -> Result<(), AllocError>
+pub fn check_type(
+    finder: &mut FaultFinder,
+    of_root: bool,
+    x: &TypeDeclaration,
+) -> Result<(), AllocError>
     ensures { OnOk result (finder.new ≡ found finder.old (spec.type_faults of_root (type_view kept_place x.now))) }
 {
     finder.wrong_if(!same_word(&x.end_name, &x.name), x.end_name.at);

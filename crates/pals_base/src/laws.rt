@@ -9,7 +9,7 @@ mod steps;
 mod tuples;
 
 pub use arithmetic::{
-    arithmetic_traps, operators_associate_left, modulus_has_sign_of_divisor,
+    arithmetic_traps, modulus_has_sign_of_divisor, operators_associate_left,
     remainder_has_sign_of_dividend, worked_divisions,
 };
 pub use behaviours::{each_step_ends, ways_are_short};

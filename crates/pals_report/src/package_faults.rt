@@ -12,7 +12,11 @@ use pals_base::{NoMemory, Text};
 
 /// Adds the line of a package's fault: its number, its name, and the name and place in the text
 /// that belong to it. If there is not enough memory, nothing is added.
-pub fn add_package_fault(out: &mut Vec<u8>, text: &[u8], fault: &PackageFault) -> Result<(), NoMemory>
+pub fn add_package_fault(
+    out: &mut Vec<u8>,
+    text: &[u8],
+    fault: &PackageFault,
+) -> Result<(), NoMemory>
     ensures ok { OnOk result
         (out.new.items ≡ out.old.items ++ package_fault_line text.now fault.now ++ line_end) }
     ensures err { OnErr result (out.new.items ≡ out.old.items) }

@@ -6,7 +6,8 @@ use Rattle.std.specs.List.{list_all}
 use Rattle.std.proofs.lemmas.Bool.{eqb-true, true≢false}
 use Rattle.std.proofs.lemmas.Slice.Eq.{bytes_eq-Decides}
 use Rattle.pals_runs.specs.declared.commands.Command.{Command}
-use Rattle.pals_top.specs.CommandWords.{is_plain, is_flag, flags, plain_words, rooted_command, plain_form, command_by, form}
+use Rattle.pals_top.specs.CommandWords.{is_plain, is_flag, flags, plain_words, rooted_command, plain_form, command_by}
+use Rattle.pals_top.specs.CommandWords.{form}
 
 -- ---- flags
 either : (w x y : List ℕ) → (bytes_eq w x || bytes_eq w y) ≡ true → is_plain x ≡ false → is_plain y ≡ false

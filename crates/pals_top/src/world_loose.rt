@@ -21,7 +21,7 @@ use crate::execution::{ExecutionCommand, keeps_rules};
 use crate::opening_bus::opened;
 use crate::refused_scenario::refused_event;
 use loose_world::world_laws::{events_are_steps, texts_are_told};
-use loose_world::{LooseEnd, OutLinks, add_finished_rows, add_common_rows, add_journal, run_loose};
+use loose_world::{LooseEnd, OutLinks, add_common_rows, add_finished_rows, add_journal, run_loose};
 use pals_base::{Items, NoMemory, Text};
 use pals_bus::Bus;
 use pals_model::Design;

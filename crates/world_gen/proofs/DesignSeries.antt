@@ -25,8 +25,8 @@ use Rattle.world_gen.specs.proof.Schedules.{step_count, begins, starts_at, finis
 use Rattle.world_gen.specs.proof.Schedules.{earlier_finishes, present_finishes, events_at}
 use Rattle.world_gen.specs.proof.EventSeries.{IsEventSeries, time_of, series_events, events_of, begin_course}
 use Rattle.world_gen.specs.proof.EventSeries.{finish_course, send_course, arrive_course, each_of, all_begins}
-use Rattle.world_gen.specs.proof.EventSeries.{all_finishes, all_sends, all_arrivals, earlier_courses}
-use Rattle.world_gen.specs.proof.EventSeries.{present_courses, timetable}
+use Rattle.world_gen.specs.proof.EventSeries.{all_finishes, all_sends, all_arrivals, earlier_courses, present_courses}
+use Rattle.world_gen.specs.proof.EventSeries.{timetable}
 use Rattle.world_gen.proofs.TabulatedLists.{numbered_all}
 use Rattle.world_gen.proofs.ScheduleTimes.{whole, some_rate, some_step, step_at, send_before}
 

@@ -4,8 +4,8 @@ ghost use Rattle.pals_base.specs.declared.limits.TheConstants.{ROUNDS};
 ghost use Rattle.run_laws.specs.Deadlines.{lesser};
 ghost use Rattle.world_gen.specs.proof.Schedules.{send_time};
 ghost use Rattle.world_gen.specs.proof.EventSeries.{IsEventSeries, begin_course, finish_course, send_course};
-ghost use Rattle.world_gen.specs.proof.EventSeries.{arrive_course, all_begins, all_finishes, all_sends};
-ghost use Rattle.world_gen.specs.proof.EventSeries.{all_arrivals, timetable, next_moment, events_of};
+ghost use Rattle.world_gen.specs.proof.EventSeries.{arrive_course, all_begins, all_finishes, all_sends, all_arrivals};
+ghost use Rattle.world_gen.specs.proof.EventSeries.{timetable, next_moment, events_of};
 
 use crate::event_series::{EventKind, EventSeries};
 use pals_base::period_bound::step_period;
