@@ -55,10 +55,6 @@ distinct_more n xs e d = (each_other n xs e, d)
 few : (xs : List ℕ) (n : ℕ) → IsDistinct nat_eq xs → ((q : ℕ) → Contains xs q → q < n) → length xs ≤ n
 few xs n d below = length-le_from_distinct_below xs n d (λ q e. below q (of_any xs q e))
 
-    by : Contains (n ∷ []) m ⊎ Contains xs m → (n ≡ m) ⊎ Contains xs m
-    by (inl k) = one (Contains-push_cases [] n m k)
-    by (inr k) = inr k
-
 -- the first k numbers are all in a list, or one of them is not
 some_missing : (xs : List ℕ) (k : ℕ)
     → ((q : ℕ) → q < k → Contains xs q) ⊎ ((q : ℕ) × (q < k) × (list_any (nat_eq q) xs ≡ false))

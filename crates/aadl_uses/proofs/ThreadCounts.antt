@@ -138,10 +138,6 @@ head_before R x z xs a h = let lt = h.1 in subst (R x) h.2 (a 0 (suc h.0) z (ome
 tail_pairs : {X : Type 0} (R : X → X → Type 0) (x : X) (xs : List X) → AllPairs R (x ∷ xs) → AllPairs R xs
 tail_pairs R x xs a i j d less lt = a (suc i) (suc j) d (omega arith) (omega arith)
 
-    by : Contains (y ∷ []) z ⊎ Contains ys z → (y ≡ z) ⊎ Contains ys z
-    by (inl k) = one (Contains-push_cases [] y z k)
-    by (inr k) = inr k
-
 module _ {X : Type 0} (R : X → X → Type 0) (one_way : (x y : X) → R x y → R y x → ⊥) where
   one_more : (y : X) (ys : List X) (x : X) (xs : List X)
       → ((zs : List X) → AllPairs R zs → ((z : X) → Contains zs z → Contains ys z) → length zs ≤ length ys)
