@@ -47,6 +47,18 @@ def test_pages_name_files_that_are_there():
     for name in names:
         for found in re.findall(r"`(?:[\w/+-]*/)?([\w+-]+\.(?:antt|rt))`", page(name)):
             expect(found in files, True, f"{name} names {found}, which is there")
+    paths = 0
+    for row in (line for line in page("docs/crates.md").split("\n") if line.startswith("| ")):
+        crate = None
+        for word in re.findall(r"`([^`]+)`", row):
+            first, _, rest = word.partition("/")
+            if os.path.isdir(f"{TOP}/crates/{first}"):
+                crate, word = first, rest
+            if crate and re.fullmatch(r"(?:src|specs|proofs)/[\w/+]+\.(?:rt|antt)", word):
+                here = os.path.isfile(f"{TOP}/crates/{crate}/{word}")
+                expect(here, True, f"docs/crates.md names {word} of {crate}, which is there")
+                paths += 1
+    expect(paths >= 150, True, f"{paths} paths in docs/crates.md")
     listed = page("docs/definitions.md").partition("in this order:")[2].partition("\n\n#")[0]
     count = 0
     for row in (line for line in listed.split("\n") if line.startswith("| ")):
