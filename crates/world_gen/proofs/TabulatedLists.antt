@@ -7,7 +7,7 @@ use Rattle.pals_base.proofs.UpwardNumbers.{map_upwards_more, get_or-map_upwards,
 -- what holds of each number, and of each two
 pub numbered_all : {X : Type 0} (P : X → Type 0) (f : ℕ → X) (n : ℕ) → ((k : ℕ) → k < n → P (f k))
     → All P (map f (upwards 0 n))
-numbered_all P f n each = All-map_upwards P f 0 n (λ k above below. each k below)
+numbered_all P f n each = All-map_upwards P f 0 n (λ k above below. let within : k < n = omega arith in each k within)
 
 pub numbered_pairs : {X : Type 0} (R : X → X → Type 0) (f : ℕ → X) (n : ℕ) → ((j k : ℕ) → j < k → k < n → R (f j) (f k))
     → AllPairs R (map f (upwards 0 n))
