@@ -13,7 +13,6 @@ mod events_of_nodes;
 mod flights;
 mod loose_faults;
 mod loose_world_events;
-mod meet_and_loose_fault;
 mod meeting;
 mod missed_starts;
 mod node_list;
@@ -27,8 +26,9 @@ pub use bus_error::{
     BusError, BusFinishEnd, BusSendEnd, BusStartEnd, BusStepEnd, DueEnd, LinkEnd, MessageError,
 };
 pub use bus_fields::BusFields;
+pub use loose_faults::LooseFault;
 pub use loose_world_events::apply_loose;
-pub use meet_and_loose_fault::{LooseFault, Meet};
+pub use meeting::Meet;
 pub use node_list::NodeList;
 pub use outgoing_links::Outgoing;
 pub use target_list::TargetList;

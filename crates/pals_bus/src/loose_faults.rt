@@ -1,4 +1,4 @@
-//! Why nothing happens, as a loose world says it.
+//! Why a loose world does not go on after an event, and which such fault each answer of a bus is.
 ghost use Rattle.std.specs.Prelude.{◌≡◌};
 ghost use Rattle.pals_bus.specs.proof.LooseStopsAndFaults.{start_fault, step_fault, finish_fault, send_fault};
 ghost use Rattle.pals_bus.specs.proof.LooseStopsAndFaults.{link_fault};
@@ -6,9 +6,24 @@ ghost use Rattle.pals_bus.specs.proof.LooseStopsAndFaults.{link_fault};
 use crate::bus_error::{
     BusError, BusFinishEnd, BusSendEnd, BusStartEnd, BusStepEnd, LinkEnd, MessageError,
 };
-use crate::meet_and_loose_fault::LooseFault;
 use pals_base::{LinkNo, NodeNo};
 use pals_node::{StartEnd, StepEnd};
+use pals_runs::Stop;
+
+/// Why a loose world does not go on after an event.
+#[derive(Clone, Copy)]
+pub enum LooseFault {
+    /// A stop stands: it stood before, or the event gives it.
+    Stopped(Stop),
+    /// The node's phase allows no such event.
+    WrongPhase { node: NodeNo },
+    /// No copy of that round is in flight on the link.
+    NoSuchMessage { link: LinkNo, round: u32 },
+    /// The event is a passing of time, and a loose world has none.
+    Timed,
+    /// There was not enough memory.
+    Memory,
+}
 
 /// The fault of a start from which no job comes.
 pub fn start_fault(end: BusStartEnd, node: NodeNo) -> LooseFault

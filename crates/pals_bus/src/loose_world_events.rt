@@ -5,8 +5,9 @@ ghost use Rattle.pals_bus.specs.LooseEvents.{IsNamedIn, GoesOn};
 ghost use Rattle.pals_bus.specs.proof.LooseStopsAndFaults.{LooseEnds};
 
 use crate::bus::Bus;
-use crate::loose_faults::{finish_fault, link_fault, send_fault, start_fault, step_fault};
-use crate::meet_and_loose_fault::LooseFault;
+use crate::loose_faults::{
+    LooseFault, finish_fault, link_fault, send_fault, start_fault, step_fault,
+};
 use pals_base::{LinkNo, NodeNo};
 use pals_runs::Event;
 

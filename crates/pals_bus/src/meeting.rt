@@ -6,8 +6,18 @@ ghost use Rattle.bus_machine.specs.ActionsAndTargets.{next_of};
 ghost use Rattle.pals_bus.specs.proof.Meeting.{target_in, HasEnded, Meets};
 
 use crate::bus::Bus;
-use crate::meet_and_loose_fault::Meet;
 use pals_base::{Nanos, NodeNo};
+
+/// Whether a node may go on where the nodes meet. The reading is in nanoseconds.
+#[derive(Clone, Copy, PartialEq)]
+pub enum Meet {
+    /// It may, at this reading.
+    Go { reading: Nanos },
+    /// This node has to go on first.
+    Wait { node: NodeNo },
+    /// A stop stands, or the run is closed.
+    Ended,
+}
 
 impl Bus {
     /// The reading that a node waits for, or works at; none where it is done. It takes no memory.

@@ -10,14 +10,14 @@ use Rattle.pals_node.specs.declared.answers.FinishEnd.{FinishEnd}
 use Rattle.pals_node.specs.declared.answers.SendEnd.{SendEnd}
 use Rattle.pals_bus.specs.declared.bus_error.BusError.{BusError}
 use Rattle.pals_bus.specs.declared.bus_error.MessageError.{MessageError}
-use Rattle.pals_bus.specs.declared.meet_and_loose_fault.LooseFault.{LooseFault}
+use Rattle.pals_bus.specs.declared.loose_faults.LooseFault.{LooseFault}
 use Rattle.pals_bus.specs.BusValues.{BusValue}
 use Rattle.pals_bus.specs.LooseEvents.{HappensLoose, IsRefused, loose_event, message_of, node_of}
 use Rattle.pals_node.specs.declared.answers.StartEnd.TheVariants as start
 use Rattle.pals_node.specs.declared.answers.StepEnd.TheVariants as step
 use Rattle.pals_bus.specs.declared.bus_error.BusError.TheVariants as bus_fault
 use Rattle.pals_bus.specs.declared.bus_error.MessageError.TheVariants as message
-use Rattle.pals_bus.specs.declared.meet_and_loose_fault.LooseFault.TheVariants as fault
+use Rattle.pals_bus.specs.declared.loose_faults.LooseFault.TheVariants as fault
 
 -- the stop stood before, or the event gave it
 abbrev pub StopsLoose : BusValue → Event → BusValue → Stop → Type 0

@@ -3,9 +3,9 @@ use Rattle.std.specs.Prelude.{◌≡◌, ◌≢◌, ◌⊎◌, ℕ, ◌<◌, ◌
 use Rattle.bus_machine.specs.Plans.{plan_of}
 use Rattle.bus_machine.specs.States.{node_at}
 use Rattle.bus_machine.specs.ActionsAndTargets.{target, action_of}
-use Rattle.pals_bus.specs.declared.meet_and_loose_fault.Meet.{Meet}
+use Rattle.pals_bus.specs.declared.meeting.Meet.{Meet}
 use Rattle.pals_bus.specs.BusValues.{BusValue}
-use Rattle.pals_bus.specs.declared.meet_and_loose_fault.Meet.TheVariants as meet
+use Rattle.pals_bus.specs.declared.meeting.Meet.TheVariants as meet
 
 -- the reading that a node waits for, or works at; none where it is done
 abbrev pub target_in : BusValue → ℕ → Option ℕ
