@@ -2,7 +2,6 @@
 pub mod ForbiddenFollowers
 pub mod ForbiddenFollowerMembership
 pub mod DerivationsAndMachineSteps
-pub mod SymbolTrees
 pub mod ReferencesByFirstWord
 pub mod TreeBuilders
 pub mod TerminalContents

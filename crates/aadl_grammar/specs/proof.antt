@@ -10,3 +10,4 @@ pub mod ListAnswers
 pub mod ReachableKeywords
 pub mod TextOutcomes
 pub mod CanonicalRoundTrip
+pub mod SymbolTrees

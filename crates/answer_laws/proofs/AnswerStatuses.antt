@@ -10,7 +10,7 @@ use Rattle.pals_top.specs.Check.{IsCheckAnswer}
 use Rattle.pals_top.specs.AnalysisCommands.{Analysis}
 use Rattle.pals_top.specs.AnalysisAnswers.{command_of, IsAnalysisAnswer}
 use Rattle.answer_laws.specs.proof.BundleContents.{HasTree, MeansDesign, MeansScenario}
-use Rattle.answer_laws.proofs.UniquenessPremises.{OneDesign}
+use Rattle.answer_laws.specs.proof.UniquenessPremises.{OneDesign}
 use Rattle.answer_laws.proofs.UniqueDesignsAndRefusals.{read_or_refused, package_refused}
 use Rattle.answer_laws.proofs.BundleScenarios.{meant_or_refused}
 use Rattle.answer_laws.proofs.UniqueResults.{analysis_status}

@@ -10,7 +10,7 @@ use Rattle.pals_report.specs.ScenarioFaultLines.{scenario_fault_line}
 use Rattle.bundle_designs.specs.BundleMeanings.{IsAccepted}
 use Rattle.pals_top.specs.BundleScenarios.{HasScenario, HasScenarioFault}
 use Rattle.answer_laws.proofs.UniqueScenariosAndReports.{same_scenario, same_fault, scenario_or_fault}
-use Rattle.answer_laws.proofs.UniquenessPremises.{OneDesign}
+use Rattle.answer_laws.specs.proof.UniquenessPremises.{OneDesign}
 use Rattle.answer_laws.proofs.UniqueDesignsAndRefusals.{one_accepted}
 
 module _ (one_design : OneDesign) (root bundle : List ℕ) (command : Command) where

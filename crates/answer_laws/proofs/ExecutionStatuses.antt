@@ -7,7 +7,7 @@ use Rattle.pals_top.specs.ExecutionAnswers.{command_of, IsScenarioRefusedIn, IsE
 use Rattle.answer_laws.specs.proof.BundleContents.{HasTree, MeansDesign, MeansScenario, HasLongCode, LacksScenario}
 use Rattle.answer_laws.specs.proof.BundleContents.{GivesStatus}
 use Rattle.pals_top.specs.proof.PrivateFunctions.{is_run}
-use Rattle.answer_laws.proofs.UniquenessPremises.{OneDesign, ExecutionPremises}
+use Rattle.answer_laws.specs.proof.UniquenessPremises.{OneDesign, ExecutionPremises}
 use Rattle.answer_laws.proofs.AnswerStatuses.{no_tree, no_design, refused_tree, has_tree}
 use Rattle.answer_laws.proofs.BundleScenarios.{meant_or_refused}
 use Rattle.answer_laws.proofs.UniqueResults.{IsMade, execution_status, no_refused_run, apart}

@@ -24,7 +24,7 @@ use Rattle.scenario_laws.specs.proof.ScenarioOrFault.{HasScenario, HasFault}
 use Rattle.answer_laws.specs.proof.BundleContents.{HasTree}
 use Rattle.pals_top.specs.proof.PrivateFunctions.{is_run}
 use Rattle.answer_laws.specs.proof.ExistingAnswers.{IsAnswerTo, HasAnswer, HasOneAnswer}
-use Rattle.answer_laws.proofs.ExistencePremises.{ExistenceLaws}
+use Rattle.answer_laws.specs.proof.ExistencePremises.{ExistenceLaws}
 use Rattle.answer_laws.proofs.ExistingTrees.{IsRefused, tree_or_refused}
 use Rattle.answer_laws.proofs.ExistingDesigns.{HasDesign, HasRefusal, design_or_refused}
 use Rattle.answer_laws.proofs.ExistingReports.{has_report}

@@ -14,7 +14,7 @@ use Rattle.pals_top.specs.declared.status.TheConstants.{TEXT_REFUSED, DESIGN_REF
 use Rattle.pals_top.specs.RefusalAnswers.{IsBundleRefused}
 use Rattle.design_laws.specs.proof.PackageOutcomes.{HasFirstFault, HasInstance}
 use Rattle.answer_laws.specs.proof.BundleContents.{HasTree}
-use Rattle.answer_laws.proofs.ExistencePremises.{ExistenceLaws}
+use Rattle.answer_laws.specs.proof.ExistencePremises.{ExistenceLaws}
 use Rattle.answer_laws.proofs.ExistingTrees.{IsRefused, tree_or_refused}
 
 -- a design that keeps the rules, and a scenario's bytes behind its text

@@ -20,7 +20,7 @@ use Rattle.pals_top.specs.TimedWorlds.{world_of}
 use Rattle.pals_top.proofs.Audits.{audit_of}
 use Rattle.pals_top.proofs.TimelyProcessors.{all_in_time}
 use Rattle.pals_top.proofs.LooseWorlds.{rules_of}
-use Rattle.answer_laws.proofs.ExistencePremises.{ExistenceLaws}
+use Rattle.answer_laws.specs.proof.ExistencePremises.{ExistenceLaws}
 use Rattle.answer_laws.proofs.ExistingLayouts.{has_codes}
 use Rattle.answer_laws.proofs.ExistingRunAnswers.{run_answer}
 use Rattle.answer_laws.proofs.ExistingLooseWorldAnswers.{world_answer}

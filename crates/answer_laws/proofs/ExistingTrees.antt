@@ -10,7 +10,7 @@ use Rattle.bundle_designs.specs.RefusedTexts.{IsTextRefused}
 use Rattle.aadl_grammar.specs.proof.TextOutcomes.{HasTree as HasTreeOf, HasLexFault, Stops, NestsTooDeep}
 use Rattle.answer_laws.specs.proof.BundleContents.{HasTree}
 use Rattle.answer_laws.proofs.BundleSplits.{split_or_not}
-use Rattle.answer_laws.proofs.ExistencePremises.{ExistenceLaws}
+use Rattle.answer_laws.specs.proof.ExistencePremises.{ExistenceLaws}
 
 abbrev pub IsRefused : List ℕ → Type 0
 IsRefused bundle = (text : List ℕ) × IsTextRefused bundle text

@@ -1,6 +1,5 @@
 pub mod BundleSplits
 pub mod UniqueScenariosAndReports
-pub mod UniquenessPremises
 pub mod UniqueDesignsAndRefusals
 pub mod BundleScenarios
 pub mod UniqueLooseWorldAnswers
@@ -20,7 +19,6 @@ mod FittingInputs
 mod FittingFaultValues
 mod FittingScenarios
 mod BooleansInRuns
-mod ExistencePremises
 mod ExistingTrees
 mod ExistingDesigns
 mod ExistingReports

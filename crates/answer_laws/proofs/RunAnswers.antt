@@ -29,7 +29,7 @@ use Rattle.answer_laws.specs.proof.BundleContents.{MeansScenario, HasLongCode}
 use Rattle.answer_laws.specs.proof.RunAnswers.{IsRunStatus, IsInTime, OneAnswerInTime, NoneIsStopped, IsSynchronous}
 use Rattle.answer_laws.specs.proof.RunAnswers.{DoneInTime, AnswersAsSync, DoneWithinBounds, DoneTracesAreSound}
 use Rattle.answer_laws.specs.proof.RunAnswers.{IsStoppedTrace, StoppedTracesAreSound}
-use Rattle.answer_laws.proofs.UniquenessPremises.{OneDesign, KeepsRules}
+use Rattle.answer_laws.specs.proof.UniquenessPremises.{OneDesign, KeepsRules}
 use Rattle.answer_laws.proofs.UniqueDesignsAndRefusals.{accepted_or_refused}
 use Rattle.answer_laws.proofs.BundleScenarios.{one_meaning, meant_or_refused}
 use Rattle.answer_laws.proofs.UniqueExecutionAnswers.{long_code, long_or_short, one_code_fault}

@@ -21,7 +21,7 @@ use Rattle.bundle_designs.specs.RefusedTexts.{IsUndivided, IsUnread, IsTextRefus
 use Rattle.bundle_designs.specs.BundleMeanings.{IsFaulty, HasViolations, IsRefusedIn, IsAccepted, IsPackageRefused}
 use Rattle.pals_top.specs.RefusalAnswers.{IsBundleRefused}
 use Rattle.answer_laws.proofs.BundleSplits.{one_split, divided}
-use Rattle.answer_laws.proofs.UniquenessPremises.{OneDesign, OneFault}
+use Rattle.answer_laws.specs.proof.UniquenessPremises.{OneDesign, OneFault}
 
 -- ---- two trees of one bundle
 pub one_text : (bundle a b s t : List ℕ) (u v : PackageTree ℕ) → IsParsed bundle a s u → IsParsed bundle b t v → a ≡ b

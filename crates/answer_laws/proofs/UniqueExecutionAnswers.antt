@@ -13,7 +13,7 @@ use Rattle.pals_top.specs.ExecutionAnswers.{command_of, Makes, IsExecuted, IsSce
 use Rattle.pals_top.specs.ExecutionAnswers.{code_fault_line}
 use Rattle.answer_laws.specs.proof.BundleContents.{HasLongCode}
 use Rattle.pals_top.specs.proof.PrivateFunctions.{is_run}
-use Rattle.answer_laws.proofs.UniquenessPremises.{OneDesign, ExecutionPremises}
+use Rattle.answer_laws.specs.proof.UniquenessPremises.{OneDesign, ExecutionPremises}
 use Rattle.answer_laws.proofs.UniqueDesignsAndRefusals.{one_accepted}
 use Rattle.answer_laws.proofs.BundleScenarios.{one_meaning, one_scenario_fault, meant_or_refused}
 use Rattle.answer_laws.proofs.UniqueResults.{Agree, one_execution}

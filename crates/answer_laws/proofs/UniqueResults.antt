@@ -14,7 +14,7 @@ use Rattle.pals_top.specs.ExecutionAnswers.{command_of, Makes as executes}
 use Rattle.design_codes.specs.DesignBehaviours.{behaviours}
 use Rattle.pals_top.specs.Budget.{processors_of}
 use Rattle.pals_top.specs.proof.PrivateFunctions.{is_run}
-use Rattle.answer_laws.proofs.UniquenessPremises.{ExecutionPremises}
+use Rattle.answer_laws.specs.proof.UniquenessPremises.{ExecutionPremises}
 use Rattle.pals_top.specs.TimedWorlds.{world_of}
 use Rattle.answer_laws.proofs.TimedWorldAnswers.{one_timed}
 use Rattle.answer_laws.proofs.UniqueLooseWorldAnswers.{end_of, one_world}

@@ -3,3 +3,5 @@ pub mod BundleContents
 pub mod RunAnswers
 pub mod ExistingAnswers
 pub mod BooleansInRuns
+pub mod ExistencePremises
+pub mod UniquenessPremises

@@ -14,7 +14,7 @@ use Rattle.aadl_chains.proofs.PermittedConnections.{declared}
 use Rattle.aadl_chains.specs.LinksFeedsAndTaps.{Ends, IsLink, IsFeed, IsTap, TargetBefore, PortBefore}
 use Rattle.aadl_chains.specs.proof.Walks.{OneEach}
 use Rattle.aadl_uses.specs.proof.ContainmentGraphs.{LeadsBack}
-use Rattle.design_laws.proofs.ContainmentLists.{HasOrder}
+use Rattle.design_laws.specs.proof.ContainmentLists.{HasOrder}
 use Rattle.aadl_chains.specs.proof.PortsJoinedInside.{is_thread_at}
 use Rattle.aadl_chains.proofs.LinkLimits.{one_each}
 use Rattle.aadl_instance.specs.proof.Limits.{name_of}
@@ -22,7 +22,7 @@ use Rattle.aadl_instance.proofs.Roots.{is_root_at, root_declared, root_no_thread
 use Rattle.aadl_instance.proofs.FaultPrecedence.{silent_five, all_silent, limit_fault, root_fault, root_silent}
 use Rattle.design_laws.proofs.ContainmentOrders.{order}
 use Rattle.design_laws.proofs.PathLists.{paths}
-use Rattle.design_laws.proofs.SoundPackages.{IsSound}
+use Rattle.design_laws.specs.proof.SoundPackages.{IsSound}
 use Rattle.design_laws.proofs.FirstFaultOrSound.{each_package_begins}
 use Rattle.design_laws.specs.proof.PackageOutcomes.{HasFirstFault, HasInstance}
 use Rattle.design_laws.proofs.LinkAndFeedLists.{links, feeds}

@@ -21,7 +21,7 @@ use Rattle.aadl_instance.proofs.FaultPrecedence.{name_fault, recursion_fault, en
 use Rattle.design_laws.proofs.ReachedDeclarations.{reach}
 use Rattle.design_laws.proofs.ContainmentOrders.{order}
 use Rattle.design_laws.specs.proof.PackageOutcomes.{HasFirstFault}
-use Rattle.design_laws.proofs.SoundPackages.{IsSound}
+use Rattle.design_laws.specs.proof.SoundPackages.{IsSound}
 use Rattle.design_laws.proofs.FirstRecursion.{first_recursive}
 use Rattle.design_laws.proofs.FirstConnectionFault.{first_end}
 

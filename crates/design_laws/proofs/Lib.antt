@@ -56,11 +56,9 @@ pub mod UniqueFirstFaults
 pub mod LeastNumbers
 mod InsertionSort
 mod DistinctNumbers
-mod ContainmentLists
 mod ReachedDeclarations
 mod ContainmentOrders
 mod PathLists
-mod SoundPackages
 mod FaultSearches
 mod FirstRecursion
 mod PortsReachingThreads

@@ -8,7 +8,7 @@ use Rattle.aadl_uses.specs.proof.ContainmentOrders.{IsSequence}
 use Rattle.aadl_uses.specs.proof.MarkedPathCounts.{AreListed, own_paths}
 use Rattle.aadl_uses.specs.ThreadsBelow.{path_before}
 use Rattle.aadl_uses.proofs.MarkedPathCounts.{Begun, own_listed, listed_more, listed_same, all_listed}
-use Rattle.design_laws.proofs.ContainmentLists.{IsAcyclic, HasPaths}
+use Rattle.design_laws.specs.proof.ContainmentLists.{IsAcyclic, HasPaths}
 use Rattle.design_laws.proofs.ContainmentOrders.{order}
 
 -- ---- one declaration, by what its subcomponents name

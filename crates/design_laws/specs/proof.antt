@@ -5,3 +5,5 @@ pub mod ThreadBehaviours
 pub mod AcceptedInstances
 pub mod PortKinds
 pub mod PackageOutcomes
+pub mod ContainmentLists
+pub mod SoundPackages

@@ -12,9 +12,9 @@ use Rattle.step_code.specs.declared.instr.Instr.{Instr}
 use Rattle.step_code.specs.declared.instr.Instr.TheVariants.{Store, Jump, JumpZero, LoopStart, LoopNext, End}
 use Rattle.step_code.specs.declared.loops.LoopSpan.{LoopSpan}
 use Rattle.step_code.specs.Loops.{closes, loop_from, loop_at, with_loop, loops_below, around}
-use Rattle.step_code.proofs.NestedCode.{Free, On, Nests, IsNested}
+use Rattle.step_code.specs.proof.LoopNesting.{Free, On, Nests, IsNested}
 use Rattle.step_code.specs.proof.VerifierRules.{inside, agrees, stays}
-use Rattle.step_code.proofs.CleanJumpsAndLoops.{Jumps, IsEnd, Clean, IsClean}
+use Rattle.step_code.specs.proof.CleanJumpsAndLoops.{Jumps, IsEnd, Clean, IsClean}
 
 same_int : (a b : ℤ) → same_number a b ≡ true → a ≡ b
 same_int a b is = let both = and_parts (int_le a b) (int_le b a) is in grind (arith, ints)

@@ -1,9 +1,6 @@
-pub mod NestedCode
-pub mod CleanJumpsAndLoops
 pub mod CleanNesting
 pub mod InnermostLoops
 pub mod WeightBounds
-pub mod LevelAndFedCode
 pub mod StuckFreedom
 pub mod FuelMonotonicity
 pub mod LoopCrossings

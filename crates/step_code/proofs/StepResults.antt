@@ -17,8 +17,8 @@ use Rattle.step_code.specs.proof.CodeRuns.{unless_halted, exec, Leaves, has_entr
 use Rattle.step_code.specs.InstructionsPerStep.{silent, senses, slots_of}
 use Rattle.step_code.specs.proof.StackHeights.{Member}
 use Rattle.step_code.specs.proof.VerifierRules.{IsVerified}
-use Rattle.step_code.proofs.NestedCode.{IsOver}
-use Rattle.step_code.proofs.LevelAndFedCode.{IsFed, GoesOn}
+use Rattle.step_code.specs.proof.LoopNesting.{IsOver}
+use Rattle.step_code.specs.proof.LevelAndFedCode.{IsFed, GoesOn}
 use Rattle.step_code.proofs.WeightBounds.{ends_within}
 use Rattle.step_code.proofs.StuckFreedom.{Begun, never_stuck}
 use Rattle.step_code.proofs.VerifiedPlaces.{verified_entry}

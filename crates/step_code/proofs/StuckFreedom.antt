@@ -21,9 +21,9 @@ use Rattle.step_code.specs.declared.loops.LoopSpan.{LoopSpan}
 use Rattle.step_code.specs.Loops.{around}
 use Rattle.step_code.specs.PathWeights.{onward}
 use Rattle.step_code.specs.proof.CodeRuns.{Rest, then_run, run}
-use Rattle.step_code.proofs.NestedCode.{Nests, IsNested}
+use Rattle.step_code.specs.proof.LoopNesting.{Nests, IsNested}
 use Rattle.step_code.specs.proof.StackHeights.{takes, after, Member, Reaches, ways, Fed}
-use Rattle.step_code.proofs.LevelAndFedCode.{IsLevel, IsFed, GoesOn}
+use Rattle.step_code.specs.proof.LevelAndFedCode.{IsLevel, IsFed, GoesOn}
 
 abbrev pub Holds : Type 1
 Holds = ℕ → List ℤ → List ℤ → List Value → Type 0

@@ -14,10 +14,10 @@ use Rattle.step_code.specs.PathWeights.{onward}
 use Rattle.step_code.specs.proof.StackHeights.{takes, after, Member, Reaches, ways, Fed}
 use Rattle.step_code.specs.proof.VerifierRules.{on_some, strays, lacks_next, ends_loop, is_no_loop_slot, Underflow}
 use Rattle.step_code.specs.proof.VerifierRules.{HeightsDiffer, IsVerified}
-use Rattle.step_code.proofs.NestedCode.{Free, IsNested}
-use Rattle.step_code.proofs.CleanJumpsAndLoops.{Jumps, IsEnd, Clean}
+use Rattle.step_code.specs.proof.LoopNesting.{Free, IsNested}
+use Rattle.step_code.specs.proof.CleanJumpsAndLoops.{Jumps, IsEnd, Clean}
 use Rattle.step_code.proofs.CleanNesting.{loop_is, clean_nested}
-use Rattle.step_code.proofs.LevelAndFedCode.{IsLevel, IsFed}
+use Rattle.step_code.specs.proof.LevelAndFedCode.{IsLevel, IsFed}
 use Rattle.step_code.proofs.LoopCrossings.{not_le, has_slot}
 use Rattle.step_code.proofs.FaultlessInstructions.{goes_well}
 use Rattle.step_code.proofs.ReachedHeights.{IsKnown, known_there}

@@ -23,7 +23,7 @@ use Rattle.step_code.specs.declared.loops.LoopSpan.{LoopSpan}
 use Rattle.step_code.specs.Loops.{turns_of, around}
 use Rattle.step_code.specs.PathWeights.{onward, leads, product, greatest, weight_at, heaviest}
 use Rattle.step_code.specs.proof.CodeRuns.{Rest, then_run, run}
-use Rattle.step_code.proofs.NestedCode.{Free, On, Opens, Closes, Nests, IsNested, IsOver}
+use Rattle.step_code.specs.proof.LoopNesting.{Free, On, Opens, Closes, Nests, IsNested, IsOver}
 
 -- ---- lists
 pub get_set_other : {A : Type 0} (xs : List A) (i j : ℕ) (a : A) → i ≢ j

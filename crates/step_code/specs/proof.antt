@@ -7,3 +7,6 @@ pub mod VerifierRules
 pub mod VerifierAnswers
 pub mod CodeMeaning
 pub mod Examples
+pub mod LoopNesting
+pub mod CleanJumpsAndLoops
+pub mod LevelAndFedCode

@@ -37,7 +37,7 @@ use Rattle.step_code.specs.proof.StackHeights.{Member}
 use Rattle.step_code.specs.proof.VerifierRules.{IsVerified}
 use Rattle.step_code.specs.proof.CodeMeaning.{Means}
 use Rattle.step_code.specs.CodeLengths.{code_length}
-use Rattle.step_code.proofs.NestedCode.{IsOver}
+use Rattle.step_code.specs.proof.LoopNesting.{IsOver}
 use Rattle.step_code.proofs.FuelMonotonicity.{longer}
 use Rattle.step_code.proofs.StepResults.{length-holding, member_at, run_over}
 use Rattle.step_compiler.specs.LoopDepths.{depth_acts, depth_edges}

@@ -16,8 +16,8 @@ use Rattle.step_code.specs.proof.CodeRuns.{Outcome, Ended, Trapped, Rest, then_r
 use Rattle.step_code.specs.InstructionsPerStep.{count, senses}
 use Rattle.step_code.specs.proof.StackHeights.{takes, Fed, Member}
 use Rattle.step_code.specs.proof.VerifierRules.{IsVerified}
-use Rattle.step_code.proofs.NestedCode.{IsOver}
-use Rattle.step_code.proofs.LevelAndFedCode.{IsFed}
+use Rattle.step_code.specs.proof.LoopNesting.{IsOver}
+use Rattle.step_code.specs.proof.LevelAndFedCode.{IsFed}
 use Rattle.step_code.proofs.StuckFreedom.{Begun, Fine, Stands, stands_on}
 use Rattle.step_code.proofs.FuelMonotonicity.{Moves, moves}
 use Rattle.step_code.proofs.WeightBounds.{ends_within}

@@ -6,7 +6,7 @@ use Rattle.aadl_grammar.specs.proof.GrammarSymbols.{Symbol, Row}
 use Rattle.aadl_grammar.specs.proof.ParseTable.{rows, can_omit}
 use Rattle.aadl_grammar.specs.proof.StackMachine.{Stack}
 use Rattle.aadl_grammar.proofs.DerivationTrees.DerivationsAndMachineSteps.{Member, Derives, nothing, take, omit}
-use Rattle.aadl_grammar.proofs.DerivationTrees.SymbolTrees.{kind_with, TreeOf, parts, Trees, parts_all}
+use Rattle.aadl_grammar.specs.proof.SymbolTrees.{kind_with, TreeOf, parts, Trees, parts_all}
 use Rattle.aadl_grammar.proofs.DerivationTrees.TreeBuilders.{follow_first, split_first, split_all, follow_all, front}
 use Rattle.aadl_grammar.proofs.DerivationTrees.TreeBuilders.{back, joined, Builder, Builders, Gives, AllGive, InRows}
 use Rattle.aadl_grammar.proofs.ProductionTrees.AllSymbols.{builders, Empty, empty}

@@ -9,7 +9,7 @@ use Rattle.aadl_grammar.specs.proof.GrammarSymbols as s
 use Rattle.aadl_grammar.specs.proof.ParseTable.{rows, can_omit}
 use Rattle.aadl_grammar.specs.proof.StackMachine.{Stack}
 use Rattle.aadl_grammar.proofs.DerivationTrees.DerivationsAndMachineSteps.{Member, Derives, nothing, take, omit}
-use Rattle.aadl_grammar.proofs.DerivationTrees.SymbolTrees.{Content, kind_with}
+use Rattle.aadl_grammar.specs.proof.SymbolTrees.{Content, kind_with}
 use Rattle.aadl_grammar.proofs.DerivationTrees.TerminalContents.{fits_with}
 
 sample : (c : Class) → Content c

@@ -4,7 +4,7 @@ use Rattle.aadl_tree.specs.declared.mark.Mark.TheVariants as k
 use Rattle.aadl_tree.specs.Terminals.{Kind, word}
 use Rattle.aadl_tree.specs.SpellingParts.{Part, Spells, parts_if, behind}
 use Rattle.aadl_tree.specs.Names as n
-use Rattle.aadl_grammar.proofs.DerivationTrees.SymbolTrees.{U, id}
+use Rattle.aadl_grammar.specs.proof.SymbolTrees.{U, id}
 use Rattle.aadl_grammar.proofs.DerivationTrees.TreeBuilders.{respell}
 
 -- all but the last, and the last

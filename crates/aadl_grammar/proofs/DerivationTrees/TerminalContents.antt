@@ -9,7 +9,7 @@ use Rattle.aadl_grammar.specs.proof.GrammarSymbols.{Class, a_word, a_whole, a_re
 use Rattle.aadl_tree.specs.proof.MarkNumbers.{mark_number}
 use Rattle.aadl_tree.proofs.MarkNumbers.{same_number}
 use Rattle.aadl_grammar.specs.proof.StackMachine.{class_number, kind_number, fits}
-use Rattle.aadl_grammar.proofs.DerivationTrees.SymbolTrees.{Content, kind_with}
+use Rattle.aadl_grammar.specs.proof.SymbolTrees.{Content, kind_with}
 
 small : (m : Mark) → nat_lt (mark_number m) 100 ≡ true
 small k.Package = refl

@@ -6,7 +6,7 @@ use Rattle.aadl_tree.specs.SpellingParts.{Part, Spells}
 use Rattle.aadl_tree.proofs.ConcatenatedSpellings.{spells_append, spells_split}
 use Rattle.aadl_grammar.specs.proof.GrammarSymbols.{Symbol, Row}
 use Rattle.aadl_grammar.specs.proof.ParseTable.{behind, rows}
-use Rattle.aadl_grammar.proofs.DerivationTrees.SymbolTrees.{U, Content, kind_with, TreeOf, parts, Trees, parts_all}
+use Rattle.aadl_grammar.specs.proof.SymbolTrees.{U, Content, kind_with, TreeOf, parts, Trees, parts_all}
 
 pub record Split (ps qs : List (Part U)) (ks rest : List Kind) : Type 0 where
   pub mid : List Kind

@@ -9,7 +9,7 @@ use Rattle.aadl_grammar.specs.proof.StackMachine.{Stack, class_number, kind_numb
 use Rattle.aadl_grammar.proofs.DerivationTrees.ForbiddenFollowers.{among, firsts, distinct, distinct_firsts}
 use Rattle.aadl_grammar.proofs.DerivationTrees.ForbiddenFollowerMembership.{Clear, firsts_in_tail}
 use Rattle.aadl_grammar.proofs.DerivationTrees.DerivationsAndMachineSteps.{Member, begins, clear_taken}
-use Rattle.aadl_grammar.proofs.DerivationTrees.SymbolTrees.{kind_with, TreeOf, Trees, parts_all}
+use Rattle.aadl_grammar.specs.proof.SymbolTrees.{kind_with, TreeOf, Trees, parts_all}
 use Rattle.aadl_grammar.proofs.DerivationTrees.TreeBuilders.{split_first, follow_all, front, back, joined, front_joined}
 use Rattle.aadl_grammar.proofs.DerivationTrees.TreeBuilders.{back_joined, Builders, Uses, InRows}
 use Rattle.aadl_grammar.proofs.ProductionTrees.AllSymbols.{builders, Empty, empty}

@@ -11,7 +11,7 @@ use Rattle.aadl_grammar.specs.proof.GrammarSymbols as s
 use Rattle.aadl_grammar.specs.proof.StackMachine.{depth, whole_package, annex_body}
 use Rattle.aadl_grammar.proofs.DerivationTrees.ForbiddenFollowers.{first_of, tail}
 use Rattle.aadl_grammar.proofs.DerivationTrees.ForbiddenFollowerMembership.{Clear, apart_means}
-use Rattle.aadl_grammar.proofs.DerivationTrees.SymbolTrees.{Trees}
+use Rattle.aadl_grammar.specs.proof.SymbolTrees.{Trees}
 use Rattle.aadl_grammar.proofs.DerivationTrees.DerivedTrees.{derives, Written, written}
 use Rattle.aadl_grammar.proofs.PlaceIndependence.AlikeParts.{alike_spells, alike_kept}
 use Rattle.aadl_tree.specs.proof.PlaceMaps.{annex_tree_to, package_to}

@@ -6,7 +6,7 @@ use Rattle.aadl_tree.specs.SpellingParts.{Spells}
 use Rattle.aadl_grammar.specs.proof.GrammarSymbols.{Symbol}
 use Rattle.aadl_grammar.specs.proof.GrammarSymbols as s
 use Rattle.aadl_grammar.specs.proof.ParseTable.{rows, can_omit}
-use Rattle.aadl_grammar.proofs.DerivationTrees.SymbolTrees.{U, TreeOf, parts}
+use Rattle.aadl_grammar.specs.proof.SymbolTrees.{U, TreeOf, parts}
 use Rattle.aadl_grammar.proofs.DerivationTrees.TreeBuilders.{AllGive, InRows, uses}
 use Rattle.aadl_grammar.proofs.ProductionTrees.AllSymbols.{builders, Empty, empty}
 use Rattle.aadl_grammar.proofs.ProductionSoundness.NamesAndValues.{only_give, identifier_give, name_give, names_give}

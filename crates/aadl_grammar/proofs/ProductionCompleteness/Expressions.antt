@@ -13,7 +13,7 @@ use Rattle.aadl_tree.specs.SpellingParts.{Spells}
 use Rattle.aadl_tree.specs.Expressions as e
 use Rattle.aadl_grammar.specs.proof.GrammarSymbols as s
 use Rattle.aadl_grammar.specs.proof.ParseTable.{rows}
-use Rattle.aadl_grammar.proofs.DerivationTrees.SymbolTrees.{U, parts}
+use Rattle.aadl_grammar.specs.proof.SymbolTrees.{U, parts}
 use Rattle.aadl_grammar.proofs.DerivationTrees.TreeBuilders.{respell, InRows, behind_opens, uses, Opens, OpensOr}
 use Rattle.aadl_grammar.proofs.ProductionTrees.Expressions.{primary_builders, fresh_builders, factor_builders}
 use Rattle.aadl_grammar.proofs.ProductionTrees.Expressions.{factor_joins, term_builders, term_joins, factors_builders}

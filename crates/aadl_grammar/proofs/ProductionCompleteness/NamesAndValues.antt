@@ -11,7 +11,7 @@ use Rattle.aadl_tree.specs.Names as n
 use Rattle.aadl_tree.specs.Values as v
 use Rattle.aadl_grammar.specs.proof.GrammarSymbols as s
 use Rattle.aadl_grammar.specs.proof.ParseTable.{rows}
-use Rattle.aadl_grammar.proofs.DerivationTrees.SymbolTrees.{U, parts}
+use Rattle.aadl_grammar.specs.proof.SymbolTrees.{U, parts}
 use Rattle.aadl_grammar.proofs.DerivationTrees.ReferencesByFirstWord.{chain_of}
 use Rattle.aadl_grammar.proofs.DerivationTrees.TreeBuilders.{respell, InRows, behind_opens, uses, Opens, OpensOr}
 use Rattle.aadl_grammar.proofs.ProductionTrees.NamesAndValues.{identifier_builders, name_builders, names_builders}

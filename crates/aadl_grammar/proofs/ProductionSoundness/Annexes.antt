@@ -10,7 +10,7 @@ use Rattle.aadl_tree.specs.Actions as a
 use Rattle.aadl_tree.specs.Annexes as x
 use Rattle.aadl_grammar.specs.proof.GrammarSymbols as s
 use Rattle.aadl_grammar.specs.proof.ParseTable.{rows}
-use Rattle.aadl_grammar.proofs.DerivationTrees.SymbolTrees.{U, id, after_word_parts, transition_of, parts}
+use Rattle.aadl_grammar.specs.proof.SymbolTrees.{U, id, after_word_parts, transition_of, parts}
 use Rattle.aadl_grammar.proofs.DerivationTrees.TreeBuilders.{respell, AllGive, behind_give}
 use Rattle.aadl_grammar.proofs.ProductionTrees.Expressions.{expression_builders}
 use Rattle.aadl_grammar.proofs.ProductionTrees.Actions.{block_builders}

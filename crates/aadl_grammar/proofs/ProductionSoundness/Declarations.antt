@@ -14,8 +14,8 @@ use Rattle.aadl_tree.specs.Values as v
 use Rattle.aadl_tree.specs.Declarations as d
 use Rattle.aadl_grammar.specs.proof.GrammarSymbols as s
 use Rattle.aadl_grammar.specs.proof.ParseTable.{rows}
-use Rattle.aadl_grammar.proofs.DerivationTrees.SymbolTrees.{U, Rest, type_rest, implementation_rest, declaration_of}
-use Rattle.aadl_grammar.proofs.DerivationTrees.SymbolTrees.{rest_parts, section_rest}
+use Rattle.aadl_grammar.specs.proof.SymbolTrees.{U, Rest, type_rest, implementation_rest, declaration_of}
+use Rattle.aadl_grammar.specs.proof.SymbolTrees.{rest_parts, section_rest}
 use Rattle.aadl_grammar.proofs.DerivationTrees.TreeBuilders.{respell, AllGive, behind_give}
 use Rattle.aadl_grammar.proofs.ProductionTrees.NamesAndValues.{reference_builders, association_builders}
 use Rattle.aadl_grammar.proofs.ProductionTrees.Declarations.{direction_builders, category_builders, data_type_builders}

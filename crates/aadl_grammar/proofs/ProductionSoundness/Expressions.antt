@@ -9,8 +9,8 @@ use Rattle.aadl_tree.specs.SpellingParts.{Spells}
 use Rattle.aadl_tree.specs.Expressions as e
 use Rattle.aadl_grammar.specs.proof.GrammarSymbols as s
 use Rattle.aadl_grammar.specs.proof.ParseTable.{rows}
-use Rattle.aadl_grammar.proofs.DerivationTrees.SymbolTrees.{U, compared_parts, relation_of, after_parts, and_join}
-use Rattle.aadl_grammar.proofs.DerivationTrees.SymbolTrees.{or_join}
+use Rattle.aadl_grammar.specs.proof.SymbolTrees.{U, compared_parts, relation_of, after_parts, and_join}
+use Rattle.aadl_grammar.specs.proof.SymbolTrees.{or_join}
 use Rattle.aadl_grammar.proofs.DerivationTrees.TreeBuilders.{AllGive, behind_give}
 use Rattle.aadl_grammar.proofs.ProductionTrees.Expressions.{primary_builders, fresh_builders, factor_builders}
 use Rattle.aadl_grammar.proofs.ProductionTrees.Expressions.{factor_joins, term_builders, term_joins, factors_builders}

@@ -7,7 +7,7 @@ use Rattle.aadl_tree.specs.SpellingParts.{Part, plain}
 use Rattle.aadl_tree.specs.Values as v
 use Rattle.aadl_grammar.specs.proof.GrammarSymbols as s
 use Rattle.aadl_grammar.specs.proof.ParseTable.{rows}
-use Rattle.aadl_grammar.proofs.DerivationTrees.SymbolTrees.{U}
+use Rattle.aadl_grammar.specs.proof.SymbolTrees.{U}
 use Rattle.aadl_grammar.proofs.DerivationTrees.ReferencesByFirstWord.{reference_spells}
 use Rattle.aadl_grammar.proofs.DerivationTrees.TreeBuilders.{respell, AllGive, behind_give}
 use Rattle.aadl_grammar.proofs.ProductionTrees.NamesAndValues.{only_builders, identifier_builders, name_builders}

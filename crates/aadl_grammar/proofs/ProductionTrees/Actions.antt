@@ -4,7 +4,7 @@ use Rattle.std.proofs.Common.{true, false, [], ◌∷◌, inl, inr}
 use Rattle.aadl_tree.specs.Actions as a
 use Rattle.aadl_grammar.specs.proof.GrammarSymbols as s
 use Rattle.aadl_grammar.specs.proof.ParseTable.{rows}
-use Rattle.aadl_grammar.proofs.DerivationTrees.SymbolTrees.{act, more_of}
+use Rattle.aadl_grammar.specs.proof.SymbolTrees.{act, more_of}
 use Rattle.aadl_grammar.proofs.DerivationTrees.TreeBuilders.{Builders, Joins, behind_builders}
 
 abbrev pub test_builders : Builders s.test (rows s.test)

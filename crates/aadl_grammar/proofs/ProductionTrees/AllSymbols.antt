@@ -6,7 +6,7 @@ use Rattle.aadl_tree.specs.Actions as a
 use Rattle.aadl_grammar.specs.proof.GrammarSymbols.{Symbol}
 use Rattle.aadl_grammar.specs.proof.GrammarSymbols as s
 use Rattle.aadl_grammar.specs.proof.ParseTable.{rows, can_omit}
-use Rattle.aadl_grammar.proofs.DerivationTrees.SymbolTrees.{U, TreeOf}
+use Rattle.aadl_grammar.specs.proof.SymbolTrees.{U, TreeOf}
 use Rattle.aadl_grammar.proofs.DerivationTrees.TreeBuilders.{Builders}
 use Rattle.aadl_grammar.proofs.ProductionTrees.NamesAndValues.{only_builders, identifier_builders, name_builders}
 use Rattle.aadl_grammar.proofs.ProductionTrees.NamesAndValues.{names_builders, path_builders, paths_builders}

@@ -4,7 +4,7 @@ use Rattle.std.proofs.Common.{true, [], ◌∷◌, Some, None}
 use Rattle.aadl_tree.specs.Annexes as x
 use Rattle.aadl_grammar.specs.proof.GrammarSymbols as s
 use Rattle.aadl_grammar.specs.proof.ParseTable.{rows}
-use Rattle.aadl_grammar.proofs.DerivationTrees.SymbolTrees.{id, transition_of}
+use Rattle.aadl_grammar.specs.proof.SymbolTrees.{id, transition_of}
 use Rattle.aadl_grammar.proofs.DerivationTrees.TreeBuilders.{Builders, Joins, behind_builders}
 use Rattle.aadl_grammar.proofs.ProductionTrees.Expressions.{expression_builders}
 use Rattle.aadl_grammar.proofs.ProductionTrees.Actions.{block_builders}

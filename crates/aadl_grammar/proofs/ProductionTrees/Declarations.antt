@@ -6,7 +6,7 @@ use Rattle.aadl_tree.specs.declared.declarations.Direction.TheVariants as direct
 use Rattle.aadl_tree.specs.Values as v
 use Rattle.aadl_grammar.specs.proof.GrammarSymbols as s
 use Rattle.aadl_grammar.specs.proof.ParseTable.{rows}
-use Rattle.aadl_grammar.proofs.DerivationTrees.SymbolTrees.{id, type_rest, implementation_rest, declaration_of}
+use Rattle.aadl_grammar.specs.proof.SymbolTrees.{id, type_rest, implementation_rest, declaration_of}
 use Rattle.aadl_grammar.proofs.DerivationTrees.TreeBuilders.{Builders, Joins, behind_builders}
 use Rattle.aadl_grammar.proofs.ProductionTrees.NamesAndValues.{reference_builders, association_builders}
 

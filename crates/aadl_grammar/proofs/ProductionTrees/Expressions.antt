@@ -8,7 +8,7 @@ use Rattle.aadl_tree.specs.declared.expressions.MultiplyOperator.TheVariants as 
 use Rattle.aadl_tree.specs.Expressions as e
 use Rattle.aadl_grammar.specs.proof.GrammarSymbols as s
 use Rattle.aadl_grammar.specs.proof.ParseTable.{rows}
-use Rattle.aadl_grammar.proofs.DerivationTrees.SymbolTrees.{id, relation_of, and_join, or_join}
+use Rattle.aadl_grammar.specs.proof.SymbolTrees.{id, relation_of, and_join, or_join}
 use Rattle.aadl_grammar.proofs.DerivationTrees.TreeBuilders.{Builders, Joins, behind_builders}
 
 abbrev pub primary_builders : Builders s.primary (rows s.primary)

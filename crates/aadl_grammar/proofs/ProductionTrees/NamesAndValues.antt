@@ -7,7 +7,7 @@ use Rattle.aadl_tree.specs.declared.values.AssociationOperator.TheVariants as op
 use Rattle.aadl_tree.specs.Values as v
 use Rattle.aadl_grammar.specs.proof.GrammarSymbols as s
 use Rattle.aadl_grammar.specs.proof.ParseTable.{rows}
-use Rattle.aadl_grammar.proofs.DerivationTrees.SymbolTrees.{id}
+use Rattle.aadl_grammar.specs.proof.SymbolTrees.{id}
 use Rattle.aadl_grammar.proofs.DerivationTrees.ReferencesByFirstWord.{reference_of}
 use Rattle.aadl_grammar.proofs.DerivationTrees.TreeBuilders.{Builders, Joins, behind_builders}
 

@@ -1,5 +1,5 @@
 use Rattle.std.proofs.Common.{inl, inr, refl}
-use Rattle.answer_laws.proofs.UniquenessPremises.{ExecutionPremises}
+use Rattle.answer_laws.specs.proof.UniquenessPremises.{ExecutionPremises}
 use Rattle.answer_laws.proofs.ExecutionStatuses.{exactly, at_scenario, never_made, one_made, alone_at_scenario}
 use Rattle.answer_laws.proofs.statuses.statuses_of_executions.Goals as goal
 

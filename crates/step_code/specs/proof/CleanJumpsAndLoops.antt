@@ -5,7 +5,7 @@ use Rattle.step_code.specs.declared.instr.Instr.TheVariants.{Store, Jump, JumpZe
 use Rattle.step_code.specs.declared.loops.LoopSpan.{LoopSpan}
 use Rattle.step_code.specs.Loops.{loop_at, around}
 use Rattle.step_code.specs.proof.VerifierRules.{stays}
-use Rattle.step_code.proofs.NestedCode.{Free}
+use Rattle.step_code.specs.proof.LoopNesting.{Free}
 
 -- rules 1 and 6 on a jump
 pub record Jumps (code : List Instr) (p to : ℕ) : Type 0 where
