@@ -6,7 +6,7 @@ use Rattle.pals_model.specs.declared.inputs_parts_and_delays.Env.{Env}
 use Rattle.pals_model.specs.ComponentInputs.{values_at}
 use Rattle.pals_model.specs.DesignRules.{IsDesign}
 use Rattle.pals_model.specs.RoundTexts.{text_of, row_lines}
-use Rattle.pals_runs.specs.declared.vote_faults_and_pairs.Pair.{Pair}
+use Rattle.pals_runs.specs.declared.plant_pairs.Pair.{Pair}
 use Rattle.plant_fuse.specs.proof.Fusibility.{IsFirstBad}
 use Rattle.plant_fuse.specs.FusedComposition.{ArePairs, Inputs, IsFused}
 use Rattle.plant_fuse.specs.proof.FuseState.{FuseState, begun, IsAdvanced}

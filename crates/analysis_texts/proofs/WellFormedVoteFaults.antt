@@ -7,7 +7,7 @@ use Rattle.pals_base.specs.StepSequences.{upwards}
 use Rattle.pals_base.proofs.UpwardNumbers.{get_or-map_upwards, length-map_upwards}
 use Rattle.pals_model.specs.declared.design.Link.{Link}
 use Rattle.pals_model.specs.declared.design.DesignParts.{DesignParts}
-use Rattle.pals_runs.specs.declared.vote_faults_and_pairs.VoteFault.{VoteFault}
+use Rattle.pals_runs.specs.declared.vote_faults.VoteFault.{VoteFault}
 use Rattle.analysis_fields.specs.declared.replica_faults.RoundFault.{RoundFault}
 use Rattle.analysis_fields.specs.proof.FaultAndProcessorFacts.{IsFaultOf}
 use Rattle.analysis_fields.specs.ReplicasAndFaults.{source_in as named_source}

@@ -5,7 +5,7 @@ ghost use Rattle.pals_base.specs.declared.values.PortValue.{PortValue};
 ghost use Rattle.pals_model.specs.declared.design.Tap.{Tap};
 ghost use Rattle.pals_model.specs.DesignRules.{IsDesign};
 ghost use Rattle.pals_model.specs.RoundTexts.{text_of, report};
-ghost use Rattle.pals_runs.specs.declared.vote_faults_and_pairs.VoteFault.{VoteFault};
+ghost use Rattle.pals_runs.specs.declared.vote_faults.VoteFault.{VoteFault};
 ghost use Rattle.analysis_fields.specs.proof.FaultAndProcessorFacts.{IsFaultOf};
 ghost use Rattle.triple_vote.specs.proof.VoteLaws.{IsFault};
 ghost use Rattle.triple_vote.specs.Replicas.{is_replicated, frame_at, voted_opening};

@@ -6,7 +6,7 @@ use Rattle.scenario_json.specs.declared.scenario.Scenario.{Scenario}
 use Rattle.scenario_json.specs.proof.ScenarioValidity.{IsScenarioOf}
 use Rattle.scenario_laws.specs.proof.EventsAndTraces.{AreLooseEvents}
 use Rattle.plant_fuse.specs.FusedComposition.{ArePairs}
-use Rattle.pals_runs.specs.declared.vote_faults_and_pairs.Pair.{Pair}
+use Rattle.pals_runs.specs.declared.plant_pairs.Pair.{Pair}
 use Rattle.plant_fuse.specs.FusedReport.{IsFusedReport}
 use Rattle.plant_fuse.specs.proof.FusedLaws.{ReportExists}
 use Rattle.plant_fuse.proofs.ReportsWithoutPairs.{report_without_pairs}

@@ -6,7 +6,7 @@ use Rattle.std.proofs.lemmas.List.{append-nil, get_or_past}
 use Rattle.pals_clock.specs.declared.clock.Clocks.{Clocks}
 use Rattle.pals_clock.specs.declared.clock.Clocks.TheVariants.{Meet, Lists}
 use Rattle.pals_model.specs.RoundTexts.{line_end, report}
-use Rattle.pals_runs.specs.declared.journal.Phase.TheVariants.{Done}
+use Rattle.pals_runs.specs.declared.phase.Phase.TheVariants.{Done}
 use Rattle.pals_report.specs.ClockEndsAndVerdicts.{clock_end_line}
 use Rattle.bus_machine.specs.declared.node_action.NodeAction.{NodeAction}
 use Rattle.bus_machine.specs.Agreement.{Agrees}

@@ -20,8 +20,8 @@ use Rattle.pals_model.specs.ComponentInputs.{values_at}
 use Rattle.pals_model.specs.Composition.{msg}
 use Rattle.pals_model.specs.DesignRules.{IsComponent}
 use Rattle.pals_model.proofs.FirstMatches.{at_element}
-use Rattle.pals_runs.specs.declared.journal.Phase.{Phase}
-use Rattle.pals_runs.specs.declared.journal.Phase.TheVariants.{Waiting, Running, Between, Holding, Done}
+use Rattle.pals_runs.specs.declared.phase.Phase.{Phase}
+use Rattle.pals_runs.specs.declared.phase.Phase.TheVariants.{Waiting, Running, Between, Holding, Done}
 use Rattle.bus_machine.specs.Plans.{component_at, plan_of}
 use Rattle.bus_machine.specs.Nodes.{NodeState, round_of}
 use Rattle.bus_machine.specs.NodeEvents.{is_waiting, missing, started, next_step, stepped, running_step, finished}

@@ -28,8 +28,8 @@ use Rattle.pals_model.specs.DesignRules.{IsDesign}
 use Rattle.pals_model.proofs.StepLaws.{round_begins, round_goes_on, round_ends}
 use Rattle.pals_model.proofs.ShapeLaws.{feed_has_vectors}
 use Rattle.pals_model.proofs.CompositionLaws.{state_goes_on, message_from_source, part_from_steps}
-use Rattle.pals_runs.specs.declared.journal.Phase.{Phase}
-use Rattle.pals_runs.specs.declared.journal.Phase.TheVariants.{Waiting, Running, Between, Holding, Done}
+use Rattle.pals_runs.specs.declared.phase.Phase.{Phase}
+use Rattle.pals_runs.specs.declared.phase.Phase.TheVariants.{Waiting, Running, Between, Holding, Done}
 use Rattle.bus_machine.specs.declared.plan.Plan.{Plan}
 use Rattle.bus_machine.specs.Plans.{plan_for}
 use Rattle.bus_machine.specs.Nodes.{NodeState, at_rest, finished_steps}

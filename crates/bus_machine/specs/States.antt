@@ -7,7 +7,7 @@ use Rattle.pals_model.specs.declared.inputs_parts_and_delays.Env.{Env}
 use Rattle.pals_model.specs.declared.inputs_parts_and_delays.Delays.{Delays}
 use Rattle.pals_model.specs.declared.flight_copy.FlightCopy.{FlightCopy}
 use Rattle.pals_model.specs.Composition.{no_frame}
-use Rattle.pals_runs.specs.declared.journal.Phase.TheVariants.{Done}
+use Rattle.pals_runs.specs.declared.phase.Phase.TheVariants.{Done}
 use Rattle.pals_runs.specs.declared.journal.Stop.{Stop}
 use Rattle.bus_machine.specs.Plans.{plan_of}
 use Rattle.bus_machine.specs.Nodes.{NodeState, opening_node}

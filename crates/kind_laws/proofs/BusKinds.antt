@@ -23,8 +23,8 @@ use Rattle.pals_model.proofs.ShapeLaws.{is_behaviour, state_has_shape}
 use Rattle.pals_model.proofs.AllElements.{index_fits}
 use Rattle.pals_model.proofs.KindsOfSteps.{frames_fit}
 use Rattle.pals_model.proofs.KindsOfRounds.{states_fit, messages_fit, parts_fit}
-use Rattle.pals_runs.specs.declared.journal.Phase.{Phase}
-use Rattle.pals_runs.specs.declared.journal.Phase.TheVariants.{Waiting, Running, Between, Holding, Done}
+use Rattle.pals_runs.specs.declared.phase.Phase.{Phase}
+use Rattle.pals_runs.specs.declared.phase.Phase.TheVariants.{Waiting, Running, Between, Holding, Done}
 use Rattle.bus_machine.specs.Plans.{plan_of}
 use Rattle.bus_machine.specs.Nodes.{NodeState, Work, job_of, job_in}
 use Rattle.bus_machine.specs.States.{Run, BusState, node_at, flight_at}

@@ -16,7 +16,7 @@ use Rattle.pals_bus.proofs.target_list.TargetList.TheSendSync.{the_send as targe
 use Rattle.step_vm.proofs.room.Room.TheSendSync.{the_send as room_send}
 use Rattle.pals_clock.proofs.clock.ListClock.TheSendSync.{the_send as clock_send}
 use Rattle.pals_base.proofs.values.PortValue.TheSendSync.{the_field_send as port_send}
-use Rattle.pals_runs.proofs.journal.Phase.TheSendSync.{the_field_send as phase_send}
+use Rattle.pals_runs.proofs.phase.Phase.TheSendSync.{the_field_send as phase_send}
 use Rattle.pals_runs.proofs.journal.JournalEntry.TheSendSync.{the_field_send as entry_send}
 use Rattle.pals_runs.proofs.journal.Stop.TheSendSync.{the_field_send as stop_send}
 use Rattle.pals_model.proofs.inputs_parts_and_delays.Part.TheSendSync.{the_field_send as part_send}

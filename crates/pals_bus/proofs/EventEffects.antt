@@ -10,7 +10,7 @@ use Rattle.pals_model.specs.declared.inputs_parts_and_delays.Delays.{Delays}
 use Rattle.pals_model.specs.declared.flight_copy.FlightCopy.{FlightCopy}
 use Rattle.pals_model.specs.Delays.{AreDelays, IsDelayList, delay_of}
 use Rattle.pals_model.specs.ComponentInputs.{values_at}
-use Rattle.pals_runs.specs.declared.journal.Phase.TheVariants.{Running, Between, Waiting}
+use Rattle.pals_runs.specs.declared.phase.Phase.TheVariants.{Running, Between, Waiting}
 use Rattle.bus_machine.specs.Plans.{plan_of}
 use Rattle.bus_machine.specs.NodeEvents.{is_waiting, missing, started, next_step, stepped, running_step, finished}
 use Rattle.bus_machine.specs.LinkEvents.{tuple_in}

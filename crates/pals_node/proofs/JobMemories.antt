@@ -3,7 +3,7 @@ use Rattle.std.proofs.Common.{◌≡◌, ◌∙◌, ℕ, [], sym, ap, subst, len
 use Rattle.std.specs.Arc.{arc_value}
 use Rattle.pals_base.specs.declared.values.Frame.{Frame}
 use Rattle.pals_base.specs.SingleStep.{HasShape}
-use Rattle.pals_runs.specs.declared.journal.Phase.TheVariants.{Running}
+use Rattle.pals_runs.specs.declared.phase.Phase.TheVariants.{Running}
 use Rattle.step_vm.specs.proof.RoomCapacity.{IsRoomOf}
 use Rattle.pals_node.specs.declared.node_fields.NodeFields.{NodeFields}
 use Rattle.pals_node.specs.declared.job_memory.Memory.{Memory}

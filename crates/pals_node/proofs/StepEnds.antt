@@ -8,7 +8,7 @@ use Rattle.pals_base.specs.declared.values.PortValue.{PortValue}
 use Rattle.pals_base.specs.declared.values.Frame.{Frame}
 use Rattle.pals_base.specs.SingleStep.{Fired, HasShape}
 use Rattle.pals_base.specs.StepSequences.{with_places}
-use Rattle.pals_runs.specs.declared.journal.Phase.TheVariants.{Running, Holding}
+use Rattle.pals_runs.specs.declared.phase.Phase.TheVariants.{Running, Holding}
 use Rattle.bus_machine.specs.declared.plan.Plan.{Plan}
 use Rattle.bus_machine.specs.Nodes.{at_rest}
 use Rattle.bus_machine.specs.NodeEvents.{fired, finished, finished_with}

@@ -6,7 +6,7 @@ ghost use Rattle.pals_base.specs.declared.limits.TheConstants.{ROUNDS};
 ghost use Rattle.pals_base.specs.declared.values.PortValue.{PortValue};
 ghost use Rattle.pals_base.specs.declared.values.PortValue.TheVariants.{Absent};
 ghost use Rattle.pals_base.specs.SingleStep.{HasShape};
-ghost use Rattle.pals_runs.specs.declared.journal.Phase.TheVariants.{Running};
+ghost use Rattle.pals_runs.specs.declared.phase.Phase.TheVariants.{Running};
 ghost use Rattle.bus_machine.specs.NodeEvents.{started, sent_from, messages_from, may_send, part_left};
 ghost use Rattle.pals_node.specs.proof.NodeValues.{job_at, opening_value, with_state};
 ghost use Rattle.pals_node.specs.proof.JobMemories.{HasMemory};

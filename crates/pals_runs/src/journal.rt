@@ -2,18 +2,6 @@
 //! that ended the run, if one did.
 use pals_base::{LinkNo, Nanos, NodeNo};
 
-/// What a node is doing: it waits for its next round; the job of this step is out; a number of
-/// steps of the round are finished and the next is to start; all steps are finished and the round
-/// is not sent; or all rounds are done.
-#[derive(Clone, Copy, PartialEq, Debug)]
-pub enum Phase {
-    Waiting,
-    Running(u32),
-    Between(u32),
-    Holding,
-    Done,
-}
-
 /// What became of a message that arrived: it fills its slot; it is not used; or it comes before its
 /// target has started the message's round.
 #[derive(Clone, Copy, PartialEq)]

@@ -1,18 +1,22 @@
 //! What scenarios, runs and audits share: the commands of the program, events of worlds and why one
 //! is refused, the journal of a run with its stops, the verdict on a trace, and what monitors,
-//! votes and plants are given. The text of a journal line is defined in `specs/Journal.antt`.
+//! votes and plants are given. The text of a journal line is defined in `specs/JournalLines.antt`.
 #![tactic(auto)]
 
 mod commands;
 mod events_and_faults;
 mod forms;
 mod journal;
+mod phase;
+mod plant_pairs;
 mod verdicts;
-mod vote_faults_and_pairs;
+mod vote_faults;
 
 pub use commands::Command;
 pub use events_and_faults::{Event, EventFault, EventSubject};
 pub use forms::{Compare, Form};
-pub use journal::{Arrived, Cause, JournalEntry, Phase, Stop};
+pub use journal::{Arrived, Cause, JournalEntry, Stop};
+pub use phase::Phase;
+pub use plant_pairs::Pair;
 pub use verdicts::{TraceRule, Verdict};
-pub use vote_faults_and_pairs::{Pair, VoteFault};
+pub use vote_faults::VoteFault;

@@ -8,7 +8,7 @@ use Rattle.std.proofs.lemmas.Option.{slice_get-get_or, slice_get_within, get_or_
 use Rattle.pals_base.specs.declared.values.NodeNo.{NodeNo}
 use Rattle.pals_model.specs.declared.design.Link.{Link}
 use Rattle.pals_model.specs.declared.design.DesignParts.{DesignParts}
-use Rattle.pals_runs.specs.declared.vote_faults_and_pairs.Pair.{Pair}
+use Rattle.pals_runs.specs.declared.plant_pairs.Pair.{Pair}
 use Rattle.plant_fuse.specs.FusedComposition.{goes, is_back, is_forth, IsPair, AreApart, ArePairs}
 use Rattle.plant_fuse.specs.proof.Partners.{partner_of, is_inside}
 use Rattle.plant_fuse.proofs.PairLinks.{goes_parts}

@@ -10,7 +10,7 @@ use Rattle.pals_model.specs.declared.inputs_parts_and_delays.Env.{Env}
 use Rattle.pals_model.specs.ComponentInputs.{values_at}
 use Rattle.pals_model.specs.Composition.{Configuration, opening}
 use Rattle.pals_model.specs.DesignRules.{IsDesign}
-use Rattle.pals_runs.specs.declared.vote_faults_and_pairs.Pair.{Pair}
+use Rattle.pals_runs.specs.declared.plant_pairs.Pair.{Pair}
 use Rattle.plant_fuse.specs.FusedComposition.{ArePairs, Inputs, inputs_to, vector_of, messages_before, IsFused}
 use Rattle.plant_fuse.specs.proof.FusedRounds.{first_rounds, frame_of, fused}
 use Rattle.plant_fuse.specs.proof.RoundEquations.{IsFusedRound, after_round, last_round, AreRounds}

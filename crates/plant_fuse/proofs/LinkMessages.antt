@@ -5,7 +5,7 @@ use Rattle.std.proofs.lemmas.List.{get_or-map}
 use Rattle.pals_base.specs.declared.values.PortValue.{PortValue}
 use Rattle.pals_base.specs.StepSequences.{column, cut}
 use Rattle.pals_model.specs.declared.design.Link.{Link}
-use Rattle.pals_runs.specs.declared.vote_faults_and_pairs.Pair.{Pair}
+use Rattle.pals_runs.specs.declared.plant_pairs.Pair.{Pair}
 use Rattle.sync_product.specs.declared.component_stage.Stage.{Stage}
 use Rattle.plant_fuse.specs.proof.Partners.{partner_of, is_inside}
 use Rattle.plant_fuse.specs.proof.Messages.{sent_count, sent_from, sent_on}

@@ -4,7 +4,7 @@ use Rattle.std.proofs.lemmas.List.{length-map}
 use Rattle.pals_base.specs.StepSequences.{upwards}
 use Rattle.pals_base.proofs.UpwardNumbers.{length-upwards}
 use Rattle.pals_model.specs.declared.design.DesignParts.{DesignParts}
-use Rattle.pals_runs.specs.declared.vote_faults_and_pairs.Pair.{Pair}
+use Rattle.pals_runs.specs.declared.plant_pairs.Pair.{Pair}
 use Rattle.plant_fuse.specs.declared.design_tables.Tables.{Tables}
 use Rattle.plant_fuse.specs.proof.Partners.{partner_of}
 use Rattle.plant_fuse.specs.proof.DesignTables.{AreTables}

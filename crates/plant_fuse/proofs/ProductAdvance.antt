@@ -27,7 +27,7 @@ use Rattle.pals_model.specs.ComponentInputs.{rate_of, rate_in}
 use Rattle.pals_model.specs.Composition.{Configuration, taps_of}
 use Rattle.pals_model.specs.DesignRules.{IsDesign, IsLink}
 use Rattle.pals_model.proofs.ShapeLaws.{component_at, length-outputs}
-use Rattle.pals_runs.specs.declared.vote_faults_and_pairs.Pair.{Pair}
+use Rattle.pals_runs.specs.declared.plant_pairs.Pair.{Pair}
 use Rattle.sync_product.specs.declared.round_inputs.RoundInputs.{RoundInputs}
 use Rattle.sync_product.specs.declared.component_stage.Stage.{Stage}
 use Rattle.sync_product.specs.proof.ProductSizes.{StageSize, stage_size, stage_size_of, stage_sizes}

@@ -10,7 +10,7 @@ use Rattle.pals_model.specs.declared.inputs_parts_and_delays.Env.{Env}
 use Rattle.pals_model.specs.declared.inputs_parts_and_delays.Part.{Part}
 use Rattle.pals_model.specs.RoundTexts.{line_end, text_of, row_lines}
 use Rattle.pals_model.specs.DesignRules.{IsDesign}
-use Rattle.pals_runs.specs.declared.vote_faults_and_pairs.Pair.{Pair}
+use Rattle.pals_runs.specs.declared.plant_pairs.Pair.{Pair}
 use Rattle.plant_fuse.specs.FusedComposition.{ArePairs, Inputs, IsFused}
 use Rattle.plant_fuse.specs.proof.FusedRounds.{first_rounds}
 use Rattle.plant_fuse.specs.FusedReport.{fused_parts, fused_lines, fused_report}

@@ -14,7 +14,7 @@ use Rattle.pals_model.specs.declared.port_sources.PortSource.{PortSource}
 use Rattle.pals_model.specs.declared.port_sources.PortSource.TheVariants as source
 use Rattle.pals_model.specs.ComponentInputs.{source_of}
 use Rattle.pals_model.specs.Composition.{Configuration}
-use Rattle.pals_runs.specs.declared.vote_faults_and_pairs.Pair.{Pair}
+use Rattle.pals_runs.specs.declared.plant_pairs.Pair.{Pair}
 use Rattle.plant_fuse.specs.FusedComposition.{ArePairs, is_back, is_forth, Inputs, inputs_to}
 use Rattle.plant_fuse.specs.proof.RoundEquations.{frame_at, outputs_from, left_in, left_before_by, brought, link_by}
 use Rattle.plant_fuse.specs.proof.RoundEquations.{read_by, round_vector, IsFusedRound}

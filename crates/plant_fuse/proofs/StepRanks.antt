@@ -10,7 +10,7 @@ use Rattle.pals_model.specs.declared.design.DesignParts.{DesignParts}
 use Rattle.pals_model.specs.ComponentInputs.{rate_of, rate_in}
 use Rattle.pals_model.specs.DesignRules.{IsDesign, IsComponent}
 use Rattle.pals_model.proofs.FirstMatches.{at_element}
-use Rattle.pals_runs.specs.declared.vote_faults_and_pairs.Pair.{Pair}
+use Rattle.pals_runs.specs.declared.plant_pairs.Pair.{Pair}
 
 abbrev pub is_controller : List Pair → ℕ → Bool
 is_controller pairs node = list_any (λ (pair : Pair). nat_eq pair.controller.0 node) pairs

@@ -12,7 +12,7 @@ use Rattle.pals_base.specs.declared.values.Frame.{Frame}
 use Rattle.pals_base.specs.PeriodBound.{sent_steps}
 use Rattle.pals_base.specs.SingleStep.{initial}
 use Rattle.pals_base.specs.StepSequences.{frame_after, outputs, cut, upwards}
-use Rattle.pals_runs.specs.declared.vote_faults_and_pairs.Pair.{Pair}
+use Rattle.pals_runs.specs.declared.plant_pairs.Pair.{Pair}
 use Rattle.pals_model.specs.declared.design.Component.{Component}
 use Rattle.pals_model.specs.declared.design.Link.{Link}
 use Rattle.pals_model.specs.declared.design.DesignParts.{DesignParts}

@@ -21,8 +21,8 @@ use Rattle.pals_model.specs.PortKinds.{ins_in}
 use Rattle.pals_model.specs.DesignRules.{IsLink}
 use Rattle.pals_model.proofs.FirstMatches.{at_element}
 use Rattle.pals_model.proofs.SourceLaws.{same_link}
-use Rattle.pals_runs.specs.declared.journal.Phase.{Phase}
-use Rattle.pals_runs.specs.declared.journal.Phase.TheVariants.{Waiting, Running, Between, Holding, Done}
+use Rattle.pals_runs.specs.declared.phase.Phase.{Phase}
+use Rattle.pals_runs.specs.declared.phase.Phase.TheVariants.{Waiting, Running, Between, Holding, Done}
 use Rattle.pals_runs.specs.declared.journal.Arrived.{Arrived}
 use Rattle.pals_runs.specs.declared.journal.Arrived.TheVariants.{Kept, Ignored, Early}
 use Rattle.pals_runs.specs.declared.journal.JournalEntry.{JournalEntry}

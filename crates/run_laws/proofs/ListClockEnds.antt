@@ -8,7 +8,7 @@ use Rattle.pals_base.specs.ClockPicks.{reached, picked, picks}
 use Rattle.pals_clock.specs.ClockStates.{ClockState}
 use Rattle.pals_model.specs.declared.design.Link.{Link}
 use Rattle.pals_model.specs.Delays.{delay_of}
-use Rattle.pals_runs.specs.declared.journal.Phase.TheVariants.{Waiting, Done}
+use Rattle.pals_runs.specs.declared.phase.Phase.TheVariants.{Waiting, Done}
 use Rattle.pals_runs.specs.declared.journal.Cause.{Cause}
 use Rattle.pals_runs.specs.declared.journal.Cause.TheVariants.{NotSent, InTransit, Lost}
 use Rattle.pals_runs.specs.declared.journal.Stop.{Stop}

@@ -9,7 +9,7 @@ use Rattle.list_lemmas.proofs.ElementPositions.{get_or-map_constant}
 use Rattle.pals_base.specs.declared.values.PortValue.{PortValue}
 use Rattle.pals_model.specs.declared.design.Component.{Component}
 use Rattle.pals_model.specs.declared.flight_copy.FlightCopy.{FlightCopy}
-use Rattle.pals_runs.specs.declared.journal.Phase.TheVariants.{Waiting, Running}
+use Rattle.pals_runs.specs.declared.phase.Phase.TheVariants.{Waiting, Running}
 use Rattle.bus_machine.specs.Plans.{plan_of}
 use Rattle.bus_machine.specs.Nodes.{NodeState, opening_node}
 use Rattle.bus_machine.specs.NodeEvents.{slot_at}

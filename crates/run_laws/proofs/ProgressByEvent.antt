@@ -8,8 +8,8 @@ use Rattle.std.proofs.lemmas.Grind.{common_steps}
 use Rattle.std.proofs.lemmas.Option.{same_Some}
 use Rattle.list_lemmas.proofs.Numbers.{nat_lt-self}
 use Rattle.pals_base.specs.declared.values.PortValue.{PortValue}
-use Rattle.pals_runs.specs.declared.journal.Phase.{Phase}
-use Rattle.pals_runs.specs.declared.journal.Phase.TheVariants.{Waiting, Running, Between, Holding, Done}
+use Rattle.pals_runs.specs.declared.phase.Phase.{Phase}
+use Rattle.pals_runs.specs.declared.phase.Phase.TheVariants.{Waiting, Running, Between, Holding, Done}
 use Rattle.pals_runs.specs.declared.journal.Arrived.{Arrived}
 use Rattle.pals_runs.specs.declared.journal.Arrived.TheVariants.{Kept, Ignored, Early}
 use Rattle.bus_machine.specs.declared.plan.Plan.{Plan}

@@ -24,7 +24,7 @@ use Rattle.pals_model.specs.ComponentInputs.{sources_of, values_at}
 use Rattle.pals_model.proofs.FirstMatches.{none_passes}
 use Rattle.pals_model.proofs.SourceLaws.{reads_link, source_at}
 use Rattle.pals_runs.specs.declared.events_and_faults.Event.TheVariants as event
-use Rattle.pals_runs.specs.declared.journal.Phase.TheVariants.{Waiting, Running, Done}
+use Rattle.pals_runs.specs.declared.phase.Phase.TheVariants.{Waiting, Running, Done}
 use Rattle.bus_machine.specs.declared.plan.Input.{Input}
 use Rattle.bus_machine.specs.declared.plan.Plan.{Plan}
 use Rattle.bus_machine.specs.Plans.{plan_of, component_at, input_of, input_from_feed, input_from_link}

@@ -16,7 +16,7 @@ use Rattle.pals_model.specs.declared.design.Link.{Link}
 use Rattle.pals_model.proofs.FirstMatches.{at_element}
 use Rattle.pals_model.proofs.WordBytes.{all_pass}
 use Rattle.pals_runs.specs.declared.journal.JournalEntry.{JournalEntry}
-use Rattle.pals_runs.specs.declared.journal.Phase.TheVariants.{Done}
+use Rattle.pals_runs.specs.declared.phase.Phase.TheVariants.{Done}
 use Rattle.bus_machine.specs.States.{Run, BusState, opening, node_at, flight_at, link_at}
 use Rattle.bus_machine.specs.Machine.{Start, Finish, Send, after}
 use Rattle.bus_machine.specs.proof.StoppedCounterRuns.{a, b}

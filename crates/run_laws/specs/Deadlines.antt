@@ -1,7 +1,7 @@
 -- The last time that each node and each message allows.
 use Rattle.std.specs.Prelude.{ℕ, ◌+◌, ◌-◌, min, max, if◌then◌else◌, Option, Some, None}
-use Rattle.pals_runs.specs.declared.journal.Phase.{Phase}
-use Rattle.pals_runs.specs.declared.journal.Phase.TheVariants.{Waiting, Running, Between, Holding, Done}
+use Rattle.pals_runs.specs.declared.phase.Phase.{Phase}
+use Rattle.pals_runs.specs.declared.phase.Phase.TheVariants.{Waiting, Running, Between, Holding, Done}
 use Rattle.bus_machine.specs.Plans.{plan_of}
 use Rattle.bus_machine.specs.NodeEvents.{may_send}
 use Rattle.bus_machine.specs.EarliestReadings.{start_alarm, step_alarm, release_alarm}

@@ -2,7 +2,7 @@
 use Rattle.std.proofs.Common.{◌≡◌, ◌∙◌, ℕ, zero, suc, ◌<◌, min, List, [], ◌∷◌, length, fold, Some, slice_get, refl, sym}
 use Rattle.std.proofs.Common.{ap, subst, arith}
 use Rattle.std.proofs.lemmas.Option.{get_or_from_slice_get, slice_get_within, slice_get-get_or}
-use Rattle.pals_runs.specs.declared.journal.Phase.TheVariants.{Done}
+use Rattle.pals_runs.specs.declared.phase.Phase.TheVariants.{Done}
 use Rattle.bus_machine.specs.Nodes.{NodeState}
 use Rattle.bus_machine.specs.Plans.{component_at, no_component}
 use Rattle.bus_machine.specs.States.{Run, BusState, node_at, no_node, finished_by_all}

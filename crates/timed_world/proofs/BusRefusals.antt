@@ -7,8 +7,8 @@ use Rattle.pals_base.specs.declared.limits.TheConstants.{READING}
 use Rattle.pals_base.specs.declared.values.NodeNo.{NodeNo}
 use Rattle.pals_base.specs.declared.values.LinkNo.{LinkNo}
 use Rattle.pals_runs.specs.declared.events_and_faults.Event.TheVariants as event
-use Rattle.pals_runs.specs.declared.journal.Phase.{Phase}
-use Rattle.pals_runs.specs.declared.journal.Phase.TheVariants.{Done}
+use Rattle.pals_runs.specs.declared.phase.Phase.{Phase}
+use Rattle.pals_runs.specs.declared.phase.Phase.TheVariants.{Done}
 use Rattle.bus_machine.specs.Plans.{plan_of}
 use Rattle.bus_machine.specs.Nodes.{finished_steps}
 use Rattle.bus_machine.specs.NodeEvents.{is_waiting, next_step}

@@ -18,7 +18,7 @@ use Rattle.pals_model.specs.ComponentInputs.{rate_of}
 use Rattle.pals_model.specs.Composition.{no_frame, opening}
 use Rattle.pals_model.specs.DesignRules.{IsDesign}
 use Rattle.pals_model.proofs.ShapeLaws.{component_at}
-use Rattle.pals_runs.specs.declared.vote_faults_and_pairs.VoteFault.{VoteFault}
+use Rattle.pals_runs.specs.declared.vote_faults.VoteFault.{VoteFault}
 use Rattle.sync_product.specs.declared.component_stage.Stage.{Stage}
 use Rattle.sync_product.specs.proof.ProductSizes.{part_size, part_size_of, stage_size}
 use Rattle.sync_product.specs.proof.Rounds.{frames_of}

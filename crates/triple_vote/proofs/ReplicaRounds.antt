@@ -20,7 +20,7 @@ use Rattle.pals_model.proofs.CompositionLaws.{state_begins, state_goes_on, messa
 use Rattle.pals_model.proofs.CompositionLaws.{link_begins}
 use Rattle.pals_model.proofs.FirstMatches.{at_element}
 use Rattle.pals_model.proofs.ShapeLaws.{component_at, message_has_rate}
-use Rattle.pals_runs.specs.declared.vote_faults_and_pairs.VoteFault.{VoteFault}
+use Rattle.pals_runs.specs.declared.vote_faults.VoteFault.{VoteFault}
 use Rattle.triple_vote.specs.Votes.{votes}
 use Rattle.triple_vote.specs.Replicas.{is_replicated, copies_of, receivers_in, Voted, frame_at, received_at}
 use Rattle.triple_vote.specs.Replicas.{for_replicas, for_receivers, first_frame, first_tuple, voted_opening, steps_in}

@@ -21,7 +21,7 @@ use Rattle.pals_model.specs.PortKinds.{outs_in}
 use Rattle.pals_model.specs.DesignRules.{IsDesign, IsLink, IsTap, IsSource}
 use Rattle.pals_model.proofs.FirstMatches.{at_element}
 use Rattle.pals_model.proofs.ShapeLaws.{component_at}
-use Rattle.pals_runs.specs.declared.vote_faults_and_pairs.VoteFault.{VoteFault}
+use Rattle.pals_runs.specs.declared.vote_faults.VoteFault.{VoteFault}
 use Rattle.sync_product.specs.proof.Rounds.{frames_of}
 use Rattle.triple_vote.specs.declared.replica_layer.Layer.{Layer}
 use Rattle.triple_vote.specs.Votes.{votes}

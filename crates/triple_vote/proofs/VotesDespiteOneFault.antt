@@ -7,7 +7,7 @@ use Rattle.pals_base.specs.declared.values.PortValue.{PortValue}
 use Rattle.pals_model.specs.declared.design.Link.{Link}
 use Rattle.pals_model.specs.declared.design.DesignParts.{DesignParts}
 use Rattle.pals_model.specs.ComponentInputs.{rate_of}
-use Rattle.pals_runs.specs.declared.vote_faults_and_pairs.VoteFault.{VoteFault}
+use Rattle.pals_runs.specs.declared.vote_faults.VoteFault.{VoteFault}
 use Rattle.triple_vote.specs.Votes.{votes}
 use Rattle.triple_vote.specs.Replicas.{source_in, is_fault, fault_or, vote_of}
 use Rattle.triple_vote.specs.OutvotedFaults.{AreOutvoted}

@@ -12,7 +12,7 @@ use Rattle.pals_model.specs.declared.inputs_parts_and_delays.Env.{Env}
 use Rattle.pals_model.specs.PortKinds.{out_kind}
 use Rattle.pals_model.specs.Composition.{state, steps_of_round, tuple_of}
 use Rattle.pals_model.specs.RoundTexts.{text_of, round_line, component_line, tap_line}
-use Rattle.pals_runs.specs.declared.vote_faults_and_pairs.VoteFault.{VoteFault}
+use Rattle.pals_runs.specs.declared.vote_faults.VoteFault.{VoteFault}
 use Rattle.triple_vote.specs.Replicas.{is_replicated, copies_of, frame_at, voted_composition, vshown}
 
 -- ---- the lines of a component: PATH, or PATH#1, PATH#2 and PATH#3

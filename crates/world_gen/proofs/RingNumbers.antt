@@ -25,8 +25,8 @@ use Rattle.pals_model.specs.declared.design.DesignParts.{DesignParts}
 use Rattle.pals_model.specs.ComponentInputs.{no_env, inputs_of, values_at}
 use Rattle.pals_model.specs.Composition.{steps_from, comp, state, no_frame}
 use Rattle.pals_model.specs.declared.design.Link.{Link}
-use Rattle.pals_runs.specs.declared.journal.Phase.{Phase}
-use Rattle.pals_runs.specs.declared.journal.Phase.TheVariants.{Done}
+use Rattle.pals_runs.specs.declared.phase.Phase.{Phase}
+use Rattle.pals_runs.specs.declared.phase.Phase.TheVariants.{Done}
 use Rattle.bus_machine.specs.Nodes.{NodeState, round_of}
 use Rattle.bus_machine.specs.States.{Run, BusState, node_at, link_at, no_link}
 use Rattle.bus_machine.specs.MissedStarts.{sent_rounds, rounds_sent_on}

@@ -4,7 +4,7 @@ use Rattle.std.specs.Fmt.{signed_decimal}
 use Rattle.pals_model.specs.declared.inputs_parts_and_delays.Part.{Part}
 use Rattle.pals_model.specs.ComponentInputs.{no_env}
 use Rattle.pals_model.specs.RoundTexts.{text_of}
-use Rattle.pals_runs.specs.declared.journal.Phase.TheVariants.{Done}
+use Rattle.pals_runs.specs.declared.phase.Phase.TheVariants.{Done}
 use Rattle.pals_runs.specs.JournalLines.{spaced}
 use Rattle.bus_machine.specs.States.{node_at}
 use Rattle.run_laws.specs.Worlds.{world_run}

@@ -7,7 +7,7 @@ use Rattle.pals_model.specs.PortKinds.{out_kind}
 use Rattle.pals_model.specs.DesignRules.{IsDesign}
 use Rattle.pals_model.specs.proof.FittingValues.{PortFits, PortsFit, FrameFits, EnvFits}
 use Rattle.pals_model.specs.proof.CompositionLaws.Kinds.{PartFits}
-use Rattle.pals_runs.specs.declared.vote_faults_and_pairs.Pair.{Pair}
+use Rattle.pals_runs.specs.declared.plant_pairs.Pair.{Pair}
 use Rattle.plant_fuse.specs.FusedComposition.{ArePairs, Inputs, inputs_to, left_by, frame_before, IsFused}
 use Rattle.plant_fuse.specs.FusedReport.{fused_part}
 

@@ -8,7 +8,7 @@ use Rattle.pals_model.specs.declared.inputs_parts_and_delays.Env.{Env}
 use Rattle.pals_model.specs.PortKinds.{out_kind}
 use Rattle.pals_model.specs.DesignRules.{IsDesign}
 use Rattle.pals_model.specs.proof.FittingValues.{FrameFits, TupleFits, link_kind, EnvFits}
-use Rattle.pals_runs.specs.declared.vote_faults_and_pairs.VoteFault.{VoteFault}
+use Rattle.pals_runs.specs.declared.vote_faults.VoteFault.{VoteFault}
 use Rattle.triple_vote.specs.Replicas.{Voted, voted_composition, vshown}
 
 -- ---- faults

@@ -1,8 +1,8 @@
 -- How the parts of a run's nodes end, and what comes out of a run.
 use Rattle.std.specs.Prelude.{◌≡◌, ◌≢◌, ℕ, ◌<◌, Bool, true, false, is_some, List, length, Option, Some, None, slice_get}
 use Rattle.pals_clock.specs.declared.clock.Clocks.{Clocks}
-use Rattle.pals_runs.specs.declared.journal.Phase.{Phase}
-use Rattle.pals_runs.specs.declared.journal.Phase.TheVariants.{Waiting, Running, Between, Holding, Done}
+use Rattle.pals_runs.specs.declared.phase.Phase.{Phase}
+use Rattle.pals_runs.specs.declared.phase.Phase.TheVariants.{Waiting, Running, Between, Holding, Done}
 use Rattle.bus_machine.specs.proof.AgreementLaws.{IsRunOf}
 use Rattle.bus_machine.specs.States.{node_at}
 use Rattle.pals_bus.specs.BusValues.{BusValue}

@@ -8,7 +8,7 @@ use Rattle.pals_clock.specs.ClockStates.{ClockState, unpicked}
 use Rattle.pals_clock.specs.declared.clock.Clocks.{Clocks}
 use Rattle.pals_clock.specs.declared.clock.Clocks.TheVariants.{Meet, Lists}
 use Rattle.pals_model.specs.declared.design.Link.{Link}
-use Rattle.pals_runs.specs.declared.journal.Phase.TheVariants.{Waiting, Done}
+use Rattle.pals_runs.specs.declared.phase.Phase.TheVariants.{Waiting, Done}
 use Rattle.bus_machine.specs.declared.node_action.NodeAction.{NodeAction}
 use Rattle.bus_machine.specs.declared.node_action.Next.{Next}
 use Rattle.bus_machine.specs.proof.AgreementLaws.{IsRunOf}

@@ -2,7 +2,7 @@
 use Rattle.std.specs.Prelude.{◌≡◌, ◌⊎◌, ℕ, ◌<◌, ◌&&◌, Bool, true, false, List, length, replicate, Option, Some, None}
 use Rattle.std.specs.Prelude.{slice_index_or, slice_set}
 use Rattle.pals_base.specs.declared.limits.TheConstants.{COMPONENTS}
-use Rattle.pals_runs.specs.declared.journal.Phase.TheVariants.{Waiting}
+use Rattle.pals_runs.specs.declared.phase.Phase.TheVariants.{Waiting}
 use Rattle.bus_machine.specs.States.{Run, BusState, node_at}
 use Rattle.run_laws.specs.Runs.{target_of}
 use Rattle.node_threads.specs.declared.wake_list.WakeList.{WakeList}

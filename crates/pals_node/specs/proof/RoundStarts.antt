@@ -3,7 +3,7 @@ use Rattle.std.specs.Prelude.{◌≡◌, ℕ, ◌+◌, false, List, [], Option, 
 use Rattle.pals_base.specs.declared.values.PortValue.{PortValue}
 use Rattle.bus_machine.specs.Nodes.{vectors_of}
 use Rattle.pals_base.specs.declared.values.Frame.{Frame}
-use Rattle.pals_runs.specs.declared.journal.Phase.TheVariants.{Running}
+use Rattle.pals_runs.specs.declared.phase.Phase.TheVariants.{Running}
 use Rattle.pals_node.specs.declared.node_fields.NodeFields.{NodeFields}
 use Rattle.pals_node.specs.declared.node_fields.RoundRoom.{RoundRoom}
 use Rattle.pals_node.specs.proof.NodeValues.{Program, JobValue, job_value}

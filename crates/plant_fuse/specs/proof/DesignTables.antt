@@ -1,7 +1,7 @@
 -- What is found once for a design and its pairs.
 use Rattle.std.specs.Prelude.{◌≡◌, List}
 use Rattle.pals_model.specs.declared.design.DesignParts.{DesignParts}
-use Rattle.pals_runs.specs.declared.vote_faults_and_pairs.Pair.{Pair}
+use Rattle.pals_runs.specs.declared.plant_pairs.Pair.{Pair}
 use Rattle.sync_product.specs.proof.ComponentWiring.{IsWiring}
 use Rattle.plant_fuse.specs.declared.design_tables.Tables.{Tables}
 use Rattle.plant_fuse.specs.proof.Partners.{all_partners}

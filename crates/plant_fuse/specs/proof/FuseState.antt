@@ -6,7 +6,7 @@ use Rattle.pals_base.specs.contracts.values.Frame.{the_row as frames}
 use Rattle.pals_base.specs.contracts.values.PortValue.{the_row as ports}
 use Rattle.pals_model.specs.contracts.design.DesignParts.{the_row as design_parts}
 use Rattle.pals_model.specs.contracts.inputs_parts_and_delays.Part.{the_row as parts}
-use Rattle.pals_runs.specs.contracts.vote_faults_and_pairs.Pair.{the_row as all_pairs}
+use Rattle.pals_runs.specs.contracts.plant_pairs.Pair.{the_row as all_pairs}
 use Rattle.pals_base.specs.declared.values.Frame.{Frame}
 use Rattle.pals_base.specs.declared.values.PortValue.{PortValue}
 use Rattle.pals_base.specs.StepSequences.{frame_after}
@@ -17,7 +17,7 @@ use Rattle.pals_model.specs.declared.inputs_parts_and_delays.Env.{Env}
 use Rattle.pals_model.specs.declared.inputs_parts_and_delays.Part.{Part}
 use Rattle.pals_model.specs.ComponentInputs.{values_at}
 use Rattle.pals_model.specs.Composition.{Configuration, opening, taps_of}
-use Rattle.pals_runs.specs.declared.vote_faults_and_pairs.Pair.{Pair}
+use Rattle.pals_runs.specs.declared.plant_pairs.Pair.{Pair}
 use Rattle.sync_product.specs.proof.ProductStates.{opening_parts}
 use Rattle.plant_fuse.specs.FusedComposition.{Inputs, inputs_to}
 use Rattle.plant_fuse.specs.proof.RoundEquations.{frame_at, tuple_from, IsFusedRound, after_round}

@@ -9,7 +9,7 @@ use Rattle.pals_model.specs.DesignRules.{IsDesign}
 use Rattle.pals_model.specs.Composition.{Configuration, comp}
 use Rattle.pals_model.specs.ComponentInputs.{values_at}
 use Rattle.plant_fuse.specs.proof.RoundEquations.{IsFusedRound, after_round, last_round, AreRounds}
-use Rattle.pals_runs.specs.declared.vote_faults_and_pairs.Pair.{Pair}
+use Rattle.pals_runs.specs.declared.plant_pairs.Pair.{Pair}
 use Rattle.pals_model.specs.RoundTexts.{report}
 use Rattle.plant_fuse.specs.FusedComposition.{ArePairs, Inputs, left_by, frame_before, IsFused}
 use Rattle.plant_fuse.specs.proof.FusedRounds.{made_at, first_rounds, fused}

@@ -2,7 +2,7 @@
 use Rattle.std.specs.Prelude.{◌≡◌, ◌≢◌, ℕ, ◌<◌, nat_eq, Bool, not, ◌&&◌, ◌||◌, List, length, Some, slice_get}
 use Rattle.pals_model.specs.declared.design.Link.{Link}
 use Rattle.pals_model.specs.declared.design.DesignParts.{DesignParts}
-use Rattle.pals_runs.specs.declared.vote_faults_and_pairs.Pair.{Pair}
+use Rattle.pals_runs.specs.declared.plant_pairs.Pair.{Pair}
 use Rattle.plant_fuse.specs.declared.fuse_failure.FuseEnd.{FuseEnd}
 use Rattle.plant_fuse.specs.declared.fuse_failure.FuseEnd.TheVariants.{BadPair, Memory}
 use Rattle.plant_fuse.specs.FusedComposition.{IsPair, AreApart, ArePairs}

@@ -14,7 +14,7 @@ use Rattle.pals_model.specs.declared.inputs_parts_and_delays.Env.{Env}
 use Rattle.pals_model.specs.declared.port_sources.PortSource.{PortSource}
 use Rattle.pals_model.specs.ComponentInputs.{rate_of, sources_of, reading, values_at}
 use Rattle.pals_model.specs.Composition.{Configuration, opening, no_frame}
-use Rattle.pals_runs.specs.declared.vote_faults_and_pairs.Pair.{Pair}
+use Rattle.pals_runs.specs.declared.plant_pairs.Pair.{Pair}
 use Rattle.plant_fuse.specs.FusedComposition.{is_back, is_forth, Inputs, inputs_to}
 use Rattle.pals_model.specs.declared.port_sources.PortSource.TheVariants as source
 

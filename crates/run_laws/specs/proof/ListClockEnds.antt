@@ -1,6 +1,6 @@
 -- Laws of list clocks: how a run ends and stops.
 use Rattle.std.specs.Prelude.{◌≡◌, ◌↔◌, ℕ, IfSome}
-use Rattle.pals_runs.specs.declared.journal.Phase.TheVariants.{Done}
+use Rattle.pals_runs.specs.declared.phase.Phase.TheVariants.{Done}
 use Rattle.bus_machine.specs.Plans.{plan_of}
 use Rattle.bus_machine.specs.States.{node_at}
 use Rattle.bus_machine.specs.ActionsAndTargets.{target}

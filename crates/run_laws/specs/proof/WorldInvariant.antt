@@ -8,7 +8,7 @@ use Rattle.pals_base.specs.declared.values.PortValue.{PortValue}
 use Rattle.pals_base.specs.PeriodBound.{backoff, alarm}
 use Rattle.pals_model.specs.declared.flight_copy.FlightCopy.{FlightCopy}
 use Rattle.pals_model.specs.Flights.{is_of}
-use Rattle.pals_runs.specs.declared.journal.Phase.TheVariants.{Running}
+use Rattle.pals_runs.specs.declared.phase.Phase.TheVariants.{Running}
 use Rattle.bound_checker.specs.proof.MessageTimes.{IsNear}
 use Rattle.bus_machine.specs.declared.plan.Plan.{Plan}
 use Rattle.bus_machine.specs.Plans.{plan_of}

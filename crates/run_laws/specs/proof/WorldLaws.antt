@@ -4,7 +4,7 @@ use Rattle.pals_base.specs.declared.values.LinkNo.{LinkNo}
 use Rattle.pals_base.specs.declared.values.PortValue.{PortValue}
 use Rattle.pals_base.specs.declared.limits.TheConstants.{READING, ROUNDS}
 use Rattle.pals_runs.specs.declared.journal.Arrived.TheVariants.{Kept}
-use Rattle.pals_runs.specs.declared.journal.Phase.TheVariants.{Done}
+use Rattle.pals_runs.specs.declared.phase.Phase.TheVariants.{Done}
 use Rattle.pals_runs.specs.declared.events_and_faults.Event.{Event}
 use Rattle.bus_machine.specs.NodeEvents.{slot_at}
 use Rattle.bus_machine.specs.States.{Run, node_at, flight_at, link_at}

@@ -11,7 +11,7 @@ use Rattle.pals_model.specs.declared.inputs_parts_and_delays.Env.{Env}
 use Rattle.pals_model.specs.ComponentInputs.{rate_of}
 use Rattle.pals_model.specs.Composition.{Configuration, comp, state, msg, steps_of_round, tuple_of}
 use Rattle.pals_model.specs.DesignRules.{IsDesign}
-use Rattle.pals_runs.specs.declared.vote_faults_and_pairs.VoteFault.{VoteFault}
+use Rattle.pals_runs.specs.declared.vote_faults.VoteFault.{VoteFault}
 use Rattle.pals_model.specs.RoundTexts.{report}
 use Rattle.triple_vote.specs.Votes.{vote}
 use Rattle.triple_vote.specs.Replicas.{source_in, is_replicated, copies_of, Voted, frame_at, received_at}

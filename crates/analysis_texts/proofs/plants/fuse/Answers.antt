@@ -1,7 +1,7 @@
 use Rattle.std.proofs.Common.{◌≡◌, [], List, IfOk, subst}
 use Rattle.std.proofs.lemmas.Result.{IfOk-weaker}
 use Rattle.pals_model.specs.RoundTexts.{report}
-use Rattle.pals_runs.specs.declared.vote_faults_and_pairs.Pair.{Pair}
+use Rattle.pals_runs.specs.declared.plant_pairs.Pair.{Pair}
 use Rattle.plant_fuse.specs.FusedReport.{IsFusedReport}
 use Rattle.plant_fuse.specs.proof.FuseState.{FuseState}
 use Rattle.plant_fuse.proofs.ReportsWithoutPairs.{report_without_pairs}

@@ -1,7 +1,7 @@
 use Rattle.std.proofs.Common.{◌≡◌, ◌≢◌, ◌∙◌, inl, inr, List, length, slice_get, slice_index_or, sym, ap, subst, arith}
 use Rattle.std.proofs.lemmas.Bool.{cases_lt}
 use Rattle.std.proofs.lemmas.Option.{slice_get-get_or, slice_get_within, same_Some}
-use Rattle.pals_runs.specs.declared.vote_faults_and_pairs.Pair.{Pair}
+use Rattle.pals_runs.specs.declared.plant_pairs.Pair.{Pair}
 use Rattle.sync_product.specs.proof.Rounds.{frames_of}
 use Rattle.plant_fuse.specs.proof.RoundWork.{IsRun}
 use Rattle.plant_fuse.proofs.ComponentPairs.{none_apart, pair_at, others_apart}

@@ -1,5 +1,5 @@
 use Rattle.std.proofs.Common.{◌≡◌, ◌<◌, ℕ, map, slice_get, Some}
-use Rattle.pals_runs.specs.declared.vote_faults_and_pairs.Pair.{Pair}
+use Rattle.pals_runs.specs.declared.plant_pairs.Pair.{Pair}
 use Rattle.sync_product.specs.proof.Rounds.{frames_of}
 use Rattle.sync_product.specs.proof.ProductSizes.{part_size, stage_size}
 use Rattle.plant_fuse.specs.proof.RoundWork.{AreAlone, IsRun}

@@ -1,4 +1,4 @@
-//! What votes and plants are given.
+//! Faults of replicas, which votes are given.
 use pals_base::{LinkNo, NodeNo, Tuple};
 
 /// A replica's fault in one round: it sends these values on a link to one replica of the link's
@@ -10,11 +10,4 @@ pub struct VoteFault {
     pub link: LinkNo,
     pub target_replica: u32,
     pub values: Tuple,
-}
-
-/// A plant that its controller reads and answers within the round.
-#[derive(Clone, Copy)]
-pub struct Pair {
-    pub plant: NodeNo,
-    pub controller: NodeNo,
 }
