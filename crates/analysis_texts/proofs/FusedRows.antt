@@ -2,7 +2,7 @@
 use Rattle.std.proofs.Common.{◌≡◌, ◌∙◌, ◌++◌, ℕ, suc, ◌+◌, List, [], sym, ap, subst, slice_get, add-one}
 use Rattle.pals_base.specs.declared.values.PortValue.{PortValue}
 use Rattle.pals_model.specs.declared.design.DesignParts.{DesignParts}
-use Rattle.pals_model.specs.declared.inputs_parts_and_delays.Env.{Env}
+use Rattle.pals_model.specs.declared.environment.Env.{Env}
 use Rattle.pals_model.specs.ComponentInputs.{values_at}
 use Rattle.pals_model.specs.DesignRules.{IsDesign}
 use Rattle.pals_model.specs.RoundTexts.{text_of, row_lines}

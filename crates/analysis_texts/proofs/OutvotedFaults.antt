@@ -8,7 +8,7 @@ use Rattle.std.proofs.Math.ListN.{get_or-map}
 use Rattle.pals_base.specs.StepSequences.{upwards}
 use Rattle.pals_base.specs.declared.values.NodeNo.{NodeNo}
 use Rattle.pals_model.specs.declared.design.DesignParts.{DesignParts}
-use Rattle.pals_model.specs.declared.inputs_parts_and_delays.Env.{Env}
+use Rattle.pals_model.specs.declared.environment.Env.{Env}
 use Rattle.pals_model.specs.RoundTexts.{report}
 use Rattle.pals_model.specs.DesignRules.{IsDesign}
 use Rattle.analysis_fields.specs.declared.replica_faults.RoundFault.{RoundFault}

@@ -1,6 +1,6 @@
 //! The rounds of the synchronous composition.
 ghost use Rattle.std.specs.Prelude.{◌≡◌, ◌+◌, ◌++◌, IfOk, OnOk};
-ghost use Rattle.pals_model.specs.declared.inputs_parts_and_delays.Env.{Env};
+ghost use Rattle.pals_model.specs.declared.environment.Env.{Env};
 ghost use Rattle.pals_model.specs.Composition.{comp};
 ghost use Rattle.pals_model.specs.ComponentInputs.{values_at};
 ghost use Rattle.pals_model.specs.RoundTexts.{report, row};

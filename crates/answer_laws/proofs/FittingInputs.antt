@@ -15,7 +15,7 @@ use Rattle.pals_base.specs.declared.values.PortValue.TheVariants.{Absent, Presen
 use Rattle.pals_base.specs.ExpressionValues.{truth}
 use Rattle.pals_base.proofs.StepSequences.{get_or-column}
 use Rattle.pals_model.specs.declared.design.DesignParts.{DesignParts}
-use Rattle.pals_model.specs.declared.inputs_parts_and_delays.Env.{Env}
+use Rattle.pals_model.specs.declared.environment.Env.{Env}
 use Rattle.pals_model.specs.ComponentInputs.{root_inputs}
 use Rattle.pals_model.specs.PortKinds.{root_kind}
 use Rattle.pals_model.proofs.FirstMatches.{found_at}

@@ -19,7 +19,7 @@ use Rattle.pals_base.proofs.UpwardNumbers.{map_upwards_more}
 use Rattle.pals_model.specs.declared.design.Component.{Component}
 use Rattle.pals_model.specs.declared.design.Link.{Link}
 use Rattle.pals_model.specs.declared.design.Tap.{Tap}
-use Rattle.pals_model.specs.declared.inputs_parts_and_delays.Part.{Part}
+use Rattle.pals_model.specs.declared.part.Part.{Part}
 use Rattle.pals_model.specs.ComponentInputs.{values_at, feed}
 use Rattle.pals_model.specs.Composition.{comp, state, msg, part, taps_of, own_steps_so_far}
 use Rattle.pals_model.specs.proof.CompositionLaws.{own_steps}

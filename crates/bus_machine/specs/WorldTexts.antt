@@ -3,8 +3,8 @@ use Rattle.std.specs.Prelude.{ℕ, ◌/◌, nat_eq, nat_lt, Bool, false, if◌th
 use Rattle.std.specs.Prelude.{length, map, fold, max, flat_map, count_by, Option, Some, None, slice_get}
 use Rattle.pals_base.specs.StepSequences.{upwards}
 use Rattle.pals_model.specs.declared.design.DesignParts.{DesignParts}
-use Rattle.pals_model.specs.declared.inputs_parts_and_delays.Env.{Env}
-use Rattle.pals_model.specs.declared.inputs_parts_and_delays.Part.{Part}
+use Rattle.pals_model.specs.declared.environment.Env.{Env}
+use Rattle.pals_model.specs.declared.part.Part.{Part}
 use Rattle.pals_model.specs.ComponentInputs.{rate_of, links_from}
 use Rattle.pals_model.specs.PortKinds.{out_kind}
 use Rattle.pals_model.specs.Composition.{msg, part}

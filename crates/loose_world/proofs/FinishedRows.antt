@@ -8,7 +8,7 @@ use Rattle.std.proofs.lemmas.List.{nil_from_length}
 use Rattle.pals_base.specs.StepSequences.{upwards}
 use Rattle.pals_base.proofs.UpwardNumbers.{slice_get-map_upwards, map_upwards_same, flat_map_upwards_same}
 use Rattle.pals_model.specs.declared.design.Component.{Component}
-use Rattle.pals_model.specs.declared.inputs_parts_and_delays.Part.{Part}
+use Rattle.pals_model.specs.declared.part.Part.{Part}
 use Rattle.pals_model.specs.Composition.{part}
 use Rattle.pals_model.specs.RoundTexts.{row_lines, text_of, report, composed_lines}
 use Rattle.pals_model.proofs.LineLaws.{same_row}

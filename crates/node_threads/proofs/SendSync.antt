@@ -19,9 +19,9 @@ use Rattle.pals_base.proofs.values.PortValue.TheSendSync.{the_field_send as port
 use Rattle.pals_runs.proofs.phase.Phase.TheSendSync.{the_field_send as phase_send}
 use Rattle.pals_runs.proofs.journal.JournalEntry.TheSendSync.{the_field_send as entry_send}
 use Rattle.pals_runs.proofs.journal.Stop.TheSendSync.{the_field_send as stop_send}
-use Rattle.pals_model.proofs.inputs_parts_and_delays.Part.TheSendSync.{the_field_send as part_send}
-use Rattle.pals_model.proofs.inputs_parts_and_delays.Env.TheSendSync.{the_field_send as env_send}
-use Rattle.pals_model.proofs.inputs_parts_and_delays.Delays.TheSendSync.{the_field_send as delays_send}
+use Rattle.pals_model.proofs.part.Part.TheSendSync.{the_field_send as part_send}
+use Rattle.pals_model.proofs.environment.Env.TheSendSync.{the_field_send as env_send}
+use Rattle.pals_model.proofs.delays.Delays.TheSendSync.{the_field_send as delays_send}
 use Rattle.pals_base.proofs.behaviour.Op.TheSendSync.{the_field_send as op_send, the_field_sync as op_sync}
 use Rattle.pals_base.proofs.behaviour.PortDecl.TheSendSync.{the_field_send as named_send, the_field_sync as named_sync}
 use Rattle.pals_base.proofs.behaviour.VarDecl.TheSendSync.{the_field_send as variable_send}

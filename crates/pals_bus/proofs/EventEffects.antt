@@ -6,7 +6,7 @@ use Rattle.std.specs.Prelude.{is_some, option_map, slice_index_or}
 use Rattle.pals_base.specs.declared.limits.TheConstants.{HOUR}
 use Rattle.pals_base.specs.declared.values.PortValue.{PortValue}
 use Rattle.pals_base.specs.declared.values.NodeNo.{NodeNo}
-use Rattle.pals_model.specs.declared.inputs_parts_and_delays.Delays.{Delays}
+use Rattle.pals_model.specs.declared.delays.Delays.{Delays}
 use Rattle.pals_model.specs.declared.flight_copy.FlightCopy.{FlightCopy}
 use Rattle.pals_model.specs.Delays.{AreDelays, IsDelayList, delay_of}
 use Rattle.pals_model.specs.ComponentInputs.{values_at}

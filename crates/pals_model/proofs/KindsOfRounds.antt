@@ -22,7 +22,7 @@ use Rattle.pals_model.specs.declared.design.Component.{Component}
 use Rattle.pals_model.specs.declared.design.Link.{Link}
 use Rattle.pals_model.specs.declared.design.Tap.{Tap}
 use Rattle.pals_model.specs.declared.design.DesignParts.{DesignParts}
-use Rattle.pals_model.specs.declared.inputs_parts_and_delays.Env.{Env}
+use Rattle.pals_model.specs.declared.environment.Env.{Env}
 use Rattle.pals_model.specs.ComponentInputs.{rate_of, root_of, values_at, link_goes_to, feed_goes_to, from_feed}
 use Rattle.pals_model.specs.ComponentInputs.{from_link, source_of, sources_of, read_feed, read_link, reading, inputs_of}
 use Rattle.pals_model.specs.ComponentInputs.{inputs_in, feed}

@@ -1,7 +1,7 @@
 -- How long messages take on their links.
 use Rattle.std.specs.Prelude.{◌≡◌, ◌-◌, ◌<◌, ◌≤◌, ℕ, List, [], length, All, min, slice_index_or}
 use Rattle.pals_base.specs.declared.limits.TheConstants.{HOUR}
-use Rattle.pals_model.specs.declared.inputs_parts_and_delays.Delays.{Delays}
+use Rattle.pals_model.specs.declared.delays.Delays.{Delays}
 
 -- a list of one or more delays of at most an hour
 pub record IsDelayList (list : List ℕ) : Type 0 where

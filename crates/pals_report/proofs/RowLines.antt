@@ -4,8 +4,8 @@ use Rattle.std.proofs.Common.{ap, ap₂, ◌∙◌, arith, append_assoc}
 use Rattle.pals_model.specs.declared.design.Component.{Component}
 use Rattle.pals_model.specs.declared.design.Tap.{Tap}
 use Rattle.pals_model.specs.declared.design.DesignParts.{DesignParts}
-use Rattle.pals_model.specs.declared.inputs_parts_and_delays.Env.{Env}
-use Rattle.pals_model.specs.declared.inputs_parts_and_delays.Part.{Part}
+use Rattle.pals_model.specs.declared.environment.Env.{Env}
+use Rattle.pals_model.specs.declared.part.Part.{Part}
 use Rattle.pals_model.specs.Composition.{part}
 use Rattle.pals_model.specs.DesignRules.{IsTap}
 use Rattle.pals_model.specs.RoundTexts.{text_of, round_line, part_lines, tap_lines, taps_before, row_lines}

@@ -2,7 +2,7 @@
 //! none of it.
 ghost use Rattle.std.specs.Prelude.{◌≡◌, ◌<◌, ◌++◌, Some, length, slice_get, OnOk, OnErr};
 ghost use Rattle.pals_model.specs.declared.design.Tap.{Tap};
-ghost use Rattle.pals_model.specs.declared.inputs_parts_and_delays.Env.{Env};
+ghost use Rattle.pals_model.specs.declared.environment.Env.{Env};
 ghost use Rattle.pals_model.specs.RoundTexts.{text_of, line_end, round_line, component_line, part_lines, tap_line};
 ghost use Rattle.pals_model.specs.RoundTexts.{tap_lines, row_lines, row};
 ghost use Rattle.pals_report.specs.proof.TapPlaces.{tap_places};

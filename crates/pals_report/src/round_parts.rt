@@ -1,6 +1,6 @@
 //! Where the parts of a round come from.
 ghost use Rattle.std.specs.Prelude.{◌≡◌, ℕ, Option, option_copied, slice_get};
-ghost use Rattle.pals_model.specs.declared.inputs_parts_and_delays.Part.{Part};
+ghost use Rattle.pals_model.specs.declared.part.Part.{Part};
 
 use pals_base::NodeNo;
 use pals_model::Part;

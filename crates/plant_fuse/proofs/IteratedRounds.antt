@@ -6,7 +6,7 @@ use Rattle.pals_base.specs.SingleStep.{initial}
 use Rattle.pals_base.specs.StepSequences.{frame_after, upwards}
 use Rattle.pals_model.specs.declared.design.Component.{Component}
 use Rattle.pals_model.specs.declared.design.DesignParts.{DesignParts}
-use Rattle.pals_model.specs.declared.inputs_parts_and_delays.Env.{Env}
+use Rattle.pals_model.specs.declared.environment.Env.{Env}
 use Rattle.pals_model.specs.ComponentInputs.{values_at}
 use Rattle.pals_model.specs.Composition.{Configuration, opening}
 use Rattle.pals_model.specs.DesignRules.{IsDesign}

@@ -10,7 +10,7 @@ use Rattle.pals_base.specs.StepSequences.{frame_after, outputs, column}
 use Rattle.pals_base.proofs.UpwardNumbers.{slice_get-map_upwards}
 use Rattle.pals_model.specs.declared.design.Component.{Component}
 use Rattle.pals_model.specs.declared.design.DesignParts.{DesignParts}
-use Rattle.pals_model.specs.declared.inputs_parts_and_delays.Part.{Part}
+use Rattle.pals_model.specs.declared.part.Part.{Part}
 use Rattle.pals_model.specs.declared.port_sources.PortSource.{PortSource}
 use Rattle.pals_model.specs.Composition.{no_frame}
 use Rattle.pals_runs.specs.declared.plant_pairs.Pair.{Pair}

@@ -13,8 +13,8 @@ use Rattle.pals_base.proofs.StepSequences.{frame_after-append}
 use Rattle.pals_model.specs.declared.design.Component.{Component}
 use Rattle.pals_model.specs.declared.design.Tap.{Tap}
 use Rattle.pals_model.specs.declared.design.DesignParts.{DesignParts}
-use Rattle.pals_model.specs.declared.inputs_parts_and_delays.Env.{Env}
-use Rattle.pals_model.specs.declared.inputs_parts_and_delays.Part.{Part}
+use Rattle.pals_model.specs.declared.environment.Env.{Env}
+use Rattle.pals_model.specs.declared.part.Part.{Part}
 use Rattle.pals_model.specs.Composition.{taps_of}
 use Rattle.pals_model.specs.DesignRules.{IsDesign}
 use Rattle.pals_runs.specs.declared.plant_pairs.Pair.{Pair}

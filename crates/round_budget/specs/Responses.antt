@@ -8,7 +8,7 @@ use Rattle.step_code.specs.declared.instr.CodeParts.{CodeParts}
 use Rattle.step_code.specs.InstructionsPerStep.{made}
 use Rattle.pals_model.specs.declared.design.Component.{Component}
 use Rattle.pals_model.specs.declared.design.DesignParts.{DesignParts}
-use Rattle.pals_model.specs.declared.inputs_parts_and_delays.Env.{Env}
+use Rattle.pals_model.specs.declared.environment.Env.{Env}
 use Rattle.pals_model.specs.ComponentInputs.{feed}
 use Rattle.pals_model.specs.Composition.{comp, no_frame, own_steps_so_far}
 use Rattle.round_budget.specs.Budgets.{Release, Served, budget, most_of}

@@ -11,7 +11,7 @@ use Rattle.std.proofs.lemmas.Iterator.Adapters.{position_from-zero}
 use Rattle.std.proofs.lemmas.Simd.{map-map}
 use Rattle.pals_base.specs.declared.values.Frame.{Frame}
 use Rattle.pals_model.specs.declared.design.DesignParts.{DesignParts}
-use Rattle.pals_model.specs.declared.inputs_parts_and_delays.Env.{Env}
+use Rattle.pals_model.specs.declared.environment.Env.{Env}
 use Rattle.pals_model.specs.Composition.{comp}
 use Rattle.pals_runs.specs.Formula.{Formula}
 use Rattle.run_monitor.specs.declared.false_property.FalseProperty.{FalseProperty}

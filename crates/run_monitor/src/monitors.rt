@@ -3,7 +3,7 @@ ghost use Rattle.std.specs.Prelude.{◌≡◌, ◌+◌, ◌++◌, ◌∷◌, [],
 ghost use Rattle.std.specs.Prelude.{option_map, OnOk, OnErr};
 ghost use Rattle.pals_base.specs.declared.values.Frame.{Frame};
 ghost use Rattle.pals_model.specs.declared.design.DesignParts.{DesignParts};
-ghost use Rattle.pals_model.specs.declared.inputs_parts_and_delays.Env.{Env};
+ghost use Rattle.pals_model.specs.declared.environment.Env.{Env};
 ghost use Rattle.pals_model.specs.Composition.{comp};
 ghost use Rattle.pals_runs.specs.Formula.{Formula};
 ghost use Rattle.pals_runs.specs.proof.FormulasOfForms.{formula_of};

@@ -12,7 +12,7 @@ use Rattle.pals_base.proofs.StepSequences.{get_or-column}
 use Rattle.pals_model.specs.declared.design.Link.{Link}
 use Rattle.pals_model.specs.declared.design.Feed.{Feed}
 use Rattle.pals_model.specs.declared.design.DesignParts.{DesignParts}
-use Rattle.pals_model.specs.declared.inputs_parts_and_delays.Env.{Env}
+use Rattle.pals_model.specs.declared.environment.Env.{Env}
 use Rattle.pals_model.specs.ComponentInputs.{feed_names, root_inputs, root_of, place_of, values_at, link_goes_to}
 use Rattle.pals_model.specs.ComponentInputs.{feed_goes_to, source_of, read_link, read_feed, reading}
 use Rattle.pals_model.specs.DesignRules.{IsDesign, IsLink, IsFeed}

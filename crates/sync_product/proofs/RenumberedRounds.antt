@@ -13,8 +13,8 @@ use Rattle.pals_model.specs.declared.design.Component.{Component}
 use Rattle.pals_model.specs.declared.design.Link.{Link}
 use Rattle.pals_model.specs.declared.design.Tap.{Tap}
 use Rattle.pals_model.specs.declared.design.DesignParts.{DesignParts}
-use Rattle.pals_model.specs.declared.inputs_parts_and_delays.Env.{Env}
-use Rattle.pals_model.specs.declared.inputs_parts_and_delays.Part.{Part}
+use Rattle.pals_model.specs.declared.environment.Env.{Env}
+use Rattle.pals_model.specs.declared.part.Part.{Part}
 use Rattle.pals_model.specs.ComponentInputs.{values_at, source_of, reading, inputs_in, feed}
 use Rattle.pals_model.specs.Composition.{comp, state, msg, part, taps_of}
 use Rattle.pals_model.specs.DesignRules.{IsDesign, IsLink, IsTap}

@@ -4,7 +4,7 @@ ghost use Rattle.std.specs.Prelude.{◌≡◌, ◌<◌, ℕ, List, map, length, 
 ghost use Rattle.pals_base.specs.declared.values.PortValue.{PortValue};
 ghost use Rattle.pals_model.specs.declared.design.Link.{Link};
 ghost use Rattle.pals_model.specs.declared.design.DesignParts.{DesignParts};
-ghost use Rattle.pals_model.specs.declared.inputs_parts_and_delays.Env.{Env};
+ghost use Rattle.pals_model.specs.declared.environment.Env.{Env};
 ghost use Rattle.pals_model.specs.DesignRules.{IsDesign};
 ghost use Rattle.pals_model.specs.Composition.{state, msg, part};
 ghost use Rattle.pals_model.specs.proof.TwoCounters.{two_counters};

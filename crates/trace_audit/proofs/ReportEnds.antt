@@ -7,7 +7,7 @@ use Rattle.std.proofs.lemmas.Iterator.Adapters.{position_from-zero}
 use Rattle.std.proofs.lemmas.List.{drop_all, length-take-le}
 use Rattle.list_lemmas.proofs.ListOperations.{drop-next}
 use Rattle.pals_model.specs.declared.design.DesignParts.{DesignParts}
-use Rattle.pals_model.specs.declared.inputs_parts_and_delays.Env.{Env}
+use Rattle.pals_model.specs.declared.environment.Env.{Env}
 use Rattle.run_laws.specs.LineForms.{form_of}
 use Rattle.run_laws.specs.TraceVerdicts.{report_size, row_size, line_at}
 use Rattle.trace_audit.specs.declared.report.ReportEnd.{ReportEnd}

@@ -10,7 +10,7 @@ use Rattle.pals_base.specs.declared.values.Frame.{Frame}
 use Rattle.pals_base.specs.StepSequences.{upwards}
 use Rattle.pals_model.specs.declared.design.Link.{Link}
 use Rattle.pals_model.specs.declared.design.DesignParts.{DesignParts}
-use Rattle.pals_model.specs.declared.inputs_parts_and_delays.Env.{Env}
+use Rattle.pals_model.specs.declared.environment.Env.{Env}
 use Rattle.pals_model.specs.ComponentInputs.{values_at}
 use Rattle.pals_model.specs.Composition.{no_frame, comp, state, msg}
 use Rattle.pals_model.proofs.CompositionLaws.{one_frame_each, one_message_each}

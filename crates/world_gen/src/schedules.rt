@@ -2,7 +2,7 @@
 //! least time, and each message goes out as soon as it may and takes the least time.
 ghost use Rattle.std.specs.Prelude.{◌≡◌, ◌≤◌, ◌++◌, All, IfOk, OnOk, replicate};
 ghost use Rattle.pals_base.specs.declared.limits.TheConstants.{ROUNDS};
-ghost use Rattle.pals_model.specs.declared.inputs_parts_and_delays.Env.{Env};
+ghost use Rattle.pals_model.specs.declared.environment.Env.{Env};
 ghost use Rattle.run_laws.specs.Worlds.{world_run};
 ghost use Rattle.world_gen.specs.proof.Schedules.{IsScheduleOf};
 ghost use Rattle.world_gen.specs.proof.ScheduleLaws.{IsWhole};

@@ -1,7 +1,7 @@
 -- The line of a ring that has gone through its schedule.
 use Rattle.std.specs.Prelude.{◌≡◌, ℕ, ℤ, pos, ◌*◌, ◌<◌, List, [], ◌∷◌, codes, decimal, slice_index_or}
 use Rattle.std.specs.Fmt.{signed_decimal}
-use Rattle.pals_model.specs.declared.inputs_parts_and_delays.Part.{Part}
+use Rattle.pals_model.specs.declared.part.Part.{Part}
 use Rattle.pals_model.specs.ComponentInputs.{no_env}
 use Rattle.pals_model.specs.RoundTexts.{text_of}
 use Rattle.pals_runs.specs.declared.phase.Phase.TheVariants.{Done}

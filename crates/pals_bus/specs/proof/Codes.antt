@@ -4,14 +4,14 @@ use Rattle.std.specs.Coded.{Coded, code_by, coded×, coded_ℕ, coded_bool, code
 use Rattle.step_code.specs.contracts.instr.CodeParts.{the_row as codes}
 use Rattle.step_code.specs.declared.instr.CodeParts.{CodeParts}
 use Rattle.pals_model.specs.contracts.design.DesignParts.{the_row as designs}
-use Rattle.pals_model.specs.contracts.inputs_parts_and_delays.Env.{the_row as envs}
-use Rattle.pals_model.specs.contracts.inputs_parts_and_delays.Delays.{the_row as delays}
+use Rattle.pals_model.specs.contracts.environment.Env.{the_row as envs}
+use Rattle.pals_model.specs.contracts.delays.Delays.{the_row as delays}
 use Rattle.pals_model.specs.contracts.flight_copy.FlightCopy.{the_row as copies}
 use Rattle.pals_runs.specs.contracts.journal.Stop.{the_row as stops}
 use Rattle.pals_runs.specs.contracts.journal.JournalEntry.{the_row as entries}
 use Rattle.pals_model.specs.declared.design.DesignParts.{DesignParts}
-use Rattle.pals_model.specs.declared.inputs_parts_and_delays.Env.{Env}
-use Rattle.pals_model.specs.declared.inputs_parts_and_delays.Delays.{Delays}
+use Rattle.pals_model.specs.declared.environment.Env.{Env}
+use Rattle.pals_model.specs.declared.delays.Delays.{Delays}
 use Rattle.pals_model.specs.declared.flight_copy.FlightCopy.{FlightCopy}
 use Rattle.pals_runs.specs.declared.journal.Stop.{Stop}
 use Rattle.pals_runs.specs.declared.journal.JournalEntry.{JournalEntry}

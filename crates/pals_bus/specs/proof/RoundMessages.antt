@@ -4,7 +4,7 @@ use Rattle.std.specs.Prelude.{take, All, Option, Some, slice_get, slice_index_or
 use Rattle.pals_base.specs.declared.values.LinkNo.{LinkNo}
 use Rattle.pals_base.specs.declared.values.PortValue.{PortValue}
 use Rattle.pals_model.specs.declared.design.Link.{Link}
-use Rattle.pals_model.specs.declared.inputs_parts_and_delays.Delays.{Delays}
+use Rattle.pals_model.specs.declared.delays.Delays.{Delays}
 use Rattle.pals_model.specs.declared.flight_copy.FlightCopy.{FlightCopy}
 use Rattle.pals_model.specs.Delays.{delay_of}
 use Rattle.link_buffers.specs.proof.Flights.{FlightState, flight_of}

@@ -7,11 +7,11 @@ use Rattle.bus_machine.specs.contracts.plan.Plan.{the_row as plans}
 use Rattle.bus_machine.specs.declared.plan.Plan.{Plan}
 use Rattle.pals_base.specs.contracts.values.Frame.{the_row as frames}
 use Rattle.pals_base.specs.contracts.values.PortValue.{the_row as ports}
-use Rattle.pals_model.specs.contracts.inputs_parts_and_delays.Part.{the_row as parts}
+use Rattle.pals_model.specs.contracts.part.Part.{the_row as parts}
 use Rattle.pals_runs.specs.contracts.phase.Phase.{the_row as phases}
 use Rattle.pals_base.specs.declared.values.Frame.{Frame}
 use Rattle.pals_base.specs.declared.values.PortValue.{PortValue}
-use Rattle.pals_model.specs.declared.inputs_parts_and_delays.Part.{Part}
+use Rattle.pals_model.specs.declared.part.Part.{Part}
 use Rattle.pals_runs.specs.declared.phase.Phase.{Phase}
 use Rattle.bus_machine.specs.Nodes.{NodeState}
 use Rattle.pals_node.specs.proof.NodeValues.{Program, NodeValue}

@@ -7,7 +7,7 @@ use Rattle.pals_base.specs.declared.values.PortValue.{PortValue}
 use Rattle.pals_base.specs.declared.values.Frame.{Frame}
 use Rattle.pals_base.specs.SingleStep.{HasShape}
 use Rattle.pals_base.specs.BehaviourRules.{IsBehaviour}
-use Rattle.pals_model.specs.declared.inputs_parts_and_delays.Part.{Part}
+use Rattle.pals_model.specs.declared.part.Part.{Part}
 use Rattle.pals_runs.specs.declared.phase.Phase.{Phase}
 use Rattle.pals_runs.specs.declared.phase.Phase.TheVariants.{Waiting, Running, Between, Holding, Done}
 use Rattle.step_code.specs.declared.instr.CodeParts.{CodeParts}

@@ -9,7 +9,7 @@ use Rattle.pals_node.specs.declared.node_fields.RoundRoom.{RoundRoom}
 use Rattle.pals_node.specs.proof.NodeValues.{Program, JobValue, job_value}
 use Rattle.pals_base.specs.declared.values.PortValue.TheVariants.{Absent}
 use Rattle.pals_base.specs.SingleStep.{initial}
-use Rattle.pals_model.specs.declared.inputs_parts_and_delays.Part.{Part}
+use Rattle.pals_model.specs.declared.part.Part.{Part}
 use Rattle.bus_machine.specs.declared.plan.Plan.{Plan}
 
 -- a part of absent values

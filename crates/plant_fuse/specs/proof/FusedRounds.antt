@@ -7,7 +7,7 @@ use Rattle.pals_base.specs.StepSequences.{frame_after}
 use Rattle.pals_runs.specs.declared.plant_pairs.Pair.{Pair}
 use Rattle.pals_model.specs.declared.design.Component.{Component}
 use Rattle.pals_model.specs.declared.design.DesignParts.{DesignParts}
-use Rattle.pals_model.specs.declared.inputs_parts_and_delays.Env.{Env}
+use Rattle.pals_model.specs.declared.environment.Env.{Env}
 use Rattle.pals_model.specs.Composition.{Configuration}
 use Rattle.plant_fuse.specs.FusedComposition.{Inputs, frame_before, vector_of, inputs_to, messages_before}
 

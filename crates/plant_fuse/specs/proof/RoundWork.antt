@@ -5,7 +5,7 @@ use Rattle.pals_base.specs.declared.values.Frame.{Frame}
 use Rattle.pals_base.specs.StepSequences.{column}
 use Rattle.pals_model.specs.declared.design.Component.{Component}
 use Rattle.pals_model.specs.declared.design.DesignParts.{DesignParts}
-use Rattle.pals_model.specs.declared.inputs_parts_and_delays.Part.{Part}
+use Rattle.pals_model.specs.declared.part.Part.{Part}
 use Rattle.pals_model.specs.ComponentInputs.{sources_of}
 use Rattle.pals_model.specs.Composition.{no_frame}
 use Rattle.pals_runs.specs.declared.plant_pairs.Pair.{Pair}

@@ -2,7 +2,7 @@
 -- journal line.
 use Rattle.std.specs.Prelude.{◌≡◌, ℕ, List, All, None}
 use Rattle.pals_model.specs.declared.design.DesignParts.{DesignParts}
-use Rattle.pals_model.specs.declared.inputs_parts_and_delays.Env.{Env}
+use Rattle.pals_model.specs.declared.environment.Env.{Env}
 use Rattle.pals_model.specs.proof.CompositionLaws.TextLines.{IsLine}
 use Rattle.pals_model.specs.RoundTexts.{text_of, report_lines}
 use Rattle.pals_model.specs.DesignRules.{IsDesign}

@@ -1,7 +1,7 @@
 -- What the last line of watched properties names.
 use Rattle.std.specs.Prelude.{◌≡◌, ℕ, ◌<◌, true, false, List, Some, None, slice_get}
 use Rattle.pals_model.specs.declared.design.DesignParts.{DesignParts}
-use Rattle.pals_model.specs.declared.inputs_parts_and_delays.Env.{Env}
+use Rattle.pals_model.specs.declared.environment.Env.{Env}
 use Rattle.pals_runs.specs.Formula.{Formula}
 use Rattle.run_monitor.specs.declared.false_property.FalseProperty.{FalseProperty}
 use Rattle.run_monitor.specs.FormulaSemantics.{holds}

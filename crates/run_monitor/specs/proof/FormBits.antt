@@ -2,7 +2,7 @@
 use Rattle.std.specs.Prelude.{◌≡◌, ℕ, nat_eq, Bool, false, not, ◌&&◌, ◌||◌, is_some, if◌then◌else◌, List, map, Some}
 use Rattle.std.specs.Prelude.{slice_get, slice_index_or}
 use Rattle.pals_base.specs.declared.values.Frame.{Frame}
-use Rattle.pals_model.specs.declared.inputs_parts_and_delays.Part.{Part}
+use Rattle.pals_model.specs.declared.part.Part.{Part}
 use Rattle.run_monitor.specs.FormulaSemantics.{frame_in, variable_in, compares}
 use Rattle.run_monitor.specs.declared.flat_form.FlatForm.{FlatForm}
 use Rattle.run_monitor.specs.declared.flat_form.FlatForm.TheVariants as flat

@@ -4,7 +4,7 @@ use Rattle.std.specs.Prelude.{refl}
 use Rattle.std.specs.Coded.{Coded, code_by, coded×, coded_list, coded_option}
 use Rattle.pals_base.specs.declared.values.Frame.{Frame}
 use Rattle.pals_model.specs.declared.design.DesignParts.{DesignParts}
-use Rattle.pals_model.specs.declared.inputs_parts_and_delays.Env.{Env}
+use Rattle.pals_model.specs.declared.environment.Env.{Env}
 use Rattle.pals_runs.specs.Formula.{Formula}
 use Rattle.run_monitor.specs.declared.false_property.FalseProperty.{FalseProperty}
 use Rattle.run_monitor.specs.contracts.false_property.FalseProperty.{the_row as violations}

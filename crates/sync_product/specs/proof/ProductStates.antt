@@ -5,7 +5,7 @@ use Rattle.std.specs.Coded.{Coded, code_by, coded×, coded_list}
 use Rattle.pals_base.specs.contracts.values.Frame.{the_row as frames}
 use Rattle.pals_base.specs.contracts.values.PortValue.{the_row as ports}
 use Rattle.pals_model.specs.contracts.design.DesignParts.{the_row as design_parts}
-use Rattle.pals_model.specs.contracts.inputs_parts_and_delays.Part.{the_row as parts}
+use Rattle.pals_model.specs.contracts.part.Part.{the_row as parts}
 use Rattle.pals_base.specs.declared.values.Frame.{Frame}
 use Rattle.pals_base.specs.declared.values.PortValue.{PortValue}
 use Rattle.pals_base.specs.declared.values.PortValue.TheVariants.{Absent}
@@ -13,8 +13,8 @@ use Rattle.pals_base.specs.SingleStep.{initial}
 use Rattle.pals_base.specs.StepSequences.{Stepped, upwards}
 use Rattle.pals_model.specs.declared.design.Component.{Component}
 use Rattle.pals_model.specs.declared.design.DesignParts.{DesignParts}
-use Rattle.pals_model.specs.declared.inputs_parts_and_delays.Part.{Part}
-use Rattle.pals_model.specs.declared.inputs_parts_and_delays.Env.{Env}
+use Rattle.pals_model.specs.declared.part.Part.{Part}
+use Rattle.pals_model.specs.declared.environment.Env.{Env}
 use Rattle.pals_model.specs.ComponentInputs.{values_at}
 use Rattle.pals_model.specs.Composition.{Configuration, part_of, opening, next, all_steps}
 use Rattle.sync_product.specs.proof.ProductSizes.{tap_ports}

@@ -1,7 +1,7 @@
 -- How the report of a trace ends.
 use Rattle.std.specs.Prelude.{◌≡◌, ℕ, ◌%◌, nat_eq, if◌then◌else◌, List, take, Some, None}
 use Rattle.pals_model.specs.declared.design.DesignParts.{DesignParts}
-use Rattle.pals_model.specs.declared.inputs_parts_and_delays.Env.{Env}
+use Rattle.pals_model.specs.declared.environment.Env.{Env}
 use Rattle.run_laws.specs.TraceVerdicts.{report_size, wrong_row}
 use Rattle.trace_audit.specs.declared.report.ReportEnd.{ReportEnd}
 use Rattle.trace_audit.specs.declared.report.ReportEnd.TheVariants.{Whole, Wrong}

@@ -1,7 +1,7 @@
 -- How far the rows of a report are made.
 use Rattle.std.specs.Prelude.{◌≡◌, ◌≢◌, ℕ, ◌+◌, ◌/◌, ◌%◌, List, length, drop}
 use Rattle.pals_model.specs.declared.design.DesignParts.{DesignParts}
-use Rattle.pals_model.specs.declared.inputs_parts_and_delays.Env.{Env}
+use Rattle.pals_model.specs.declared.environment.Env.{Env}
 use Rattle.pals_model.specs.RoundTexts.{composed_lines}
 use Rattle.pals_report.specs.proof.TapPlaces.{tap_places}
 use Rattle.sync_product.specs.proof.ProductStates.{state_after}

@@ -9,7 +9,7 @@ use Rattle.pals_base.specs.SingleStep.{fire, silence}
 use Rattle.pals_base.specs.StepSequences.{Stepped, with_places}
 use Rattle.pals_model.specs.declared.design.Component.{Component}
 use Rattle.pals_model.specs.declared.design.DesignParts.{DesignParts}
-use Rattle.pals_model.specs.declared.inputs_parts_and_delays.Env.{Env}
+use Rattle.pals_model.specs.declared.environment.Env.{Env}
 use Rattle.pals_model.specs.ComponentInputs.{feed}
 use Rattle.pals_model.specs.Composition.{comp, state, own_steps_so_far}
 use Rattle.pals_model.specs.proof.CompositionLaws.{own_steps}

@@ -1,6 +1,6 @@
 use Rattle.std.proofs.Common.{◌∙◌, ◌<◌, sym, ap, length, slice_index_or, arith, rules}
 use Rattle.std.proofs.lemmas.List.{get_or-map}
-use Rattle.pals_model.specs.declared.inputs_parts_and_delays.Part.{Part}
+use Rattle.pals_model.specs.declared.part.Part.{Part}
 use Rattle.pals_model.specs.Composition.{no_frame}
 use Rattle.sync_product.specs.proof.ProductSizes.{frame_size, part_size, stage_size}
 use Rattle.sync_product.proofs.SizePreservation.{same_sizes}

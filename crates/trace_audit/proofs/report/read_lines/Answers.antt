@@ -1,7 +1,7 @@
 use Rattle.std.proofs.Common.{◌≡◌, ◌+◌, ◌≤◌, true, false, length, sym, ap, ap₂, ◌∙◌, subst₂, arith, rules, tests}
 use Rattle.std.specs.Prelude.{bytes_eq, is_some}
 use Rattle.pals_model.specs.declared.design.DesignParts.{DesignParts}
-use Rattle.pals_model.specs.declared.inputs_parts_and_delays.Env.{Env}
+use Rattle.pals_model.specs.declared.environment.Env.{Env}
 use Rattle.run_laws.specs.LineForms.{form_of}
 use Rattle.run_laws.specs.TraceVerdicts.{line_at, row_size}
 use Rattle.trace_audit.specs.declared.report.ReportEnd.TheVariants.{Wrong}

@@ -1,7 +1,7 @@
 use Rattle.std.proofs.Common.{sym, subst₂}
 use Rattle.std.specs.Prelude.{IfOk}
 use Rattle.pals_model.specs.declared.design.DesignParts.{DesignParts}
-use Rattle.pals_model.specs.declared.inputs_parts_and_delays.Env.{Env}
+use Rattle.pals_model.specs.declared.environment.Env.{Env}
 use Rattle.trace_audit.specs.proof.ReportEnds.{ReportEnds}
 use Rattle.trace_audit.specs.proof.ReportRows.{IsAtLine}
 use Rattle.trace_audit.proofs.report.read_report.Goals as goal

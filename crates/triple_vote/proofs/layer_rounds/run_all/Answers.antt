@@ -2,7 +2,7 @@ use Rattle.std.proofs.Common.{◌∙◌, ap, sym, length, slice_index_or, arith}
 use Rattle.std.proofs.lemmas.List.{get_or_default}
 use Rattle.std.proofs.lemmas.Option.{slice_get_within}
 use Rattle.pals_base.specs.StepSequences.{frame_after, outputs}
-use Rattle.pals_model.specs.declared.inputs_parts_and_delays.Part.{Part}
+use Rattle.pals_model.specs.declared.part.Part.{Part}
 use Rattle.sync_product.specs.proof.ProductSizes.{PartSize, frame_size, part_size, stage_size}
 use Rattle.sync_product.specs.proof.Rounds.{frames_of, vectors}
 use Rattle.sync_product.proofs.SizePreservation.{same_sizes}

@@ -1,7 +1,7 @@
 use Rattle.std.proofs.Common.{false, length, refl, ap, ◌∙◌, sym, subst}
 use Rattle.std.specs.Arc.{arc_value}
 use Rattle.pals_model.specs.declared.design.DesignParts.{DesignParts}
-use Rattle.pals_model.specs.declared.inputs_parts_and_delays.Delays.{Delays}
+use Rattle.pals_model.specs.declared.delays.Delays.{Delays}
 use Rattle.pals_model.specs.Delays.{AreDelays}
 use Rattle.pals_model.specs.DesignRules.{IsDesign}
 use Rattle.pals_bus.specs.proof.OpeningBusAndNodeValues.{opening_bus}

@@ -1,6 +1,6 @@
 use Rattle.std.proofs.Common.{◌≡◌, List, length, map, take}
 use Rattle.pals_base.specs.declared.values.PortValue.{PortValue}
-use Rattle.pals_model.proofs.inputs_parts_and_delays.Part.copy_from.Given as goal
+use Rattle.pals_model.proofs.part.Part.copy_from.Given as goal
 
 -- the frame and the first tuples are the other's, and the lengths stay
 abbrev pub invariant-loop-at : goal.invariant-loop-at

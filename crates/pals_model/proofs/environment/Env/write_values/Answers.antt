@@ -2,7 +2,7 @@ use Rattle.std.proofs.Common.{sym, ◌∙◌, arith}
 use Rattle.std.proofs.lemmas.List.{length-map, same_lists}
 use Rattle.pals_model.specs.ComponentInputs.{values_at}
 use Rattle.pals_model.proofs.RootInputValues.{value_here, values_more}
-use Rattle.pals_model.proofs.inputs_parts_and_delays.Env.write_values.Goals as goal
+use Rattle.pals_model.proofs.environment.Env.write_values.Goals as goal
 
 pub loop-at-preserved : goal.loop-at-preserved
 loop-at-preserved c =

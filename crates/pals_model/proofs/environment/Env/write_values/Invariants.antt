@@ -1,7 +1,7 @@
 use Rattle.std.proofs.Common.{◌≡◌, ℕ, ◌<◌, slice_index_or}
 use Rattle.pals_base.specs.declared.values.PortValue.{PortValue}
 use Rattle.pals_model.specs.ComponentInputs.{values_at}
-use Rattle.pals_model.proofs.inputs_parts_and_delays.Env.write_values.Given as goal
+use Rattle.pals_model.proofs.environment.Env.write_values.Given as goal
 
 -- the values so far are the round's
 abbrev pub invariant-loop-at : goal.invariant-loop-at

@@ -1,6 +1,6 @@
 use Rattle.std.proofs.Common.{◌≡◌, ◌<◌, length, slice_index_or, ap, sym, ◌∙◌, subst, arith}
 use Rattle.pals_model.proofs.OverwrittenTuples.{same_size, sizes_stay, more_copied}
-use Rattle.pals_model.proofs.inputs_parts_and_delays.Part.copy_from.Goals as goal
+use Rattle.pals_model.proofs.part.Part.copy_from.Goals as goal
 
 pub copy_from_slice-requires : goal.copy_from_slice-requires
 copy_from_slice-requires c =
