@@ -16,7 +16,7 @@ use Rattle.bus_machine.specs.States.{node_at}
 use Rattle.bus_machine.specs.MissedStarts.{link_into}
 use Rattle.bus_machine.specs.Machine.{Finish, missed_stop}
 use Rattle.pals_node.specs.declared.answers.StartEnd.TheVariants as start
-use Rattle.pals_node.specs.declared.answers.Finished.{Finished}
+use Rattle.pals_node.specs.declared.job.Finished.{Finished}
 use Rattle.pals_node.specs.proof.NodeValues.{JobValue, NodeValue}
 use Rattle.pals_node.specs.proof.Answers.{Starts, StartEnds, Steps, Finishes, FinishesWith, Sends}
 use Rattle.pals_bus.specs.declared.bus_fields.BusFields.{BusFields}

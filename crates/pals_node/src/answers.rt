@@ -1,4 +1,4 @@
-//! What a node answers beside what was asked for.
+//! What a node answers in place of what was asked for.
 use pals_base::{Nanos, NoMemory};
 
 /// Why a start gives no job. The alarm is in nanoseconds, and the port is an in port.
@@ -25,13 +25,6 @@ pub enum StepEnd {
     NotBetween,
     /// There was not enough memory.
     Memory,
-}
-
-/// How a step was finished: with what was handed in, or by running the job here.
-#[derive(Clone, Copy, PartialEq, Debug)]
-pub enum Finished {
-    Used,
-    Redone,
 }
 
 /// Why nothing is finished.

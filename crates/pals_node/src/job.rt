@@ -1,4 +1,4 @@
-//! The job of one step, which may run anywhere, and what it leaves.
+//! The job of one step, which may run anywhere, what it leaves, and how the step was finished.
 ghost use Rattle.std.specs.Prelude.{◌≡◌, ◌↔◌, length, IsTrue, IfOk};
 ghost use Rattle.std.specs.Arc.{arc_value};
 ghost use Rattle.step_code.specs.proof.CodeRuns.{FitsCode};
@@ -106,6 +106,13 @@ impl Model for Done {
 
     ghost invariant = { λ d. IsResult (job_value (arc_value d.plan) d.round d.step d.frame d.inputs) (record { frame = d.result; outs = d.outs.items })
         × IsRoomOf (arc_value d.plan).code d.room };
+}
+
+/// How a step was finished: with what was handed in, or by running the job here.
+#[derive(Clone, Copy, PartialEq, Debug)]
+pub enum Finished {
+    Used,
+    Redone,
 }
 
 impl Job {

@@ -14,7 +14,7 @@ mod plan;
 mod slots_and_input_vectors;
 mod written_tuples;
 
-pub use answers::{FinishEnd, Finished, SendEnd, StartEnd, StepEnd};
-pub use job::{Done, Job};
+pub use answers::{FinishEnd, SendEnd, StartEnd, StepEnd};
+pub use job::{Done, Finished, Job};
 pub use node::Node;
 pub use plan::NodePlan;

@@ -12,7 +12,7 @@ use Rattle.pals_node.specs.declared.answers.StartEnd.{StartEnd}
 use Rattle.pals_node.specs.declared.answers.StepEnd.{StepEnd}
 use Rattle.pals_node.specs.declared.answers.FinishEnd.{FinishEnd}
 use Rattle.pals_node.specs.declared.answers.SendEnd.{SendEnd}
-use Rattle.pals_node.specs.declared.answers.Finished.{Finished}
+use Rattle.pals_node.specs.declared.job.Finished.{Finished}
 use Rattle.pals_node.specs.proof.NodeValues.{JobValue}
 use Rattle.pals_node.specs.proof.Answers.{is_early, Starts, StartEnds, Steps, StepEnds, FinishesWith, NoneRuns}
 use Rattle.pals_node.specs.proof.Answers.{SendEnds}

@@ -9,8 +9,8 @@ use Rattle.bus_machine.specs.EarliestReadings.{start_alarm, step_alarm, release_
 use Rattle.pals_node.specs.declared.answers.StartEnd.{StartEnd}
 use Rattle.pals_node.specs.declared.answers.StepEnd.{StepEnd}
 use Rattle.pals_node.specs.declared.answers.SendEnd.{SendEnd}
-use Rattle.pals_node.specs.declared.answers.Finished.{Finished}
-use Rattle.pals_node.specs.declared.answers.Finished.TheVariants.{Used, Redone}
+use Rattle.pals_node.specs.declared.job.Finished.{Finished}
+use Rattle.pals_node.specs.declared.job.Finished.TheVariants.{Used, Redone}
 use Rattle.pals_node.specs.proof.NodeValues.{NodeValue, JobValue, with_state, job_at}
 use Rattle.pals_node.specs.declared.answers.StartEnd.TheVariants as start
 use Rattle.pals_node.specs.declared.answers.StepEnd.TheVariants as step
