@@ -12,7 +12,6 @@ mod moves_under_lock;
 mod node_end;
 mod opening_course;
 mod sleepers;
-mod sleeping_thread;
 mod thread_admission;
 mod threads;
 mod wake_list;

@@ -8,7 +8,7 @@ ghost use Rattle.node_threads.specs.proof.Sleepers.{seat_at, Waits};
 use crate::course::SharedRun;
 use crate::moves_under_lock::NextMove;
 use crate::sleepers::Sleepers;
-use crate::sleeping_thread::Sleeper;
+use crate::wake_list::Sleeper;
 use pals_base::NodeNo;
 use pals_node::Done;
 

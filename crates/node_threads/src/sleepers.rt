@@ -2,13 +2,12 @@
 ghost use Rattle.std.specs.Prelude.{◌≡◌, ◌<◌, ◌≤◌, ℕ, length, replicate, IsTrue, IfOk, IfSome, Some, true, false};
 ghost use Rattle.run_laws.specs.Runs.{IsLeast};
 ghost use Rattle.node_threads.specs.proof.SharedCourses.{IsOpen, IsDone};
-ghost use Rattle.node_threads.specs.declared.sleeping_thread.Sleeper.{Sleeper};
+ghost use Rattle.node_threads.specs.declared.wake_list.Sleeper.{Sleeper};
 ghost use Rattle.node_threads.specs.proof.Sleepers.{no_wakes, is_to_ring, without_bell, free_seat, seat_at, with_seat};
 ghost use Rattle.node_threads.specs.proof.Sleepers.{IsAbove, IsHourOver, Waits, Rouses};
 
 use crate::course::SharedRun;
-use crate::sleeping_thread::Sleeper;
-use crate::wake_list::WakeList;
+use crate::wake_list::{Sleeper, WakeList};
 use pals_base::limits::READING;
 use pals_base::{Items, Nanos, NoMemory, NodeNo};
 use std::alloc::Global;
@@ -158,7 +157,7 @@ impl Sleepers {
         course.meeting() && course.is_open(node) && !self.is_at_hour(course, node)
     }
 
-    // WakeList the thread that has a node, where it sleeps.
+    // Wakes the thread that has a node, where it sleeps.
     fn wake(&mut self, node: NodeNo)
         ensures awake { (seat_at self.new.seats node.0).sleeps ≡ false }
         ensures rouses { Rouses self.old self.new }
@@ -204,7 +203,7 @@ impl Sleepers {
         }
     }
 
-    // WakeList the thread that has a node, where it sleeps and the node need not wait.
+    // Wakes the thread that has a node, where it sleeps and the node need not wait.
     fn wake_ready(&mut self, course: &SharedRun, node: NodeNo)
         ensures { Rouses self.old self.new }
     {
@@ -233,7 +232,7 @@ impl Sleepers {
         self.hour = least_target(course);
     }
 
-    /// WakeList all threads that sleep though their node need not wait.
+    /// Wakes all threads that sleep though their node need not wait.
     pub fn wake_all_ready(&mut self, course: &SharedRun)
         ensures { Rouses self.old self.new }
     {

@@ -1,10 +1,18 @@
 //! Which threads are to be woken.
 ghost use Rattle.std.specs.Prelude.{◌≡◌, IfSome, Some, false, true, slice_index_or};
-ghost use Rattle.node_threads.specs.declared.sleeping_thread.Sleeper.{Sleeper};
+ghost use Rattle.node_threads.specs.declared.wake_list.Sleeper.{Sleeper};
 ghost use Rattle.node_threads.specs.proof.Sleepers.{no_wakes, with_rung, is_to_ring, without_bell};
 
-use crate::sleeping_thread::Sleeper;
 use pals_base::limits::COMPONENTS;
+
+/// The bell of a node, or that of the calling thread.
+#[derive(Clone, Copy)]
+pub enum Sleeper {
+    /// Of the node of this number.
+    Node(usize),
+    /// Of the calling thread.
+    Caller,
+}
 
 /// The nodes whose threads are to be woken, and whether the calling thread is. They are noted under the
 /// lock, and woken one after the other once it is free.

@@ -3,7 +3,7 @@
 ghost use Rattle.std.specs.Prelude.{◌≡◌, IfOk, vec_len};
 
 use crate::locked_state::Locked;
-use crate::sleeping_thread::Sleeper;
+use crate::wake_list::Sleeper;
 use pals_base::{NoMemory, NodeNo};
 use std::alloc::Global;
 use std::sync::{Condvar, Mutex, MutexGuard, Wait};

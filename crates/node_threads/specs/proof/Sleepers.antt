@@ -6,11 +6,11 @@ use Rattle.pals_runs.specs.declared.phase.Phase.TheVariants.{Waiting}
 use Rattle.bus_machine.specs.States.{Run, BusState, node_at}
 use Rattle.run_laws.specs.Runs.{target_of}
 use Rattle.node_threads.specs.declared.wake_list.WakeList.{WakeList}
-use Rattle.node_threads.specs.declared.sleeping_thread.Sleeper.{Sleeper}
+use Rattle.node_threads.specs.declared.wake_list.Sleeper.{Sleeper}
 use Rattle.node_threads.specs.declared.sleepers.ThreadSlot.{ThreadSlot}
 use Rattle.node_threads.specs.declared.sleepers.Sleepers.{Sleepers}
 use Rattle.node_threads.specs.proof.SharedCourses.{CourseValue, IsOpen}
-use Rattle.node_threads.specs.declared.sleeping_thread.Sleeper.TheVariants as bell
+use Rattle.node_threads.specs.declared.wake_list.Sleeper.TheVariants as bell
 
 -- nobody is to be woken
 abbrev pub no_wakes : WakeList
