@@ -1,7 +1,7 @@
 -- The rows of rounds that are voted on.
 use Rattle.std.proofs.Common.{◌≡◌, ◌∙◌, ℕ, suc, ◌+◌, ◌≤◌, Bool, true, false, cond, List, ◌++◌, map, sym, ap, arith}
 use Rattle.std.proofs.Common.{append_assoc, add-one}
-use Rattle.pals_base.specs.declared.values.Frame.{Frame}
+use Rattle.pals_base.specs.declared.frames.Frame.{Frame}
 use Rattle.pals_base.specs.declared.values.PortValue.{PortValue}
 use Rattle.pals_model.specs.declared.design.Component.{Component}
 use Rattle.pals_model.specs.declared.design.Tap.{Tap}

@@ -1,6 +1,6 @@
 //! The rounds of watched properties.
 ghost use Rattle.std.specs.Prelude.{◌≡◌, ◌++◌, [], ◌+◌, ◌<◌, List, length, IfOk, IfSome, OnOk};
-ghost use Rattle.pals_base.specs.declared.values.Frame.{Frame};
+ghost use Rattle.pals_base.specs.declared.frames.Frame.{Frame};
 ghost use Rattle.pals_model.specs.declared.environment.Env.{Env};
 ghost use Rattle.pals_model.specs.Composition.{comp};
 ghost use Rattle.pals_model.specs.ComponentInputs.{values_at};

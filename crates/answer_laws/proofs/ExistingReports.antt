@@ -3,7 +3,7 @@ use Rattle.std.proofs.Common.{◌≡◌, ◌⊎◌, inl, inr, ◌∙◌, sym, �
 use Rattle.std.proofs.Common.{List, [], ◌∷◌, length, get_or, Some, None, refl, arith}
 use Rattle.std.specs.Prelude.{◌%◌, All}
 use Rattle.std.proofs.lemmas.Bool.{cases_lt, eqb-true, eq-eqb, true≢false}
-use Rattle.pals_base.specs.declared.values.Gamma.{Gamma}
+use Rattle.pals_base.specs.declared.period_bound.Gamma.{Gamma}
 use Rattle.pals_base.specs.PeriodBound.{least_period}
 use Rattle.pals_base.specs.declared.limits.TheConstants.{HOUR}
 use Rattle.pals_model.specs.declared.design.DesignParts.{DesignParts}

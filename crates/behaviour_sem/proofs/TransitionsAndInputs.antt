@@ -5,7 +5,7 @@ use Rattle.std.proofs.lemmas.List.{take_more_set, drop-set-lt}
 use Rattle.std.specs.Prelude.{Bool, true, false, Result, Ok, Err, Some, slice_index_or, slice_set, nat_eq, filter}
 use Rattle.std.specs.Prelude.{if◌then◌else◌}
 use Rattle.pals_base.specs.declared.values.Trap.{Trap}
-use Rattle.pals_base.specs.declared.values.Frame.{Frame}
+use Rattle.pals_base.specs.declared.frames.Frame.{Frame}
 use Rattle.pals_base.specs.declared.values.PortValue.{PortValue}
 use Rattle.pals_base.specs.declared.values.PortValue.TheVariants.{Absent}
 use Rattle.pals_base.specs.ExpressionValues.{on_value}

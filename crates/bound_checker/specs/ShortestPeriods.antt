@@ -1,6 +1,6 @@
 -- The shortest period that suits a bound and several rates.
 use Rattle.std.specs.Prelude.{◌≡◌, ℕ, ◌%◌, ◌≤◌, max, List, fold, All}
-use Rattle.pals_base.specs.declared.values.Gamma.{Gamma}
+use Rattle.pals_base.specs.declared.period_bound.Gamma.{Gamma}
 use Rattle.pals_base.specs.PeriodBound.{least_period}
 use Rattle.pals_base.specs.declared.limits.TheConstants.{HOUR}
 

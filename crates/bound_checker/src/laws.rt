@@ -1,6 +1,6 @@
 //! What the bound gives. Each law is the contract of a function that does nothing.
 ghost use Rattle.std.specs.Prelude.{◌≡◌, ℕ, ◌+◌, ◌-◌, ◌*◌, ◌<◌, ◌≤◌, List};
-ghost use Rattle.pals_base.specs.declared.values.Gamma.{Gamma};
+ghost use Rattle.pals_base.specs.declared.period_bound.Gamma.{Gamma};
 ghost use Rattle.pals_base.specs.PeriodBound.{least_period, step_period, sent_steps, release_offset};
 ghost use Rattle.bound_checker.specs.ShortestPeriods.{IsLeastMultiple, HasNoMultiple};
 ghost use Rattle.bound_checker.specs.proof.MessageTimes.{IsStarted, IsSent, IsCarried};

@@ -6,7 +6,7 @@ use Rattle.std.specs.Option.{option_and_then, is_some}
 use Rattle.std.proofs.Math.Nat.{mod_self}
 use Rattle.std.proofs.lemmas.Bool.{false≢true, eqb-true, and_parts}
 use Rattle.pals_base.specs.declared.behaviour.Kind.{Kind}
-use Rattle.pals_base.specs.declared.values.Adaptor.{Adaptor}
+use Rattle.pals_base.specs.declared.allowed_adaptors.Adaptor.{Adaptor}
 use Rattle.pals_base.specs.AllowedAdaptors.{divides_or_divided, is_allowed}
 use Rattle.annex_resolve.specs.NamesAndFindings.{finding, found_if}
 use Rattle.annex_resolve.specs.declared.violation.TheConstants.{RATES_DONT_DIVIDE, STRAY_ADAPTOR, ADAPTOR_OUT_OF_RANGE}

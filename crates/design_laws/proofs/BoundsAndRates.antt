@@ -6,7 +6,7 @@ use Rattle.std.proofs.Math.Nat.{div-add-mod, mul-mod_left}
 use Rattle.std.proofs.lemmas.Bool.{false≢true, leb-true, ltb-false, le-leb, and_from, and_parts}
 use Rattle.std.proofs.lemmas.Bool.Decides.{nat_tests}
 use Rattle.std.proofs.lemmas.Option.{cond_some}
-use Rattle.pals_base.specs.declared.values.Gamma.{Gamma}
+use Rattle.pals_base.specs.declared.period_bound.Gamma.{Gamma}
 use Rattle.pals_base.specs.declared.limits.TheConstants.{HOUR, RATE}
 use Rattle.pals_base.specs.PeriodBound.{least_period}
 use Rattle.pals_model.specs.DesignRules.{IsGamma}

@@ -9,7 +9,7 @@ use Rattle.std.proofs.lemmas.Bool.{ltb-true}
 use Rattle.list_lemmas.proofs.Numbers.{le_from_not_lt}
 use Rattle.list_lemmas.proofs.PairwiseProperties.{pairs_from}
 use Rattle.pals_base.specs.declared.limits.TheConstants.{LINKS}
-use Rattle.pals_base.specs.declared.values.Gamma.{Gamma}
+use Rattle.pals_base.specs.declared.period_bound.Gamma.{Gamma}
 use Rattle.pals_model.specs.declared.design.Component.{Component}
 use Rattle.pals_model.specs.declared.design.Link.{Link}
 use Rattle.pals_model.specs.declared.design.Feed.{Feed}

@@ -13,7 +13,7 @@ use Rattle.list_lemmas.proofs.ElementPositions.{flat_map-nil_at}
 use Rattle.list_lemmas.proofs.ListOperations.{append_is_nil_right, append_is_nil_left}
 use Rattle.list_lemmas.proofs.Numbers.{nat_eq-swapped, nat_eq-self}
 use Rattle.list_lemmas.proofs.Options.{some_by_test}
-use Rattle.pals_base.specs.declared.values.Gamma.{Gamma}
+use Rattle.pals_base.specs.declared.period_bound.Gamma.{Gamma}
 use Rattle.pals_base.specs.PeriodBound.{least_period}
 use Rattle.pals_model.specs.DesignRules.{IsGamma}
 use Rattle.aadl_tree.specs.declared.declarations.Category.{Category}

@@ -1,7 +1,7 @@
 -- The design of an instance, where nothing of it is missing or refused.
 use Rattle.std.specs.Prelude.{ℕ, ◌≡◌, List, [], ◌∷◌, map, Option, Some, None}
 use Rattle.std.specs.Option.{option_and_then}
-use Rattle.pals_base.specs.declared.values.Adaptor.{Adaptor}
+use Rattle.pals_base.specs.declared.allowed_adaptors.Adaptor.{Adaptor}
 use Rattle.pals_base.specs.declared.behaviour.BehaviourParts.{BehaviourParts}
 use Rattle.pals_base.specs.BehaviourRules.{IsBehaviour}
 use Rattle.pals_model.specs.declared.design.Component.{Component}

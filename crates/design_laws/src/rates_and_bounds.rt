@@ -2,7 +2,7 @@
 ghost use Rattle.std.specs.Prelude.{◌≡◌, ℕ, ◌%◌, ◌≤◌, List, [], true, Option, Some, option_map};
 ghost use Rattle.std.specs.Option.{option_and_then};
 ghost use Rattle.pals_base.specs.declared.behaviour.Kind.{Kind};
-ghost use Rattle.pals_base.specs.declared.values.Gamma.{Gamma};
+ghost use Rattle.pals_base.specs.declared.period_bound.Gamma.{Gamma};
 ghost use Rattle.pals_base.specs.declared.limits.TheConstants.{RATE};
 ghost use Rattle.pals_base.specs.AllowedAdaptors.{divides_or_divided, is_allowed};
 ghost use Rattle.pals_base.specs.PeriodBound.{least_period};

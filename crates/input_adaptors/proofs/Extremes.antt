@@ -7,7 +7,7 @@ use Rattle.std.proofs.lemmas.List.Elements.{All-cons, All-contains}
 use Rattle.list_lemmas.proofs.Elements.{Contains-head, Contains-cons}
 use Rattle.pals_base.specs.declared.values.PortValue.{PortValue}
 use Rattle.pals_base.specs.declared.values.PortValue.TheVariants.{Absent, Present}
-use Rattle.pals_base.specs.declared.values.Adaptor.TheVariants.{Min, Max}
+use Rattle.pals_base.specs.declared.allowed_adaptors.Adaptor.TheVariants.{Min, Max}
 use Rattle.pals_base.specs.Adaptors.{present, joined, of_present, least_of, greatest_of}
 use Rattle.input_adaptors.specs.proof.GroupsAndExtremes.{IsLeast, IsGreatest}
 

@@ -3,8 +3,8 @@ ghost use Rattle.std.specs.Prelude.{◌≡◌, ◌≢◌, ℕ, ◌+◌, ◌*◌,
 ghost use Rattle.std.specs.Prelude.{Contains, IsTrue, Option};
 ghost use Rattle.pals_base.specs.declared.values.PortValue.{PortValue};
 ghost use Rattle.pals_base.specs.declared.values.PortValue.TheVariants.{Absent, Present};
-ghost use Rattle.pals_base.specs.declared.values.Adaptor.{Adaptor};
-ghost use Rattle.pals_base.specs.declared.values.Adaptor.TheVariants.{Latest, Max, Min, Average};
+ghost use Rattle.pals_base.specs.declared.allowed_adaptors.Adaptor.{Adaptor};
+ghost use Rattle.pals_base.specs.declared.allowed_adaptors.Adaptor.TheVariants.{Latest, Max, Min, Average};
 ghost use Rattle.pals_base.specs.Adaptors.{adapt, groups, joined};
 ghost use Rattle.pals_base.specs.AllowedAdaptors.{is_allowed, divides_or_divided};
 ghost use Rattle.input_adaptors.specs.proof.GroupsAndExtremes.{group_at, TakesPlace, MakesNumber, IsAboveSome};

@@ -2,7 +2,7 @@
 use Rattle.std.specs.Prelude.{ℕ, nat_eq, Bool, true, not, ◌&&◌, List, [], ◌++◌, Option, Some, None, option_map}
 use Rattle.std.specs.Option.{is_some}
 use Rattle.pals_base.specs.declared.behaviour.Kind.{Kind}
-use Rattle.pals_base.specs.declared.values.Adaptor.{Adaptor}
+use Rattle.pals_base.specs.declared.allowed_adaptors.Adaptor.{Adaptor}
 use Rattle.aadl_tree.specs.Declarations.{Connection, PackageTree}
 use Rattle.aadl_uses.specs.declared.thread_locations.ThreadAt.{ThreadAt}
 use Rattle.aadl_instance.specs.declared.chain.Chain.{Chain}

@@ -27,8 +27,8 @@ use Rattle.pals_base.proofs.behaviour.PortDecl.TheSendSync.{the_field_send as na
 use Rattle.pals_base.proofs.behaviour.VarDecl.TheSendSync.{the_field_send as variable_send}
 use Rattle.pals_base.proofs.behaviour.VarDecl.TheSendSync.{the_field_sync as variable_sync}
 use Rattle.pals_base.proofs.behaviour.StateDecl.TheSendSync.{the_field_send as state_send, the_field_sync as state_sync}
-use Rattle.pals_base.proofs.values.Gamma.TheSendSync.{the_field_send as gamma_send, the_field_sync as gamma_sync}
-use Rattle.pals_base.proofs.values.Frame.TheSendSync.{the_field_send as frame_send}
+use Rattle.pals_base.proofs.period_bound.Gamma.TheSendSync.{the_field_send as gamma_send, the_field_sync as gamma_sync}
+use Rattle.pals_base.proofs.frames.Frame.TheSendSync.{the_field_send as frame_send}
 use Rattle.pals_node.proofs.job_memory.Memory.TheSendSync.{the_field_send as memory_send}
 use Rattle.pals_model.proofs.design.Link.TheSendSync.{the_field_send as link_send, the_field_sync as link_sync}
 use Rattle.pals_model.proofs.design.Feed.TheSendSync.{the_field_send as feed_send, the_field_sync as feed_sync}

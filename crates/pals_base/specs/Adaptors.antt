@@ -5,8 +5,8 @@ use Rattle.std.specs.Prelude.{slice_set}
 use Rattle.std.specs.Int.{int_min, int_max}
 use Rattle.pals_base.specs.declared.values.PortValue.{PortValue}
 use Rattle.pals_base.specs.declared.values.PortValue.TheVariants.{Absent, Present}
-use Rattle.pals_base.specs.declared.values.Adaptor.{Adaptor}
-use Rattle.pals_base.specs.declared.values.Adaptor.TheVariants.{Repeat, First, Last, At, Latest, Max, Min, Average}
+use Rattle.pals_base.specs.declared.allowed_adaptors.Adaptor.{Adaptor}
+use Rattle.pals_base.specs.declared.allowed_adaptors.Adaptor.TheVariants.{Repeat, First, Last, At, Latest, Max, Min, Average}
 
 -- ---- groups
 -- a list cut into `count` groups of m

@@ -1,6 +1,6 @@
 -- The bound: when a design's period leaves each message time to arrive. All numbers are nanoseconds.
 use Rattle.std.specs.Prelude.{ℕ, ◌+◌, ◌-◌, ◌*◌, ◌/◌, min, max}
-use Rattle.pals_base.specs.declared.values.Gamma.{Gamma}
+use Rattle.pals_base.specs.declared.period_bound.Gamma.{Gamma}
 
 -- how long a node waits with its outputs, so that none arrives before its target's round begins: 0 where the network
 -- is slow enough

@@ -1,9 +1,21 @@
-//! Which adaptors are allowed between two rates, and for which types of ports.
+//! Adaptors, and which are allowed between two rates and for which types of ports.
 ghost use Rattle.std.specs.Prelude.{◌≡◌, ◌/◌, ◌%◌};
 ghost use Rattle.pals_base.specs.AllowedAdaptors.{divides_or_divided, may_spread, may_join, is_allowed, suits_kind};
 
 use crate::behaviour::Kind;
-use crate::values::Adaptor;
+
+/// How the places of a tuple go over to those of a target of another rate.
+#[derive(Clone, Copy, PartialEq, Debug)]
+pub enum Adaptor {
+    Repeat,
+    First,
+    Last,
+    At(u32),
+    Latest,
+    Max,
+    Min,
+    Average,
+}
 
 /// Whether one of two rates divides the other.
 pub fn divides_or_divided(source_rate: u32, target_rate: u32) -> bool

@@ -1,11 +1,32 @@
-//! Frames: the one that a component starts with, and copies.
+//! Frames: what a component keeps, the one that it starts with, and copies.
 ghost use Rattle.std.specs.Prelude.{◌≡◌, IfOk, map, replicate, pos, length};
 ghost use Rattle.pals_base.specs.SingleStep.{initial};
 
 use crate::behaviour::{Behaviour, VarDecl};
 use crate::items::Items;
-use crate::values::{Frame, NoMemory};
+use crate::values::{NoMemory, Trap};
 use std::alloc::Global;
+
+/// What a component keeps from one step to the next: the number of its state, its variables, the
+/// last value that each in port brought, and the trap that halted it, if one did.
+pub struct Frame {
+    pub state: u32,
+    pub vars: Items<i64>,
+    pub held: Items<i64>,
+    pub halt: Option<Trap>,
+}
+
+// By hand, so that letting it go is one call in the crates above.
+impl Drop for Frame {
+    fn drop(self) {
+        let Frame {
+            state: _,
+            vars: _,
+            held: _,
+            halt: _,
+        } = self;
+    }
+}
 
 impl Frame {
     /// The frame that a component of this behaviour starts with: the initial state, the variables'

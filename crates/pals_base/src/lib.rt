@@ -19,15 +19,19 @@ pub mod try_clone;
 pub mod tuples;
 pub mod values;
 
+pub use allowed_adaptors::Adaptor;
 pub use arithmetic::{abs, add, modulo, mul, neg, quot, rem, sub};
 pub use behaviour::{
     Act, Behaviour, BehaviourParts, Branch, Expr, Guard, Kind, Op, Operand, PortDecl, StateDecl,
     Transition, VarDecl,
 };
 pub use expression_kinds::Kinds;
+pub use frames::Frame;
 pub use items::Items;
 pub use names::HasName;
+pub use period_bound::Gamma;
 pub use same::Same;
 pub use text::Text;
 pub use try_clone::TryClone;
-pub use values::{Adaptor, Frame, Gamma, LinkNo, Nanos, NoMemory, NodeNo, PortValue, Trap, Tuple};
+pub use tuples::Tuple;
+pub use values::{LinkNo, Nanos, NoMemory, NodeNo, PortValue, Trap};

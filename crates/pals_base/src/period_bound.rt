@@ -3,7 +3,18 @@
 ghost use Rattle.std.specs.Prelude.{◌≡◌, ◌/◌};
 ghost use Rattle.pals_base.specs.PeriodBound.{backoff, least_period, step_period, sent_steps, release_offset};
 
-use crate::values::{Gamma, Nanos};
+use crate::values::Nanos;
+
+/// The bounds of a system, in nanoseconds: how far a clock may be from the time (less than `eps`),
+/// how long a step executes, and how long a message is under way.
+#[derive(Clone, Copy, PartialEq)]
+pub struct Gamma {
+    pub eps: Nanos,
+    pub alpha_min: Nanos,
+    pub alpha_max: Nanos,
+    pub mu_min: Nanos,
+    pub mu_max: Nanos,
+}
 
 impl Gamma {
     /// How long a node waits with its outputs, so that none arrives before its target's round

@@ -4,8 +4,11 @@ ghost use Rattle.pals_base.specs.declared.values.PortValue.TheVariants.{Absent};
 ghost use Rattle.pals_base.specs.StepSequences.{column, cut};
 
 use crate::items::Items;
-use crate::values::{NoMemory, PortValue, Tuple};
+use crate::values::{NoMemory, PortValue};
 use std::alloc::Global;
+
+/// The values of a port over the steps of a round.
+pub type Tuple = Items<PortValue>;
 
 /// The place with a number, from 0, absent past the end.
 pub fn place(tuple: &[PortValue], at: usize) -> PortValue

@@ -1,5 +1,4 @@
-//! Values of ports, frames of components, and the numbers of a design.
-use crate::items::Items;
+//! Values of ports, readings of clocks, the numbers of a design, and traps.
 use std::alloc::AllocError;
 
 /// There is not enough memory: the one refusal that no contract ties to a cause.
@@ -15,9 +14,6 @@ pub enum PortValue {
     Present(i64),
 }
 
-/// The values of a port over the steps of a round.
-pub type Tuple = Items<PortValue>;
-
 /// The number of a component, in the design's order, from 0.
 #[derive(Clone, Copy, PartialEq, Debug)]
 pub struct NodeNo(pub u32);
@@ -31,49 +27,4 @@ pub struct LinkNo(pub u32);
 pub enum Trap {
     Overflow,
     ZeroDivisor,
-}
-
-/// What a component keeps from one step to the next: the number of its state, its variables, the
-/// last value that each in port brought, and the trap that halted it, if one did.
-pub struct Frame {
-    pub state: u32,
-    pub vars: Items<i64>,
-    pub held: Items<i64>,
-    pub halt: Option<Trap>,
-}
-
-// By hand, so that letting it go is one call in the crates above.
-impl Drop for Frame {
-    fn drop(self) {
-        let Frame {
-            state: _,
-            vars: _,
-            held: _,
-            halt: _,
-        } = self;
-    }
-}
-
-/// The bounds of a system, in nanoseconds: how far a clock may be from the time (less than `eps`),
-/// how long a step executes, and how long a message is under way.
-#[derive(Clone, Copy, PartialEq)]
-pub struct Gamma {
-    pub eps: Nanos,
-    pub alpha_min: Nanos,
-    pub alpha_max: Nanos,
-    pub mu_min: Nanos,
-    pub mu_max: Nanos,
-}
-
-/// How the places of a tuple go over to those of a target of another rate.
-#[derive(Clone, Copy, PartialEq, Debug)]
-pub enum Adaptor {
-    Repeat,
-    First,
-    Last,
-    At(u32),
-    Latest,
-    Max,
-    Min,
-    Average,
 }

@@ -15,7 +15,7 @@ use Rattle.pals_base.proofs.UpwardNumbers.{upwards-more}
 use Rattle.std.proofs.lemmas.Grind.{flat_map-append}
 use Rattle.pals_base.specs.declared.values.PortValue.{PortValue}
 use Rattle.pals_base.specs.declared.values.PortValue.TheVariants.{Absent}
-use Rattle.pals_base.specs.declared.values.Frame.{Frame}
+use Rattle.pals_base.specs.declared.frames.Frame.{Frame}
 use Rattle.pals_base.specs.SingleStep.{initial}
 use Rattle.pals_base.specs.StepSequences.{steps, Stepped, cut, columns, frame_after, upwards}
 use Rattle.pals_base.specs.PeriodBound.{sent_steps}

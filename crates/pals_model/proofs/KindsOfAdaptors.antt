@@ -6,8 +6,8 @@ use Rattle.std.proofs.lemmas.Bool.{false≢true}
 use Rattle.std.proofs.lemmas.List.Elements.{All-nil, All-cons, All-head, All-tail, All-take, All-replicate, All-drop}
 use Rattle.pals_base.specs.declared.values.PortValue.{PortValue}
 use Rattle.pals_base.specs.declared.values.PortValue.TheVariants.{Absent, Present}
-use Rattle.pals_base.specs.declared.values.Adaptor.{Adaptor}
-use Rattle.pals_base.specs.declared.values.Adaptor.TheVariants.{Repeat, First, Last, At, Latest, Max, Min, Average}
+use Rattle.pals_base.specs.declared.allowed_adaptors.Adaptor.{Adaptor}
+use Rattle.pals_base.specs.declared.allowed_adaptors.Adaptor.TheVariants.{Repeat, First, Last, At, Latest, Max, Min, Average}
 use Rattle.pals_base.specs.declared.behaviour.Kind.{Kind}
 use Rattle.pals_base.specs.declared.behaviour.Kind.TheVariants.{Integer, Boolean}
 use Rattle.pals_base.specs.Adaptors.{groups, present, placed, spread, of_present, latest_of, joined, adapt}

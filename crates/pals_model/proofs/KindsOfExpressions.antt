@@ -5,7 +5,7 @@ use Rattle.std.specs.Prelude.{Result, Ok, IfOk, slice_get, slice_index_or, int_l
 use Rattle.std.proofs.lemmas.Bool.{and_parts, leb-true, false≢true, or_cases}
 use Rattle.list_lemmas.proofs.Results.{IfOk-weaker}
 use Rattle.pals_base.specs.declared.values.Trap.{Trap}
-use Rattle.pals_base.specs.declared.values.Frame.{Frame}
+use Rattle.pals_base.specs.declared.frames.Frame.{Frame}
 use Rattle.pals_base.specs.declared.behaviour.Op.{Op}
 use Rattle.pals_base.specs.declared.behaviour.Op.TheVariants.{Add, Sub, Mul, Quot, Mod, Rem, Eq, Ne, Lt, Le, Gt, Ge}
 use Rattle.pals_base.specs.declared.behaviour.Op.TheVariants.{And, Or, Xor, AndThen, OrElse}

@@ -8,7 +8,7 @@ use Rattle.std.proofs.lemmas.Option.{slice_get-map, slice_get_cases, get_or_from
 use Rattle.std.specs.Option.{option_map}
 use Rattle.pals_base.specs.declared.values.PortValue.{PortValue}
 use Rattle.pals_base.specs.declared.values.PortValue.TheVariants.{Absent}
-use Rattle.pals_base.specs.declared.values.Frame.{Frame}
+use Rattle.pals_base.specs.declared.frames.Frame.{Frame}
 use Rattle.pals_base.specs.declared.behaviour.BehaviourParts.{BehaviourParts}
 use Rattle.pals_base.specs.SingleStep.{fire, HasShape}
 use Rattle.pals_base.specs.BehaviourRules.{IsBehaviour}

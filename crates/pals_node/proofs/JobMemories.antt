@@ -1,7 +1,7 @@
 -- For `take_step`: what is left of a job has the memory that the node's next job needs.
 use Rattle.std.proofs.Common.{◌≡◌, ◌∙◌, ℕ, [], sym, ap, subst, length}
 use Rattle.std.specs.Arc.{arc_value}
-use Rattle.pals_base.specs.declared.values.Frame.{Frame}
+use Rattle.pals_base.specs.declared.frames.Frame.{Frame}
 use Rattle.pals_base.specs.SingleStep.{HasShape}
 use Rattle.pals_runs.specs.declared.phase.Phase.TheVariants.{Running}
 use Rattle.step_vm.specs.proof.RoomCapacity.{IsRoomOf}

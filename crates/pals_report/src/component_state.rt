@@ -1,6 +1,6 @@
 //! The line of a component: its name, its state or the trap that halted it, and its variables.
 ghost use Rattle.std.specs.Prelude.{◌≡◌, ◌++◌, Some, OnOk, OnErr, option_copied};
-ghost use Rattle.pals_base.specs.declared.values.Frame.{Frame};
+ghost use Rattle.pals_base.specs.declared.frames.Frame.{Frame};
 ghost use Rattle.pals_base.specs.declared.behaviour.BehaviourParts.{BehaviourParts};
 ghost use Rattle.pals_model.specs.RoundTexts.{text_of, line_end, state_text, variable_text, vars_text, component_line};
 ghost use Rattle.pals_model.specs.RoundTexts.{part_lines};

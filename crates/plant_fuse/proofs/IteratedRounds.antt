@@ -1,7 +1,7 @@
 -- What is made round by round stands, after any number of rounds, where the solution for these rounds does: the
 -- claim RoundsFollow.
 use Rattle.std.proofs.Common.{◌≡◌, ◌∙◌, ℕ, zero, suc, ◌+◌, ◌*◌, List, [], ◌∷◌, map, refl, sym, ap, ap₂, subst, arith}
-use Rattle.pals_base.specs.declared.values.Frame.{Frame}
+use Rattle.pals_base.specs.declared.frames.Frame.{Frame}
 use Rattle.pals_base.specs.SingleStep.{initial}
 use Rattle.pals_base.specs.StepSequences.{frame_after, upwards}
 use Rattle.pals_model.specs.declared.design.Component.{Component}

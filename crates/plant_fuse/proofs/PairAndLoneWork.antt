@@ -4,7 +4,7 @@ use Rattle.std.proofs.Common.{sym, ap, ap₂, subst}
 use Rattle.std.specs.Option.{option_map}
 use Rattle.std.proofs.lemmas.Option.{slice_get-map}
 use Rattle.pals_base.specs.declared.values.PortValue.{PortValue}
-use Rattle.pals_base.specs.declared.values.Frame.{Frame}
+use Rattle.pals_base.specs.declared.frames.Frame.{Frame}
 use Rattle.pals_base.specs.declared.values.NodeNo.{NodeNo}
 use Rattle.pals_base.specs.StepSequences.{frame_after, outputs, column}
 use Rattle.pals_base.proofs.UpwardNumbers.{slice_get-map_upwards}

@@ -15,7 +15,7 @@ use Rattle.pals_base.proofs.UpwardNumbers.{length-map_upwards}
 use Rattle.pals_base.proofs.StepSequences.{cut_whole}
 use Rattle.pals_base.specs.declared.values.PortValue.{PortValue}
 use Rattle.pals_base.specs.declared.values.PortValue.TheVariants.{Absent}
-use Rattle.pals_base.specs.declared.values.Frame.{Frame}
+use Rattle.pals_base.specs.declared.frames.Frame.{Frame}
 use Rattle.pals_base.specs.PeriodBound.{sent_steps}
 use Rattle.pals_base.specs.StepSequences.{frame_after, column, cut, upwards}
 use Rattle.pals_model.specs.declared.design.Component.{Component}

@@ -3,7 +3,7 @@
 use Rattle.std.specs.Prelude.{ℕ, ◌+◌, ◌-◌, ◌*◌, max, nat_eq, nat_lt, nat_le, Bool, ◌&&◌, ◌||◌, if◌then◌else◌, List, []}
 use Rattle.std.specs.Prelude.{◌∷◌, flat_map, map, Option, Some, None, slice_get}
 use Rattle.std.specs.List.{sum_by}
-use Rattle.pals_base.specs.declared.values.Gamma.{Gamma}
+use Rattle.pals_base.specs.declared.period_bound.Gamma.{Gamma}
 use Rattle.pals_base.specs.PeriodBound.{alarm, step_period}
 use Rattle.pals_base.specs.StepSequences.{upwards}
 use Rattle.step_code.specs.declared.instr.CodeParts.{CodeParts}

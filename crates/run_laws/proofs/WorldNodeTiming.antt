@@ -5,7 +5,7 @@ use Rattle.std.proofs.Common.{◌∷◌, length, slice_get, Option, Some, None, 
 use Rattle.std.specs.Prelude.{max, min, not, nat_le, if◌then◌else◌, fold}
 use Rattle.std.specs.Option.{option_map_or}
 use Rattle.std.proofs.lemmas.Bool.{and_from, and_parts, not-true, leb-true, le-leb, cases_lt, false≢true}
-use Rattle.pals_base.specs.declared.values.Gamma.{Gamma}
+use Rattle.pals_base.specs.declared.period_bound.Gamma.{Gamma}
 use Rattle.pals_base.specs.PeriodBound.{alarm}
 use Rattle.pals_model.specs.declared.design.Component.{Component}
 use Rattle.pals_model.specs.DesignRules.{IsComponent, greatest_rate}

@@ -8,7 +8,7 @@ use Rattle.std.proofs.lemmas.Bool.{or_from, or_left, or_right, false≢true}
 use Rattle.std.proofs.lemmas.Iterator.Adapters.{position_from-zero}
 use Rattle.list_lemmas.proofs.ElementPositions.{slice_get-map_some}
 use Rattle.list_lemmas.proofs.Options.{option_or-none}
-use Rattle.pals_base.specs.declared.values.Frame.{Frame}
+use Rattle.pals_base.specs.declared.frames.Frame.{Frame}
 use Rattle.pals_base.specs.StepSequences.{upwards}
 use Rattle.pals_base.proofs.UpwardNumbers.{upwards-more}
 use Rattle.pals_runs.specs.Formula.{Formula}

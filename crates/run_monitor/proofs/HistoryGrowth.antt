@@ -1,7 +1,7 @@
 -- The history of a design grows by a row each round.
 use Rattle.std.proofs.Common.{◌∙◌, inl, inr, zero, suc, ◌≤◌, List, [], ◌∷◌, length, refl, sym, ap, arith, length-append}
 use Rattle.std.proofs.Common.{add-one, eq-or-lt_of_le}
-use Rattle.pals_base.specs.declared.values.Frame.{Frame}
+use Rattle.pals_base.specs.declared.frames.Frame.{Frame}
 use Rattle.pals_base.proofs.UpwardNumbers.{map_upwards_more}
 use Rattle.pals_model.specs.Composition.{comp}
 use Rattle.run_monitor.specs.FormulaSemantics.{holds}

@@ -5,7 +5,7 @@ use Rattle.std.proofs.Common.{arith, length-append}
 use Rattle.std.proofs.lemmas.Bool.{eqb-true, eq-eqb, ne_eqb, false≢true}
 use Rattle.std.proofs.lemmas.List.{length-map, ext_get_or, get_or-map}
 use Rattle.std.proofs.lemmas.Option.{slice_get_within, slice_get-get_or, get_or_from_slice_get}
-use Rattle.pals_base.specs.declared.values.Frame.{Frame}
+use Rattle.pals_base.specs.declared.frames.Frame.{Frame}
 use Rattle.pals_runs.specs.Formula.{Formula, Var, Halted}
 use Rattle.run_monitor.specs.FormulaSemantics.{frame_in, variable_in, compares, holds}
 use Rattle.run_monitor.specs.proof.BitPerFormula.{bit_of, further, bits_after}

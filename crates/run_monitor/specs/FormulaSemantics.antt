@@ -1,7 +1,7 @@
 -- What a formula says at a round of a history. A history has the frames of all components after each round, from
 -- round 0.
 use Rattle.std.specs.Prelude.{ℕ, ℤ, pos, Bool, not, ◌&&◌, ◌||◌, is_some, List, [], slice_index_or, int_le, int_lt}
-use Rattle.pals_base.specs.declared.values.Frame.{Frame}
+use Rattle.pals_base.specs.declared.frames.Frame.{Frame}
 use Rattle.pals_base.specs.ExpressionValues.{same_number}
 use Rattle.pals_model.specs.Composition.{no_frame}
 use Rattle.pals_runs.specs.declared.forms.Compare.{Compare}

@@ -1,7 +1,7 @@
 -- The text of watched properties: what each says at each round, and the least round at which one is false.
 use Rattle.std.specs.Prelude.{ℕ, codes, decimal, Bool, true, false, List, [], ◌∷◌, ◌++◌, map, flat_map, slice_index_or}
 use Rattle.std.specs.Prelude.{Option, Some, None}
-use Rattle.pals_base.specs.declared.values.Frame.{Frame}
+use Rattle.pals_base.specs.declared.frames.Frame.{Frame}
 use Rattle.pals_base.specs.StepSequences.{upwards}
 use Rattle.pals_model.specs.declared.design.DesignParts.{DesignParts}
 use Rattle.pals_model.specs.declared.environment.Env.{Env}

@@ -1,7 +1,7 @@
 //! Monitors of several formulas, side by side.
 ghost use Rattle.std.specs.Prelude.{◌≡◌, ◌+◌, ◌++◌, ◌∷◌, [], List, length, false, not, position, slice_index_or};
 ghost use Rattle.std.specs.Prelude.{option_map, OnOk, OnErr};
-ghost use Rattle.pals_base.specs.declared.values.Frame.{Frame};
+ghost use Rattle.pals_base.specs.declared.frames.Frame.{Frame};
 ghost use Rattle.pals_model.specs.declared.design.DesignParts.{DesignParts};
 ghost use Rattle.pals_model.specs.declared.environment.Env.{Env};
 ghost use Rattle.pals_model.specs.Composition.{comp};

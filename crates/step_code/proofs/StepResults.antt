@@ -4,7 +4,7 @@ use Rattle.std.proofs.Common.{replicate, Option, Some, None, refl, sym, ap, subs
 use Rattle.std.specs.Prelude.{slice_get}
 use Rattle.std.proofs.lemmas.List.{length-map, length-replicate}
 use Rattle.pals_base.specs.declared.values.Trap.{Trap}
-use Rattle.pals_base.specs.declared.values.Frame.{Frame}
+use Rattle.pals_base.specs.declared.frames.Frame.{Frame}
 use Rattle.pals_base.specs.declared.values.PortValue.{PortValue as Value}
 use Rattle.pals_base.specs.declared.values.PortValue.TheVariants.{Absent}
 use Rattle.pals_base.specs.SingleStep.{Fired, holding, is_present}

@@ -4,7 +4,7 @@ use Rattle.std.proofs.Common.{◌++◌, length, take, Option, Some, refl, sym, a
 use Rattle.std.specs.Prelude.{slice_get, slice_index_or, fold, Result, Ok, Err}
 use Rattle.std.proofs.lemmas.Bool.{true≢false, false≢true}
 use Rattle.pals_base.specs.declared.values.Trap.{Trap}
-use Rattle.pals_base.specs.declared.values.Frame.{Frame}
+use Rattle.pals_base.specs.declared.frames.Frame.{Frame}
 use Rattle.pals_base.specs.declared.values.PortValue.{PortValue as Value}
 use Rattle.pals_base.specs.declared.behaviour.BehaviourParts.{BehaviourParts}
 use Rattle.pals_base.specs.ExpressionValues.{is_true, on_value, eval}

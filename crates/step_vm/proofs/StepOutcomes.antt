@@ -1,7 +1,7 @@
 -- A step of code that has not halted leaves what its run from the state's entry leaves: for the machine's step.
 use Rattle.std.proofs.Common.{◌≡◌, ◌∙◌, ℕ, List, Some, None, sym, ap}
 use Rattle.std.specs.Prelude.{slice_get}
-use Rattle.pals_base.specs.declared.values.Frame.{Frame}
+use Rattle.pals_base.specs.declared.frames.Frame.{Frame}
 use Rattle.pals_base.specs.declared.values.PortValue.{PortValue}
 use Rattle.pals_base.specs.SingleStep.{Fired, holding}
 use Rattle.step_code.specs.declared.instr.CodeParts.{CodeParts}

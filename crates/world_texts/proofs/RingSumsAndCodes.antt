@@ -8,7 +8,7 @@ use Rattle.std.proofs.lemmas.Int.{ints, to_z-of_z}
 use Rattle.std.proofs.lemmas.Option.{none-some, same_Some}
 use Rattle.std.proofs.lemmas.List.Sums.{fold-append}
 use Rattle.pals_base.specs.declared.limits.TheConstants.{COMPONENTS, INSTRUCTIONS}
-use Rattle.pals_base.specs.declared.values.Frame.{Frame}
+use Rattle.pals_base.specs.declared.frames.Frame.{Frame}
 use Rattle.pals_base.specs.StepSequences.{upwards}
 use Rattle.pals_base.proofs.UpwardNumbers.{map_upwards_more, length-map_upwards, slice_get-map_upwards}
 use Rattle.pals_base.proofs.UpwardNumbers.{get_or-map_upwards}

@@ -1,7 +1,7 @@
 -- The names of replicas and their lines, and one fault more in the table of rounds, as they are gathered for votes.
 use Rattle.std.specs.Prelude.{ℕ, Bool, if◌then◌else◌, List, [], ◌∷◌, ◌++◌, slice_set, slice_index_or, map, flat_map}
 use Rattle.std.specs.List.{enumerate_from}
-use Rattle.pals_base.specs.declared.values.Frame.{Frame}
+use Rattle.pals_base.specs.declared.frames.Frame.{Frame}
 use Rattle.pals_base.specs.StepSequences.{upwards}
 use Rattle.pals_model.specs.declared.design.Component.{Component}
 use Rattle.pals_runs.specs.declared.vote_faults.VoteFault.{VoteFault}

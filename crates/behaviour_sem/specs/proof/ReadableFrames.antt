@@ -1,7 +1,7 @@
 -- The frames that expressions and actions are evaluated in: only variables and held inputs are read, with which
 -- ports have a value.
 use Rattle.std.specs.Prelude.{ℤ, Bool, List, map, None}
-use Rattle.pals_base.specs.declared.values.Frame.{Frame}
+use Rattle.pals_base.specs.declared.frames.Frame.{Frame}
 use Rattle.pals_base.specs.SingleStep.{is_present}
 use Rattle.behaviour_sem.specs.declared.expressions.StepInputs.{StepInputs}
 

@@ -1,6 +1,6 @@
 -- What a listing tells of a design and its codes: all that its nodes need to run.
 use Rattle.std.specs.Prelude.{◌≡◌, ℕ, List, length, map, zip, All}
-use Rattle.pals_base.specs.declared.values.Gamma.{Gamma}
+use Rattle.pals_base.specs.declared.period_bound.Gamma.{Gamma}
 use Rattle.pals_base.specs.declared.behaviour.PortDecl.{PortDecl}
 use Rattle.pals_base.specs.declared.behaviour.VarDecl.{VarDecl}
 use Rattle.pals_base.specs.declared.behaviour.StateDecl.{StateDecl}

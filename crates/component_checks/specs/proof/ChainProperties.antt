@@ -1,7 +1,7 @@
 -- What the list of a connection says of the chains that it carries: whether they are delayed, and their adaptor.
 use Rattle.std.specs.Prelude.{ℕ, List, [], map, codes, Option, Some, None, option_map, slice_get}
 use Rattle.std.specs.Option.{option_and_then}
-use Rattle.pals_base.specs.declared.values.Adaptor.{Adaptor}
+use Rattle.pals_base.specs.declared.allowed_adaptors.Adaptor.{Adaptor}
 use Rattle.aadl_tree.specs.Values.{Association, Associations}
 use Rattle.aadl_tree.specs.Declarations.{Declaration}
 use Rattle.aadl_names.specs.RecognisedProperties.{association_named, association_value, name_of, text_of}

@@ -1,6 +1,6 @@
 //! Laws of arithmetic with traps.
 ghost use Rattle.std.specs.Prelude.{◌≡◌, ◌≢◌, ◌-◌, ◌^◌, ℤ, pos, negsuc, Bool, List, IsOkAnd};
-ghost use Rattle.pals_base.specs.declared.values.Frame.{Frame};
+ghost use Rattle.pals_base.specs.declared.frames.Frame.{Frame};
 ghost use Rattle.pals_base.specs.declared.behaviour.Op.TheVariants.{Sub};
 ghost use Rattle.pals_base.specs.Arithmetic.{quotient_of, remainder_of, modulus_of, negation_of, magnitude_of};
 ghost use Rattle.pals_base.specs.proof.Remainders.{IsRemainder, IsModulus};

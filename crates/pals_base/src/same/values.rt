@@ -1,8 +1,9 @@
 //! Equality of values, names and frames.
 
 use super::Same;
+use crate::frames::Frame;
 use crate::text::Text;
-use crate::values::{Frame, PortValue};
+use crate::values::PortValue;
 
 impl Same for i64 {
     fn same(&self, other: &i64) -> bool {

@@ -1,9 +1,10 @@
 //! Copies of values, names and frames.
 
 use super::TryClone;
+use crate::frames::Frame;
 use crate::items::Items;
 use crate::text::Text;
-use crate::values::{Frame, NoMemory, PortValue};
+use crate::values::{NoMemory, PortValue};
 use std::alloc::Global;
 
 impl TryClone for u64 {

@@ -1,6 +1,6 @@
 -- Values that fit their kinds: a Boolean is 0 or 1.
 use Rattle.std.specs.Prelude.{◌≡◌, ◌⊎◌, ℕ, ℤ, pos, List, All, Some, slice_get, slice_index_or}
-use Rattle.pals_base.specs.declared.values.Frame.{Frame}
+use Rattle.pals_base.specs.declared.frames.Frame.{Frame}
 use Rattle.pals_base.specs.declared.values.PortValue.{PortValue}
 use Rattle.pals_base.specs.declared.values.PortValue.TheVariants.{Absent, Present}
 use Rattle.pals_base.specs.declared.behaviour.Kind.{Kind}

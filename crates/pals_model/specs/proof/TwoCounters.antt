@@ -1,7 +1,7 @@
 -- Two counters, each of which counts on from the other's last value.
 use Rattle.std.specs.Prelude.{◌≡◌, ℕ, pos, true, codes, List, [], ◌∷◌, ◌++◌, None}
 use Rattle.pals_base.specs.declared.values.NodeNo.{NodeNo}
-use Rattle.pals_base.specs.declared.values.Gamma.{Gamma}
+use Rattle.pals_base.specs.declared.period_bound.Gamma.{Gamma}
 use Rattle.pals_base.specs.declared.behaviour.Kind.TheVariants.{Integer}
 use Rattle.pals_base.specs.declared.behaviour.Op.TheVariants.{Add}
 use Rattle.pals_base.specs.declared.behaviour.PortDecl.{PortDecl}

@@ -4,7 +4,7 @@ use Rattle.std.specs.Prelude.{vec_capacity}
 use Rattle.std.specs.Arc.{arc_value}
 use Rattle.pals_base.specs.declared.limits.TheConstants.{HOUR, RATE, ROUNDS, PORTS}
 use Rattle.pals_base.specs.declared.values.PortValue.{PortValue}
-use Rattle.pals_base.specs.declared.values.Frame.{Frame}
+use Rattle.pals_base.specs.declared.frames.Frame.{Frame}
 use Rattle.pals_base.specs.SingleStep.{HasShape}
 use Rattle.pals_base.specs.BehaviourRules.{IsBehaviour}
 use Rattle.pals_model.specs.declared.part.Part.{Part}

@@ -1,7 +1,7 @@
 -- What contracts see of plans, jobs and nodes.
 use Rattle.std.specs.Prelude.{◌≡◌, ℕ, List}
 use Rattle.pals_base.specs.declared.values.PortValue.{PortValue}
-use Rattle.pals_base.specs.declared.values.Frame.{Frame}
+use Rattle.pals_base.specs.declared.frames.Frame.{Frame}
 use Rattle.pals_base.specs.SingleStep.{Fired}
 use Rattle.pals_model.specs.declared.design.DesignParts.{DesignParts}
 use Rattle.step_code.specs.declared.instr.CodeParts.{CodeParts}

@@ -2,7 +2,7 @@
 use Rattle.std.specs.Prelude.{◌≡◌, ℕ, ◌+◌, false, List, [], Option, Some, None, length, map, replicate, slice_index_or}
 use Rattle.pals_base.specs.declared.values.PortValue.{PortValue}
 use Rattle.bus_machine.specs.Nodes.{vectors_of}
-use Rattle.pals_base.specs.declared.values.Frame.{Frame}
+use Rattle.pals_base.specs.declared.frames.Frame.{Frame}
 use Rattle.pals_runs.specs.declared.phase.Phase.TheVariants.{Running}
 use Rattle.pals_node.specs.declared.node_fields.NodeFields.{NodeFields}
 use Rattle.pals_node.specs.declared.node_fields.RoundRoom.{RoundRoom}

@@ -1,7 +1,7 @@
 -- The rounds of a fused composition, each made from what stands after the one before.
 use Rattle.std.specs.Prelude.{ℕ, ◌*◌, List, map, take}
 use Rattle.std.specs.List.{enumerate_from}
-use Rattle.pals_base.specs.declared.values.Frame.{Frame}
+use Rattle.pals_base.specs.declared.frames.Frame.{Frame}
 use Rattle.pals_base.specs.SingleStep.{Fired, fire, initial}
 use Rattle.pals_base.specs.StepSequences.{frame_after}
 use Rattle.pals_runs.specs.declared.plant_pairs.Pair.{Pair}

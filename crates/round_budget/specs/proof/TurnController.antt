@@ -2,9 +2,9 @@
 -- four times a round.
 use Rattle.std.specs.Prelude.{ℕ, pos, true, false, codes, List, [], ◌∷◌, Option, Some, None}
 use Rattle.pals_base.specs.declared.values.NodeNo.{NodeNo}
-use Rattle.pals_base.specs.declared.values.Gamma.{Gamma}
-use Rattle.pals_base.specs.declared.values.Adaptor.{Adaptor}
-use Rattle.pals_base.specs.declared.values.Adaptor.TheVariants.{Repeat, Last, Average}
+use Rattle.pals_base.specs.declared.period_bound.Gamma.{Gamma}
+use Rattle.pals_base.specs.declared.allowed_adaptors.Adaptor.{Adaptor}
+use Rattle.pals_base.specs.declared.allowed_adaptors.Adaptor.TheVariants.{Repeat, Last, Average}
 use Rattle.pals_base.specs.declared.behaviour.Kind.TheVariants.{Integer}
 use Rattle.pals_base.specs.declared.behaviour.Op.{Op}
 use Rattle.pals_base.specs.declared.behaviour.Op.TheVariants.{Add, Sub, Lt, Gt}

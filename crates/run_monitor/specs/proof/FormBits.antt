@@ -1,7 +1,7 @@
 -- The bits of forms.
 use Rattle.std.specs.Prelude.{◌≡◌, ℕ, nat_eq, Bool, false, not, ◌&&◌, ◌||◌, is_some, if◌then◌else◌, List, map, Some}
 use Rattle.std.specs.Prelude.{slice_get, slice_index_or}
-use Rattle.pals_base.specs.declared.values.Frame.{Frame}
+use Rattle.pals_base.specs.declared.frames.Frame.{Frame}
 use Rattle.pals_model.specs.declared.part.Part.{Part}
 use Rattle.run_monitor.specs.FormulaSemantics.{frame_in, variable_in, compares}
 use Rattle.run_monitor.specs.declared.flat_form.FlatForm.{FlatForm}

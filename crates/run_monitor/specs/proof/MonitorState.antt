@@ -2,7 +2,7 @@
 use Rattle.std.specs.Prelude.{◌≡◌, ◌≢◌, ℕ, ◌-◌, ◌<◌, Bool, true, false, List, [], ◌∷◌, ◌++◌, length, map, Some, None}
 use Rattle.std.specs.Prelude.{slice_get, refl}
 use Rattle.std.specs.Coded.{Coded, code_by, coded×, coded_bool, coded_list}
-use Rattle.pals_base.specs.declared.values.Frame.{Frame}
+use Rattle.pals_base.specs.declared.frames.Frame.{Frame}
 use Rattle.pals_runs.specs.Formula.{Formula}
 use Rattle.pals_runs.specs.proof.FormulaEncoding.{coded_formula}
 use Rattle.run_monitor.specs.FormulaSemantics.{frame_in, holds}

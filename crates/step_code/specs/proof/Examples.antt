@@ -1,6 +1,6 @@
 -- Examples of step code with loops.
 use Rattle.std.specs.Prelude.{pos, [], ◌∷◌, Some, None}
-use Rattle.pals_base.specs.declared.values.Frame.{Frame}
+use Rattle.pals_base.specs.declared.frames.Frame.{Frame}
 use Rattle.step_code.specs.declared.instr.Instr.TheVariants.{Push, Load, Store, Port, Add, Sub, Lt, Gt, Jump, JumpZero}
 use Rattle.step_code.specs.declared.instr.Instr.TheVariants.{LoopStart, LoopNext, Emit, End}
 use Rattle.step_code.specs.declared.instr.CodeParts.{CodeParts}

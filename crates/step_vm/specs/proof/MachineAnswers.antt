@@ -1,6 +1,6 @@
 -- What the machine answers and leaves, against what the definitions say.
 use Rattle.std.specs.Prelude.{◌≡◌, ℕ, ℤ, List, [], ◌∷◌, Some, length, take, replicate, ◌+◌, Result}
-use Rattle.pals_base.specs.declared.values.Frame.{Frame}
+use Rattle.pals_base.specs.declared.frames.Frame.{Frame}
 use Rattle.pals_base.specs.declared.values.PortValue.{PortValue}
 use Rattle.pals_base.specs.declared.values.PortValue.TheVariants.{Absent}
 use Rattle.step_code.specs.InstructionEffects.{Next, Goes, Ends, Traps, step, on_result, on_two}

@@ -1,10 +1,10 @@
 -- What contracts see of the rounds that are voted on.
 use Rattle.std.specs.Prelude.{ℕ, zero, suc, Bool, List, map, replicate, refl}
 use Rattle.std.specs.Coded.{Coded, code_by, coded×, coded_bool, coded_list}
-use Rattle.pals_base.specs.contracts.values.Frame.{the_row as frames}
+use Rattle.pals_base.specs.contracts.frames.Frame.{the_row as frames}
 use Rattle.pals_base.specs.contracts.values.PortValue.{the_row as ports}
 use Rattle.pals_model.specs.contracts.design.DesignParts.{the_row as design_parts}
-use Rattle.pals_base.specs.declared.values.Frame.{Frame}
+use Rattle.pals_base.specs.declared.frames.Frame.{Frame}
 use Rattle.pals_base.specs.declared.values.PortValue.{PortValue}
 use Rattle.pals_base.specs.declared.values.PortValue.TheVariants.{Absent}
 use Rattle.pals_model.specs.declared.design.Tap.{Tap}

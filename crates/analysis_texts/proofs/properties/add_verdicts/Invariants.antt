@@ -1,5 +1,5 @@
 use Rattle.std.proofs.Common.{◌≡◌, ◌++◌, List, map, take}
-use Rattle.pals_base.specs.declared.values.Frame.{Frame}
+use Rattle.pals_base.specs.declared.frames.Frame.{Frame}
 use Rattle.pals_model.specs.RoundTexts.{text_of}
 use Rattle.analysis_fields.specs.NamedFormulas.{PropertyValue}
 use Rattle.run_monitor.specs.proof.SeveralMonitors.{said_by}

@@ -2,7 +2,7 @@ use Rattle.std.proofs.Common.{◌≡◌, ◌∙◌, ℕ, ◌+◌, ◌-◌, ◌<�
 use Rattle.std.specs.Prelude.{slice_index_or}
 use Rattle.pals_base.specs.StepSequences.{upwards}
 use Rattle.pals_base.specs.declared.behaviour.BehaviourParts.{BehaviourParts}
-use Rattle.pals_base.specs.declared.values.Frame.{Frame}
+use Rattle.pals_base.specs.declared.frames.Frame.{Frame}
 use Rattle.pals_base.proofs.UpwardNumbers.{get_or-map_upwards, length-map_upwards}
 use Rattle.pals_model.specs.RoundTexts.{line_end, text_of, component_line}
 use Rattle.triple_vote.specs.Replicas.{is_replicated, copies_of, frame_at}

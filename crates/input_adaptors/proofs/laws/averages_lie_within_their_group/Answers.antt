@@ -1,5 +1,5 @@
 use Rattle.pals_base.specs.declared.values.PortValue.TheVariants.{Present}
-use Rattle.pals_base.specs.declared.values.Adaptor.TheVariants.{Average}
+use Rattle.pals_base.specs.declared.allowed_adaptors.Adaptor.TheVariants.{Average}
 use Rattle.input_adaptors.specs.proof.GroupsAndExtremes.{group_at}
 use Rattle.input_adaptors.proofs.TupleLengthsAndGroups.{joined-from}
 use Rattle.input_adaptors.proofs.MeanBounds.{IsAboveSome-joined, IsBelowSome-joined}

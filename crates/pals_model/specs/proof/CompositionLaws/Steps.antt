@@ -1,7 +1,7 @@
 -- Laws of a round that is under way, step by step.
 use Rattle.std.specs.Prelude.{◌≡◌, ℕ, suc, List, length, map, take, replicate, Some, None, slice_get}
 use Rattle.pals_base.specs.declared.values.Trap.{Trap}
-use Rattle.pals_base.specs.declared.values.Frame.{Frame}
+use Rattle.pals_base.specs.declared.frames.Frame.{Frame}
 use Rattle.pals_base.specs.declared.values.PortValue.{PortValue}
 use Rattle.pals_base.specs.declared.values.PortValue.TheVariants.{Absent}
 use Rattle.pals_base.specs.declared.behaviour.BehaviourParts.{BehaviourParts}

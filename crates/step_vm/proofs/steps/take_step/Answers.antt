@@ -1,7 +1,7 @@
 use Rattle.std.proofs.Common.{◌≡◌, ◌∙◌, Some, None, true, false, Option, length, refl, sym, ap}
 use Rattle.std.specs.Prelude.{Bool}
 use Rattle.std.specs.Option.{is_some}
-use Rattle.pals_base.specs.declared.values.Frame.{Frame}
+use Rattle.pals_base.specs.declared.frames.Frame.{Frame}
 use Rattle.pals_base.specs.SingleStep.{Fired}
 use Rattle.step_code.proofs.StepResults.{length-holding, member_at}
 use Rattle.step_vm.proofs.StepOutcomes.{stepped}

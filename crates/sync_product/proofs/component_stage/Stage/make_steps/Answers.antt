@@ -1,6 +1,6 @@
 use Rattle.std.proofs.Common.{◌∙◌, ◌+◌, [], ◌∷◌, ◌++◌, ap, sym, length, map, take, arith}
 use Rattle.std.proofs.lemmas.List.{take_more_set}
-use Rattle.pals_base.specs.declared.values.Frame.{Frame}
+use Rattle.pals_base.specs.declared.frames.Frame.{Frame}
 use Rattle.pals_base.specs.SingleStep.{fire}
 use Rattle.pals_base.specs.StepSequences.{column, columns, frame_after, outputs}
 use Rattle.pals_base.proofs.UpwardNumbers.{map_upwards_more}

@@ -1,6 +1,6 @@
 use Rattle.std.proofs.Common.{◌≡◌, Option, Some, None, Bor, refl, ap, ◌∙◌, sym, subst, arith}
 use Rattle.std.specs.Prelude.{is_some, option_copied}
-use Rattle.pals_base.specs.declared.values.Gamma.{Gamma}
+use Rattle.pals_base.specs.declared.period_bound.Gamma.{Gamma}
 use Rattle.pals_model.specs.declared.flight_copy.FlightCopy.{FlightCopy}
 use Rattle.pals_model.specs.declared.design.DesignParts.{DesignParts}
 use Rattle.bus_machine.specs.LinkEvents.{is_in_flight}
