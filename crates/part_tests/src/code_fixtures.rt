@@ -1,15 +1,24 @@
-//! Code from its instructions, frames, and steps over one in port and one out port.
+//! The code of a counter, code from other instructions, frames, and steps over one in port and one out port.
 ghost use Rattle.std.specs.Prelude.{◌≡◌, IsTrue, slice_get};
 ghost use Rattle.step_code.specs.proof.CodeRuns.{FitsCode, has_entry};
 
-use crate::code_verification::wrong_codes;
-use crate::step_outcomes::wrong_steps;
-use case_files::{Answers, asked};
 use pals_base::{Frame, Items, NoMemory, PortValue, Trap};
 use std::alloc::Global;
-use std::io;
 use step_code::{Code, CodeFault, CodeParts, Instr, verify};
 use step_vm::{Room, run};
+
+/// Adds the input and 1, and sends the sum.
+pub const COUNTER: [Instr; 9] = [
+    Instr::Load(0),
+    Instr::Port(0),
+    Instr::Add,
+    Instr::Push(1),
+    Instr::Add,
+    Instr::Store(0),
+    Instr::Load(0),
+    Instr::Emit(0),
+    Instr::End(0),
+];
 
 // Parts with one entry, at 0, one variable and two slots for loops, one in port and one out port.
 fn parts(alloc: Global, instrs: &[Instr]) -> Result<CodeParts, NoMemory> {
@@ -80,18 +89,4 @@ pub fn step(
     let mut outs = [PortValue::Present(77)];
     run(code, &mut room, frame, &[input], &mut outs);
     Ok(Some(outs[0]))
-}
-
-/// Tables of codes.
-pub struct Codes;
-
-impl Answers for Codes {
-    // The rows that are not as wanted.
-    fn answer(&self, rt: &HostRuntime, case: &str) -> io::Result<Vec<u8>> {
-        let wrong = match asked(case) {
-            "verifier" => wrong_codes(rt.alloc())?,
-            _ => wrong_steps(rt.alloc())?,
-        };
-        Ok(wrong.into_bytes())
-    }
 }

@@ -1,6 +1,5 @@
 //! Which instructions are code, and what code weighs.
-use crate::code_fixtures::code;
-use crate::step_outcomes::COUNTER;
+use crate::code_fixtures::{COUNTER, code};
 use pals_base::NoMemory;
 use std::alloc::Global;
 use step_code::CodeFault::{self, BackJump, BadJump, BadSlot, HeightsDiffer, Underflow};

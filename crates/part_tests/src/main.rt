@@ -7,6 +7,7 @@ mod adaptors;
 mod alarms;
 mod buffers;
 mod clocks;
+mod code_cases;
 mod code_fixtures;
 mod code_verification;
 mod compiled_behaviours;
@@ -22,7 +23,7 @@ use std::io;
 
 fn main(rt: HostRuntime) -> io::Result<()> {
     check(&rt, &compiled_behaviours::Behaviours, &["sizes", "steps"])?;
-    check(&rt, &code_fixtures::Codes, &["codes"])?;
+    check(&rt, &code_cases::Codes, &["codes"])?;
     tell_streams(&rt)?;
     tell_numbers(&rt)?;
     tell_lists(&rt)

@@ -1,21 +1,8 @@
 //! What the steps of code leave.
-use crate::code_fixtures::{code, frame, step};
+use crate::code_fixtures::{COUNTER, code, frame, step};
 use pals_base::{Frame, NoMemory, PortValue, Trap};
 use std::alloc::Global;
 use step_code::{CodeFault, Instr};
-
-/// Adds the input and 1, and sends the sum.
-pub const COUNTER: [Instr; 9] = [
-    Instr::Load(0),
-    Instr::Port(0),
-    Instr::Add,
-    Instr::Push(1),
-    Instr::Add,
-    Instr::Store(0),
-    Instr::Load(0),
-    Instr::Emit(0),
-    Instr::End(0),
-];
 
 // Adds the numbers from 1 to 4 three times.
 const LOOPS: [Instr; 9] = [
