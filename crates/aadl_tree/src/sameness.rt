@@ -8,12 +8,14 @@ mod declarations;
 mod expressions;
 mod lists;
 mod names;
+mod same_meaning;
 mod values;
 
 use crate::package::PackageTree;
 pub use actions::{same_actions, same_block};
 pub use expressions::same_expression;
-pub use lists::{Same, same_items, same_option};
+pub use lists::{same_items, same_option};
+pub use same_meaning::Same;
 pub use values::{same_associations, same_value};
 
 /// Whether two trees are the same except for their places. Names are compared as they are spelled.

@@ -5,7 +5,7 @@ ghost use Rattle.aadl_tree.specs.proof.ActionViews.{mores_view, elsifs_view};
 ghost use Rattle.aadl_tree.specs.proof.PlaceMaps.{no_place};
 
 use super::expressions::same_expression;
-use super::lists::Same;
+use super::same_meaning::Same;
 use crate::actions::{Action, Actions, Block, Choice, Elsif, Loop};
 
 #[cycle(same_action)]

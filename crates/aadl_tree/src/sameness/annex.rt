@@ -3,7 +3,8 @@ ghost use Rattle.std.specs.Prelude.{◌≡◌, ◌↔◌, IsTrue, map, option_ma
 
 use super::actions::same_block;
 use super::expressions::same_expression;
-use super::lists::{Same, same_items, same_option};
+use super::lists::{same_items, same_option};
+use super::same_meaning::Same;
 use super::values::same_associations;
 use crate::actions::Block;
 use crate::annex::{

@@ -1,6 +1,7 @@
 //! Whether two declarations mean the same.
 
-use super::lists::{Same, same_items, same_option};
+use super::lists::{same_items, same_option};
+use super::same_meaning::Same;
 use super::values::same_associations;
 use crate::declarations::{
     Connection, ConnectionEnd, Declaration, Feature, Implementation, ImplementationName,

@@ -1,16 +1,7 @@
-//! Lists of things that can be told apart by their meaning.
+//! Lists, boxes and options of things that can be told apart by their meaning.
 ghost use Rattle.std.specs.Prelude.{◌≡◌, ◌↔◌, IsTrue, map, option_map};
 
-/// What can be told apart by its meaning.
-pub trait Same {
-    ghost Meaning: { Type 0 };
-
-    ghost meaning: { Self → Meaning };
-
-    /// Whether another one means the same.
-    fn same(&self, other: &Self) -> bool
-        ensures { IsTrue result ↔ (meaning self.now ≡ meaning other.now) };
-}
+use super::same_meaning::Same;
 
 impl<T: Same> Same for Box<T> {
     ghost use Rattle.std.specs.Prelude.{Box};

@@ -1,6 +1,7 @@
 //! Whether two names mean the same.
 
-use super::lists::{Same, same_items, same_option};
+use super::lists::{same_items, same_option};
+use super::same_meaning::Same;
 use crate::names::{Identifier, Identifiers, Name, Path, Reference};
 
 impl Same for Identifier {

@@ -3,7 +3,8 @@ ghost use Rattle.std.specs.Prelude.{◌≡◌, ◌↔◌, IsTrue};
 ghost use Rattle.aadl_tree.specs.proof.ValueViews.{value_view, values_view, association_view, associations_view};
 ghost use Rattle.aadl_tree.specs.proof.PlaceMaps.{no_place};
 
-use super::lists::{Same, same_items, same_option};
+use super::lists::{same_items, same_option};
+use super::same_meaning::Same;
 use crate::values::{Association, Number, Quantity, UnsignedNumber, Value};
 
 impl Same for UnsignedNumber {
