@@ -1,11 +1,13 @@
-//! The declarations of a package by their numbers.
-ghost use Rattle.std.specs.Prelude.{◌≡◌, slice_get, option_map, option_copied};
+//! The declarations of a package by their numbers, and the number of an implementation's type.
+ghost use Rattle.std.specs.Prelude.{◌≡◌, slice_get, option_map, option_copied, IfOk};
 ghost use Rattle.aadl_tree.specs.proof.PackageViews.{placed};
 ghost use Rattle.aadl_tree.specs.proof.DeclarationViews.{implementation_view, subcomponent_view, type_view};
 ghost use Rattle.aadl_tree.specs.proof.PlaceMaps.{kept_place};
 ghost use Rattle.aadl_names.specs.ReferenceResolution as spec;
 
+use crate::package_names::Names;
 use aadl_tree::{Declaration, Implementation, PackageTree, Subcomponent, TypeDeclaration};
+use std::alloc::{AllocError, Global};
 
 /// The implementation of a number.
 pub fn implementation_at<'t>(tree: &'t PackageTree, number: usize) -> Option<&'t Implementation>
@@ -45,4 +47,15 @@ pub fn type_numbered<'t>(
         Some(Declaration::Implementation(_)) => None,
         None => None,
     }
+}
+
+/// The number of an implementation's type.
+pub fn type_number(
+    alloc: Global,
+    names: &Names<'_>,
+    x: &Implementation,
+) -> Result<Option<usize>, AllocError>
+    ensures { IfOk result (λ number. number ≡ spec.type_number (placed names.now.tree.now) (implementation_view kept_place x.now)) }
+{
+    names.type_number(alloc, &x.name.component_type)
 }

@@ -1,4 +1,4 @@
-//! Names, compared with texts piece by piece.
+//! Names, compared with each other, and with texts piece by piece.
 ghost use Rattle.std.specs.Prelude.{◌≡◌, ◌++◌, ℕ, List, codes, string_bytes};
 ghost use Rattle.aadl_tree.specs.Names.{same_name};
 ghost use Rattle.aadl_tree.specs.proof.PlaceMaps.{kept_place};
@@ -46,4 +46,13 @@ pub fn is_spelled(name: &Name, text: &str) -> bool
         }
     }
     rest.is_empty()
+}
+
+/// Whether two words are one name.
+pub fn same_word(a: &Identifier, b: &Identifier) -> bool
+    ensures { result ≡ same_name (string_bytes a.now.spelling) (string_bytes b.now.spelling) }
+{
+    a.spelling
+        .as_str()
+        .eq_ignore_ascii_case(b.spelling.as_str())
 }

@@ -1,12 +1,10 @@
 //! How names are spelled, with nothing between their tokens.
-
 ghost use Rattle.std.specs.Prelude.{◌≡◌, ◌++◌, IfOk, codes, option_map, string_bytes};
 ghost use Rattle.aadl_tree.specs.proof.PlaceMaps.{kept_place};
 ghost use Rattle.aadl_tree.specs.proof.NameViews.{identifier_view, name_view, reference_view};
 ghost use Rattle.aadl_tree.specs.proof.DeclarationViews.{end_view, implementation_name_view};
 ghost use Rattle.aadl_names.specs.Spelling as spec;
 
-use crate::spelled_name::SpelledName;
 use aadl_tree::{ConnectionEnd, Identifier, ImplementationName, Name, Reference};
 use pals_base::Text;
 use std::alloc::{AllocError, Global};
@@ -78,14 +76,4 @@ pub fn spelled_end(alloc: Global, end: &ConnectionEnd) -> Result<Text, AllocErro
     ensures { IfOk result (λ text. text ≡ spec.spelled_end (end_view kept_place end.now)) }
 {
     dotted(alloc, &end.first, &end.second)
-}
-
-/// What a word declares.
-pub fn entry_of(alloc: Global, word: &Identifier) -> Result<SpelledName, AllocError>
-    ensures { IfOk result (λ entry. entry ≡ spec.entry_of (identifier_view kept_place word.now)) }
-{
-    Ok(SpelledName {
-        name: Text::from_str(alloc, word.spelling.as_str())?,
-        at: word.at,
-    })
 }

@@ -13,6 +13,7 @@ ghost use Rattle.aadl_names.specs.proof.MemberNumbers.{member_of};
 ghost use Rattle.aadl_names.specs.ReferenceResolution as spec;
 ghost use Rattle.aadl_names.specs.ReferenceResolution.{first_number, is_type, is_implementation, port_named, sub_named};
 
+use crate::name_comparison::same_word;
 use crate::name_table::NameTable;
 use crate::name_texts::spelled_implementation;
 use aadl_tree::{
@@ -116,15 +117,6 @@ impl<'t> Names<'t> {
             }
         }
     }
-}
-
-/// Whether two words are one name.
-pub fn same_word(a: &Identifier, b: &Identifier) -> bool
-    ensures { result ≡ same_name (string_bytes a.now.spelling) (string_bytes b.now.spelling) }
-{
-    a.spelling
-        .as_str()
-        .eq_ignore_ascii_case(b.spelling.as_str())
 }
 
 // Whether words are the same, one by one.

@@ -1,25 +1,12 @@
-//! The ports of a component type: the number of an implementation's type, of a port by its name, and its direction.
+//! The ports of a component type: the number of a port by its name, and its direction.
 ghost use Rattle.std.specs.Prelude.{◌≡◌, IfOk};
 ghost use Rattle.aadl_tree.specs.proof.PackageViews.{placed};
-ghost use Rattle.aadl_tree.specs.proof.DeclarationViews.{implementation_view};
-ghost use Rattle.aadl_tree.specs.proof.PlaceMaps.{kept_place};
 ghost use Rattle.aadl_names.specs.ReferenceResolution as spec;
 
 use crate::declarations_by_number::type_numbered;
 use crate::package_names::Names;
-use aadl_tree::{Direction, Implementation};
+use aadl_tree::Direction;
 use std::alloc::{AllocError, Global};
-
-/// The number of an implementation's type.
-pub fn type_number(
-    alloc: Global,
-    names: &Names<'_>,
-    x: &Implementation,
-) -> Result<Option<usize>, AllocError>
-    ensures { IfOk result (λ number. number ≡ spec.type_number (placed names.now.tree.now) (implementation_view kept_place x.now)) }
-{
-    names.type_number(alloc, &x.name.component_type)
-}
 
 /// The number of a port of the type of a number.
 pub fn port_number(

@@ -6,7 +6,7 @@ ghost use Rattle.aadl_tree.specs.proof.PlaceMaps.{kept_place};
 ghost use Rattle.aadl_uses.specs.proof.ImplementationTypes.{type_in};
 
 use aadl_names::Names;
-use aadl_names::type_ports::type_number;
+use aadl_names::declarations_by_number::type_number;
 use aadl_tree::Declaration;
 use pals_base::Items;
 use std::alloc::{AllocError, Global};

@@ -12,7 +12,8 @@ ghost use Rattle.aadl_names.specs.DuplicatesByNamespace as spec;
 
 use crate::behaviour_sections::{states_in, variables_in};
 use aadl_names::SpelledName;
-use aadl_names::name_texts::{entry_of, spelled_implementation};
+use aadl_names::name_texts::spelled_implementation;
+use aadl_names::spelled_name::entry_of;
 use aadl_tree::{
     AnnexTree, Connection, Declaration, Feature, Identifier, Identifiers, Implementation,
     PackageTree, Subcomponent,

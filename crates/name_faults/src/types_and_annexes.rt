@@ -10,7 +10,7 @@ ghost use Rattle.aadl_names.specs.PackageFaults as spec;
 
 use crate::check_properties;
 use crate::subcomponents_and_ports::check_ports;
-use aadl_names::package_names::same_word;
+use aadl_names::name_comparison::same_word;
 use aadl_names::{FaultFinder, PropertyHolder};
 use aadl_tree::{Annex, AnnexContent, TypeDeclaration, VariableDeclaration};
 use std::alloc::AllocError;
