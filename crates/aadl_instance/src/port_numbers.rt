@@ -7,7 +7,7 @@ ghost use Rattle.aadl_instance.specs.proof.PortNumberTables.{AreAmong, AreNumber
 
 use aadl_tree::{Direction, Feature};
 use aadl_uses::Wires;
-use name_faults::type_ports::ports_at;
+use name_faults::port_name_tables::ports_at;
 use std::alloc::{AllocError, Global};
 use std::marker::Model;
 

@@ -9,8 +9,8 @@ use Rattle.aadl_tree.specs.Declarations.{Feature, Declaration, Implementation, P
 use Rattle.aadl_names.specs.proof.NameTables.{value_of}
 use Rattle.aadl_names.specs.ReferenceResolution.{features_of, type_in, type_numbered, type_number, ports_of}
 use Rattle.aadl_names.specs.PackageFaults.{role_in, port_roles}
-use Rattle.name_faults.specs.declared.port_names.PortNames.{PortNames}
-use Rattle.name_faults.specs.declared.port_names.AllPortNames.{AllPortNames}
+use Rattle.name_faults.specs.declared.port_name_tables.PortNames.{PortNames}
+use Rattle.name_faults.specs.declared.port_name_tables.AllPortNames.{AllPortNames}
 use Rattle.name_faults.specs.proof.TypePortNames.{AreNamesOf, names_at, AreAllNamesOf}
 
 cons_by : (b : Bool) (x : Feature ℕ) (rest : Option (Feature ℕ))

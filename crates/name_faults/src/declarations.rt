@@ -16,7 +16,7 @@ ghost use Rattle.name_faults.specs.proof.NumberedImplementations.{StandsAt};
 
 use crate::behaviours::{TypedImplementation, check_behaviours};
 use crate::implementations::check_outside_behaviours;
-use crate::types_and_annexes::check_type;
+use crate::types::check_type;
 use crate::{AllPortNames, names_at};
 use aadl_names::FaultFinder;
 use aadl_names::name_texts::spelled_name;

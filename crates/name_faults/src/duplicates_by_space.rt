@@ -13,12 +13,11 @@ ghost use Rattle.aadl_names.specs.proof.PortDuplicates as spec;
 ghost use Rattle.name_faults.specs.proof.TypePortNames.{AreAllNamesOf};
 
 use crate::names_beside_ports::check_port_duplicates;
-use crate::port_names::AllPortNames;
+use crate::port_name_tables::{AllPortNames, names_at, ports_at};
 use crate::space_entries::{
     implementation_entries, member_entries, state_entries, type_entries, variable_entries,
 };
 use crate::thread_category::is_thread;
-use crate::type_ports::{names_at, ports_at};
 use aadl_names::FaultFinder;
 use aadl_names::duplicate_names::check_twice;
 use aadl_tree::{Annex, AnnexContent, AnnexTree, Declaration, Implementation, PackageTree};

@@ -10,10 +10,10 @@ ghost use Rattle.aadl_names.specs.ReferenceResolution.{type_number, type_numbere
 ghost use Rattle.aadl_names.specs.PackageFaults as spec;
 ghost use Rattle.name_faults.specs.proof.NumberedImplementations.{StandsAt};
 
+use crate::annexes::check_variables;
 use crate::check_properties;
 use crate::connections::check_connections;
-use crate::subcomponents_and_ports::{check_subcomponents, same_category};
-use crate::types_and_annexes::check_variables;
+use crate::subcomponents::{check_subcomponents, same_category};
 use aadl_names::declarations_by_number::type_numbered;
 use aadl_names::name_texts::spelled_implementation;
 use aadl_names::{FaultFinder, PropertyHolder};

@@ -9,7 +9,7 @@ ghost use Rattle.aadl_names.specs.DuplicatesByNamespace.{port_entries};
 ghost use Rattle.aadl_names.specs.proof.PortDuplicates as spec;
 ghost use Rattle.name_faults.specs.proof.TypePortNames.{AreNamesOf};
 
-use crate::port_names::PortNames;
+use crate::port_name_tables::PortNames;
 use aadl_names::earliest_by_name::{earliest_of, is_before};
 use aadl_names::{FaultFinder, NumberedPlace, SpelledName};
 use aadl_tree::Feature;

@@ -9,8 +9,8 @@ use Rattle.aadl_names.specs.DuplicatesByNamespace.{port_entries}
 use Rattle.aadl_names.specs.proof.EarliestDeclarations.{earliest}
 use Rattle.aadl_names.specs.ReferenceResolution.{features_of, type_numbered}
 use Rattle.aadl_names.specs.PackageFaults.{port_roles}
-use Rattle.name_faults.specs.declared.port_names.PortNames.{PortNames}
-use Rattle.name_faults.specs.declared.port_names.AllPortNames.{AllPortNames}
+use Rattle.name_faults.specs.declared.port_name_tables.PortNames.{PortNames}
+use Rattle.name_faults.specs.declared.port_name_tables.AllPortNames.{AllPortNames}
 
 -- a table in which each name stands for what it stands for among the ports
 abbrev pub HasRolesOf : List (Feature ℕ) → List (List ℕ × Role) → Type 0

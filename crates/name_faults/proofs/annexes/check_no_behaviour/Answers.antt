@@ -1,0 +1,13 @@
+use Rattle.std.proofs.Common.{refl, map}
+use Rattle.std.specs.List.{flat_map}
+use Rattle.aadl_tree.specs.proof.DeclarationViews.{annex_view}
+use Rattle.aadl_tree.specs.proof.PlaceMaps.{kept_place}
+use Rattle.aadl_names.specs.PackageFaults as spec
+use Rattle.aadl_names.proofs.FirstFaultSoFar.{next_found}
+use Rattle.name_faults.proofs.annexes.check_no_behaviour.Goals as goal
+
+pub loop-annex-preserved : goal.loop-annex-preserved
+loop-annex-preserved c =
+    next_found (λ xs. flat_map spec.stray_faults (map (annex_view kept_place) xs))
+    (λ x. spec.stray_faults (annex_view kept_place x)) (λ x xs. refl) _ _ _ _ _ _
+    c.loop-annex-test.true c.annex-item.is c.loop-annex.invariant c.check_stray.ensures

@@ -1,0 +1,13 @@
+use Rattle.std.proofs.Common.{◌≡◌, map, drop}
+use Rattle.std.specs.List.{flat_map}
+use Rattle.aadl_tree.specs.proof.DeclarationViews.{annex_view}
+use Rattle.aadl_tree.specs.proof.PlaceMaps.{kept_place}
+use Rattle.aadl_names.specs.proof.FirstFaultSoFar.{found}
+use Rattle.aadl_names.specs.PackageFaults as spec
+use Rattle.name_faults.proofs.annexes.check_variables.Given as goal
+
+-- what is left is still to be looked at
+abbrev pub invariant-loop-annex : goal.invariant-loop-annex
+invariant-loop-annex l =
+    found l.initial.finder (flat_map spec.variables_faults (map (annex_view kept_place) l.annexes))
+    ≡ found l.finder (flat_map spec.variables_faults (map (annex_view kept_place) (drop l.annex-index l.annexes)))
