@@ -1,76 +1,24 @@
-//! Types, implementations, and the package that has them.
+//! Reads types and implementations.
 ghost use Rattle.std.specs.Prelude.{◌≡◌, [], ◌∷◌, flat_map, map};
-ghost use Rattle.aadl_tree.specs.declared.mark.Mark.TheVariants as k;
 ghost use Rattle.aadl_tree.specs.Terminals.{mark};
-ghost use Rattle.aadl_tree.specs.SpellingParts.{token, behind};
-ghost use Rattle.aadl_tree.specs.Names.{identifier_parts, name_parts};
-ghost use Rattle.aadl_tree.specs.Annexes.{annex_parts, content_parts};
-ghost use Rattle.aadl_tree.specs.Declarations.{category_mark, declaration_parts, with_parts, implementation_name_parts};
-ghost use Rattle.aadl_tree.specs.Declarations.{ending_parts, package_parts};
-ghost use Rattle.aadl_tree.specs.proof.NameViews.{identifier_view, name_view};
-ghost use Rattle.aadl_tree.specs.proof.DeclarationViews.{annex_view, content_view, declaration_view, with_view};
-ghost use Rattle.aadl_tree.specs.proof.DeclarationViews.{implementation_name_view};
+ghost use Rattle.aadl_tree.specs.SpellingParts.{token};
+ghost use Rattle.aadl_tree.specs.Names.{identifier_parts};
+ghost use Rattle.aadl_tree.specs.Declarations.{category_mark, declaration_parts, implementation_name_parts};
+ghost use Rattle.aadl_tree.specs.Declarations.{ending_parts};
+ghost use Rattle.aadl_tree.specs.proof.NameViews.{identifier_view};
+ghost use Rattle.aadl_tree.specs.proof.DeclarationViews.{declaration_view, implementation_name_view};
 ghost use Rattle.aadl_tree.specs.proof.PlaceMaps.{kept_place};
 ghost use Rattle.aadl_grammar.specs.proof.GrammarSymbols as s;
 ghost use Rattle.aadl_grammar.specs.proof.ParserAnswers.{Parses, AnyRoom, Room};
-ghost use Rattle.aadl_parse.specs.proof.DeclarationAndPackageParts.{rest_parts, package_of};
+ghost use Rattle.aadl_parse.specs.proof.DeclarationAndPackageParts.{rest_parts};
 
+use crate::annexes::annexes;
 use crate::declaration_members::{category, connections, features, own_properties, subcomponents};
-use aadl_grammar::{ParseFault, Parsed, Reader, followers, identifier, name};
+use aadl_grammar::{ParseFault, Parsed, Reader, identifier};
 use aadl_tree::{
-    Annex, AnnexContent, Association, Category, Connection, Declaration, Feature, Identifier,
-    Implementation, ImplementationName, Mark, Name, Subcomponent, TypeDeclaration, With,
+    Annex, Association, Category, Connection, Declaration, Feature, Identifier, Implementation,
+    ImplementationName, Mark, Subcomponent, TypeDeclaration,
 };
-use behaviour_parse::body;
-
-/// `unread | "{**" behaviour "**}"`
-fn content(reader: &Reader<'_>, at: usize, room: usize) -> Parsed<AnnexContent>
-    ensures { Parses reader.now (Room room) (s.content ∷ []) (λ x. content_parts (content_view kept_place x)) at result }
-{
-    if let Some((bytes, end)) = reader.unread(at)? {
-        return Ok((AnnexContent::Unread(bytes), end));
-    }
-    let Some(next) = reader.take(at, Mark::AnnexOpen) else {
-        return Err(ParseFault::Syntax {
-            at: reader.place(at),
-        });
-    };
-    let inner = reader.deeper(at, room)?;
-    let (tree, next) = body(reader, next, inner)?;
-    let end = reader.expect(next, Mark::AnnexClose)?;
-    Ok((AnnexContent::Behaviour(tree), end))
-}
-
-/// `"annex" id ( unread | "{**" behaviour "**}" ) ";"`
-fn annex(reader: &Reader<'_>, at: usize, room: usize) -> Parsed<Annex>
-    ensures { Parses reader.now (Room room) (s.annex ∷ []) (λ x. annex_parts (annex_view kept_place x)) at result }
-{
-    let place = reader.place(at);
-    let keyword = reader.expect(at, Mark::Annex)?;
-    let (language, next) = identifier(reader, keyword)?;
-    let (content, next) = content(reader, next, room)?;
-    let end = reader.expect(next, Mark::Semicolon)?;
-    let annex = Annex {
-        at: place,
-        language,
-        content,
-    };
-    Ok((annex, end))
-}
-
-/// `{ annex }`
-fn annexes(reader: &Reader<'_>, at: usize, room: usize) -> Parsed<Vec<Annex>>
-    ensures { Parses reader.now (Room room) (s.annexes ∷ []) (λ x. flat_map annex_parts (map (annex_view kept_place) x.items)) at result }
-{
-    let mut found = Vec::new(reader.alloc);
-    let mut rest = at;
-    while let Some(_behind) = reader.take(rest, Mark::Annex) {
-        let (next, behind) = annex(reader, rest, room)?;
-        found.push(next)?;
-        rest = behind;
-    }
-    Ok((found, rest))
-}
 
 /// `id "." id`
 fn implementation_name(reader: &Reader<'_>, at: usize) -> Parsed<ImplementationName>
@@ -106,16 +54,6 @@ fn implementation_end(reader: &Reader<'_>, at: usize) -> Parsed<ImplementationNa
     let (name, next) = implementation_name(reader, keyword)?;
     let end = reader.expect(next, Mark::Semicolon)?;
     Ok((name, end))
-}
-
-/// `"end" name ";"`
-fn package_end(reader: &Reader<'_>, at: usize) -> Parsed<Name>
-    ensures { Parses reader.now AnyRoom (s.package_end ∷ []) (λ x. ending_parts (name_parts (name_view kept_place x))) at result }
-{
-    let keyword = reader.expect(at, Mark::End)?;
-    let (found, next) = name(reader, keyword)?;
-    let end = reader.expect(next, Mark::Semicolon)?;
-    Ok((found, end))
 }
 
 /// A type without its category.
@@ -231,7 +169,7 @@ fn declared(at: usize, category: Category, rest: DeclarationRest) -> Declaration
 }
 
 /// `{ type | implementation }`
-fn declarations(reader: &Reader<'_>, at: usize, room: usize) -> Parsed<Vec<Declaration>>
+pub fn declarations(reader: &Reader<'_>, at: usize, room: usize) -> Parsed<Vec<Declaration>>
     ensures { Parses reader.now (Room room) (s.declarations ∷ [])
         (λ x. flat_map declaration_parts (map (declaration_view kept_place) x.items)) at result }
 {
@@ -244,60 +182,4 @@ fn declarations(reader: &Reader<'_>, at: usize, room: usize) -> Parsed<Vec<Decla
         next = behind;
     }
     Ok((found, next))
-}
-
-/// `{ "," name }`
-fn more_names(reader: &Reader<'_>, at: usize) -> Parsed<Vec<Name>>
-    ensures { Parses reader.now AnyRoom (s.more_names ∷ [])
-        (λ x. flat_map (behind k.Comma name_parts) (map (name_view kept_place) x.items)) at result }
-{
-    let none = Vec::new(reader.alloc);
-    followers(reader, at, Some(Mark::Comma), none, |at| name(reader, at))
-}
-
-/// `{ "with" name { "," name } ";" }`
-fn withs(reader: &Reader<'_>, at: usize) -> Parsed<Vec<With>>
-    ensures { Parses reader.now AnyRoom (s.withs ∷ []) (λ x. flat_map with_parts (map (with_view kept_place) x.items)) at result }
-{
-    let mut found = Vec::new(reader.alloc);
-    let mut rest = at;
-    while let Some(keyword) = reader.take(rest, Mark::With) {
-        let (first, next) = name(reader, keyword)?;
-        let (others, next) = more_names(reader, next)?;
-        let end = reader.expect(next, Mark::Semicolon)?;
-        found.push(With {
-            first,
-            rest: others,
-        })?;
-        rest = end;
-    }
-    Ok((found, rest))
-}
-
-/// The parts of a package.
-#[derive(Drop)]
-pub struct PackageParts {
-    pub name: Name,
-    pub withs: Vec<With>,
-    pub declarations: Vec<Declaration>,
-    pub end_name: Name,
-}
-
-/// `"package" name "public" { with } { type | implementation } "end" name ";"`
-pub fn package(reader: &Reader<'_>, at: usize, room: usize) -> Parsed<PackageParts>
-    ensures { Parses reader.now (Room room) (s.a_package ∷ []) (λ x. package_parts (package_of x)) at result }
-{
-    let keyword = reader.expect(at, Mark::Package)?;
-    let (name, next) = name(reader, keyword)?;
-    let public = reader.expect(next, Mark::Public)?;
-    let (withs, next) = withs(reader, public)?;
-    let (declarations, next) = declarations(reader, next, room)?;
-    let (end_name, end) = package_end(reader, next)?;
-    let package = PackageParts {
-        name,
-        withs,
-        declarations,
-        end_name,
-    };
-    Ok((package, end))
 }

@@ -11,16 +11,18 @@ ghost use Rattle.aadl_tree.specs.proof.PackageViews.{placed};
 ghost use Rattle.aadl_parse.specs.declared.text_fault.TextFault.{TextFault};
 ghost use Rattle.aadl_parse.specs.ParseResults.{IsOnlyTreeOf, IsFaultOfText};
 
+mod annexes;
 mod declaration_members;
 mod declarations;
 mod text_fault;
+mod whole_package;
 
 use aadl_grammar::{Reader, resolve};
 use aadl_lex::{LexFault, lex};
 use aadl_tree::{GREATEST_NESTING, PackageTree};
-use declarations::{PackageParts, package};
 use std::alloc::Global;
 pub use text_fault::TextFault;
+use whole_package::{PackageParts, package};
 
 /// The tree of the text, or why it has none.
 pub fn parse(alloc: Global, text: &[u8]) -> Result<PackageTree, TextFault>

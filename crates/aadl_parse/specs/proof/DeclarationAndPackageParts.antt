@@ -14,7 +14,7 @@ use Rattle.aadl_tree.specs.proof.DeclarationViews.{implementation_name_view, wit
 use Rattle.aadl_tree.specs.proof.PlaceMaps.{kept_place}
 use Rattle.aadl_parse.specs.declared.declarations.TypeRest.{TypeRest}
 use Rattle.aadl_parse.specs.declared.declarations.ImplementationRest.{ImplementationRest}
-use Rattle.aadl_parse.specs.declared.declarations.PackageParts.{PackageParts}
+use Rattle.aadl_parse.specs.declared.whole_package.PackageParts.{PackageParts}
 use Rattle.aadl_parse.specs.declared.declarations.DeclarationRest.{DeclarationRest}
 use Rattle.aadl_tree.specs.declared.mark.Mark.TheVariants as k
 use Rattle.aadl_parse.specs.declared.declarations.DeclarationRest.TheVariants as rests

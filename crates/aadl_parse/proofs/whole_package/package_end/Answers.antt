@@ -5,7 +5,7 @@ use Rattle.aadl_grammar.proofs.PartSequences.{nothing, then, marked}
 use Rattle.aadl_tree.specs.declared.mark.Mark.TheVariants as k
 use Rattle.aadl_grammar.specs.proof.GrammarSymbols as s
 use Rattle.aadl_grammar.specs.proof.StackMachine.{move, depth}
-use Rattle.aadl_parse.proofs.declarations.package_end.Goals as goal
+use Rattle.aadl_parse.proofs.whole_package.package_end.Goals as goal
 
 pub returns-in_err-keyword : goal.returns-in_err-keyword
 unfolding move depth

@@ -8,7 +8,7 @@ use Rattle.aadl_tree.specs.proof.PlaceMaps.{kept_place}
 use Rattle.aadl_tree.specs.declared.mark.Mark.TheVariants as k
 use Rattle.aadl_grammar.specs.proof.GrammarSymbols as s
 use Rattle.aadl_grammar.specs.proof.StackMachine.{move, depth}
-use Rattle.aadl_parse.proofs.declarations.withs.Goals as goal
+use Rattle.aadl_parse.proofs.whole_package.withs.Goals as goal
 
 pub returns-in_err-first : goal.returns-in_err-first
 unfolding move depth

@@ -7,7 +7,7 @@ use Rattle.aadl_tree.specs.declared.nesting_limit.TheConstants.{GREATEST_NESTING
 use Rattle.aadl_grammar.specs.proof.GrammarSymbols as s
 use Rattle.aadl_grammar.specs.proof.StackMachine.{Stack, depth, fate}
 use Rattle.aadl_grammar.specs.proof.ParserAnswers.{here, Reads}
-use Rattle.aadl_parse.proofs.declarations.withs.Given as goal
+use Rattle.aadl_parse.proofs.whole_package.withs.Given as goal
 
 abbrev pub invariant-loop-keyword : goal.invariant-loop-keyword
 invariant-loop-keyword l = record {

@@ -7,7 +7,7 @@ use Rattle.aadl_tree.specs.declared.nesting_limit.TheConstants.{GREATEST_NESTING
 use Rattle.aadl_grammar.specs.proof.GrammarSymbols as s
 use Rattle.aadl_grammar.specs.proof.StackMachine.{Stack, depth, fate}
 use Rattle.aadl_grammar.specs.proof.ParserAnswers.{here, Reads}
-use Rattle.aadl_parse.proofs.declarations.annexes.Given as goal
+use Rattle.aadl_parse.proofs.annexes.annexes.Given as goal
 
 abbrev pub invariant-loop-behind : goal.invariant-loop-behind
 invariant-loop-behind l = record {

@@ -8,7 +8,7 @@ use Rattle.aadl_tree.specs.proof.PlaceMaps.{kept_place}
 use Rattle.aadl_parse.proofs.DeclarationStarts.{annex_begun}
 use Rattle.aadl_grammar.specs.proof.GrammarSymbols as s
 use Rattle.aadl_grammar.specs.proof.StackMachine.{move, depth}
-use Rattle.aadl_parse.proofs.declarations.annexes.Goals as goal
+use Rattle.aadl_parse.proofs.annexes.annexes.Goals as goal
 
 pub returns-in_err-next : goal.returns-in_err-next
 unfolding move depth

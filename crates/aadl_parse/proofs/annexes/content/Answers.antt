@@ -5,7 +5,7 @@ use Rattle.aadl_grammar.proofs.PartSequences.{nothing, then, marked, told}
 use Rattle.aadl_tree.specs.declared.mark.Mark.TheVariants as k
 use Rattle.aadl_grammar.specs.proof.GrammarSymbols as s
 use Rattle.aadl_grammar.specs.proof.StackMachine.{move, depth, syntax_at}
-use Rattle.aadl_parse.proofs.declarations.content.Goals as goal
+use Rattle.aadl_parse.proofs.annexes.content.Goals as goal
 
 pub returns-in-Some : goal.returns-in-Some
 unfolding move depth
