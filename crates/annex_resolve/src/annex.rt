@@ -1,108 +1,18 @@
-//! What is wrong with states, and the behaviour of a whole annex.
-ghost use Rattle.std.specs.Prelude.{◌≡◌, ◌++◌, IfOk, OnOk, false, map, flat_map, slice_get};
-ghost use Rattle.std.specs.Option.{unwrap_or};
-ghost use Rattle.std.specs.List.{enumerate_from};
+//! The behaviour of a whole annex, and all that is wrong with it.
+ghost use Rattle.std.specs.Prelude.{◌≡◌, ◌++◌, IfOk, OnOk, map};
 ghost use Rattle.aadl_tree.specs.proof.PlaceMaps.{kept_place};
 ghost use Rattle.aadl_tree.specs.proof.DeclarationViews.{annex_tree_view, transition_view};
-ghost use Rattle.annex_resolve.specs.NamesAndFindings.{found_if};
-ghost use Rattle.annex_resolve.specs.BehavioursAndFindings.{transitions_of, parts_by, state_rules, rule_findings};
-ghost use Rattle.annex_resolve.specs.BehavioursAndFindings.{behaviour_of, annex_findings};
+ghost use Rattle.annex_resolve.specs.BehavioursAndFindings.{transitions_of, parts_by, behaviour_of, annex_findings};
 
-use crate::cycles::cyclic_states;
-use crate::departures::{Departure, breaks_dispatch, departures_of, lacks_otherwise};
 use crate::ports_and_variables::DeclaredValues;
 use crate::scope::Scope;
-use crate::states::{StateAt, declared_states, first_initial, has_initial, states_of};
+use crate::state_rules::add_rules;
+use crate::states::{StateAt, declared_states, first_initial, states_of};
 use crate::transitions::resolve_transitions;
-use crate::violation::{
-    CYCLE_WITHOUT_COMPLETE, DISPATCH_COUNT, NO_INITIAL, NO_OTHERWISE, Violation, add_if,
-};
+use crate::violation::Violation;
 use aadl_tree::{AnnexTree, Transition};
-use pals_base::{BehaviourParts, Items, NoMemory, Transition as Edge, TryClone};
+use pals_base::{BehaviourParts, Items, NoMemory, Transition as Edge};
 use std::alloc::Global;
-
-// The states of a behaviour and the ways between them: its parts, how their transitions depart, and for
-// each state whether it is on a cycle of states that are not complete.
-#[derive(Clone, Copy)]
-struct StateGraph<'b> {
-    parts: &'b BehaviourParts,
-    legs: &'b Items<Departure>,
-    cyclic: &'b Items<bool>,
-}
-
-// Adds a finding that names a state.
-fn add_named(
-    alloc: Global,
-    found: &mut Items<Violation>,
-    wrong: bool,
-    state: &StateAt,
-    number: u32,
-) -> Result<(), NoMemory>
-    ensures { OnOk result (found.new ≡ found.old ++ found_if wrong state.now.at number state.now.name) }
-{
-    if wrong {
-        found.push(Violation {
-            at: state.at,
-            number,
-            details: state.name.try_clone(alloc)?,
-        })?;
-    }
-    Ok(())
-}
-
-// Adds what is wrong with a state.
-fn add_state(
-    alloc: Global,
-    graph: &StateGraph<'_>,
-    number: usize,
-    state: &StateAt,
-    found: &mut Items<Violation>,
-) -> Result<(), NoMemory>
-    ensures { OnOk result (found.new
-        ≡ found.old ++ state_rules graph.now.parts.now graph.now.legs.now graph.now.cyclic.now (number, state.now)) }
-{
-    add_named(
-        alloc,
-        found,
-        breaks_dispatch(graph.parts, number),
-        state,
-        DISPATCH_COUNT,
-    )?;
-    if state.complete {
-        return Ok(());
-    }
-    let lacks = lacks_otherwise(alloc, graph.legs.as_slice(), number)?;
-    add_named(alloc, found, lacks, state, NO_OTHERWISE)?;
-    let returns = is_marked(graph.cyclic, number);
-    add_named(alloc, found, returns, state, CYCLE_WITHOUT_COMPLETE)
-}
-
-// The mark of a state. A number of no state has none.
-fn is_marked(marks: &Items<bool>, state: usize) -> bool
-    ensures { result ≡ unwrap_or (slice_get marks.now state) false }
-{
-    match marks.get(state) {
-        None => false,
-        Some(mark) => *mark,
-    }
-}
-
-// Adds what is wrong with states.
-fn add_states(
-    alloc: Global,
-    graph: &StateGraph<'_>,
-    states: &[StateAt],
-    found: &mut Items<Violation>,
-) -> Result<(), NoMemory>
-    ensures { OnOk result (found.new ≡ found.old
-        ++ flat_map (state_rules graph.now.parts.now graph.now.legs.now graph.now.cyclic.now)
-        (enumerate_from 0 states.now)) }
-{
-    for number in 0..states.len() {
-        add_state(alloc, graph, number, &states[number], found)?;
-    }
-    Ok(())
-}
 
 // The transitions of an annex, none where it has no section of them.
 fn transitions_of(annex: &AnnexTree) -> &[Transition]
@@ -134,29 +44,6 @@ fn parts_by(
         initial,
         transitions,
     })
-}
-
-// Adds what is wrong with the states of an annex that begins at a place.
-fn add_rules(
-    alloc: Global,
-    at: usize,
-    parts: &BehaviourParts,
-    states: &[StateAt],
-    transitions: &[Transition],
-    found: &mut Items<Violation>,
-) -> Result<(), NoMemory>
-    ensures { OnOk result (found.new ≡ found.old
-        ++ rule_findings at parts.now states.now (map (transition_view kept_place) transitions.now)) }
-{
-    add_if(alloc, found, !has_initial(states), at, NO_INITIAL)?;
-    let legs = departures_of(alloc, states, transitions)?;
-    let cyclic = cyclic_states(alloc, parts)?;
-    let graph = StateGraph {
-        parts,
-        legs: &legs,
-        cyclic: &cyclic,
-    };
-    add_states(alloc, &graph, states, found)
 }
 
 /// Resolves an annex that begins at a place, over the ports and variables of its scope, and adds what

@@ -11,6 +11,7 @@ pub mod laws;
 pub mod loop_turns;
 pub mod ports_and_variables;
 pub mod scope;
+pub mod state_rules;
 pub mod states;
 pub mod transitions;
 pub mod type_names;

@@ -1,6 +1,6 @@
 use Rattle.annex_resolve.specs.BehavioursAndFindings.{state_rules}
 use Rattle.annex_resolve.proofs.AnnexFindings.{one_more_state}
-use Rattle.annex_resolve.proofs.annex.add_states.Goals as goal
+use Rattle.annex_resolve.proofs.state_rules.add_states.Goals as goal
 
 pub loop-number-preserved : goal.loop-number-preserved
 loop-number-preserved c =
