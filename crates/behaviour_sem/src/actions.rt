@@ -6,7 +6,8 @@ ghost use Rattle.pals_base.specs.proof.TreeViews.{action_of, actions_along, bran
 ghost use Rattle.behaviour_sem.specs.proof.ActionExecution.{Runs, RunsFirst, turn};
 
 use crate::early_end::EarlyEnd;
-use crate::expressions::{StepInputs, eval, holds};
+use crate::expressions::{eval, holds};
+use crate::step_inputs::StepInputs;
 use pals_base::{Act, Branch, PortValue};
 
 /// Does actions one after the other. A stop leaves the variables and outputs as they then are, and

@@ -5,14 +5,8 @@ ghost use Rattle.pals_base.specs.SingleStep.{is_present};
 ghost use Rattle.pals_base.specs.proof.TreeViews.{tree_of, operands_along};
 ghost use Rattle.behaviour_sem.specs.proof.ReadableFrames.{seen, fresh};
 
+use crate::step_inputs::StepInputs;
 use pals_base::{Expr, Op, Operand, PortValue, Trap, abs, add, modulo, mul, neg, quot, rem, sub};
-
-/// What a step reads and never changes: the held inputs, and what the in ports have in this step.
-#[derive(Clone, Copy)]
-pub struct StepInputs<'a> {
-    pub held: &'a [i64],
-    pub present: &'a [PortValue],
-}
 
 /// The value of an expression over these variables and inputs, or the first trap that it meets.
 #[cycle(eval)]

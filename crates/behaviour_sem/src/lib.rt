@@ -6,6 +6,7 @@ mod actions;
 mod early_end;
 mod expressions;
 mod step;
+mod step_inputs;
 mod transitions;
 
 pub use step::{fire, fire_into};

@@ -5,7 +5,7 @@ ghost use Rattle.behaviour_sem.specs.proof.StepOutcomes.{Left};
 ghost use Rattle.behaviour_sem.specs.proof.PartialSteps.{reacted};
 
 use crate::early_end::EarlyEnd;
-use crate::expressions::StepInputs;
+use crate::step_inputs::StepInputs;
 use crate::transitions::{StepState, react};
 use pals_base::{Behaviour, Frame, Items, NoMemory, PortValue, TryClone};
 use std::alloc::{AllocError, Global};

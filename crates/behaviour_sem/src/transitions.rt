@@ -8,7 +8,8 @@ ghost use Rattle.behaviour_sem.specs.proof.PartialSteps.{Leads, reacted};
 
 use crate::actions::run_all;
 use crate::early_end::EarlyEnd;
-use crate::expressions::{StepInputs, eval, holds};
+use crate::expressions::{eval, holds};
+use crate::step_inputs::StepInputs;
 use pals_base::{Behaviour, Guard, PortValue, StateDecl, Transition, Trap};
 
 /// Where a step under way stands: the state that it reached, and the variables.

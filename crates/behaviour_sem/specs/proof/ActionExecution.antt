@@ -7,7 +7,7 @@ use Rattle.pals_base.specs.declared.frames.Frame.{Frame}
 use Rattle.pals_base.specs.declared.values.PortValue.{PortValue}
 use Rattle.pals_base.specs.PlainTrees.{Actions, Branches}
 use Rattle.pals_base.specs.Actions.{Effect, acts, act_first, with_vars, without_loop}
-use Rattle.behaviour_sem.specs.declared.expressions.StepInputs.{StepInputs}
+use Rattle.behaviour_sem.specs.declared.step_inputs.StepInputs.{StepInputs}
 use Rattle.behaviour_sem.specs.declared.early_end.EarlyEnd.{EarlyEnd}
 use Rattle.behaviour_sem.specs.proof.StepOutcomes.{Left, Chose}
 use Rattle.behaviour_sem.specs.proof.ReadableFrames.{seen, fresh}

@@ -5,7 +5,7 @@ use Rattle.pals_base.specs.declared.values.PortValue.{PortValue}
 use Rattle.pals_base.specs.declared.behaviour.BehaviourParts.{BehaviourParts}
 use Rattle.pals_base.specs.ExpressionValues.{on_value}
 use Rattle.pals_base.specs.SingleStep.{Fired, along, dispatched, settled}
-use Rattle.behaviour_sem.specs.declared.expressions.StepInputs.{StepInputs}
+use Rattle.behaviour_sem.specs.declared.step_inputs.StepInputs.{StepInputs}
 use Rattle.behaviour_sem.specs.declared.early_end.EarlyEnd.{EarlyEnd}
 use Rattle.behaviour_sem.specs.declared.transitions.StepState.{StepState}
 use Rattle.behaviour_sem.specs.proof.StepOutcomes.{Left}

@@ -3,7 +3,7 @@
 use Rattle.std.specs.Prelude.{ℤ, Bool, List, map, None}
 use Rattle.pals_base.specs.declared.frames.Frame.{Frame}
 use Rattle.pals_base.specs.SingleStep.{is_present}
-use Rattle.behaviour_sem.specs.declared.expressions.StepInputs.{StepInputs}
+use Rattle.behaviour_sem.specs.declared.step_inputs.StepInputs.{StepInputs}
 
 -- a frame with these variables and held inputs; no expression and no action reads its state or its halt
 abbrev pub frame_of : List ℤ → List ℤ → Frame
