@@ -4,7 +4,7 @@ ghost use Rattle.step_compiler.specs.proof.BlockOrder.{is_placed, next_state, bl
 ghost use Rattle.step_compiler.specs.proof.BlockOrder.{states_outside};
 ghost use Rattle.step_compiler.specs.LaidOutCode.{complete_states};
 
-use crate::checked_numbers::{item_at, mark};
+use crate::list_access::{item_at, mark};
 use crate::transitions::is_complete;
 use pals_base::{Behaviour, NoMemory, Transition};
 use std::alloc::Global;

@@ -8,8 +8,9 @@ ghost use Rattle.step_compiler.specs.BlockInstructions.{block_length, start_of, 
 ghost use Rattle.step_compiler.specs.proof.BlockLengthsAndStarts.{start_in, in_list, capped_length, leaving_code};
 ghost use Rattle.step_compiler.specs.proof.AppendedCode.{Adds};
 
-use crate::checked_numbers::{behind, item_at};
+use crate::checked_numbers::behind;
 use crate::lengths::transition_length;
+use crate::list_access::item_at;
 use crate::transitions::{is_complete, push_transition};
 use pals_base::{Behaviour, Guard, Items, NoMemory, Transition};
 use std::alloc::Global;

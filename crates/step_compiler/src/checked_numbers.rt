@@ -1,6 +1,6 @@
 //! Places and numbers that fit the instructions. For a number that does not fit, the error is that
 //! there is not enough memory.
-ghost use Rattle.std.specs.Prelude.{◌≡◌, ◌+◌, ℕ, IfOk, slice_index_or, slice_set, true};
+ghost use Rattle.std.specs.Prelude.{◌≡◌, ◌+◌, ℕ, IfOk};
 ghost use Rattle.step_code.specs.CappedWeights.{capped};
 
 use pals_base::NoMemory;
@@ -32,20 +32,4 @@ pub fn deeper(depth: u32) -> Result<u32, NoMemory>
     ensures { IfOk result (λ more. more ≡ depth + 1) }
 {
     depth.checked_add(1).ok_or(AllocError)
-}
-
-/// The item at a place of a list, or another one past its end.
-pub fn item_at<T: Copy>(items: &[T], at: usize, none: T) -> T
-    ensures { result ≡ slice_index_or items.now at none }
-{
-    if at < items.len() { items[at] } else { none }
-}
-
-/// Sets the mark at a place of a list. Past its end nothing happens.
-pub fn mark(marks: &mut [bool], at: usize)
-    ensures { marks.new ≡ slice_set marks.old at true }
-{
-    if at < marks.len() {
-        marks[at] = true;
-    }
 }

@@ -10,6 +10,7 @@ mod compiler;
 mod expressions;
 pub mod laws;
 mod lengths;
+mod list_access;
 mod loop_depths;
 mod transitions;
 

@@ -7,9 +7,10 @@ ghost use Rattle.step_compiler.specs.proof.BlockLengthsAndStarts.{transition_cod
 ghost use Rattle.step_compiler.specs.proof.AppendedCode.{Adds};
 
 use crate::actions::push_acts;
-use crate::checked_numbers::{behind, count, item_at};
+use crate::checked_numbers::{behind, count};
 use crate::expressions::push_expr;
 use crate::lengths::transition_length;
+use crate::list_access::item_at;
 use pals_base::{Behaviour, Guard, Items, NoMemory, StateDecl, Transition};
 use step_code::Instr;
 
