@@ -3,6 +3,7 @@
 //! is missing or refused is none, and nothing is found on it.
 #![tactic(auto)]
 
+pub mod adaptor_texts;
 pub mod adaptors;
 pub mod bounds_and_rates;
 pub mod chain_properties;
@@ -13,13 +14,15 @@ pub mod package_properties;
 pub mod periods;
 pub mod property_lookup;
 pub mod root_findings;
+pub mod thread_rates;
 pub mod threads;
 pub mod times;
 pub mod types;
 pub mod unquoted_strings;
 pub mod word_values;
 
-pub use adaptors::{Carrier, adaptor_named};
+pub use adaptor_texts::adaptor_named;
+pub use adaptors::Carrier;
 pub use bounds_and_rates::{gamma_by, range_of, rate_of, skew_of};
 pub use chain_properties::ChainProperties;
 pub use package_properties::Properties;

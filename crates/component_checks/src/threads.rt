@@ -1,61 +1,19 @@
-//! What is wrong with components.
+//! What is wrong with threads: their dispatch and their periods.
 ghost use Rattle.std.specs.Prelude.{◌≡◌, ◌++◌, OnOk};
 ghost use Rattle.aadl_tree.specs.proof.PackageViews.{placed};
 ghost use Rattle.annex_resolve.specs.NamesAndFindings.{found_if};
 ghost use Rattle.component_checks.specs.ThreadRatesAndFindings as spec;
 
+use crate::add_period_findings;
 use crate::package_properties::Properties;
 use crate::property_lookup::innermost;
-use crate::{add_period_findings, rate_of};
+use crate::thread_rates::{own_period, root_period};
 use aadl_tree::PackageTree;
 use aadl_uses::{SubAt, ThreadAt};
 use annex_resolve::Violation;
 use annex_resolve::violation::NOT_PERIODIC;
-use pals_base::{Items, Nanos, NoMemory, Text};
+use pals_base::{Items, NoMemory, Text};
 use std::alloc::Global;
-
-/// The period of the root in nanoseconds; none where it is missing or above an hour.
-pub fn root_period(properties: &Properties<'_>, root: usize) -> Option<Nanos>
-    ensures { result ≡ spec.root_period (placed properties.now.uses.now.names.tree.now) root }
-{
-    properties.of_root(root).period.flatten()
-}
-
-/// The period of a component in nanoseconds, from the nearest place that gives one; none where it is
-/// missing or above an hour.
-pub fn own_period(properties: &Properties<'_>, root: usize, subs: &[SubAt]) -> Option<Nanos>
-    ensures { result ≡ spec.own_period (placed properties.now.uses.now.names.tree.now) root subs.now }
-{
-    properties.along(root, subs).period.flatten()
-}
-
-/// How many steps a component makes in a round, where it may make as many.
-pub fn thread_rate(properties: &Properties<'_>, root: usize, thread: &ThreadAt) -> Option<u32>
-    ensures { result ≡ spec.thread_rate (placed properties.now.uses.now.names.tree.now) root thread.now }
-{
-    let whole = root_period(properties, root);
-    let own = own_period(properties, root, thread.subs.as_slice());
-    rate_of(whole, own)
-}
-
-// The greater of two rates, where the second is not refused.
-fn greater_rate(greatest: u32, rate: Option<u32>) -> u32
-    ensures { result ≡ spec.greater_rate greatest rate }
-{
-    match rate {
-        Some(rate) => greatest.max(rate),
-        None => greatest,
-    }
-}
-
-/// The greatest of the rates that are not refused, or 1.
-pub fn greatest_rate(rates: &[Option<u32>]) -> u32
-    ensures { result ≡ spec.greatest_rate rates.now }
-{
-    rates
-        .iter()
-        .fold(1, |greatest, rate| greater_rate(greatest, *rate))
-}
 
 // Whether a component's dispatch is periodic.
 fn is_periodic(properties: &Properties<'_>, subs: &[SubAt]) -> bool

@@ -11,7 +11,7 @@ use crate::resolved_behaviours::behaviour;
 use aadl_instance::{Chain, ChainEnd, Instance, ThreadAt};
 use component_checks::Properties;
 use component_checks::root_findings::root_gamma;
-use component_checks::threads::{root_period, thread_rate};
+use component_checks::thread_rates::{root_period, thread_rate};
 use indexmap::IndexMap;
 use model_violations::carriers::carrier_of;
 use model_violations::ignored_names;

@@ -1,0 +1,52 @@
+//! The periods of the root and of threads, and the rates that they give.
+ghost use Rattle.std.specs.Prelude.{◌≡◌};
+ghost use Rattle.aadl_tree.specs.proof.PackageViews.{placed};
+ghost use Rattle.component_checks.specs.ThreadRatesAndFindings as spec;
+
+use crate::package_properties::Properties;
+use crate::rate_of;
+use aadl_uses::{SubAt, ThreadAt};
+use pals_base::Nanos;
+
+/// The period of the root in nanoseconds; none where it is missing or above an hour.
+pub fn root_period(properties: &Properties<'_>, root: usize) -> Option<Nanos>
+    ensures { result ≡ spec.root_period (placed properties.now.uses.now.names.tree.now) root }
+{
+    properties.of_root(root).period.flatten()
+}
+
+/// The period of a component in nanoseconds, from the nearest place that gives one; none where it is
+/// missing or above an hour.
+pub fn own_period(properties: &Properties<'_>, root: usize, subs: &[SubAt]) -> Option<Nanos>
+    ensures { result ≡ spec.own_period (placed properties.now.uses.now.names.tree.now) root subs.now }
+{
+    properties.along(root, subs).period.flatten()
+}
+
+/// How many steps a component makes in a round, where it may make as many.
+pub fn thread_rate(properties: &Properties<'_>, root: usize, thread: &ThreadAt) -> Option<u32>
+    ensures { result ≡ spec.thread_rate (placed properties.now.uses.now.names.tree.now) root thread.now }
+{
+    let whole = root_period(properties, root);
+    let own = own_period(properties, root, thread.subs.as_slice());
+    rate_of(whole, own)
+}
+
+// The greater of two rates, where the second is not refused.
+fn greater_rate(greatest: u32, rate: Option<u32>) -> u32
+    ensures { result ≡ spec.greater_rate greatest rate }
+{
+    match rate {
+        Some(rate) => greatest.max(rate),
+        None => greatest,
+    }
+}
+
+/// The greatest of the rates that are not refused, or 1.
+pub fn greatest_rate(rates: &[Option<u32>]) -> u32
+    ensures { result ≡ spec.greatest_rate rates.now }
+{
+    rates
+        .iter()
+        .fold(1, |greatest, rate| greater_rate(greatest, *rate))
+}
