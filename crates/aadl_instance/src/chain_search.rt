@@ -8,7 +8,8 @@ ghost use Rattle.aadl_instance.specs.proof.ChainSearchStates.{ShowsInto, ShowsTa
 ghost use Rattle.aadl_instance.specs.proof.ChainsSoFar.{HasPort, IsBegin};
 
 use crate::chain::{Chain, ChainEnd, ConnAt};
-use crate::numbered_ends::{ChainMap, ThreadNode, begin_end, node_end, root_end};
+use crate::chain_map::{ChainMap, ThreadNode};
+use crate::numbered_ends::{begin_end, node_end, root_end};
 use aadl_chains::{ChainRoute, ChainStart, trace_back, trace_tap};
 use aadl_uses::standing;
 use pals_base::{Items, NodeNo};

@@ -7,9 +7,9 @@ ghost use Rattle.aadl_instance.specs.Faults.{IsFault};
 ghost use Rattle.aadl_instance.specs.proof.CheckedPackages.{IsChecked};
 ghost use Rattle.aadl_instance.specs.Instances.{IsInstance};
 
+use crate::chain_map::ChainMap;
 use crate::chain_search::{incoming_of, taps_of};
 use crate::instance::Instance;
-use crate::numbered_ends::ChainMap;
 use crate::port_numbers::PortNumbers;
 use crate::{Checked, check_package};
 use aadl_names::PackageFault;

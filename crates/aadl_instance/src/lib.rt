@@ -4,6 +4,7 @@
 
 mod behaviour_sizes;
 pub mod chain;
+mod chain_map;
 mod chain_search;
 pub mod checked_package;
 pub mod fault_laws;

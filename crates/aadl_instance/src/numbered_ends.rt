@@ -7,31 +7,11 @@ ghost use Rattle.aadl_instance.specs.proof.ChainSearchStates.{tree_of, paths_in,
 ghost use Rattle.aadl_instance.specs.proof.ChainsSoFar.{paths_of, HasPort, IsBegin};
 
 use crate::chain::ChainEnd;
-use crate::port_numbers::PortNumbers;
+use crate::chain_map::{ChainMap, ThreadNode};
 use aadl_chains::ChainStart;
-use aadl_uses::{Wires, standing};
-use indexmap::IndexSet;
+use aadl_uses::standing;
 use pals_base::{NodeNo, Text};
 use std::alloc::{AllocError, Global};
-
-/// Where the chains of an instance are: the connections of its package, an order of the declarations, the number of
-/// its root, the paths of its threads, in depth-first order of declaration, and the numbers of ports.
-#[derive(Clone, Copy)]
-pub struct ChainMap<'t> {
-    pub wires: &'t Wires<'t>,
-    pub order: &'t IndexSet<usize>,
-    pub root: usize,
-    pub threads: &'t [Vec<usize>],
-    pub numbers: &'t PortNumbers,
-}
-
-/// A thread of a network: its number, its path, and the number of its declaration.
-#[derive(Drop)]
-pub struct ThreadNode<'t> {
-    pub number: NodeNo,
-    pub path: &'t [usize],
-    pub declaration: usize,
-}
 
 /// Where a chain begins.
 pub fn begin_end(

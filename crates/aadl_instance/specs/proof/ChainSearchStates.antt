@@ -7,8 +7,8 @@ use Rattle.aadl_uses.specs.Uses.{standing}
 use Rattle.aadl_chains.specs.LinksFeedsAndTaps.{Ends}
 use Rattle.aadl_instance.specs.declared.chain.Chain.{Chain}
 use Rattle.aadl_instance.specs.declared.chain_search.Incoming.{Incoming}
-use Rattle.aadl_instance.specs.declared.numbered_ends.ChainMap.{ChainMap}
-use Rattle.aadl_instance.specs.declared.numbered_ends.ThreadNode.{ThreadNode}
+use Rattle.aadl_instance.specs.declared.chain_map.ChainMap.{ChainMap}
+use Rattle.aadl_instance.specs.declared.chain_map.ThreadNode.{ThreadNode}
 use Rattle.aadl_instance.specs.proof.PortNumberTables.{AreNumbers}
 use Rattle.aadl_instance.specs.proof.ChainsSoFar.{paths_of, IsSettled, AreShown, AreInto, AreTapsTo}
 
