@@ -31,7 +31,7 @@ use Rattle.design_laws.specs.proof.FittingAnnexNames.{FitsMeaning, FitsScope}
 use Rattle.design_laws.proofs.EmptyFindingLists.{is_right}
 use Rattle.component_checks.specs.TypeFindings.{is_in, port_findings, name_findings, is_truth, text_kind}
 use Rattle.component_checks.specs.TypeFindings.{first_findings, variable_findings, variables_findings}
-use Rattle.model_violations.specs.declared.declared_ports.Declared.{Declared}
+use Rattle.model_violations.specs.declared.port_or_variable.Declared.{Declared}
 use Rattle.model_violations.specs.PortsAndVariables.{port_of, ins_in, outs_in, value_of, value_in, first_of}
 use Rattle.model_violations.specs.PortsAndVariables.{variable_of, variables_in, variables_of, or_integer, named_of}
 use Rattle.model_violations.specs.PortsAndVariables.{var_of, in_entry, out_entry, variable_entry, scope_by}

@@ -25,7 +25,7 @@ use Rattle.aadl_names.proofs.PortDuplicates.{same_name-swapped}
 use Rattle.annex_resolve.specs.declared.states.StateAt.{StateAt}
 use Rattle.annex_resolve.specs.BehavioursAndFindings.{state_at, states_in, states_of, declared}
 use Rattle.component_checks.specs.TypeFindings.{is_in}
-use Rattle.model_violations.specs.declared.declared_ports.Declared.{Declared}
+use Rattle.model_violations.specs.declared.port_or_variable.Declared.{Declared}
 use Rattle.model_violations.specs.PortsAndVariables.{port_of, ins_in, outs_in, variables_in, variables_of, named_of}
 use Rattle.model_violations.specs.PortsAndVariables.{var_of}
 use Rattle.design_laws.specs.proof.PackageNames.{IsNamed, Differ}

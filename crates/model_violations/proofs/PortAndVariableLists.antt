@@ -4,7 +4,7 @@ use Rattle.std.proofs.Common.{◌≡◌, ◌∙◌, ℕ, List, ap}
 use Rattle.aadl_tree.specs.Annexes.{AnnexTree}
 use Rattle.aadl_tree.specs.Declarations.{Feature, Implementation, PackageTree}
 use Rattle.aadl_names.specs.ReferenceResolution.{ports_of}
-use Rattle.model_violations.specs.declared.declared_ports.Declared.{Declared}
+use Rattle.model_violations.specs.declared.port_or_variable.Declared.{Declared}
 use Rattle.model_violations.specs.PortsAndVariables.{ins_in, outs_in, variables_of}
 
 -- what is made of these lists is made of the implementation's own

@@ -22,7 +22,7 @@ use Rattle.annex_resolve.specs.declared.scope.Scope.{Scope}
 use Rattle.annex_resolve.specs.declared.scope.DeclaredName.{DeclaredName}
 use Rattle.annex_resolve.specs.declared.scope.Meaning.TheVariants.{InPort, OutPort, Variable as VariableNumber}
 use Rattle.annex_resolve.specs.ExpressionTypesAndFindings.{kind_named, kind_in}
-use Rattle.model_violations.specs.declared.declared_ports.Declared.{Declared}
+use Rattle.model_violations.specs.declared.port_or_variable.Declared.{Declared}
 
 -- ---- what is declared, with its type, if that is Integer or Boolean, and its first value
 abbrev pub port_of : Feature ℕ → Declared

@@ -3,7 +3,7 @@ ghost use Rattle.std.specs.Prelude.{◌≡◌, ◌++◌, ◌<◌, ◌^◌, IfOk,
 ghost use Rattle.std.specs.List.{enumerate_from};
 ghost use Rattle.model_violations.specs.PortsAndVariables as spec;
 
-use crate::declared_ports::Declared;
+use crate::port_or_variable::Declared;
 use annex_resolve::{DeclaredName, DeclaredValues, Meaning, Scope};
 use pals_base::{Items, Kind, NoMemory, PortDecl, TryClone, VarDecl};
 use std::alloc::Global;

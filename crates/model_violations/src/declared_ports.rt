@@ -1,23 +1,14 @@
-//! What a thread declares: a port or a variable with its type and first value, and the lists of in ports and of out
-//! ports.
+//! The in ports and the out ports that a thread declares.
 ghost use Rattle.std.specs.Prelude.{◌≡◌, ◌∷◌, ◌++◌, [], IfOk, OnOk, if◌then◌else◌, map};
 ghost use Rattle.aadl_tree.specs.proof.PlaceMaps.{kept_place};
 ghost use Rattle.aadl_tree.specs.proof.DeclarationViews.{feature_view};
 ghost use Rattle.model_violations.specs.PortsAndVariables as spec;
 
+use crate::port_or_variable::Declared;
 use aadl_tree::Feature;
 use component_checks::types::{is_in, kind_in};
-use pals_base::{Items, Kind, NoMemory, Text};
+use pals_base::{Items, NoMemory, Text};
 use std::alloc::Global;
-
-/// A port or a variable: its name, its type (none where it is neither Integer nor Boolean), and its
-/// first value, which is 0 for a port.
-#[derive(Drop)]
-pub struct Declared {
-    pub name: Text,
-    pub kind: Option<Kind>,
-    pub first: i64,
-}
 
 // A port.
 fn port_of(alloc: Global, port: &Feature) -> Result<Declared, NoMemory>

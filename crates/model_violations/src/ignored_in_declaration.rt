@@ -2,14 +2,56 @@
 ghost use Rattle.std.specs.Prelude.{◌≡◌, ◌++◌, OnOk, map, flat_map};
 ghost use Rattle.aadl_tree.specs.proof.PlaceMaps.{kept_place};
 ghost use Rattle.aadl_tree.specs.proof.DeclarationViews.{connection_view, declaration_view, feature_view};
-ghost use Rattle.aadl_tree.specs.proof.DeclarationViews.{implementation_view, subcomponent_view, type_view};
+ghost use Rattle.aadl_tree.specs.proof.DeclarationViews.{implementation_view, subcomponent_view, type_view, annex_view};
+ghost use Rattle.aadl_tree.specs.proof.DeclarationViews.{variable_view};
 ghost use Rattle.model_violations.specs.IgnoredProperties as spec;
 
-use crate::ignored_in_list::{add_annexes, add_list};
+use crate::ignored_in_list::add_list;
 use aadl_names::PropertyHolder;
-use aadl_tree::{Connection, Declaration, Feature, Implementation, Subcomponent, TypeDeclaration};
+use aadl_tree::{
+    Annex, AnnexContent, Connection, Declaration, Feature, Implementation, Subcomponent,
+    TypeDeclaration, VariableDeclaration,
+};
 use pals_base::{Items, NoMemory, Text};
 use std::alloc::Global;
+
+// Adds the names at variables.
+fn add_variables(
+    alloc: Global,
+    variables: &[VariableDeclaration],
+    found: &mut Items<Text>,
+) -> Result<(), NoMemory>
+    ensures { OnOk result (found.new ≡ found.old ++ flat_map spec.variable_ignored (map (variable_view kept_place) variables.now)) }
+{
+    for variable in variables {
+        let list = variable.properties.as_slice();
+        add_list(alloc, PropertyHolder::Variable, list, found)?;
+    }
+    Ok(())
+}
+
+// Adds the names at the variables in an annex.
+fn add_annex(alloc: Global, annex: &Annex, found: &mut Items<Text>) -> Result<(), NoMemory>
+    ensures { OnOk result (found.new ≡ found.old ++ spec.annex_ignored (annex_view kept_place annex.now)) }
+{
+    match &annex.content {
+        AnnexContent::Behaviour(tree) => match &tree.variables {
+            Some(variables) => add_variables(alloc, variables.as_slice(), found),
+            None => Ok(()),
+        },
+        AnnexContent::Unread(_) => Ok(()),
+    }
+}
+
+// Adds the names of properties that mean nothing at the variables in annexes.
+fn add_annexes(alloc: Global, annexes: &[Annex], found: &mut Items<Text>) -> Result<(), NoMemory>
+    ensures { OnOk result (found.new ≡ found.old ++ flat_map spec.annex_ignored (map (annex_view kept_place) annexes.now)) }
+{
+    for annex in annexes {
+        add_annex(alloc, annex, found)?;
+    }
+    Ok(())
+}
 
 // Adds the names at ports.
 fn add_ports(alloc: Global, ports: &[Feature], found: &mut Items<Text>) -> Result<(), NoMemory>

@@ -1,11 +1,10 @@
 //! The properties of a list that mean nothing where they stand.
-ghost use Rattle.std.specs.Prelude.{◌≡◌, ◌++◌, OnOk, map, flat_map};
+ghost use Rattle.std.specs.Prelude.{◌≡◌, ◌++◌, OnOk};
 ghost use Rattle.aadl_tree.specs.Names.{same_name};
 ghost use Rattle.std.specs.List.{list_any};
 ghost use Rattle.aadl_tree.specs.proof.PlaceMaps.{kept_place};
 ghost use Rattle.aadl_tree.specs.proof.NameViews.{name_view};
 ghost use Rattle.aadl_tree.specs.proof.ValueViews.{association_view, associations_view};
-ghost use Rattle.aadl_tree.specs.proof.DeclarationViews.{annex_view, variable_view};
 ghost use Rattle.aadl_names.specs.RecognisedProperties.{name_of, recognised};
 ghost use Rattle.aadl_names.specs.Spelling.{spelled_name};
 ghost use Rattle.model_violations.specs.IgnoredProperties as spec;
@@ -13,7 +12,7 @@ ghost use Rattle.model_violations.specs.IgnoredProperties as spec;
 use aadl_names::PropertyHolder;
 use aadl_names::name_comparison::is_spelled;
 use aadl_names::name_texts::spelled_name;
-use aadl_tree::{Annex, AnnexContent, Association, Name, VariableDeclaration};
+use aadl_tree::{Association, Name};
 use pals_base::{Items, NoMemory, Text};
 use std::alloc::Global;
 
@@ -62,48 +61,6 @@ pub fn add_list(
 {
     for association in list {
         add_association(alloc, holder, association, found)?;
-    }
-    Ok(())
-}
-
-// Adds the names at variables.
-fn add_variables(
-    alloc: Global,
-    variables: &[VariableDeclaration],
-    found: &mut Items<Text>,
-) -> Result<(), NoMemory>
-    ensures { OnOk result (found.new ≡ found.old ++ flat_map spec.variable_ignored (map (variable_view kept_place) variables.now)) }
-{
-    for variable in variables {
-        let list = variable.properties.as_slice();
-        add_list(alloc, PropertyHolder::Variable, list, found)?;
-    }
-    Ok(())
-}
-
-// Adds the names at the variables in an annex.
-fn add_annex(alloc: Global, annex: &Annex, found: &mut Items<Text>) -> Result<(), NoMemory>
-    ensures { OnOk result (found.new ≡ found.old ++ spec.annex_ignored (annex_view kept_place annex.now)) }
-{
-    match &annex.content {
-        AnnexContent::Behaviour(tree) => match &tree.variables {
-            Some(variables) => add_variables(alloc, variables.as_slice(), found),
-            None => Ok(()),
-        },
-        AnnexContent::Unread(_) => Ok(()),
-    }
-}
-
-/// Adds the names of properties that mean nothing at the variables in annexes.
-pub fn add_annexes(
-    alloc: Global,
-    annexes: &[Annex],
-    found: &mut Items<Text>,
-) -> Result<(), NoMemory>
-    ensures { OnOk result (found.new ≡ found.old ++ flat_map spec.annex_ignored (map (annex_view kept_place) annexes.now)) }
-{
-    for annex in annexes {
-        add_annex(alloc, annex, found)?;
     }
     Ok(())
 }

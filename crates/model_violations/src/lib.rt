@@ -14,6 +14,7 @@ pub mod distinct_spellings;
 pub mod ignored_in_declaration;
 pub mod ignored_in_list;
 pub mod ignored_in_package;
+pub mod port_or_variable;
 pub mod sorted_findings;
 pub mod thread_behaviour;
 pub mod used_declarations;

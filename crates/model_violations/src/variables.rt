@@ -9,7 +9,7 @@ ghost use Rattle.aadl_tree.specs.proof.DeclarationViews.{variable_view, annex_tr
 ghost use Rattle.aadl_names.specs.RecognisedProperties.{only_text, text_of};
 ghost use Rattle.model_violations.specs.PortsAndVariables as spec;
 
-use crate::declared_ports::Declared;
+use crate::port_or_variable::Declared;
 use aadl_names::PropertyName;
 use aadl_tree::{AnnexTree, Identifier, Value, VariableDeclaration};
 use annex_resolve::type_names::kind_named;

@@ -3,7 +3,7 @@ use Rattle.std.specs.Prelude.{flat_map}
 use Rattle.aadl_tree.specs.proof.DeclarationViews.{variable_view}
 use Rattle.aadl_tree.specs.proof.PlaceMaps.{kept_place}
 use Rattle.model_violations.specs.IgnoredProperties.{variable_ignored}
-use Rattle.model_violations.proofs.ignored_in_list.add_variables.Given as goal
+use Rattle.model_violations.proofs.ignored_in_declaration.add_variables.Given as goal
 
 abbrev pub invariant-loop-variable : goal.invariant-loop-variable
 invariant-loop-variable l =

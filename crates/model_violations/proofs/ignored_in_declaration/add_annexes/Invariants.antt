@@ -3,7 +3,7 @@ use Rattle.std.specs.Prelude.{flat_map}
 use Rattle.aadl_tree.specs.proof.DeclarationViews.{annex_view}
 use Rattle.aadl_tree.specs.proof.PlaceMaps.{kept_place}
 use Rattle.model_violations.specs.IgnoredProperties.{annex_ignored}
-use Rattle.model_violations.proofs.ignored_in_list.add_annexes.Given as goal
+use Rattle.model_violations.proofs.ignored_in_declaration.add_annexes.Given as goal
 
 abbrev pub invariant-loop-annex : goal.invariant-loop-annex
 invariant-loop-annex l =
