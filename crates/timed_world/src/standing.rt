@@ -5,7 +5,7 @@ ghost use Rattle.pals_runs.specs.declared.events_and_faults.EventFault.TheVarian
 ghost use Rattle.pals_node.specs.proof.NodeInvariants.{IsPlan};
 ghost use Rattle.bus_machine.specs.NodeEvents.{running_step};
 ghost use Rattle.run_laws.specs.Deadlines.{last_before, lesser};
-ghost use Rattle.run_laws.specs.EventFaults.{found_if, past};
+ghost use Rattle.run_laws.specs.EventFaults.{found_if};
 ghost use Rattle.run_laws.specs.Worlds.{is_last_sent, is_held};
 
 use bus_machine::Plan;
@@ -183,22 +183,6 @@ impl NodeStanding {
     {
         let round = self.count.saturating_sub(1);
         release_at(plan.period, plan.release_offset, round)
-    }
-}
-
-/// A fault where the time is past the last one that is allowed.
-pub fn past(time: Nanos, which: EventSubject, last: Option<u128>) -> Option<EventFault>
-    ensures { result ≡ past time which last }
-{
-    match last {
-        None => None,
-        Some(last) => {
-            if last < u128::from(time) {
-                let last = last as u64;
-                return Some(EventFault::PastDeadline { which, last });
-            }
-            None
-        }
     }
 }
 

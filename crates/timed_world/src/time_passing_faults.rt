@@ -2,11 +2,10 @@
 ghost use Rattle.std.specs.Prelude.{◌≡◌, ◌<◌, length, map};
 ghost use Rattle.std.specs.List.{enumerate_from};
 ghost use Rattle.pals_base.specs.StepSequences.{upwards};
-ghost use Rattle.run_laws.specs.EventFaults.{first_of, clock_back, clock_apart, node_past, link_past, pass_fault};
+ghost use Rattle.run_laws.specs.EventFaults.{first_of, clock_back, clock_apart, node_past, link_past, pass_fault, past};
 ghost use Rattle.timed_world.specs.proof.FlightFaults.{flying_past};
 ghost use Rattle.timed_world.specs.proof.WorldValues.{world_of};
 
-use crate::standing::past;
 use crate::world::World;
 use pals_base::{LinkNo, Nanos, NodeNo};
 use pals_runs::{EventFault, EventSubject};
@@ -124,5 +123,21 @@ impl World {
         let most = u128::from(self.bus.design().gamma().mu_max);
         let last = u128::from(self.flight_since(link, round)) + most;
         past(time, EventSubject::Message(link, round), Some(last))
+    }
+}
+
+// A fault where the time is past the last one that is allowed.
+fn past(time: Nanos, which: EventSubject, last: Option<u128>) -> Option<EventFault>
+    ensures { result ≡ past time which last }
+{
+    match last {
+        None => None,
+        Some(last) => {
+            if last < u128::from(time) {
+                let last = last as u64;
+                return Some(EventFault::PastDeadline { which, last });
+            }
+            None
+        }
     }
 }

@@ -5,6 +5,7 @@
 mod audited_rows;
 mod end_rules;
 mod entry_clocks;
+mod entry_comparison;
 mod first_broken_rule;
 mod journal_lines;
 mod numerals;

@@ -1,6 +1,6 @@
 //! The events that entries tell, done again on a bus on which no stop stands. Each gives the first rule
 //! that its entry breaks, or none. Where one is broken, nothing is said of what the bus is left in.
-ghost use Rattle.std.specs.Prelude.{◌≡◌, ◌<◌, ◌≤◌, nat_eq, length, Some, None, Ok, false, IfOk};
+ghost use Rattle.std.specs.Prelude.{◌≡◌, ◌<◌, ◌≤◌, nat_eq, length, Some, None, Ok, false, IfOk, option_copied};
 ghost use Rattle.std.specs.Option.{option_map_or};
 ghost use Rattle.pals_base.specs.declared.limits.TheConstants.{ROUNDS};
 ghost use Rattle.pals_model.specs.DesignRules.{IsDesign};
@@ -9,13 +9,15 @@ ghost use Rattle.bus_machine.specs.Nodes.{round_of};
 ghost use Rattle.bus_machine.specs.NodeEvents.{next_step};
 ghost use Rattle.bus_machine.specs.States.{node_at};
 ghost use Rattle.run_laws.specs.EntriesOfDesigns.{IsEntryIn};
-ghost use Rattle.run_laws.specs.TraceRules.{broken};
+ghost use Rattle.run_laws.specs.TraceRules.{broken, is_due};
 ghost use Rattle.trace_audit.specs.proof.ToldEvents.{IsReady, SaysStart, IsRedone};
 
 use crate::entry_clocks::{falls, target};
-use crate::first_broken_rule::{early_rule, is_due, is_last, late_rule};
+use crate::entry_comparison::is_last;
+use crate::first_broken_rule::{early_rule, late_rule};
 use pals_base::{LinkNo, Nanos, NoMemory, NodeNo};
 use pals_bus::{Bus, BusError, MessageError};
+use pals_model::FlightCopy;
 use pals_node::{SendEnd, StartEnd, StepEnd};
 use pals_runs::{Arrived, JournalEntry, Phase, TraceRule};
 use std::alloc::AllocError;
@@ -184,4 +186,17 @@ fn in_hand(bus: &Bus, node: NodeNo) -> u32
     ensures { result ≡ round_of (node_at bus.now.state node.0) }
 {
     bus.count(node).saturating_sub(1)
+}
+
+/// Whether a message is due at a reading of its target's clock.
+pub fn is_due(copy: Option<&FlightCopy>, reading: Nanos) -> bool
+    ensures { result ≡ option_map_or (is_due (Some reading)) (option_copied copy.entry) false }
+{
+    match copy {
+        None => false,
+        Some(copy) => match copy.due {
+            None => false,
+            Some(due) => due <= reading,
+        },
+    }
 }

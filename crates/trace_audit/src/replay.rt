@@ -8,7 +8,7 @@ ghost use Rattle.trace_audit.specs.proof.OwedStops.{owed_by};
 ghost use Rattle.trace_audit.specs.proof.AuditReplays.{IsReplay, Follows, IsClockOf, audit_in};
 
 use crate::entry_clocks::{ClockReading, clock_of, has_reading, note};
-use crate::first_broken_rule::is_line_of;
+use crate::entry_comparison::is_line_of;
 use crate::redone_entries::redo;
 use pals_base::{Nanos, NoMemory};
 use pals_bus::Bus;

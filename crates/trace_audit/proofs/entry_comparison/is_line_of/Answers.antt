@@ -1,7 +1,7 @@
 use Rattle.std.proofs.Common.{sym}
 use Rattle.run_laws.proofs.EntryLines.{lines_differ}
 use Rattle.trace_audit.proofs.StartLines.{line_is}
-use Rattle.trace_audit.proofs.first_broken_rule.is_line_of.Goals as goal
+use Rattle.trace_audit.proofs.entry_comparison.is_line_of.Goals as goal
 
 pub returns : goal.returns
 returns c =
