@@ -188,8 +188,8 @@ fn in_hand(bus: &Bus, node: NodeNo) -> u32
     bus.count(node).saturating_sub(1)
 }
 
-/// Whether a message is due at a reading of its target's clock.
-pub fn is_due(copy: Option<&FlightCopy>, reading: Nanos) -> bool
+// Whether a message is due at a reading of its target's clock.
+fn is_due(copy: Option<&FlightCopy>, reading: Nanos) -> bool
     ensures { result ≡ option_map_or (is_due (Some reading)) (option_copied copy.entry) false }
 {
     match copy {
