@@ -7,7 +7,7 @@ use Rattle.aadl_names.specs.declared.fault.PackageFault.{PackageFault}
 use Rattle.aadl_names.specs.FirstFaults.{FirstOf}
 use Rattle.aadl_names.specs.proof.FirstFaultSoFar.{found}
 use Rattle.aadl_names.proofs.FirstFaultSoFar.{found_append}
-use Rattle.aadl_uses.specs.proof.PackageContainment.{FirstIn}
+use Rattle.aadl_uses.specs.proof.FirstRecursion.{FirstIn}
 use Rattle.aadl_names.proofs.SameFirstFaults.{found_is_first}
 use Rattle.aadl_chains.specs.proof.ConnectionFaults.{FindsAll}
 

@@ -13,7 +13,8 @@ use Rattle.aadl_chains.specs.Chains.{Port, Place, port_at, Goes, Leads, is_in, I
 use Rattle.aadl_chains.specs.proof.PortsJoinedInside.{is_in_at}
 use Rattle.aadl_chains.specs.proof.DeclaredEnds.{MayEnter}
 use Rattle.aadl_chains.proofs.ConnectionsOnChains.{is_in-at}
-use Rattle.aadl_chains.specs.proof.SoundConnections.{IsSound, Passes}
+use Rattle.aadl_chains.specs.proof.SoundConnections.{IsSound}
+use Rattle.aadl_chains.specs.proof.TracedChains.{Passes}
 
 place_by : (a b : Place) → a.path ≡ b.path → a.connection ≡ b.connection → a ≡ b
 place_by a b path number =

@@ -17,13 +17,13 @@ use Rattle.aadl_names.specs.declared.port_place.PortPlace.{PortPlace}
 use Rattle.aadl_names.specs.proof.FirstFaultSoFar.{found}
 use Rattle.aadl_names.proofs.FirstFaultSoFar.{found_append}
 use Rattle.aadl_uses.specs.Uses.{IsInUse}
-use Rattle.aadl_uses.specs.proof.PackageContainment.{FirstIn}
+use Rattle.aadl_uses.specs.proof.FirstRecursion.{FirstIn}
 use Rattle.aadl_uses.specs.declared.connections_by_target.Wire.{Wire}
 use Rattle.aadl_uses.specs.SecondConnections.{IsDuplicate}
 use Rattle.aadl_uses.specs.Wiring.{wire_of, wires_of, wires_at}
 use Rattle.aadl_chains.specs.proof.PortsJoinedOutside.{LeadsFrom}
 use Rattle.aadl_chains.proofs.JoinedInsideByDeclaration.{one_of_two}
-use Rattle.aadl_chains.specs.Chains.{IsDeadEnd, IsEndFault}
+use Rattle.aadl_chains.specs.ChainFaults.{IsDeadEnd, IsEndFault}
 use Rattle.aadl_chains.specs.proof.DeclaredEnds.{AreDeclared}
 use Rattle.aadl_chains.specs.proof.ConnectionsOnChains.{IsOnChain}
 use Rattle.aadl_chains.specs.proof.ConnectionFaults.{FindsAll, IsOnChainAt, IsFoundAt, IsFoundIn, dead_end, second}

@@ -17,8 +17,8 @@ use Rattle.aadl_chains.specs.proof.DeclaredEnds.{AreDeclared}
 use Rattle.aadl_chains.proofs.ConnectionsOnChains.{is_in-at}
 use Rattle.aadl_chains.specs.proof.LimitedCounts.{IsNumber}
 use Rattle.aadl_chains.specs.proof.Walks.{Crossing, at_root, crosses, climb, IsThreadPort}
-use Rattle.aadl_chains.specs.proof.EnteredPortCounts.{ComesFrom, EndsLink, Through, Deeper, AmongFirst, FromOwn}
-use Rattle.aadl_chains.specs.proof.EnteredPortCounts.{FromThread}
+use Rattle.aadl_chains.specs.proof.EnteredThreadPorts.{ComesFrom, EndsLink, Through, Deeper, AmongFirst, FromOwn}
+use Rattle.aadl_chains.specs.proof.EnteredThreadPorts.{FromThread}
 use Rattle.aadl_chains.proofs.LimitedCounts.{no_number, one_number, both_numbers, image_number}
 use Rattle.aadl_chains.proofs.FirstIncomingConnections.{first_wire, into_first, known_into}
 use Rattle.aadl_chains.proofs.WalksOneLevelOut.{last_of, same_ends, port_outer, port_inner, climb_outer, root_outer}

@@ -27,7 +27,7 @@ use Rattle.aadl_chains.specs.Chains.{Port, Place, port_at, Goes}
 use Rattle.aadl_chains.specs.proof.DeclaredEnds.{MayLeave, MayEnter, NotBothOwn, AreDeclared}
 use Rattle.aadl_chains.proofs.ConnectionsOnChains.{among_goes, wire_of_goes}
 use Rattle.aadl_chains.specs.proof.Walks.{OneEach}
-use Rattle.aadl_chains.specs.proof.OutermostFirstWalks.{IsFromInner}
+use Rattle.aadl_chains.specs.proof.WalksUpAndDown.{IsFromInner}
 
 -- ---- the first that passes a test
 pub record FirstAt {X : Type 0} (test : X → Bool) (xs : List X) (k n : ℕ) : Type 0 where

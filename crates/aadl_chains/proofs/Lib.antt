@@ -23,3 +23,4 @@ pub mod TracedChains
 pub mod OutermostFirstWalks
 pub mod WalksUpAndDown
 pub mod SamePaths
+pub mod DeclarationRanks

@@ -5,7 +5,7 @@ use Rattle.std.specs.List.{AllByRecursion}
 use Rattle.std.proofs.lemmas.List.{length-append, length-map}
 use Rattle.list_lemmas.proofs.Numbers.{min-add_capped}
 use Rattle.list_lemmas.proofs.Elements.{AllByRecursion-append, AllByRecursion-map, AllByRecursion-weaker}
-use Rattle.aadl_uses.specs.proof.MarkedPathCounts.{Among}
+use Rattle.aadl_uses.specs.proof.OrderedLists.{Among}
 use Rattle.aadl_uses.proofs.MarkedPathCounts.{among_left, among_right, among_map}
 use Rattle.aadl_chains.specs.proof.LimitedCounts.{Distinct, IsNumber}
 

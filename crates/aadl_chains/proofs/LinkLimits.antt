@@ -11,7 +11,8 @@ use Rattle.std.proofs.lemmas.List.Kept.{AllPairs-cons}
 use Rattle.std.proofs.lemmas.Option.{same_Some, option_and_then_some, slice_get_within, slice_get-get_or, slice_get-map}
 use Rattle.list_lemmas.proofs.Elements.{Contains-nil}
 use Rattle.list_lemmas.proofs.ElementPositions.{slice_get-from_Contains, Contains-from_slice_get}
-use Rattle.aadl_uses.specs.proof.MarkedPathCounts.{Among, count_of}
+use Rattle.aadl_uses.specs.proof.MarkedPathCounts.{count_of}
+use Rattle.aadl_uses.specs.proof.OrderedLists.{Among}
 use Rattle.aadl_tree.specs.declared.declarations.Direction.TheVariants as directions
 use Rattle.aadl_tree.specs.Declarations.{Connection, Implementation, PackageTree}
 use Rattle.aadl_names.specs.declared.port_place.PortPlace.TheVariants.{Own, Inner}
@@ -27,13 +28,14 @@ use Rattle.aadl_uses.specs.Wiring.{wire_of, wires_of, wires_at}
 use Rattle.aadl_uses.proofs.DeclarationTables.{listed}
 use Rattle.aadl_uses.proofs.ThreadCounts.{thread_by}
 use Rattle.aadl_chains.specs.proof.PortsJoinedInside.{is_thread_at, Reaches, ReachesIn, of_thread, of_inner}
-use Rattle.aadl_chains.specs.Chains.{Port, Place, Leads, is_in, IsEndFault}
+use Rattle.aadl_chains.specs.Chains.{Port, Place, Leads, is_in}
+use Rattle.aadl_chains.specs.ChainFaults.{IsEndFault}
 use Rattle.aadl_chains.specs.proof.DeclaredEnds.{AreDeclared}
 use Rattle.aadl_chains.proofs.ConnectionsOnChains.{next_at, is_in-at}
 use Rattle.aadl_chains.specs.proof.LimitedCounts.{Distinct, IsNumber}
 use Rattle.aadl_chains.specs.proof.Walks.{OneEach}
 use Rattle.aadl_chains.specs.LinksFeedsAndTaps.{Ends, IsLink, OtherTarget}
-use Rattle.aadl_chains.specs.proof.EnteredPortCounts.{EndsLink, Through, Deeper, AmongFirst, FromThread}
+use Rattle.aadl_chains.specs.proof.EnteredThreadPorts.{EndsLink, Through, Deeper, AmongFirst, FromThread}
 use Rattle.aadl_chains.proofs.LimitedCounts.{no_number, same_number, both_numbers, no_more}
 use Rattle.aadl_chains.proofs.FirstIncomingConnections.{goes_at}
 use Rattle.aadl_chains.proofs.ChainsOfWalks.{crossed}

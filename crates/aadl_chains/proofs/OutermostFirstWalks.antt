@@ -3,18 +3,16 @@
 use Rattle.std.proofs.Common.{◌≡◌, ◌⊎◌, inl, inr, ℕ, zero, suc, ◌+◌, ◌<◌, ◌≤◌, false, nat_eq, List, [], ◌∷◌, ◌++◌, take}
 use Rattle.std.proofs.Common.{reverse, length, slice_get, get_or, Option, Some, None, option_map, refl, sym, ap, subst}
 use Rattle.std.proofs.Common.{◌∙◌, arith}
-use Rattle.std.specs.Option.{option_and_then, option_map_or}
+use Rattle.std.specs.Option.{option_and_then}
 use Rattle.std.proofs.lemmas.Bool.{eqb-true, eq-eqb, cases_lt}
-use Rattle.std.proofs.lemmas.List.{reverse-append, length-map}
+use Rattle.std.proofs.lemmas.List.{reverse-append}
 use Rattle.std.proofs.lemmas.Option.{none-some, slice_get_past}
-use Rattle.list_lemmas.proofs.ElementPositions.{slice_get-from_Contains}
 use Rattle.aadl_tree.specs.Declarations.{Subcomponent, PackageTree}
 use Rattle.aadl_names.specs.declared.port_place.PortPlace.{PortPlace}
 use Rattle.aadl_names.specs.declared.port_place.PortPlace.TheVariants.{Own, Inner}
 use Rattle.aadl_names.specs.ReferenceResolution.{first_number, implementation_in, subcomponents_of, referred}
 use Rattle.aadl_uses.specs.Uses.{below, standing}
-use Rattle.aadl_uses.specs.proof.PackageContainment.{containment, targets_in}
-use Rattle.aadl_uses.proofs.PackageContainment.{below-same}
+use Rattle.aadl_uses.specs.proof.PackageContainment.{containment}
 use Rattle.aadl_uses.specs.proof.IncomingConnections.{connection_into}
 use Rattle.aadl_uses.specs.proof.ContainmentOrders.{IsOrder}
 use Rattle.aadl_chains.specs.proof.PortsJoinedInside.{is_in_at}
@@ -122,13 +120,8 @@ module _ (tree : PackageTree ℕ) (root : ℕ) where
       leaves_by : (n : ℕ) (source : PortPlace) → MayLeave tree n source → source ≡ Inner c.sub c.port
           → (m : ℕ) × (below tree n c.sub ≡ Some m) × (is_in_at tree m c.port ≡ false)
       leaves_by n source may e = subst (MayLeave tree n) e may
-
--- ---- declarations by their places in an order
-pub rank : List ℕ → ℕ → ℕ
-rank keys n = option_map_or (λ k. k) (first_number (nat_eq n) keys) 0
-
 module _ (tree : PackageTree ℕ) (keys : List ℕ) (order : IsOrder (containment tree) keys) where
-  place_of : (n i : ℕ) → slice_get keys i ≡ Some n
+  pub place_of : (n i : ℕ) → slice_get keys i ≡ Some n
       → (k : ℕ) × (first_number (nat_eq n) keys ≡ Some k) × (k ≤ i) × (slice_get keys k ≡ Some n)
   place_of n i is =
       let f = some_first (nat_eq n) keys 0 i n is (eq-eqb n n refl) in
@@ -138,7 +131,7 @@ module _ (tree : PackageTree ℕ) (keys : List ℕ) (order : IsOrder (containmen
       let same : f.0 ≡ at.index = omega arith in
       (f.0, f.1, omega arith, ap (slice_get keys) same ∙ (at.is_item ∙ ap Some (sym (eqb-true n at.item at.passes))))
 
-  declared_by : (n s m : ℕ) → below tree n s ≡ Some m → n < length tree.declarations
+  pub declared_by : (n s m : ℕ) → below tree n s ≡ Some m → n < length tree.declarations
   declared_by n s m b = by (cases_lt n (length tree.declarations))
     where
       none_past : length tree.declarations ≤ n → below tree n s ≡ None
@@ -155,21 +148,3 @@ module _ (tree : PackageTree ℕ) (keys : List ℕ) (order : IsOrder (containmen
       by : (n < length tree.declarations) ⊎ (length tree.declarations ≤ n) → n < length tree.declarations
       by (inl lt) = lt
       by (inr past) = absurd (none-some m (sym (none_past past) ∙ b))
-
-  -- what a declaration contains stands before it
-  pub rank_falls : (n s m : ℕ) → below tree n s ≡ Some m → rank keys m < rank keys n
-  unfolding rank
-  rank_falls n s m b =
-      let size = length-map tree.declarations (targets_in tree) in
-      let lt = declared_by n s m b in
-      let c = order.all n (omega (arith, size, lt)) in
-      let p = place_of n c.0 (slice_get-from_Contains keys n c) in
-      let j = order.sequence.behind p.0 n s m p.3 (below-same tree n s ∙ b) in
-      let q = place_of m j.0 j.2 in
-      let before = j.1 in
-      let first = q.2 in
-      let left : option_map_or (λ k. k) (first_number (nat_eq m) keys) 0
-      ≡ q.0 = ap (λ o. option_map_or (λ k. k) o 0) q.1 in
-      let right : option_map_or (λ k. k) (first_number (nat_eq n) keys) 0
-      ≡ p.0 = ap (λ o. option_map_or (λ k. k) o 0) p.1 in
-      omega arith

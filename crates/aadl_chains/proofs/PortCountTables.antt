@@ -28,8 +28,9 @@ use Rattle.aadl_chains.specs.Chains.{Port}
 use Rattle.aadl_chains.specs.proof.DeclaredEnds.{MayEnter, AreDeclared}
 use Rattle.aadl_chains.proofs.ConnectionsOnChains.{is_in-at}
 use Rattle.aadl_chains.specs.proof.LimitedCounts.{IsNumber}
-use Rattle.aadl_chains.specs.proof.EnteredPortCounts.{ComesFrom, Through, AmongFirst, FromOwn, taken, taken_by}
-use Rattle.aadl_chains.specs.proof.EnteredPortCounts.{AreTaken, AreTakenBelow, IsTaken, IsNew, AreAdded}
+use Rattle.aadl_chains.specs.proof.EnteredPortCountTables.{taken, taken_by, AreTaken, AreTakenBelow, IsTaken, IsNew}
+use Rattle.aadl_chains.specs.proof.EnteredPortCountTables.{AreAdded}
+use Rattle.aadl_chains.specs.proof.EnteredThreadPorts.{ComesFrom, Through, AmongFirst, FromOwn}
 use Rattle.aadl_chains.proofs.LimitedCounts.{no_number, same_number}
 use Rattle.aadl_chains.proofs.FirstIncomingConnections.{first_if, second_never, first_wire}
 use Rattle.aadl_chains.proofs.EnteredThreadPorts.{through_number, own_from, own_to, one_through, thread_number}

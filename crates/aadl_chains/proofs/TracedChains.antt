@@ -17,10 +17,9 @@ use Rattle.aadl_chains.proofs.ConnectionsOnChains.{next_at, is_in-at, thread_fro
 use Rattle.aadl_chains.specs.declared.chain_tracing.ChainStart.{ChainStart}
 use Rattle.aadl_chains.specs.declared.chain_tracing.ChainStart.TheVariants as begins
 use Rattle.aadl_chains.specs.declared.chain_tracing.ChainRoute.{ChainRoute}
-use Rattle.aadl_chains.specs.proof.SoundConnections.{Passes}
+use Rattle.aadl_chains.specs.proof.TracedChains.{Passes, route_ends, IsGiver, Descends, Traces, TracesTap}
 use Rattle.aadl_chains.specs.proof.Walks.{Crossing, nowhere, at_root, crosses, climb, OneEach, IsThreadPort}
 use Rattle.aadl_chains.specs.LinksFeedsAndTaps.{Ends, IsLink, IsFeed, IsTap}
-use Rattle.aadl_chains.specs.proof.TracedChains.{route_ends, IsGiver, Descends, Traces, TracesTap}
 use Rattle.aadl_chains.proofs.ChainsFromEnds.{passes_end, passes_before, only_start, no_chain}
 use Rattle.aadl_chains.proofs.FirstIncomingConnections.{entered, goes_into, into_of_goes, inner_of}
 use Rattle.aadl_chains.proofs.WalksOfChains.{into_own}

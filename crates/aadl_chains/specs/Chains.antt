@@ -1,17 +1,12 @@
 -- Ports and connections of the flattened design, and the chains that connections make.
-use Rattle.std.specs.Prelude.{◌≡◌, ◌⊎◌, ◌≢◌, ℕ, Bool, true, false, List, [], ◌∷◌, Option, Some, option_map, slice_get}
-use Rattle.std.specs.Prelude.{Contains}
+use Rattle.std.specs.Prelude.{◌≡◌, ◌⊎◌, ℕ, Bool, true, false, List, [], ◌∷◌, Option, Some, option_map, slice_get}
 use Rattle.aadl_tree.specs.Declarations.{Feature, Connection, Implementation, PackageTree}
-use Rattle.aadl_names.specs.declared.fault.PackageFault.{PackageFault}
-use Rattle.aadl_names.specs.declared.fault.PackageFault.TheVariants.{DeadEnd, TwoSources}
 use Rattle.aadl_names.specs.declared.port_place.PortPlace.{PortPlace}
 use Rattle.aadl_names.specs.declared.port_place.PortPlace.TheVariants.{Own, Inner}
-use Rattle.aadl_names.specs.ReferenceResolution.{implementation_at, connections_of, ports_at, site}
+use Rattle.aadl_names.specs.ReferenceResolution.{implementation_at, ports_at, site}
 use Rattle.aadl_names.specs.PackageFaults.{goes_in}
-use Rattle.aadl_uses.specs.Uses.{standing, component_at, IsInUse}
+use Rattle.aadl_uses.specs.Uses.{standing, component_at}
 use Rattle.aadl_uses.specs.ThreadsBelow.{IsThreadAt}
-use Rattle.aadl_uses.specs.SecondConnections.{IsDuplicate}
-use Rattle.aadl_uses.specs.Wiring.{wires_at}
 
 -- a port of the component at a path
 pub record Port : Type 0 where
@@ -69,26 +64,3 @@ pub record IsChain (tree : PackageTree ℕ) (root : ℕ) (chain : List Place) (f
   pub leads : Leads tree root chain from to
   pub start : IsStart tree root from
   pub ends : IsEnd tree root to
-
--- a connection of an implementation in use that is on no chain, wherever it stands in the design
-pub record IsDeadEnd (tree : PackageTree ℕ) (root : ℕ) (x : Connection ℕ) : Type 0 where
-  pub number : ℕ
-  pub connection : ℕ
-  pub used : IsInUse tree root number
-  pub is_connection : slice_get (connections_of (implementation_at tree number)) connection ≡ Some x
-  pub on_none : (chain : List Place) (from to : Port) (place : Place) → IsChain tree root chain from to
-      → Contains chain place
-      → standing tree root place.path ≡ Some number → place.connection ≢ connection
-
--- a connection of an implementation in use into a port into which one goes that stands before it
-pub record IsSecondEnd (tree : PackageTree ℕ) (root : ℕ) (x : Connection ℕ) : Type 0 where
-  pub number : ℕ
-  pub connection : ℕ
-  pub used : IsInUse tree root number
-  pub is_connection : slice_get (connections_of (implementation_at tree number)) connection ≡ Some x
-  pub is_second : IsDuplicate (wires_at tree number) connection
-
-abbrev pub IsEndFault : PackageTree ℕ → ℕ → PackageFault → Type 0
-IsEndFault tree root fault =
-    ((x : Connection ℕ) × IsDeadEnd tree root x × (fault ≡ DeadEnd x.name.spelling x.name.at))
-    ⊎ ((x : Connection ℕ) × IsSecondEnd tree root x × (fault ≡ TwoSources x.name.spelling x.name.at))

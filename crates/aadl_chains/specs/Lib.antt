@@ -1,3 +1,4 @@
 pub mod Chains
 pub mod LinksFeedsAndTaps
 pub mod proof
+pub mod ChainFaults

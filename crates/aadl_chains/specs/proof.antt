@@ -8,6 +8,8 @@ pub mod ConnectionFaults
 pub mod SoundConnections
 pub mod Walks
 pub mod LimitedCounts
-pub mod EnteredPortCounts
 pub mod TracedChains
 pub mod OutermostFirstWalks
+pub mod EnteredThreadPorts
+pub mod EnteredPortCountTables
+pub mod WalksUpAndDown

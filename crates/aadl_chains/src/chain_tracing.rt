@@ -12,7 +12,7 @@ ghost use Rattle.aadl_chains.specs.proof.Walks as walks;
 ghost use Rattle.aadl_chains.specs.proof.Walks.{OneEach, IsThreadPort};
 ghost use Rattle.aadl_chains.specs.proof.TracedChains.{Descends, Traces, TracesTap};
 ghost use Rattle.aadl_chains.specs.proof.OutermostFirstWalks as spec;
-ghost use Rattle.aadl_chains.specs.proof.OutermostFirstWalks.{IsFromInner, IsLower, LeadsDown};
+ghost use Rattle.aadl_chains.specs.proof.WalksUpAndDown.{IsFromInner, IsLower, LeadsDown};
 
 use aadl_names::PortPlace;
 use aadl_uses::{Wires, standing};

@@ -12,11 +12,12 @@ ghost use Rattle.aadl_uses.specs.Wiring.{wires_at};
 ghost use Rattle.aadl_uses.specs.proof.ContainmentOrders.{IsOrder};
 ghost use Rattle.aadl_uses.specs.proof.MarkedPathCounts as spec;
 ghost use Rattle.aadl_chains.specs.proof.PortsJoinedInside.{IsInside, is_thread_at};
-ghost use Rattle.aadl_chains.specs.Chains.{IsEndFault};
+ghost use Rattle.aadl_chains.specs.ChainFaults.{IsEndFault};
 ghost use Rattle.aadl_chains.specs.proof.DeclaredEnds.{AreDeclared};
 ghost use Rattle.aadl_chains.specs.proof.LimitedCounts.{IsNumber};
 ghost use Rattle.aadl_chains.specs.LinksFeedsAndTaps.{IsLink, OtherTarget};
-ghost use Rattle.aadl_chains.specs.proof.EnteredPortCounts.{EndsLink, Deeper, FromThread, AreTakenBelow};
+ghost use Rattle.aadl_chains.specs.proof.EnteredPortCountTables.{AreTakenBelow};
+ghost use Rattle.aadl_chains.specs.proof.EnteredThreadPorts.{EndsLink, Deeper, FromThread};
 
 use crate::InnerJoins;
 use crate::port_counts::PortCounts;

@@ -8,8 +8,9 @@ ghost use Rattle.aadl_chains.specs.declared.port_set.PortAt.{PortAt};
 ghost use Rattle.aadl_chains.specs.proof.PortSets.{same_port};
 ghost use Rattle.aadl_chains.specs.proof.DeclaredEnds.{AreDeclared};
 ghost use Rattle.aadl_chains.specs.proof.LimitedCounts.{IsNumber};
-ghost use Rattle.aadl_chains.specs.proof.EnteredPortCounts.{taken, taken_by, Through, AreTaken, AreTakenBelow, IsTaken};
-ghost use Rattle.aadl_chains.specs.proof.EnteredPortCounts.{AreAdded};
+ghost use Rattle.aadl_chains.specs.proof.EnteredPortCountTables.{taken, taken_by, AreTaken, AreTakenBelow, IsTaken};
+ghost use Rattle.aadl_chains.specs.proof.EnteredPortCountTables.{AreAdded};
+ghost use Rattle.aadl_chains.specs.proof.EnteredThreadPorts.{Through};
 
 use crate::PortAt;
 use aadl_names::PortPlace;

@@ -17,7 +17,7 @@ use Rattle.aadl_tree.specs.TextTreesAndFaults.{IsTreeOf}
 use Rattle.aadl_tree.specs.CanonicalText.{canon, canonical}
 use Rattle.aadl_tree.proofs.ConcatenatedSpellings.{written_spells, kept_spells}
 use Rattle.aadl_grammar.specs.proof.StackMachine.{whole_package}
-use Rattle.aadl_grammar.specs.proof.MovedPackages.{Behind, Rising}
+use Rattle.aadl_grammar.specs.proof.PlaceOrder.{Behind, Rising}
 use Rattle.aadl_grammar.proofs.PlaceIndependence.AlikeParts.{alike_kept}
 use Rattle.aadl_grammar.proofs.PlaceIndependence.Declarations.{package_alike}
 use Rattle.aadl_grammar.proofs.DerivationTrees.DerivationsAndMachineSteps.{Derives}

@@ -28,3 +28,7 @@ listed_first false x m xs same more e = Contains-cons x m xs (more e)
 pub is_listed : (xs : List Mark) (m : Mark) → listed xs m ≡ true → Contains xs m
 is_listed [] m e = cc
 is_listed (x ∷ xs) m e = listed_first _ x m xs (λ f. same_number x m (eqb-true _ _ f)) (is_listed xs m) e
+
+pub not_both : (a : Bool) → not a ≡ true → a ≡ true → ⊥
+not_both true e h = cc
+not_both false e h = cc

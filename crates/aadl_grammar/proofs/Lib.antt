@@ -40,3 +40,5 @@ pub mod KeywordAndSymbolSpellings
 pub mod PossibleLexedTerminals
 pub mod CanonicalUtf8
 pub mod CanonicalRoundTrip
+pub mod ParserFaults
+pub mod ListAnswers

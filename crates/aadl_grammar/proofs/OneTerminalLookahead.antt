@@ -6,7 +6,7 @@ use Rattle.std.specs.Cmp.{first_so, second_so}
 use Rattle.aadl_grammar.specs.proof.GrammarSymbols.{Class, Symbol, Row}
 use Rattle.aadl_grammar.specs.proof.ParseTable.{rows, Differ, Decides}
 use Rattle.aadl_grammar.specs.proof.StackMachine.{class_number}
-use Rattle.aadl_grammar.proofs.HeadsAndTails.{not_both}
+use Rattle.aadl_grammar.proofs.KeywordListMembership.{not_both}
 use Rattle.aadl_grammar.proofs.DerivationTrees.ForbiddenFollowers.{among, firsts, distinct, distinct_firsts}
 
 differ : (c : Class) (rs : List Row) → (among (class_number c) (firsts rs) ≡ true → ⊥) → Differ c rs

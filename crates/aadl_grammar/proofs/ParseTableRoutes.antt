@@ -10,7 +10,7 @@ use Rattle.aadl_tree.specs.declared.mark.Mark.{Mark}
 use Rattle.aadl_tree.specs.declared.mark.Mark.TheVariants as k
 use Rattle.aadl_tree.specs.proof.MarkNumbers.{mark_number}
 use Rattle.aadl_tree.proofs.MarkNumbers.{same_number}
-use Rattle.aadl_grammar.proofs.HeadsAndTails.{not_both}
+use Rattle.aadl_grammar.proofs.KeywordListMembership.{not_both}
 use Rattle.aadl_grammar.specs.proof.StackMachine.{class_number}
 use Rattle.aadl_grammar.specs.proof.GrammarSymbols.{Class, a_word, a_whole, a_real, a_quoted, an_unread, the, Symbol}
 use Rattle.aadl_grammar.specs.proof.GrammarSymbols.{Row}

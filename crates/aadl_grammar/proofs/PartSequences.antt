@@ -5,7 +5,7 @@ use Rattle.std.proofs.lemmas.List.{append-nil}
 use Rattle.aadl_tree.specs.declared.mark.Mark.{Mark}
 use Rattle.aadl_tree.specs.Terminals.{Kind, mark, word, Spot}
 use Rattle.aadl_tree.specs.SpellingParts.{Part, token, may, extra_kinds, HaveKinds, Written, marked_if}
-use Rattle.aadl_tree.specs.LanguagesAndNesting.{place}
+use Rattle.aadl_tree.specs.TerminalFaults.{place}
 use Rattle.aadl_tree.specs.Names.{Identifier, identifier_parts}
 use Rattle.aadl_tree.proofs.ConcatenatedSpellings.{written_append}
 use Rattle.aadl_grammar.specs.proof.ParserAnswers.{spot, At, AtMark, AtWord, IsMarked, Reads}

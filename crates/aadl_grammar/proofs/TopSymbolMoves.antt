@@ -2,8 +2,6 @@
 -- the ends of the parts of a parser. For the proofs of parsers.
 use Rattle.std.proofs.Common.{◌≡◌, ℕ, ◌+◌, ◌<◌, ◌≤◌, Bool, true, false, cond, ◌∙◌, sym, ap, subst, refl, List, [], ◌∷◌}
 use Rattle.std.proofs.Common.{◌++◌, ◌==◌, inl, inr}
-use Rattle.std.specs.Prelude.{Result, Ok, Err, IfOk}
-use Rattle.std.specs.Result.{IsErrAnd}
 use Rattle.std.proofs.lemmas.Bool.{or_cases, or_parts, false_from_ne_true}
 use Rattle.list_lemmas.proofs.Booleans.{opposed}
 use Rattle.aadl_tree.specs.declared.mark.Mark.{Mark}
@@ -11,21 +9,18 @@ use Rattle.aadl_tree.specs.proof.MarkNumbers.{mark_number}
 use Rattle.aadl_tree.specs.Terminals.{Kind, mark, word, Spot}
 use Rattle.aadl_tree.specs.Names.{Identifier}
 use Rattle.aadl_tree.specs.declared.nesting_limit.TheConstants.{GREATEST_NESTING}
-use Rattle.aadl_tree.specs.LanguagesAndNesting.{place}
+use Rattle.aadl_tree.specs.TerminalFaults.{place}
 use Rattle.aadl_grammar.specs.proof.GrammarSymbols.{the, Symbol, Row}
 use Rattle.aadl_grammar.specs.proof.GrammarSymbols as s
 use Rattle.aadl_grammar.specs.proof.ParseTable.{on, behind, rows, can_omit}
 use Rattle.aadl_grammar.specs.proof.StackMachine.{Stack, Move, takes, omitted, refuses, kind_number, class_number, fits}
-use Rattle.aadl_grammar.specs.proof.StackMachine.{move_by, move, depth, Fate, syntax_at, deep_at, fate}
+use Rattle.aadl_grammar.specs.proof.StackMachine.{move_by, move, depth, syntax_at, deep_at, fate}
 use Rattle.aadl_grammar.proofs.DerivationTrees.ForbiddenFollowers.{among, firsts}
 use Rattle.aadl_grammar.proofs.DerivationTrees.DerivationsAndMachineSteps.{move_omits, move_refuses}
 use Rattle.aadl_grammar.proofs.Fates.FirstTerminalFates.{move_at, fate_by, fate_is, fate_takes, fate_deep, fate_omits}
 use Rattle.aadl_grammar.proofs.Fates.FirstTerminalFates.{fate_refuses, fate_expands, fate_enters, fate_passes, NoneFits}
 use Rattle.aadl_grammar.proofs.Fates.FirstTerminalFates.{none_own, fits_itself}
-use Rattle.aadl_grammar.specs.declared.reader.Reader.{Reader}
-use Rattle.aadl_grammar.specs.declared.parse_fault.ParseFault.{ParseFault}
-use Rattle.aadl_grammar.specs.declared.parse_fault.ParseFault.TheVariants.{Memory, Syntax, TooDeep}
-use Rattle.aadl_grammar.specs.proof.ParserAnswers.{spot, At, AtMark, AtWord, Misses, MissAll, IsMarked, FailsAs, RunsTo}
+use Rattle.aadl_grammar.specs.proof.ParserAnswers.{spot, At, AtMark, AtWord, Misses, MissAll, IsMarked}
 
 -- the symbol takes the first terminal
 pub takes_row : (outer end : ℕ) (x : Symbol) (below : Stack) {kind : Kind} {ss rest : List Spot} {f : List Symbol}
@@ -151,27 +146,6 @@ pub before_closer : (outer end : ℕ) (x y : Symbol) (own : List Row) (more : Li
     → fate outer end (x ∷ s.only m ∷ below) ss ≡ fate outer end (y ∷ more ++ s.only m ∷ below) ss
 before_closer outer end x y own more m below ss e o p own_miss miss =
     by_move outer end x y own more m below ss (move_at y ss) e o p own_miss miss refl (never_omits y ss p)
-
--- a fault stays what it is along an equation
-pub along : (a b : Fate) (e : ParseFault) → a ≡ b → FailsAs b e → FailsAs a e
-along a b Memory h f = tt
-along a b (Syntax at) h f = h ∙ f
-along a b (TooDeep at) h f = h ∙ f
-
--- the exits by `?`
-pub exits : {X : Type 0} (next : X → ℕ) (r : Reader) (outer : ℕ) (below : Stack) (was : Fate) (e : ParseFault)
-    (result : Result X ParseFault) → IsErrAnd result (λ y. y ≡ e) → FailsAs was e → RunsTo next r outer below was result
-exits next r outer below was e (Ok x) h g = absurd h
-exits next r outer below was e (Err y) h g = subst (λ (z : ParseFault). FailsAs was z) (sym h) g
-
-pub no_reads : {X : Type 0} (P : X → Type 0) (e : ParseFault) (result : Result X ParseFault)
-    → IsErrAnd result (λ y. y ≡ e) → IfOk result P
-no_reads P e (Ok x) h = absurd h
-no_reads P e (Err y) h = tt
-
--- an opener for which there is no room
-pub too_deep : (was : Fate) (at : ℕ) (e : ParseFault) → e ≡ TooDeep at → was ≡ deep_at at → FailsAs was e
-too_deep was at e is h = subst (λ (z : ParseFault). FailsAs was z) (sym is) h
 
 -- a keyword that may be left out
 pub flag_runs : (outer end : ℕ) (x : Symbol) (below : Stack) (m : Mark) (b : Bool) (ss rest : List Spot)

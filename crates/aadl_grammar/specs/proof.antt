@@ -11,3 +11,4 @@ pub mod ReachableKeywords
 pub mod TextOutcomes
 pub mod CanonicalRoundTrip
 pub mod SymbolTrees
+pub mod PlaceOrder

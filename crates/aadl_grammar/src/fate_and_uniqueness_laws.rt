@@ -6,13 +6,15 @@ ghost use Rattle.aadl_tree.specs.declared.mark.Mark.TheVariants as k;
 ghost use Rattle.aadl_tree.specs.SpellingParts.{Spells, Written, kept};
 ghost use Rattle.aadl_tree.specs.Annexes.{AnnexTree, annex_tree_parts};
 ghost use Rattle.aadl_tree.specs.Declarations.{PackageTree, package_parts};
-ghost use Rattle.aadl_tree.specs.LanguagesAndNesting.{nesting, IsPackage, IsBehaviour, IsShallow, FailsAt, DeepAt};
+ghost use Rattle.aadl_tree.specs.LanguagesAndNesting.{nesting, IsPackage, IsBehaviour, IsShallow};
+ghost use Rattle.aadl_tree.specs.TerminalFaults.{FailsAt, DeepAt};
 ghost use Rattle.aadl_tree.specs.proof.ExampleTransition.{counting_kinds};
 ghost use Rattle.aadl_grammar.specs.proof.GrammarSymbols.{Symbol};
 ghost use Rattle.aadl_grammar.specs.proof.GrammarSymbols as s;
 ghost use Rattle.aadl_grammar.specs.proof.ParseTable.{rows, Decides};
 ghost use Rattle.aadl_grammar.specs.proof.StackMachine.{fate, finished, syntax_at, deep_at, whole_package, annex_body};
-ghost use Rattle.aadl_grammar.specs.proof.MovedPackages.{Rising, SamePackage};
+ghost use Rattle.aadl_grammar.specs.proof.MovedPackages.{SamePackage};
+ghost use Rattle.aadl_grammar.specs.proof.PlaceOrder.{Rising};
 ghost use Rattle.aadl_grammar.specs.proof.ExampleTerminals.{numbered, without_value, nested, small_package};
 
 /// One terminal decides how a symbol begins: no two rows of the table's symbols are of one class.

@@ -1,6 +1,6 @@
 //! The terminal at a place, by its class.
 ghost use Rattle.std.specs.Prelude.{◌≡◌, [], true, MatchOption, MatchBool, IfOk, IfErr, string_bytes};
-ghost use Rattle.aadl_tree.specs.LanguagesAndNesting as grammar;
+ghost use Rattle.aadl_tree.specs.TerminalFaults as grammar;
 ghost use Rattle.aadl_tree.specs.Terminals.{whole, real, quoted, unread};
 ghost use Rattle.aadl_tree.specs.proof.NameViews.{identifier_view};
 ghost use Rattle.aadl_tree.specs.proof.PlaceMaps.{kept_place};

@@ -10,8 +10,8 @@ use Rattle.aadl_names.specs.declared.fault.PackageFault.TheVariants.{NoRoot, Too
 use Rattle.aadl_names.specs.FirstFaults.{precedes, IsFirst, IsFirstByLine}
 use Rattle.aadl_names.specs.ReferenceResolution.{root_number}
 use Rattle.aadl_names.specs.PackageFaults.{package_faults}
-use Rattle.aadl_uses.specs.Uses.{IsRecursive}
-use Rattle.aadl_chains.specs.Chains.{IsEndFault}
+use Rattle.aadl_uses.specs.Recursion.{IsRecursive}
+use Rattle.aadl_chains.specs.ChainFaults.{IsEndFault}
 use Rattle.aadl_instance.specs.declared.limits.Limit.{Limit}
 use Rattle.aadl_instance.specs.declared.limits.Limit.TheVariants.{Components, Links, Ports, Variables, States, Path}
 use Rattle.aadl_instance.specs.proof.Limits.{name_of, line_of, IsPassed}

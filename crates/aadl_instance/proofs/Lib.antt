@@ -12,3 +12,4 @@ pub mod DepthFirstOrder
 pub mod AddedChains
 pub mod InstanceThreadsAndChains
 pub mod PortNumberTables
+pub mod RootSearch

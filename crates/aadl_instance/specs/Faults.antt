@@ -7,8 +7,8 @@ use Rattle.aadl_names.specs.declared.fault.PackageFault.TheVariants.{NoRoot, Too
 use Rattle.aadl_names.specs.FirstFaults.{IsFirstByLine}
 use Rattle.aadl_names.specs.ReferenceResolution.{implementation_at, is_system, ports_of, root_number}
 use Rattle.aadl_names.specs.PackageFaults.{package_faults}
-use Rattle.aadl_uses.specs.Uses.{IsRecursive}
-use Rattle.aadl_chains.specs.Chains.{IsEndFault}
+use Rattle.aadl_uses.specs.Recursion.{IsRecursive}
+use Rattle.aadl_chains.specs.ChainFaults.{IsEndFault}
 use Rattle.aadl_uses.specs.ThreadsBelow.{MoreThan, IsThreadAt, PathBefore}
 use Rattle.aadl_uses.specs.ThreadLocations.{ThreadWith, spelled_path}
 use Rattle.aadl_instance.specs.BehaviourSizes.{variable_count, state_count}

@@ -6,8 +6,8 @@ ghost use Rattle.aadl_names.specs.declared.fault.PackageFault.TheVariants.{Memor
 ghost use Rattle.aadl_names.specs.FirstFaults.{IsFirstByLine};
 ghost use Rattle.aadl_names.specs.PackageFaults.{package_faults};
 ghost use Rattle.aadl_names.specs.ReferenceResolution as resolving;
-ghost use Rattle.aadl_uses.specs.Uses.{IsRecursive};
-ghost use Rattle.aadl_chains.specs.Chains.{IsEndFault};
+ghost use Rattle.aadl_uses.specs.Recursion.{IsRecursive};
+ghost use Rattle.aadl_chains.specs.ChainFaults.{IsEndFault};
 ghost use Rattle.aadl_instance.specs.Faults.{FoundIn, IsFault, IsRoot};
 ghost use Rattle.aadl_instance.specs.proof.CheckedPackages.{IsOrdered, IsChecked, FindsFault};
 

@@ -4,7 +4,7 @@ ghost use Rattle.aadl_tree.specs.proof.PackageViews.{placed};
 ghost use Rattle.aadl_names.specs.declared.fault.PackageFault.{PackageFault};
 ghost use Rattle.aadl_uses.specs.proof.PackageContainment.{containment};
 ghost use Rattle.aadl_uses.specs.Uses.{IsInUse};
-ghost use Rattle.aadl_chains.specs.Chains.{IsEndFault};
+ghost use Rattle.aadl_chains.specs.ChainFaults.{IsEndFault};
 ghost use Rattle.aadl_chains.specs.proof.DeclaredEnds.{AreDeclared};
 ghost use Rattle.aadl_uses.specs.proof.ContainmentOrders.{IsOrder};
 ghost use Rattle.aadl_chains.specs.proof.PortsJoinedInside.{is_thread_at};

@@ -11,3 +11,4 @@ pub mod PortDuplicates
 pub mod FirstPackageFault
 pub mod RisingPlaces
 pub mod PiecewiseComparison
+pub mod FirstMatches

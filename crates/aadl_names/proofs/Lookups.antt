@@ -12,8 +12,7 @@ use Rattle.std.specs.List.{list_any}
 use Rattle.std.proofs.lemmas.Slice.Eq.{bytes_eq-Decides}
 use Rattle.indexmap.specs.IndexMap.{insert_entry}
 use Rattle.list_lemmas.proofs.Options.{option_or-cond}
-use Rattle.aadl_names.specs.Spelling.{folded}
-use Rattle.aadl_names.specs.proof.NameTables.{value_of}
+use Rattle.aadl_names.specs.proof.NameTables.{folded, value_of}
 
 -- a name that has no capital is its own key
 letter_by : (c : ℕ) (a b : Bool) → nat_lt c 65 ≡ a → nat_lt c 91 ≡ b → is_ascii_uppercase c ≡ false

@@ -22,7 +22,7 @@ use Rattle.aadl_names.specs.declared.fault.PackageFault.TheVariants.{Twice}
 use Rattle.aadl_names.specs.declared.spelled_name.SpelledName.{SpelledName}
 use Rattle.aadl_names.specs.declared.numbered_place.NumberedPlace.{NumberedPlace}
 use Rattle.aadl_names.specs.proof.FirstFaultSoFar.{found, as_list}
-use Rattle.aadl_names.specs.Spelling.{folded}
+use Rattle.aadl_names.specs.proof.NameTables.{folded}
 use Rattle.aadl_names.specs.DuplicateNames.{again, twice}
 use Rattle.aadl_names.specs.proof.EarliestDeclarations.{sooner, earliest, is_before}
 use Rattle.aadl_names.proofs.EarliestDeclarations.{any_before}

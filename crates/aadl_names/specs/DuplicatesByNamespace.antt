@@ -6,10 +6,10 @@ use Rattle.aadl_tree.specs.Annexes.{AnnexTree}
 use Rattle.aadl_tree.specs.Declarations.{Feature, Implementation, Declaration, type, implementation, PackageTree}
 use Rattle.aadl_names.specs.declared.fault.PackageFault.{PackageFault}
 use Rattle.aadl_names.specs.declared.spelled_name.SpelledName.{SpelledName}
-use Rattle.aadl_names.specs.Spelling.{entry_of, spelled_implementation}
+use Rattle.aadl_names.specs.Spelling.{spelled_implementation}
+use Rattle.aadl_names.specs.DuplicateNames.{entry_of, twice}
 use Rattle.aadl_names.specs.ReferenceResolution.{is_thread, ports_of}
 use Rattle.aadl_names.specs.BehaviourAnnexes.{behaviours, variables_of, states_of}
-use Rattle.aadl_names.specs.DuplicateNames.{twice}
 
 abbrev pub port_entries : List (Feature ℕ) → List SpelledName
 port_entries ports = map (λ p. entry_of p.name) ports

@@ -1,6 +1,6 @@
 -- The first of several findings: the least place counts, and at one place the lower number.
-use Rattle.std.specs.Prelude.{◌≡◌, ℕ, Bool, false, ◌&&◌, ◌||◌, nat_eq, nat_lt, ◌<◌, List, [], ◌∷◌, Contains, Option}
-use Rattle.std.specs.Prelude.{Some, None, if◌then◌else◌}
+use Rattle.std.specs.Prelude.{◌≡◌, ℕ, Bool, false, ◌&&◌, ◌||◌, nat_eq, nat_lt, ◌<◌, List, [], Contains, Option, Some}
+use Rattle.std.specs.Prelude.{None}
 use Rattle.aadl_names.specs.declared.fault.PackageFault.{PackageFault}
 use Rattle.aadl_names.specs.declared.fault.PackageFault.TheVariants.{NoRoot, Unknown, Twice, WrongKind, Recursive}
 use Rattle.aadl_names.specs.declared.fault.PackageFault.TheVariants.{DeadEnd, TwoSources, TooMany, Memory}
@@ -46,7 +46,3 @@ pub record IsFirstByLine (Found : ℕ → PackageFault → Type 0) (fault : Pack
   pub line : ℕ
   pub here : IsFirst (Found line) fault
   pub none_before : (earlier : ℕ) (other : PackageFault) → earlier < line → Found earlier other → ⊥
-
--- something of another kind is due at a place, where it is wrong
-abbrev pub wrong_if : Bool → ℕ → List PackageFault
-wrong_if wrong at = if wrong then WrongKind at ∷ [] else []

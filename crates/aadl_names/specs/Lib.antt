@@ -8,3 +8,4 @@ pub mod DuplicatesByNamespace
 pub mod NameUsesInAnnexes
 pub mod PackageFaults
 pub mod proof
+pub mod PropertyValueShapes

@@ -13,7 +13,7 @@ use Rattle.aadl_tree.specs.Declarations.{Implementation, Declaration, type, impl
 use Rattle.aadl_tree.specs.Actions.{Block}
 use Rattle.aadl_names.specs.declared.fault.PackageFault.{PackageFault}
 use Rattle.aadl_names.specs.declared.fault.PackageFault.TheVariants.{Unknown, WrongKind}
-use Rattle.aadl_names.specs.FirstFaults.{wrong_if}
+use Rattle.aadl_names.specs.DuplicateNames.{wrong_if}
 use Rattle.aadl_names.specs.Spelling.{spelled_name, spelled_reference, spelled_implementation, spelled_end}
 use Rattle.aadl_names.specs.ReferenceResolution.{type_number, is_system, is_process, is_thread, ports_of, type_of}
 use Rattle.aadl_names.specs.ReferenceResolution.{target_of, implementation_in, site, with_direction}

@@ -1,17 +1,7 @@
 -- Names, which are compared without regard to case, and how they are spelled.
 use Rattle.std.specs.Prelude.{ℕ, List, ◌++◌, flat_map, Option, Some, None, codes}
-use Rattle.std.specs.Str.{str_to_ascii_lowercase}
 use Rattle.aadl_tree.specs.Names.{Identifier, Name, Reference}
 use Rattle.aadl_tree.specs.Declarations.{ImplementationName, ConnectionEnd}
-use Rattle.aadl_names.specs.declared.spelled_name.SpelledName.{SpelledName}
-
--- a name with its capitals made small
-abbrev pub folded : List ℕ → List ℕ
-folded name = str_to_ascii_lowercase name
-
-abbrev pub entry_of : Identifier ℕ → SpelledName
-entry_of x = record { name = x.spelling; at = x.at }
-
 -- ---- nothing stands between the tokens of a name
 abbrev pub spelled_name : Name ℕ → List ℕ
 spelled_name x = x.first.spelling ++ flat_map (λ y. codes "::" ++ y.spelling) x.rest

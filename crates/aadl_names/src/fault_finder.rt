@@ -25,7 +25,7 @@ impl FaultFinder {
     ghost use Rattle.std.specs.Prelude.{◌≡◌, OnOk, None, [], ◌∷◌};
     ghost use Rattle.aadl_names.specs.declared.fault.PackageFault.TheVariants as faults;
     ghost use Rattle.aadl_names.specs.proof.FirstFaultSoFar.{found, comes_first, as_list};
-    ghost use Rattle.aadl_names.specs.FirstFaults as spec;
+    ghost use Rattle.aadl_names.specs.DuplicateNames as spec;
 
     /// A finder that has found nothing yet. It takes no memory.
     pub fn new(alloc: Global) -> FaultFinder

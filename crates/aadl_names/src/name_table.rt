@@ -2,7 +2,7 @@
 ghost use Rattle.std.specs.Prelude.{◌≡◌, ◌++◌, IfOk, codes};
 ghost use Rattle.std.specs.Char.{is_ascii_uppercase};
 ghost use Rattle.std.specs.List.{list_any};
-ghost use Rattle.aadl_names.specs.Spelling.{folded};
+ghost use Rattle.aadl_names.specs.proof.NameTables.{folded};
 
 use indexmap::IndexMap;
 use std::alloc::{AllocError, Global};

@@ -2,7 +2,7 @@
 ghost use Rattle.std.specs.Prelude.{◌≡◌, IfOk};
 ghost use Rattle.aadl_tree.specs.proof.PlaceMaps.{kept_place};
 ghost use Rattle.aadl_tree.specs.proof.NameViews.{identifier_view};
-ghost use Rattle.aadl_names.specs.Spelling as spec;
+ghost use Rattle.aadl_names.specs.DuplicateNames as spec;
 
 use aadl_tree::Identifier;
 use pals_base::Text;

@@ -1,7 +1,7 @@
 //! Units of time.
 
 ghost use Rattle.std.specs.Prelude.{◌≡◌};
-ghost use Rattle.aadl_names.specs.RecognisedProperties as spec;
+ghost use Rattle.aadl_names.specs.PropertyValueShapes as spec;
 
 /// A unit of time in nanoseconds.
 pub fn unit_of(name: &str) -> Option<u64>

@@ -1,22 +1,11 @@
 -- An annex takes at least one terminal, and what the machine does at a category. For the loops of the parser.
-use Rattle.std.proofs.Common.{◌≡◌, ◌<◌, List, [], ◌∷◌, length, refl}
+use Rattle.std.proofs.Common.{◌≡◌, [], ◌∷◌, refl}
 use Rattle.aadl_tree.specs.declared.declarations.Category.{Category}
 use Rattle.aadl_tree.specs.declared.declarations.Category.TheVariants as categories
-use Rattle.aadl_tree.specs.declared.annex.Annex.{Annex}
-use Rattle.aadl_tree.specs.Terminals.{mark, Spot}
-use Rattle.aadl_tree.specs.Annexes.{annex_parts}
+use Rattle.aadl_tree.specs.Terminals.{mark}
 use Rattle.aadl_tree.specs.Declarations.{category_mark}
-use Rattle.aadl_tree.specs.proof.DeclarationViews.{annex_view}
-use Rattle.aadl_tree.specs.proof.PlaceMaps.{kept_place}
 use Rattle.aadl_grammar.specs.proof.GrammarSymbols as s
 use Rattle.aadl_grammar.specs.proof.StackMachine.{takes, move}
-use Rattle.aadl_grammar.specs.proof.ParserAnswers.{Reads}
-use Rattle.aadl_grammar.proofs.PartSequences.{begun}
-
-pub annex_begun : (x : Annex) {ss rest : List Spot} → Reads (annex_parts (annex_view kept_place x)) ss rest
-    → length rest < length ss
-annex_begun x a = begun a
-
 -- a category of what may be declared, and one that has to come
 pub category_moves : (x : Category) → move s.category (mark (category_mark x)) ≡ takes []
 unfolding move

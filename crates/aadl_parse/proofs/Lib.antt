@@ -1,2 +1,4 @@
 pub mod DeclarationStarts
 pub mod PackageFates
+pub mod UniqueParseResults
+pub mod AnnexProgress

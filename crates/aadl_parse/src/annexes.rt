@@ -1,7 +1,7 @@
 //! Reads the annexes of types and implementations.
 ghost use Rattle.std.specs.Prelude.{[], ◌∷◌, flat_map, map};
 ghost use Rattle.aadl_tree.specs.Annexes.{annex_parts, content_parts};
-ghost use Rattle.aadl_tree.specs.proof.DeclarationViews.{annex_view, content_view};
+ghost use Rattle.aadl_tree.specs.proof.AnnexViews.{annex_view, content_view};
 ghost use Rattle.aadl_tree.specs.proof.PlaceMaps.{kept_place};
 ghost use Rattle.aadl_grammar.specs.proof.GrammarSymbols as s;
 ghost use Rattle.aadl_grammar.specs.proof.ParserAnswers.{Parses, Room};

@@ -13,7 +13,7 @@ use Rattle.aadl_grammar.proofs.CanonicalRoundTrip.{canon_of, reads_back, only_so
 use Rattle.aadl_parse.specs.declared.text_fault.TextFault.{TextFault}
 use Rattle.aadl_parse.specs.declared.text_fault.TextFault.TheVariants.{Memory}
 use Rattle.aadl_parse.specs.ParseResults.{IsFaultOfText}
-use Rattle.aadl_parse.proofs.PackageFates.{tree_or_fault}
+use Rattle.aadl_parse.proofs.UniqueParseResults.{tree_or_fault}
 
 -- the canonical text does not hang on places
 one_canon : (tree : SourceTree) → canon (placed tree) ≡ canon (meaning tree)

@@ -20,7 +20,7 @@ use std::alloc::AllocError;
 
 impl PrintItem for VariableDeclaration {
     ghost use Rattle.aadl_tree.specs.Annexes.{VariableDeclaration, variable_parts};
-    ghost use Rattle.aadl_tree.specs.proof.DeclarationViews.{variable_view};
+    ghost use Rattle.aadl_tree.specs.proof.AnnexViews.{variable_view};
     ghost use Rattle.aadl_tree.specs.proof.PlaceMaps.{no_place};
 
     ghost Tree = { VariableDeclaration (Unit {0}) };
@@ -40,7 +40,7 @@ impl PrintItem for VariableDeclaration {
 
 impl PrintItem for StateDeclaration {
     ghost use Rattle.aadl_tree.specs.Annexes.{StateDeclaration, state_parts};
-    ghost use Rattle.aadl_tree.specs.proof.DeclarationViews.{state_view};
+    ghost use Rattle.aadl_tree.specs.proof.AnnexViews.{state_view};
     ghost use Rattle.aadl_tree.specs.proof.PlaceMaps.{no_place};
 
     ghost Tree = { StateDeclaration (Unit {0}) };
@@ -61,7 +61,7 @@ impl PrintItem for StateDeclaration {
 
 impl PrintItem for Guard {
     ghost use Rattle.aadl_tree.specs.Annexes.{Guard, guard_parts};
-    ghost use Rattle.aadl_tree.specs.proof.DeclarationViews.{guard_view};
+    ghost use Rattle.aadl_tree.specs.proof.AnnexViews.{guard_view};
     ghost use Rattle.aadl_tree.specs.proof.PlaceMaps.{no_place};
 
     ghost Tree = { Guard (Unit {0}) };
@@ -96,7 +96,7 @@ fn print_label(printer: &mut Printer, label: &Option<Identifier>) -> Result<(), 
 
 impl PrintItem for Transition {
     ghost use Rattle.aadl_tree.specs.Annexes.{Transition, transition_parts};
-    ghost use Rattle.aadl_tree.specs.proof.DeclarationViews.{transition_view};
+    ghost use Rattle.aadl_tree.specs.proof.AnnexViews.{transition_view};
     ghost use Rattle.aadl_tree.specs.proof.PlaceMaps.{no_place};
 
     ghost Tree = { Transition (Unit {0}) };
@@ -119,7 +119,7 @@ impl PrintItem for Transition {
 
 impl PrintItem for AnnexTree {
     ghost use Rattle.aadl_tree.specs.Annexes.{AnnexTree, annex_tree_parts};
-    ghost use Rattle.aadl_tree.specs.proof.DeclarationViews.{annex_tree_view};
+    ghost use Rattle.aadl_tree.specs.proof.AnnexViews.{annex_tree_view};
     ghost use Rattle.aadl_tree.specs.proof.PlaceMaps.{no_place};
 
     ghost Tree = { AnnexTree (Unit {0}) };
@@ -137,7 +137,7 @@ impl PrintItem for AnnexTree {
 
 impl PrintItem for AnnexContent {
     ghost use Rattle.aadl_tree.specs.Annexes.{AnnexContent, content_parts};
-    ghost use Rattle.aadl_tree.specs.proof.DeclarationViews.{content_view};
+    ghost use Rattle.aadl_tree.specs.proof.AnnexViews.{content_view};
     ghost use Rattle.aadl_tree.specs.proof.PlaceMaps.{no_place};
 
     ghost Tree = { AnnexContent (Unit {0}) };
@@ -160,7 +160,7 @@ impl PrintItem for AnnexContent {
 
 impl PrintItem for Annex {
     ghost use Rattle.aadl_tree.specs.Annexes.{Annex, annex_parts};
-    ghost use Rattle.aadl_tree.specs.proof.DeclarationViews.{annex_view};
+    ghost use Rattle.aadl_tree.specs.proof.AnnexViews.{annex_view};
     ghost use Rattle.aadl_tree.specs.proof.PlaceMaps.{no_place};
 
     ghost Tree = { Annex (Unit {0}) };

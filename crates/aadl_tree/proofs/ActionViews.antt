@@ -7,12 +7,14 @@ use Rattle.aadl_tree.specs.declared.names.Reference.{Reference}
 use Rattle.aadl_tree.specs.declared.expressions.Expression.{Expression}
 use Rattle.aadl_tree.specs.declared.actions.Bound.{Bound}
 use Rattle.aadl_tree.specs.declared.actions.Action.{Action, Assign, Send, If, For, the_lemmas}
+use Rattle.aadl_tree.specs.declared.actions.Action.{the_lemmas as action_lemmas}
 use Rattle.aadl_tree.specs.declared.actions.Actions.{Actions, roll-Actions}
 use Rattle.aadl_tree.specs.declared.actions.Block.{Block, roll-Block}
 use Rattle.aadl_tree.specs.declared.actions.Choice.{Choice, roll-Choice}
 use Rattle.aadl_tree.specs.declared.actions.Elsif.{Elsif}
 use Rattle.aadl_tree.specs.declared.actions.Loop.{Loop, roll-Loop}
-use Rattle.aadl_tree.specs.declared.actions.Action.TheViews.{out-Choice, roll-out-Choice, out-Loop}
+use Rattle.aadl_tree.specs.declared.actions.Action.TheViews.{out-Choice, roll-out-Choice, out-Loop, out-Actions}
+use Rattle.aadl_tree.specs.declared.actions.Action.TheViews.{out-Block, roll-out-Block}
 use Rattle.aadl_tree.specs.Actions.{assign, send, choose, loop, actions, elsif}
 use Rattle.aadl_tree.specs.Expressions as Plain
 use Rattle.aadl_tree.specs.Actions as Acts
@@ -99,3 +101,13 @@ pub view-out-loop : {P : Type 0} (place : ℕ → P) (x : Loop)
     (reference_view place (out-Loop x).data_type) (out-Loop x).low (out-Loop x).high
     (block_view place (out-Loop x).body)
 view-out-loop place x = search (rules, the_lemmas)
+
+pub view-out-actions : {P : Type 0} (place : ℕ → P) (x : Actions)
+    → actions_view place x ≡ actions (action_view place (out-Actions x).first)
+    (mores_view place (out-Actions x).rest.items)
+view-out-actions place x = search (rules, action_lemmas)
+
+
+pub view-out-block : {P : Type 0} (place : ℕ → P) (x : Block)
+    → block_view place x ≡ block_of (option_map (λ b. actions_view place b.value) (out-Block x).actions)
+view-out-block place x = ap (block_view place) (sym (roll-out-Block x)) ∙ view-block place (out-Block x).actions

@@ -8,13 +8,14 @@ use Rattle.aadl_tree.specs.declared.expressions.RelationOperator.{RelationOperat
 use Rattle.aadl_tree.specs.declared.expressions.MultiplyOperator.{MultiplyOperator}
 use Rattle.aadl_tree.specs.declared.expressions.LeadingSign.{LeadingSign}
 use Rattle.aadl_tree.specs.declared.expressions.Factor.{Factor, Abs, Not, Plain, the_lemmas}
+use Rattle.aadl_tree.specs.declared.expressions.Factor.{the_lemmas as expression_lemmas}
 use Rattle.aadl_tree.specs.declared.expressions.Primary.{Primary, Whole, Truth, Named, Group}
 use Rattle.aadl_tree.specs.declared.expressions.Expression.{Expression, roll-Expression}
 use Rattle.aadl_tree.specs.declared.expressions.Relation.{Relation, roll-Relation}
 use Rattle.aadl_tree.specs.declared.expressions.Sum.{Sum, roll-Sum}
 use Rattle.aadl_tree.specs.declared.expressions.Term.{Term, roll-Term}
 use Rattle.aadl_tree.specs.declared.expressions.Factor.TheViews.{out-Expression, out-Sum, out-Relation}
-use Rattle.aadl_tree.specs.declared.expressions.Factor.TheViews.{roll-out-Relation}
+use Rattle.aadl_tree.specs.declared.expressions.Factor.TheViews.{roll-out-Relation, out-Term}
 use Rattle.aadl_tree.specs.Expressions.{number, truth, named, group, absolute, negated, bare, term, total, expression}
 use Rattle.aadl_tree.specs.proof.NameViews.{identifier_view}
 use Rattle.aadl_tree.specs.proof.ExpressionViews.{leading_view, primary_view, factor_view, factors_view, term_view}
@@ -82,3 +83,7 @@ pub view-out-expression : {P : Type 0} (place : ℕ → P) (x : Expression)
     → expression_view place x
     ≡ expression (relation_view place (out-Expression x).first) (relations_view place (out-Expression x).rest.items)
 view-out-expression place x = search (rules, the_lemmas)
+
+pub view-out-term : {P : Type 0} (place : ℕ → P) (x : Term)
+    → term_view place x ≡ term (factor_view place (out-Term x).first) (factors_view place (out-Term x).rest.items)
+view-out-term place x = search (rules, expression_lemmas)

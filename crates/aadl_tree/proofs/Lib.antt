@@ -3,7 +3,6 @@ pub mod ExampleTransition
 pub mod ExpressionViews
 pub mod ValueViews
 pub mod ActionViews
-pub mod FieldViews
 pub mod EqualLengths
 pub mod PrimaryVariants
 pub mod FactorVariants

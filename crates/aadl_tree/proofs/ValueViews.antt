@@ -7,12 +7,13 @@ use Rattle.aadl_tree.specs.declared.names.Reference.{Reference}
 use Rattle.aadl_tree.specs.declared.values.AssociationOperator.{AssociationOperator}
 use Rattle.aadl_tree.specs.declared.values.Quantity.{Quantity}
 use Rattle.aadl_tree.specs.declared.values.Value.{Value, List as ListOf, Record, Text, Reference as ReferenceTo}
-use Rattle.aadl_tree.specs.declared.values.Value.{Classifier, Named, Number, the_lemmas}
+use Rattle.aadl_tree.specs.declared.values.Value.{Classifier, Named, Number, the_lemmas, the_lemmas as value_lemmas}
 use Rattle.aadl_tree.specs.declared.values.Association.{Association, roll-Association}
 use Rattle.aadl_tree.specs.Values.{list, fields, text, reference, classifier, named, number, association}
 use Rattle.aadl_tree.specs.proof.NameViews.{name_view, path_view, reference_view}
 use Rattle.aadl_tree.specs.proof.ValueViews.{quantity_view, value_view, association_view, values_view}
 use Rattle.aadl_tree.specs.proof.ValueViews.{associations_view}
+use Rattle.aadl_tree.specs.declared.values.Value.TheViews.{out-Association}
 
 pub view-List : {P : Type 0} (place : ℕ → P) (vs : Vec Value Global)
     → value_view place (ListOf vs) ≡ list (values_view place vs.items)
@@ -55,3 +56,9 @@ pub view-association : {P : Type 0} (place : ℕ → P) (name : Name) (operator 
     ≡ association (name_view place name) operator constant (value_view place value)
     (map (path_view place) applies_to.items)
 view-association place name operator constant value applies_to = search (rules, the_lemmas)
+
+pub view_out_association : {P : Type 0} (place : ℕ → P) (x : Association)
+    → association_view place x
+    ≡ association (name_view place (out-Association x).name) (out-Association x).operator (out-Association x).constant
+    (value_view place (out-Association x).value) (map (path_view place) (out-Association x).applies_to.items)
+view_out_association place x = search (rules, value_lemmas)

@@ -12,3 +12,4 @@ pub mod CanonicalText
 pub mod ExpressionOffsets
 pub mod TextTreesAndFaults
 pub mod proof
+pub mod TerminalFaults

@@ -6,7 +6,8 @@ use Rattle.aadl_tree.specs.Terminals.{spots_from, spots, kinds_of}
 use Rattle.aadl_tree.specs.SpellingParts.{Written}
 use Rattle.aadl_tree.specs.Annexes.{AnnexTree, annex_tree_parts}
 use Rattle.aadl_tree.specs.Declarations.{PackageTree, package_parts}
-use Rattle.aadl_tree.specs.LanguagesAndNesting.{IsPackage, IsShallow, FailsAt, DeepAt}
+use Rattle.aadl_tree.specs.LanguagesAndNesting.{IsPackage, IsShallow}
+use Rattle.aadl_tree.specs.TerminalFaults.{FailsAt, DeepAt}
 
 -- The tree of a text: its tokens spell it, in their places, and are nowhere nested too deep.
 pub record IsTreeOf (text : List ℕ) (tree : PackageTree ℕ) : Type 0 where

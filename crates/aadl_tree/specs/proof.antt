@@ -11,3 +11,6 @@ pub mod DeclarationViews
 pub mod BehaviourFaultPlaces
 pub mod PackageViews
 pub mod EmptyPackage
+pub mod AnnexViews
+pub mod GivenTrees
+pub mod ExampleTokensAndTerminals

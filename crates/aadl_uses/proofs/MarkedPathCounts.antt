@@ -12,8 +12,8 @@ use Rattle.std.proofs.lemmas.Option.{slice_get_within, slice_get-get_or, option_
 use Rattle.list_lemmas.proofs.Numbers.{nat_eq-self, min-add_capped}
 use Rattle.list_lemmas.proofs.Elements.{AllByRecursion-append, AllByRecursion-map, AllByRecursion-weaker}
 use Rattle.aadl_uses.specs.proof.ContainmentGraphs.{Graph, targets_in, below_in}
-use Rattle.aadl_uses.specs.proof.MarkedPathCounts.{stands_at, IsMarkedAt, Among, Ordered, AreListed, Counted, own_count}
-use Rattle.aadl_uses.specs.proof.MarkedPathCounts.{own_paths, count_of}
+use Rattle.aadl_uses.specs.proof.MarkedPathCounts.{stands_at, IsMarkedAt, Counted, own_count, own_paths, count_of}
+use Rattle.aadl_uses.specs.proof.OrderedLists.{Among, Ordered, AreListed}
 use Rattle.aadl_uses.specs.ThreadsBelow.{path_before}
 
 -- ---- lists

@@ -3,7 +3,8 @@ use Rattle.std.proofs.Common.{◌≡◌, ℕ, ◌+◌, ◌<◌, ◌≤◌, Bool,
 use Rattle.std.proofs.Common.{refl, sym, ap, ◌∙◌, append_assoc}
 use Rattle.std.proofs.lemmas.List.{take_more, take_all, map-append}
 use Rattle.aadl_uses.specs.proof.ContainmentGraphs.{Graph}
-use Rattle.aadl_uses.specs.proof.MarkedPathCounts.{IsMarkedAt, AreListed}
+use Rattle.aadl_uses.specs.proof.MarkedPathCounts.{IsMarkedAt}
+use Rattle.aadl_uses.specs.proof.OrderedLists.{AreListed}
 use Rattle.aadl_uses.specs.ThreadsBelow.{path_before}
 
 -- ---- paths behind others

@@ -24,7 +24,8 @@ use Rattle.aadl_uses.proofs.FirstRecursion.{kept_as_is}
 use Rattle.aadl_uses.proofs.PathOrder.{one_way_paths}
 use Rattle.aadl_uses.specs.proof.ContainmentGraphs.{Graph, below_in, reached_by}
 use Rattle.aadl_uses.specs.proof.ContainmentOrders.{IsOrder}
-use Rattle.aadl_uses.specs.proof.MarkedPathCounts.{stands_at, IsMarkedAt, Among, Ordered, AreListed, Counted}
+use Rattle.aadl_uses.specs.proof.MarkedPathCounts.{stands_at, IsMarkedAt, Counted}
+use Rattle.aadl_uses.specs.proof.OrderedLists.{Among, Ordered, AreListed}
 
 -- ---- paths from outside and from inside
 stands_end : (g : Graph) (n s : ℕ) (p : List ℕ)

@@ -10,7 +10,8 @@ use Rattle.aadl_uses.specs.proof.ThreadCounts.{thread_marks}
 use Rattle.aadl_uses.proofs.PackageContainment.{below-same}
 use Rattle.aadl_uses.proofs.ThreadCounts.{threads_listed}
 use Rattle.aadl_uses.specs.proof.ContainmentGraphs.{Graph, below_in}
-use Rattle.aadl_uses.specs.proof.MarkedPathCounts.{AreListed, IsMarkedAt}
+use Rattle.aadl_uses.specs.proof.MarkedPathCounts.{IsMarkedAt}
+use Rattle.aadl_uses.specs.proof.OrderedLists.{AreListed}
 use Rattle.aadl_uses.specs.proof.PathTables.{paths_from, IsClosed}
 
 -- ---- what is in use

@@ -4,3 +4,4 @@ pub mod ThreadLocations
 pub mod SecondConnections
 pub mod Wiring
 pub mod proof
+pub mod Recursion

@@ -1,9 +1,7 @@
 -- Which implementation contains which, and what is in use.
-use Rattle.std.specs.Prelude.{◌≡◌, ℕ, List, [], ◌∷◌, ◌++◌, Option, Some, slice_get}
+use Rattle.std.specs.Prelude.{◌≡◌, ℕ, List, [], ◌∷◌, Option, Some, slice_get}
 use Rattle.std.specs.Option.{option_and_then}
 use Rattle.aadl_tree.specs.Declarations.{Subcomponent, Implementation, PackageTree}
-use Rattle.aadl_names.specs.declared.fault.PackageFault.{PackageFault}
-use Rattle.aadl_names.specs.declared.fault.PackageFault.TheVariants.{Recursive}
 use Rattle.aadl_names.specs.ReferenceResolution.{implementation_at, subcomponents_of, referred}
 
 abbrev pub sub_at : PackageTree ℕ → ℕ → ℕ → Option (Subcomponent ℕ)
@@ -23,15 +21,3 @@ component_at tree root path = option_and_then (implementation_at tree) (standing
 
 abbrev pub IsInUse : PackageTree ℕ → ℕ → ℕ → Type 0
 IsInUse tree root n = (path : List ℕ) × (standing tree root path ≡ Some n)
-
--- a subcomponent that leads back to the implementation in which it stands
-pub record ClosesCycle (tree : PackageTree ℕ) (sub : Subcomponent ℕ) : Type 0 where
-  pub within : ℕ
-  pub number : ℕ
-  pub path : List ℕ
-  pub is_sub : sub_at tree within number ≡ Some sub
-  pub returns : standing tree within (path ++ number ∷ []) ≡ Some within
-
-abbrev pub IsRecursive : PackageTree ℕ → PackageFault → Type 0
-IsRecursive tree fault =
-    (sub : Subcomponent ℕ) × ClosesCycle tree sub × (fault ≡ Recursive sub.name.spelling sub.name.at)

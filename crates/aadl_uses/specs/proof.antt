@@ -12,3 +12,4 @@ pub mod ImplementationTypes
 pub mod NumbersByPort
 pub mod FirstConnections
 pub mod IncomingConnections
+pub mod OrderedLists

@@ -1,7 +1,8 @@
 //! The paths to marked declarations below others.
 ghost use Rattle.std.specs.Prelude.{◌≡◌, ◌<◌, ◌++◌, ◌∷◌, [], ℕ, false, length, map, slice_index_or, slice_set};
 ghost use Rattle.std.specs.Prelude.{Contains, IfOk, OnOk};
-ghost use Rattle.aadl_uses.specs.proof.MarkedPathCounts.{AreListed, IsMarkedAt, own_paths};
+ghost use Rattle.aadl_uses.specs.proof.MarkedPathCounts.{IsMarkedAt, own_paths};
+ghost use Rattle.aadl_uses.specs.proof.OrderedLists.{AreListed};
 ghost use Rattle.aadl_uses.specs.ThreadsBelow.{path_before};
 ghost use Rattle.aadl_uses.specs.proof.ContainmentOrders.{IsOrder};
 ghost use Rattle.aadl_uses.specs.proof.PathTables as spec;

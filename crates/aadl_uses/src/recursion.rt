@@ -1,9 +1,8 @@
 //! Implementations that contain themselves.
 ghost use Rattle.std.specs.Prelude.{◌≡◌, IfOk};
 ghost use Rattle.aadl_tree.specs.proof.PackageViews.{placed};
-ghost use Rattle.aadl_uses.specs.proof.PackageContainment.{FirstIn};
-ghost use Rattle.aadl_uses.specs.Uses.{IsRecursive};
-ghost use Rattle.aadl_uses.specs.proof.FirstRecursion.{is_sooner, IsFirstOf, IsSooner};
+ghost use Rattle.aadl_uses.specs.proof.FirstRecursion.{FirstIn, is_sooner, IsFirstOf, IsSooner};
+ghost use Rattle.aadl_uses.specs.Recursion.{IsRecursive};
 
 use crate::uses::Uses;
 use crate::{leads_back, suspects};

@@ -13,7 +13,8 @@ ghost use Rattle.aadl_names.specs.ReferenceResolution.{implementation_at, ports_
 ghost use Rattle.aadl_uses.specs.proof.PackageContainment as spec;
 ghost use Rattle.aadl_uses.specs.proof.PackageContainment.{targets_in};
 ghost use Rattle.aadl_uses.specs.proof.ImplementationTypes.{type_in, type_number_at};
-ghost use Rattle.aadl_uses.specs.Uses.{sub_at, below, IsInUse, IsRecursive};
+ghost use Rattle.aadl_uses.specs.Uses.{sub_at, below, IsInUse};
+ghost use Rattle.aadl_uses.specs.Recursion.{IsRecursive};
 ghost use Rattle.aadl_uses.specs.proof.ThreadCounts.{is_thread_in, is_thread_declaration, thread_marks, AreCounted};
 ghost use Rattle.aadl_uses.specs.ThreadsBelow.{IsThreadAt, PathBefore, MoreThan};
 ghost use Rattle.aadl_uses.specs.proof.ContainmentOrders.{IsOrder};

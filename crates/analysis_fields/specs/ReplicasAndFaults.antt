@@ -11,8 +11,7 @@ use Rattle.pals_base.specs.declared.values.PortValue.{PortValue}
 use Rattle.pals_base.specs.declared.limits.TheConstants.{ROUNDS}
 use Rattle.pals_model.specs.declared.design.Link.{Link}
 use Rattle.pals_model.specs.declared.design.DesignParts.{DesignParts}
-use Rattle.pals_model.specs.ComponentInputs.{rate_of}
-use Rattle.pals_model.specs.PortKinds.{out_kind}
+use Rattle.pals_model.specs.PortKinds.{rate_of, out_kind}
 use Rattle.scenario_values.specs.declared.fault.ScenarioFault.{ScenarioFault}
 use Rattle.scenario_values.specs.declared.fault.ScenarioFault.TheVariants.{WrongKind, Unknown, OutOfRange}
 use Rattle.analysis_fields.specs.declared.replica_faults.FaultEnds.{FaultEnds}

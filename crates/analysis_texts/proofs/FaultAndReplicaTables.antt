@@ -6,21 +6,19 @@ use Rattle.std.proofs.Common.{refl, sym, ap, ap₂, arith}
 use Rattle.std.specs.Prelude.{slice_index_or, slice_set}
 use Rattle.std.proofs.Math.Bool.{or-true, or-false}
 use Rattle.std.proofs.lemmas.Bool.{cases_eq, eq-eqb, ne_eqb}
-use Rattle.std.proofs.lemmas.List.{append-nil, length-set, map-append, same_lists, get_or-set_same, get_or-set_other}
+use Rattle.std.proofs.lemmas.List.{length-set, map-append, same_lists, get_or-set_same, get_or-set_other}
 use Rattle.std.proofs.lemmas.List.Elements.{filter-append}
 use Rattle.std.proofs.lemmas.List.Folds.{list_any_more}
 use Rattle.pals_base.specs.declared.values.NodeNo.{NodeNo}
-use Rattle.pals_base.specs.StepSequences.{upwards}
+use Rattle.pals_base.specs.UpwardNumbers.{upwards}
 use Rattle.pals_base.proofs.UpwardNumbers.{map_upwards_more, get_or-map_upwards, length-map_upwards}
-use Rattle.pals_runs.specs.declared.vote_faults.VoteFault.{VoteFault}
 use Rattle.analysis_fields.specs.declared.replica_faults.RoundFault.{RoundFault}
 use Rattle.analysis_fields.specs.ReplicasAndFaults.{is_among}
 use Rattle.triple_vote.specs.VotedText.{replica_name}
 use Rattle.analysis_texts.specs.ReplicasAndRoundFaults.{faults_of}
-use Rattle.analysis_texts.specs.proof.ReplicaNamesAndLines.{filed}
 
 -- a table with another item at a place is a table whose items are the same elsewhere
-set_table : {A : Type 0} (f g : ℕ → A) (n at : ℕ) (x : A) → (at < n → x ≡ g at) → ((k : ℕ) → k ≢ at → f k ≡ g k)
+pub set_table : {A : Type 0} (f g : ℕ → A) (n at : ℕ) (x : A) → (at < n → x ≡ g at) → ((k : ℕ) → k ≢ at → f k ≡ g k)
     → slice_set (map f (upwards 0 n)) at x ≡ map g (upwards 0 n)
 set_table f g n at x here others =
     let old = map f (upwards 0 n) in
@@ -43,7 +41,7 @@ filter_one : (f : RoundFault) (round : ℕ) (is : Bool) → nat_eq f.round round
     → filter (λ (g : RoundFault). nat_eq g.round round) (f ∷ []) ≡ cond is (f ∷ []) []
 filter_one f round is e = ap (λ b. cond b (f ∷ []) []) e
 
-faults-more : (faults : List RoundFault) (f : RoundFault) (round : ℕ) (is : Bool) → nat_eq f.round round ≡ is
+pub faults-more : (faults : List RoundFault) (f : RoundFault) (round : ℕ) (is : Bool) → nat_eq f.round round ≡ is
     → faults_of (faults ++ f ∷ []) round
     ≡ faults_of faults round ++ map (λ (g : RoundFault). g.fault) (cond is (f ∷ []) [])
 faults-more faults f round is e =
@@ -51,21 +49,6 @@ faults-more faults f round is e =
     ap (map (λ (g : RoundFault). g.fault)) (filter-append test faults (f ∷ []))
     ∙ map-append (λ (g : RoundFault). g.fault) (filter test faults) (filter test (f ∷ []))
     ∙ ap (λ gs. faults_of faults round ++ map (λ (g : RoundFault). g.fault) gs) (filter_one f round is e)
-
--- one more fault
-pub filed_more : (faults : List RoundFault) (f : RoundFault) (n : ℕ) (table : List (List VoteFault))
-    → table ≡ map (faults_of faults) (upwards 0 n)
-    → filed table f ≡ map (faults_of (faults ++ f ∷ [])) (upwards 0 n)
-filed_more faults f n table is =
-    let item = slice_index_or table f.round [] ++ f.fault ∷ [] in
-    ap (λ (t : List (List VoteFault)). slice_set t f.round item) is
-    ∙ set_table (faults_of faults) (faults_of (faults ++ f ∷ [])) n f.round item
-    (λ below.
-    ap (λ (t : List (List VoteFault)). slice_index_or t f.round [] ++ f.fault ∷ []) is
-    ∙ ap (λ (fs : List VoteFault). fs ++ f.fault ∷ []) (get_or-map_upwards (faults_of faults) n f.round [] below)
-    ∙ sym (faults-more faults f f.round true (eq-eqb f.round f.round refl)))
-    (λ k apart. sym (faults-more faults f k false (ne_eqb f.round k (λ same. apart (sym same)))
-    ∙ append-nil (faults_of faults k)))
 
 -- ---- replicas
 among-more : (nodes : List NodeNo) (i : ℕ) (d : NodeNo) (node : ℕ) → i < length nodes

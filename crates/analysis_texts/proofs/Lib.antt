@@ -6,3 +6,4 @@ pub mod VotedRows
 pub mod WellFormedVoteFaults
 pub mod FusedRows
 pub mod OutvotedFaults
+pub mod RoundFaultTables

@@ -13,10 +13,10 @@ use Rattle.pals_model.specs.RoundTexts.{line_end, text_of, round_line}
 use Rattle.pals_runs.specs.Formula.{Formula}
 use Rattle.pals_runs.specs.JournalLines.{spaced}
 use Rattle.analysis_fields.specs.NamedFormulas.{PropertyValue}
-use Rattle.run_monitor.specs.FormulaSemantics.{holds}
+use Rattle.run_monitor.specs.FormulaSemantics.{holds, history}
 use Rattle.run_monitor.specs.WatchText.{names_of, formulas_of, verdict_line, watched_lines, violation_text, last_line}
 use Rattle.run_monitor.specs.WatchText.{watched_rows, watch_text}
-use Rattle.run_monitor.specs.FalseProperties.{history, verdicts, violation, is_violated}
+use Rattle.run_monitor.specs.FalseProperties.{verdicts, violation, is_violated}
 use Rattle.run_monitor.specs.proof.SeveralMonitors.{MonitorsState, HasWatched}
 use Rattle.run_monitor.specs.declared.false_property.FalseProperty.{FalseProperty}
 use Rattle.run_monitor.proofs.FirstFalseProperty.{violated_is_first, others_hold}

@@ -2,3 +2,4 @@ pub mod BudgetedProcessors
 pub mod ReplicasAndRoundFaults
 pub mod MonitoredFormulas
 pub mod proof
+pub mod SumLines

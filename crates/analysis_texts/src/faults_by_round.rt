@@ -1,8 +1,8 @@
 //! The faults of replicas, round by round.
 ghost use Rattle.std.specs.Prelude.{◌≡◌, [], map, IfOk, OnOk};
-ghost use Rattle.pals_base.specs.StepSequences.{upwards};
+ghost use Rattle.pals_base.specs.UpwardNumbers.{upwards};
 ghost use Rattle.analysis_texts.specs.ReplicasAndRoundFaults.{faults_of};
-ghost use Rattle.analysis_texts.specs.proof.ReplicaNamesAndLines.{filed};
+ghost use Rattle.analysis_texts.specs.proof.RoundFaultTables.{filed};
 
 use analysis_fields::RoundFault;
 use pals_base::{Items, NoMemory};

@@ -4,7 +4,8 @@ ghost use Rattle.pals_model.specs.RoundTexts.{text_of, line_end};
 ghost use Rattle.analysis_fields.specs.proof.FaultAndProcessorFacts.{IsProcessorOf};
 ghost use Rattle.round_budget.specs.BudgetText.{fits_on, processor_lines, slot_line, some_is_over, budget_text};
 ghost use Rattle.round_budget.specs.proof.ReleaseAndLineValues.{line_value};
-ghost use Rattle.analysis_texts.specs.BudgetedProcessors.{processor_of, sum_line};
+ghost use Rattle.analysis_texts.specs.BudgetedProcessors.{processor_of};
+ghost use Rattle.analysis_texts.specs.SumLines.{sum_line};
 
 use analysis_fields::Processor;
 use pals_base::{Nanos, NoMemory};

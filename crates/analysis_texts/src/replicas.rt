@@ -1,6 +1,6 @@
 //! The rounds of a design in which some components have replicas.
 ghost use Rattle.std.specs.Prelude.{◌≡◌, ◌++◌, ◌<◌, ◌^◌, ℕ, List, [], All, length, map, IfOk, OnOk};
-ghost use Rattle.pals_base.specs.StepSequences.{upwards};
+ghost use Rattle.pals_base.specs.UpwardNumbers.{upwards};
 ghost use Rattle.pals_base.specs.declared.values.PortValue.{PortValue};
 ghost use Rattle.pals_model.specs.declared.design.Tap.{Tap};
 ghost use Rattle.pals_model.specs.DesignRules.{IsDesign};

@@ -25,7 +25,8 @@ use Rattle.annex_resolve.specs.declared.scope.Scope.{Scope}
 use Rattle.annex_resolve.specs.declared.scope.DeclaredName.{DeclaredName}
 use Rattle.annex_resolve.specs.declared.violation.Violation.{Violation}
 use Rattle.annex_resolve.specs.declared.violation.TheConstants.{BAD_TYPE, LOOP_TOO_LONG}
-use Rattle.annex_resolve.specs.NamesAndFindings.{found_if, entry_named, kind_of, may_set, may_send, given_to, with_loop}
+use Rattle.annex_resolve.specs.NamesAndFindings.{entry_named, kind_of, may_set, may_send, given_to, with_loop}
+use Rattle.annex_resolve.specs.FindingRecords.{found_if}
 use Rattle.annex_resolve.specs.ExpressionTypesAndFindings.{whole_types, kind_named}
 use Rattle.annex_resolve.specs.ResolvedTrees.{signed, expression_of, action_of, actions_of, mores_of, elsifs_of}
 use Rattle.annex_resolve.specs.ResolvedTrees.{otherwise_of, block_of}

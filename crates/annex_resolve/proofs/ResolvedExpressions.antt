@@ -23,7 +23,7 @@ use Rattle.aadl_tree.specs.declared.expressions.Term as source_term
 use Rattle.aadl_tree.specs.declared.expressions.Relation as source_relation
 use Rattle.aadl_tree.specs.Names.{Identifier}
 use Rattle.aadl_tree.specs.Expressions.{Primary, number, truth, named, group, absolute, negated, bare, Expression}
-use Rattle.aadl_tree.specs.Expressions.{Factor, Sum, Relation, compared, expression}
+use Rattle.aadl_tree.specs.Expressions.{Factor, Sum, Relation, compared, expression, single}
 use Rattle.aadl_tree.specs.ExpressionOffsets.{primary_at, factor_at, term_at, sum_at, relation_at}
 use Rattle.aadl_tree.specs.proof.PlaceMaps.{kept_place}
 use Rattle.aadl_tree.specs.proof.ExpressionViews.{factor_view, factors_view, term_view, terms_view, relation_view}
@@ -40,11 +40,12 @@ use Rattle.annex_resolve.specs.ExpressionTypesAndFindings.{expression_kind, expr
 use Rattle.annex_resolve.specs.ResolvedTrees.{truth_of, primary_of, chained, multiply_op, sign_op, relation_op}
 use Rattle.annex_resolve.specs.ResolvedTrees.{logic_op, factor_of, factors_of, term_of, terms_of, sum_of, relation_of}
 use Rattle.annex_resolve.specs.ResolvedTrees.{relations_of, expression_of}
-use Rattle.annex_resolve.specs.NamesAndFindings.{finding, found_if, entry_named, read_of, or_zero}
+use Rattle.annex_resolve.specs.NamesAndFindings.{entry_named, read_of, or_zero}
+use Rattle.annex_resolve.specs.FindingRecords.{finding, found_if}
 use Rattle.annex_resolve.specs.declared.violation.TheConstants.{BAD_TYPE}
 use Rattle.annex_resolve.specs.proof.ResolutionResults.{Reads, ReadsOperands}
 use Rattle.annex_resolve.proofs.ResolvedTermsAndSums.{put_last, take_next, one_more, several, factors-push}
-use Rattle.annex_resolve.proofs.ResolvedTermsAndSums.{factors_types-push, terms-push, terms_types-push, relation_both}
+use Rattle.annex_resolve.proofs.ResolvedTermsAndSums.{factors_types-push, terms-push, terms_types-push, three}
 
 -- ---- relation
 pub relations-push : (scope : Scope) (xs : List (LogicOperator × source_relation.Relation))
@@ -354,3 +355,38 @@ name_unread scope x fresh entry r e k b a known read none kind zero found =
       kind_is = kind ∙ ap (read_kind fresh) known;
       found = found ∙ sym (ap (λ o. b ++ found_if (not (is_some o)) x.at BAD_TYPE []) is);
     }
+
+pub relation_alone : (scope : Scope) (left : Sum ℕ) (t : Typed) (b a : List Violation)
+    → Reads (sum_of scope left) (total_kind scope left) (sum_types scope left) t b a
+    → Reads (relation_of scope (single left)) (relation_kind scope (single left))
+    (relation_types scope (single left)) t b a
+unfolding relation_of relation_kind relation_types
+relation_alone scope left t b a reads = reads
+
+
+pub relation_both : (scope : Scope) (x y : Sum ℕ) (o : RelationOperator) (at to : ℕ) (l r e : Typed)
+    (b m1 m2 a : List Violation)
+    → Reads (sum_of scope x) (total_kind scope x) (sum_types scope x) l b m1
+    → Reads (sum_of scope y) (total_kind scope y) (sum_types scope y) r m1 m2
+    → at ≡ sum_at x → to ≡ sum_at y → a ≡ m2 ++ sides_misfit o at to l.kind r.kind
+    → tree_of e.expr ≡ plain.Chain (tree_of l.expr) (plain.Then (relation_op o) (tree_of r.expr) plain.NoMore)
+    → e.kind ≡ Some Boolean
+    → let z = compared x o y in Reads (relation_of scope z) (relation_kind scope z) (relation_types scope z) e b a
+unfolding relation_of relation_kind relation_types
+relation_both scope x y o at to l r e b m1 m2 a left right here there found is kind = record {
+  tree_is =
+      is ∙ ap (λ z. plain.Chain z (plain.Then (relation_op o) (tree_of r.expr) plain.NoMore)) left.tree_is
+      ∙ ap (λ z. plain.Chain (sum_of scope x) (plain.Then (relation_op o) z plain.NoMore)) right.tree_is;
+  kind_is = kind;
+  found =
+      found ∙ ap (λ z. z ++ sides_misfit o at to l.kind r.kind)
+      (right.found ∙ ap (λ z. z ++ sum_types scope y) left.found)
+      ∙ ap (λ p. ((b ++ sum_types scope x) ++ sum_types scope y) ++ sides_misfit o p to l.kind r.kind) here
+      ∙ ap (λ p. ((b ++ sum_types scope x) ++ sum_types scope y) ++ sides_misfit o (sum_at x) p l.kind r.kind) there
+      ∙ ap (λ k. ((b ++ sum_types scope x) ++ sum_types scope y) ++ sides_misfit o (sum_at x) (sum_at y) k r.kind)
+      left.kind_is
+      ∙ ap (λ k. ((b ++ sum_types scope x) ++ sum_types scope y)
+      ++ sides_misfit o (sum_at x) (sum_at y) (total_kind scope x) k) right.kind_is
+      ∙ three b (sum_types scope x) (sum_types scope y)
+      (sides_misfit o (sum_at x) (sum_at y) (total_kind scope x) (total_kind scope y));
+}

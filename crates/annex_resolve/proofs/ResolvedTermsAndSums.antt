@@ -3,37 +3,34 @@
 use Rattle.std.proofs.Common.{◌≡◌, ℕ, ◌+◌, ◌<◌, List, [], ◌∷◌, ◌++◌, length, take, get_or, Option, Some, None, refl}
 use Rattle.std.proofs.Common.{sym, ap, ◌∙◌, append_assoc, arith}
 use Rattle.std.specs.Prelude.{option_map}
-use Rattle.pals_base.specs.declared.behaviour.Expr.TheVariants as expr
 use Rattle.std.proofs.lemmas.List.{take_more, append-nil}
 use Rattle.pals_base.specs.declared.behaviour.Expr.{Expr}
 use Rattle.pals_base.specs.declared.behaviour.Operand.{Operand}
 use Rattle.pals_base.specs.declared.behaviour.Kind.{Kind}
-use Rattle.pals_base.specs.declared.behaviour.Kind.TheVariants.{Integer, Boolean}
+use Rattle.pals_base.specs.declared.behaviour.Kind.TheVariants.{Integer}
 use Rattle.pals_base.specs.declared.behaviour.Op.{Op}
 use Rattle.pals_base.specs.PlainTrees as plain
 use Rattle.pals_base.specs.proof.TreeViews.{tree_of, operands_along}
 use Rattle.aadl_tree.specs.declared.expressions.MultiplyOperator.{MultiplyOperator}
-use Rattle.aadl_tree.specs.declared.expressions.RelationOperator.{RelationOperator}
 use Rattle.aadl_tree.specs.declared.expressions.Sign.{Sign}
 use Rattle.aadl_tree.specs.declared.expressions.LeadingSign as source_leading
 use Rattle.aadl_tree.specs.declared.expressions.Factor as source_factor
 use Rattle.aadl_tree.specs.declared.expressions.Term as source_term
-use Rattle.aadl_tree.specs.Expressions.{Factor, Term, term, Sum, total, single, compared}
-use Rattle.aadl_tree.specs.ExpressionOffsets.{factor_at, term_at, sum_at}
+use Rattle.aadl_tree.specs.Expressions.{Factor, Term, term, total}
+use Rattle.aadl_tree.specs.ExpressionOffsets.{factor_at, term_at}
 use Rattle.aadl_tree.specs.proof.PlaceMaps.{kept_place}
 use Rattle.aadl_tree.specs.proof.ExpressionViews.{leading_view, factor_view, factors_view, term_view, terms_view}
 use Rattle.annex_resolve.specs.declared.scope.Scope.{Scope}
 use Rattle.annex_resolve.specs.declared.expressions.Typed.{Typed}
 use Rattle.annex_resolve.specs.declared.violation.Violation.{Violation}
-use Rattle.annex_resolve.specs.ExpressionTypesAndFindings.{misfit, sides_misfit, factor_kind, factor_types}
-use Rattle.annex_resolve.specs.ExpressionTypesAndFindings.{factors_types, term_kind, term_types, terms_types}
-use Rattle.annex_resolve.specs.ExpressionTypesAndFindings.{total_kind, sum_types, relation_kind, relation_types}
-use Rattle.annex_resolve.specs.ResolvedTrees.{chained, signed_by, multiply_op, sign_op, relation_op, factor_of}
-use Rattle.annex_resolve.specs.ResolvedTrees.{factors_of, term_of, terms_of, sum_of, relation_of}
+use Rattle.annex_resolve.specs.ExpressionTypesAndFindings.{misfit, factor_kind, factor_types, factors_types, term_kind}
+use Rattle.annex_resolve.specs.ExpressionTypesAndFindings.{term_types, terms_types, total_kind, sum_types}
+use Rattle.annex_resolve.specs.ResolvedTrees.{chained, signed_by, multiply_op, sign_op, factor_of, factors_of, term_of}
+use Rattle.annex_resolve.specs.ResolvedTrees.{terms_of, sum_of}
 use Rattle.annex_resolve.specs.proof.ResolutionResults.{Reads, ReadsOperands}
 
 -- ---- lists of findings
-three : (b f m r : List Violation) → ((b ++ f) ++ m) ++ r ≡ b ++ ((f ++ m) ++ r)
+pub three : (b f m r : List Violation) → ((b ++ f) ++ m) ++ r ≡ b ++ ((f ++ m) ++ r)
 three b f m r = ap (λ l. l ++ r) (append_assoc b f m) ∙ append_assoc b (f ++ m) r
 
 -- ---- operands behind each other
@@ -229,38 +226,3 @@ sum_several scope (Some sign) first rest at t s ops e b m1 m2 a some reads here 
           ∙ three b (term_types scope first) (misfit (term_at first) (Some Integer) (term_kind scope first))
           (terms_types scope (terms_view kept_place rest));
     }
-
--- ---- a comparison
-pub relation_alone : (scope : Scope) (left : Sum ℕ) (t : Typed) (b a : List Violation)
-    → Reads (sum_of scope left) (total_kind scope left) (sum_types scope left) t b a
-    → Reads (relation_of scope (single left)) (relation_kind scope (single left))
-    (relation_types scope (single left)) t b a
-unfolding relation_of relation_kind relation_types
-relation_alone scope left t b a reads = reads
-
-pub relation_both : (scope : Scope) (x y : Sum ℕ) (o : RelationOperator) (at to : ℕ) (l r e : Typed)
-    (b m1 m2 a : List Violation)
-    → Reads (sum_of scope x) (total_kind scope x) (sum_types scope x) l b m1
-    → Reads (sum_of scope y) (total_kind scope y) (sum_types scope y) r m1 m2
-    → at ≡ sum_at x → to ≡ sum_at y → a ≡ m2 ++ sides_misfit o at to l.kind r.kind
-    → tree_of e.expr ≡ plain.Chain (tree_of l.expr) (plain.Then (relation_op o) (tree_of r.expr) plain.NoMore)
-    → e.kind ≡ Some Boolean
-    → let z = compared x o y in Reads (relation_of scope z) (relation_kind scope z) (relation_types scope z) e b a
-unfolding relation_of relation_kind relation_types
-relation_both scope x y o at to l r e b m1 m2 a left right here there found is kind = record {
-  tree_is =
-      is ∙ ap (λ z. plain.Chain z (plain.Then (relation_op o) (tree_of r.expr) plain.NoMore)) left.tree_is
-      ∙ ap (λ z. plain.Chain (sum_of scope x) (plain.Then (relation_op o) z plain.NoMore)) right.tree_is;
-  kind_is = kind;
-  found =
-      found ∙ ap (λ z. z ++ sides_misfit o at to l.kind r.kind)
-      (right.found ∙ ap (λ z. z ++ sum_types scope y) left.found)
-      ∙ ap (λ p. ((b ++ sum_types scope x) ++ sum_types scope y) ++ sides_misfit o p to l.kind r.kind) here
-      ∙ ap (λ p. ((b ++ sum_types scope x) ++ sum_types scope y) ++ sides_misfit o (sum_at x) p l.kind r.kind) there
-      ∙ ap (λ k. ((b ++ sum_types scope x) ++ sum_types scope y) ++ sides_misfit o (sum_at x) (sum_at y) k r.kind)
-      left.kind_is
-      ∙ ap (λ k. ((b ++ sum_types scope x) ++ sum_types scope y)
-      ++ sides_misfit o (sum_at x) (sum_at y) (total_kind scope x) k) right.kind_is
-      ∙ three b (sum_types scope x) (sum_types scope y)
-      (sides_misfit o (sum_at x) (sum_at y) (total_kind scope x) (total_kind scope y));
-}

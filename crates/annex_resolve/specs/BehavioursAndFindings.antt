@@ -8,7 +8,7 @@ use Rattle.pals_base.specs.declared.behaviour.BehaviourParts.{BehaviourParts}
 use Rattle.pals_base.specs.declared.behaviour.Kind.TheVariants.{Boolean}
 use Rattle.pals_base.specs.SingleStep.{is_complete, leaving}
 use Rattle.pals_base.specs.BehaviourRules.{dispatch_count}
-use Rattle.pals_base.specs.StepSequences.{upwards}
+use Rattle.pals_base.specs.UpwardNumbers.{upwards}
 use Rattle.aadl_tree.specs.Names.{Identifier, same_name, identifiers, listed_in}
 use Rattle.aadl_tree.specs.Annexes.{StateDeclaration, Guard, dispatch, otherwise, when, Transition, AnnexTree}
 use Rattle.aadl_tree.specs.Actions.{Block}
@@ -21,7 +21,7 @@ use Rattle.annex_resolve.specs.declared.departures.GuardKind.TheVariants.{Dispat
 use Rattle.annex_resolve.specs.declared.violation.Violation.{Violation}
 use Rattle.annex_resolve.specs.declared.violation.TheConstants.{NO_INITIAL, DISPATCH_COUNT, NO_OTHERWISE}
 use Rattle.annex_resolve.specs.declared.violation.TheConstants.{CYCLE_WITHOUT_COMPLETE}
-use Rattle.annex_resolve.specs.NamesAndFindings.{found_if}
+use Rattle.annex_resolve.specs.FindingRecords.{found_if}
 use Rattle.annex_resolve.specs.ExpressionTypesAndFindings.{whole_types}
 use Rattle.annex_resolve.specs.ResolvedTrees.{expression_of, block_of}
 use Rattle.annex_resolve.specs.ActionFindings.{block_findings}

@@ -5,3 +5,4 @@ pub mod ActionFindings
 pub mod IncompleteStateCycles
 pub mod BehavioursAndFindings
 pub mod proof
+pub mod FindingRecords

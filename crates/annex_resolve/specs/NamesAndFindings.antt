@@ -1,6 +1,5 @@
 -- What names stand for in a behaviour, where they are read, set or sent; and how findings are made.
 use Rattle.std.specs.Prelude.{ℕ, ◌+◌, pos, Bool, true, false, List, [], ◌∷◌, ◌++◌, Option, Some, None, find}
-use Rattle.std.specs.Prelude.{if◌then◌else◌}
 use Rattle.pals_base.specs.declared.behaviour.Kind.{Kind}
 use Rattle.pals_base.specs.declared.behaviour.Kind.TheVariants.{Integer}
 use Rattle.aadl_tree.specs.Names.{Identifier, same_name}
@@ -8,16 +7,7 @@ use Rattle.annex_resolve.specs.declared.scope.Meaning.{Meaning}
 use Rattle.annex_resolve.specs.declared.scope.Meaning.TheVariants.{InPort, OutPort, Variable, LoopVariable}
 use Rattle.annex_resolve.specs.declared.scope.DeclaredName.{DeclaredName}
 use Rattle.annex_resolve.specs.declared.scope.Scope.{Scope}
-use Rattle.annex_resolve.specs.declared.violation.Violation.{Violation}
 use Rattle.pals_base.specs.PlainTrees as plain
-
--- ---- findings
-abbrev pub finding : ℕ → ℕ → List ℕ → Violation
-finding at number details = record { at = at; number = number; details = details }
-
-abbrev pub found_if : Bool → ℕ → ℕ → List ℕ → List Violation
-found_if wrong at number details = if wrong then finding at number details ∷ [] else []
-
 -- ---- names, which are compared without regard to case
 -- what is declared under a name; of two declarations the first counts
 abbrev pub entry_named : Scope → List ℕ → Option DeclaredName

@@ -1,7 +1,7 @@
 //! The behaviour of a whole annex, and all that is wrong with it.
 ghost use Rattle.std.specs.Prelude.{◌≡◌, ◌++◌, IfOk, OnOk, map};
 ghost use Rattle.aadl_tree.specs.proof.PlaceMaps.{kept_place};
-ghost use Rattle.aadl_tree.specs.proof.DeclarationViews.{annex_tree_view, transition_view};
+ghost use Rattle.aadl_tree.specs.proof.AnnexViews.{annex_tree_view, transition_view};
 ghost use Rattle.annex_resolve.specs.BehavioursAndFindings.{transitions_of, parts_by, behaviour_of, annex_findings};
 
 use crate::ports_and_variables::DeclaredValues;

@@ -2,7 +2,7 @@
 //! to; state after state is let in between its ends.
 ghost use Rattle.std.specs.Prelude.{◌≡◌, ◌<◌, ◌+◌, IfOk, false, length, map, replicate};
 ghost use Rattle.pals_base.specs.SingleStep.{is_complete};
-ghost use Rattle.pals_base.specs.StepSequences.{upwards};
+ghost use Rattle.pals_base.specs.UpwardNumbers.{upwards};
 ghost use Rattle.annex_resolve.specs.IncompleteStateCycles.{reaches, is_on_cycle};
 ghost use Rattle.annex_resolve.specs.proof.ReachTables.{marked};
 

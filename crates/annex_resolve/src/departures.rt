@@ -4,7 +4,7 @@ ghost use Rattle.std.specs.Prelude.{◌≡◌, IfOk, option_map, option_copied, 
 ghost use Rattle.std.specs.List.{list_any};
 ghost use Rattle.pals_base.specs.BehaviourRules.{dispatch_count};
 ghost use Rattle.aadl_tree.specs.proof.PlaceMaps.{kept_place};
-ghost use Rattle.aadl_tree.specs.proof.DeclarationViews.{guard_view, transition_view};
+ghost use Rattle.aadl_tree.specs.proof.AnnexViews.{guard_view, transition_view};
 ghost use Rattle.annex_resolve.specs.BehavioursAndFindings.{way_of, leg_of, ways_from, is_otherwise, is_guarded};
 ghost use Rattle.annex_resolve.specs.BehavioursAndFindings.{is_open, lacks_otherwise, breaks_dispatch};
 

@@ -3,8 +3,8 @@ ghost use Rattle.std.specs.Prelude.{◌≡◌, ◌++◌, OnOk, false, map, flat_
 ghost use Rattle.std.specs.Option.{unwrap_or};
 ghost use Rattle.std.specs.List.{enumerate_from};
 ghost use Rattle.aadl_tree.specs.proof.PlaceMaps.{kept_place};
-ghost use Rattle.aadl_tree.specs.proof.DeclarationViews.{transition_view};
-ghost use Rattle.annex_resolve.specs.NamesAndFindings.{found_if};
+ghost use Rattle.aadl_tree.specs.proof.AnnexViews.{transition_view};
+ghost use Rattle.annex_resolve.specs.FindingRecords.{found_if};
 ghost use Rattle.annex_resolve.specs.BehavioursAndFindings.{state_rules, rule_findings};
 
 use crate::cycles::cyclic_states;

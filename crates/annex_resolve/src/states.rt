@@ -4,7 +4,7 @@ ghost use Rattle.aadl_tree.specs.Names.{same_name};
 ghost use Rattle.std.specs.List.{list_all};
 ghost use Rattle.aadl_tree.specs.proof.PlaceMaps.{kept_place};
 ghost use Rattle.aadl_tree.specs.proof.NameViews.{identifier_view};
-ghost use Rattle.aadl_tree.specs.proof.DeclarationViews.{state_view, annex_tree_view};
+ghost use Rattle.aadl_tree.specs.proof.AnnexViews.{state_view, annex_tree_view};
 ghost use Rattle.annex_resolve.specs.BehavioursAndFindings.{state_at, states_in, states_of, state_number};
 ghost use Rattle.annex_resolve.specs.BehavioursAndFindings.{first_initial, has_initial, declared};
 

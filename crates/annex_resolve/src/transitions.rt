@@ -3,7 +3,7 @@ ghost use Rattle.std.specs.Prelude.{◌≡◌, ◌++◌, IfOk, OnOk, option_map,
 ghost use Rattle.pals_base.specs.proof.TreeViews.{trigger_of as trigger_tree};
 ghost use Rattle.aadl_tree.specs.proof.PlaceMaps.{kept_place};
 ghost use Rattle.aadl_tree.specs.proof.ActionViews.{block_view};
-ghost use Rattle.aadl_tree.specs.proof.DeclarationViews.{guard_view, transition_view};
+ghost use Rattle.aadl_tree.specs.proof.AnnexViews.{guard_view, transition_view};
 ghost use Rattle.annex_resolve.specs.BehavioursAndFindings.{trigger_of, effect_of, edge_of, guard_types};
 ghost use Rattle.annex_resolve.specs.BehavioursAndFindings.{effect_findings, transition_findings};
 ghost use Rattle.annex_resolve.specs.proof.ResolutionResults.{ReadsActions};

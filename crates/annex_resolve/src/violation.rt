@@ -1,6 +1,6 @@
 //! What is wrong with a design, and the numbers of the rules.
 ghost use Rattle.std.specs.Prelude.{◌≡◌, [], ◌++◌, OnOk};
-ghost use Rattle.annex_resolve.specs.NamesAndFindings.{finding, found_if};
+ghost use Rattle.annex_resolve.specs.FindingRecords.{finding, found_if};
 
 use pals_base::{Items, NoMemory, Text};
 use std::alloc::Global;

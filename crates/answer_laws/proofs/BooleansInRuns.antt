@@ -9,7 +9,7 @@ use Rattle.scenario_laws.specs.proof.FusiblePairs.{PairsCanBeFused}
 use Rattle.kind_laws.proofs.VotedKinds.{voted_fit, shown_fit}
 use Rattle.kind_laws.proofs.FusedKinds.{solutions_fit}
 use Rattle.kind_laws.proofs.BusKinds.{buses_fit}
-use Rattle.pals_top.specs.LooseWorlds.{run_of}
+use Rattle.pals_top.specs.BundleScenarios.{run_of}
 use Rattle.answer_laws.specs.proof.BooleansInRuns.{ScenariosFit, StatesOfScenariosFit, MessagesOfScenariosFit}
 use Rattle.answer_laws.specs.proof.BooleansInRuns.{PartsOfScenariosFit, FaultsOfScenariosFit, VotesOfScenariosFit}
 use Rattle.answer_laws.specs.proof.BooleansInRuns.{ShownOfScenariosFit, FusedOfScenariosFit, BusesOfScenariosFit}

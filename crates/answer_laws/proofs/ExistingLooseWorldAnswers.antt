@@ -14,7 +14,8 @@ use Rattle.loose_world.specs.LooseRuns.{IsLooseIn}
 use Rattle.loose_world.specs.proof.EventsAsSteps.{StepsTo}
 use Rattle.pals_report.specs.EventFaultLines.{event_fault_line}
 use Rattle.pals_top.specs.declared.status.TheConstants.{DONE, SCENARIO_REFUSED, STOPPED}
-use Rattle.pals_top.specs.LooseWorlds.{run_of, IsWorldAnswer}
+use Rattle.pals_top.specs.LooseWorlds.{IsWorldAnswer}
+use Rattle.pals_top.specs.BundleScenarios.{run_of}
 use Rattle.answer_laws.proofs.LooseWorldEnds.{each_list_ends}
 
 by_end : (design : DesignParts) (scenario : Scenario) (how : LooseEnd) (t : BusState) (journal : List JournalEntry)

@@ -4,7 +4,7 @@ use Rattle.pals_model.specs.declared.design.DesignParts.{DesignParts}
 use Rattle.pals_model.specs.DesignRules.{IsDesign}
 use Rattle.scenario_json.specs.declared.scenario.Scenario.{Scenario}
 use Rattle.scenario_json.specs.proof.ScenarioValidity.{IsScenarioOf}
-use Rattle.scenario_laws.specs.proof.EventsAndTraces.{AreLooseEvents}
+use Rattle.scenario_laws.specs.proof.LooseEvents.{AreLooseEvents}
 use Rattle.plant_fuse.specs.FusedComposition.{ArePairs}
 use Rattle.pals_runs.specs.declared.plant_pairs.Pair.{Pair}
 use Rattle.plant_fuse.specs.FusedReport.{IsFusedReport}

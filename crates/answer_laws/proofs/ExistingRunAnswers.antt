@@ -16,9 +16,10 @@ use Rattle.scenario_json.specs.declared.scenario.Scenario.{Scenario}
 use Rattle.scenario_json.specs.proof.ScenarioValidity.{IsScenarioOf}
 use Rattle.bus_machine.specs.proof.AgreementLaws.{IsRunOf}
 use Rattle.bus_machine.specs.Plans.{plan_of}
-use Rattle.bus_machine.specs.States.{Run, BusState, finished_by_all}
+use Rattle.bus_machine.specs.States.{BusState, finished_by_all}
+use Rattle.bus_machine.specs.Runs.{Run}
 use Rattle.bus_machine.specs.ActionsAndTargets.{target}
-use Rattle.run_laws.specs.TimelyRounds.{AllAtEnd}
+use Rattle.run_laws.specs.ListRunEndsAndStops.{AllAtEnd}
 use Rattle.run_laws.specs.proof.RunTermination.{HasCome, EachRunEnds, IsFirstEnded, EndsAreNamed}
 use Rattle.run_laws.specs.Meetings.{AllDone}
 use Rattle.run_laws.specs.Runs.{no_clock, clock_at, lists_in, AreFresh, Begin, Runs}
@@ -26,7 +27,7 @@ use Rattle.run_laws.specs.proof.RunTraces.{AreReadings}
 use Rattle.run_texts.specs.RunTexts.{journal_text, IsCompletedRun, IsStoppedRun, IsEndedRun}
 use Rattle.run_texts.proofs.RunTexts.{outcome, completed, stopped}
 use Rattle.pals_top.specs.declared.status.TheConstants.{DONE, STOPPED, CLOCK_ENDED}
-use Rattle.pals_top.specs.LooseWorlds.{run_of}
+use Rattle.pals_top.specs.BundleScenarios.{run_of}
 use Rattle.pals_top.specs.Run.{IsRunAnswer}
 use Rattle.pals_top.proofs.ScenarioRuns.{are_readings}
 

@@ -13,7 +13,7 @@ use Rattle.pals_base.specs.declared.behaviour.Kind.TheVariants.{Integer, Boolean
 use Rattle.pals_base.specs.declared.values.PortValue.{PortValue}
 use Rattle.pals_base.specs.declared.values.PortValue.TheVariants.{Absent, Present}
 use Rattle.pals_base.specs.ExpressionValues.{truth}
-use Rattle.pals_base.proofs.StepSequences.{get_or-column}
+use Rattle.pals_base.proofs.ColumnsAndCutTuples.{get_or-column}
 use Rattle.pals_model.specs.declared.design.DesignParts.{DesignParts}
 use Rattle.pals_model.specs.declared.environment.Env.{Env}
 use Rattle.pals_model.specs.ComponentInputs.{root_inputs}

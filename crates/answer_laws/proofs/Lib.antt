@@ -29,3 +29,6 @@ mod ExistingLayouts
 mod ExistingRunAnswers
 mod ExistingResults
 mod ExistingAnswers
+pub mod ScenarioAnswerStatuses
+pub mod UniqueCheckReports
+pub mod BundleContents

@@ -18,7 +18,7 @@ use Rattle.pals_top.specs.AnalysisAnswers.{IsAnalysisAnswer}
 use Rattle.pals_top.specs.ExecutionAnswers.{IsExecutionAnswer}
 use Rattle.pals_top.specs.ProgramInput.{Reading}
 use Rattle.pals_top.specs.Answers.{IsCommandAnswer, IsSourceAnswer}
-use Rattle.answer_laws.proofs.UniqueResults.{analysis_status, execution_status, apart}
+use Rattle.answer_laws.proofs.ScenarioAnswerStatuses.{analysis_status, execution_status, apart}
 use Rattle.answer_laws.proofs.UniqueCallAnswers.{no_room, too_long}
 use Rattle.answer_laws.proofs.SourceAnswers.{too_many, failed}
 

@@ -22,9 +22,8 @@ use Rattle.run_laws.specs.proof.TimelyRunsAndEnds.{PickedAreDone}
 use Rattle.run_texts.specs.RunTexts.{journal_text}
 use Rattle.pals_top.specs.ExecutionCommands as execution
 use Rattle.pals_top.specs.ExecutionAnswers.{IsCodeTooLong, IsExecutionAnswer}
-use Rattle.pals_top.specs.LooseWorlds.{run_of}
+use Rattle.pals_top.specs.BundleScenarios.{run_of, HasScenario}
 use Rattle.pals_top.specs.Run.{IsRunAnswer}
-use Rattle.pals_top.specs.BundleScenarios.{HasScenario}
 use Rattle.answer_laws.specs.proof.BundleContents.{MeansScenario, HasLongCode}
 use Rattle.answer_laws.specs.proof.RunAnswers.{IsRunStatus, IsInTime, OneAnswerInTime, NoneIsStopped, IsSynchronous}
 use Rattle.answer_laws.specs.proof.RunAnswers.{DoneInTime, AnswersAsSync, DoneWithinBounds, DoneTracesAreSound}

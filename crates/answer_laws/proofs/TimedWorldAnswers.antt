@@ -5,13 +5,13 @@ use Rattle.std.proofs.lemmas.Option.{same_Some, none-some}
 use Rattle.pals_model.specs.RoundTexts.{line_end}
 use Rattle.pals_runs.specs.declared.events_and_faults.Event.{Event}
 use Rattle.pals_runs.specs.declared.events_and_faults.EventFault.{EventFault}
-use Rattle.bus_machine.specs.States.{Run}
+use Rattle.bus_machine.specs.Runs.{Run}
 use Rattle.bus_machine.specs.WorldTexts.{worldtext}
 use Rattle.bus_machine.specs.proof.AgreementLaws.{IsRunOf}
 use Rattle.run_laws.proofs.KeptWorldInvariant.{lists_go_right}
 use Rattle.run_laws.specs.Worlds.{World, opening_world, world_after}
-use Rattle.run_laws.specs.EventFaults.{fault_of, IsWithin}
-use Rattle.run_laws.specs.EventLists.{world_left}
+use Rattle.run_laws.specs.EventFaults.{fault_of}
+use Rattle.run_laws.specs.EventLists.{IsWithin, world_left}
 use Rattle.pals_report.specs.EventFaultLines.{event_fault_line}
 use Rattle.world_texts.specs.WorldTexts.{IsToldWorld}
 use Rattle.pals_top.specs.declared.status.TheConstants.{DONE, SCENARIO_REFUSED}

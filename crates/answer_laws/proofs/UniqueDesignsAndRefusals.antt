@@ -6,7 +6,7 @@ use Rattle.aadl_tree.specs.Declarations.{PackageTree}
 use Rattle.aadl_tree.specs.TextTreesAndFaults.{IsTreeOf}
 use Rattle.aadl_grammar.proofs.CanonicalRoundTrip.{no_other}
 use Rattle.aadl_parse.specs.ParseResults.{IsFaultOfText}
-use Rattle.aadl_parse.proofs.PackageFates.{one_text_fault, tree_or_fault}
+use Rattle.aadl_parse.proofs.UniqueParseResults.{one_text_fault, tree_or_fault}
 use Rattle.aadl_instance.specs.FlattenedDesign.{Parts}
 use Rattle.annex_resolve.specs.declared.violation.Violation.{Violation}
 use Rattle.model_violations.specs.Violations.{shown_by, AreViolations}

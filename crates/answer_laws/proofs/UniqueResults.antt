@@ -1,5 +1,5 @@
 -- Each command but `run` makes one result of a design and its scenario; and which statuses that may have.
-use Rattle.std.proofs.Common.{◌≡◌, ◌∙◌, ◌⊎◌, inl, inr, ℕ, ◌<◌, ◌≤◌, Bool, true, false, List, sym, ap, arith}
+use Rattle.std.proofs.Common.{◌≡◌, ◌∙◌, ℕ, Bool, true, false, List, sym, ap}
 use Rattle.std.specs.Prelude.{if◌then◌else◌}
 use Rattle.std.proofs.lemmas.Bool.{true≢false}
 use Rattle.pals_model.specs.declared.design.DesignParts.{DesignParts}
@@ -27,15 +27,6 @@ Agree s a t b = (s ≡ t) × (a ≡ b)
 by_equations : (s t n : ℕ) (a b text : List ℕ) → (s ≡ n) × (a ≡ text) → (t ≡ n) × (b ≡ text) → Agree s a t b
 by_equations s t n a b text x y = (x.0 ∙ sym y.0, x.1 ∙ sym y.1)
 
--- whether all is so, or something is not
-judged_is_small : (s : ℕ) (b : Bool) → s ≡ (if b then 1 else 0) → s < 2
-judged_is_small s true e = omega (arith, e)
-judged_is_small s false e = omega (arith, e)
-
-verdict_is_small : (s : ℕ) (b : Bool) → s ≡ (if b then 0 else 1) → s < 2
-verdict_is_small s true e = omega (arith, e)
-verdict_is_small s false e = omega (arith, e)
-
 -- ---- analyses
 pub one_analysis : ReportIsOne → (what : Analysis) (design : DesignParts) (scenario : Scenario) → IsDesign design
     → ArePairs design scenario.plants
@@ -49,13 +40,6 @@ one_analysis one Fuse design scenario rules pairs s t a b x y = (
   x.status_is ∙ sym y.status_is,
   one design scenario.plants scenario.env scenario.rounds a b rules pairs x.report y.report,
 )
-
-pub analysis_status : (what : Analysis) (design : DesignParts) (scenario : Scenario) (s : ℕ) (a : List ℕ)
-    → analyses what design scenario s a → s < 2
-analysis_status Sync design scenario s a x = let e : s ≡ 0 = x.0 in omega arith
-analysis_status Watch design scenario s a x = judged_is_small s _ x.status_is
-analysis_status Vote design scenario s a x = let e : s ≡ 0 = x.status_is in omega arith
-analysis_status Fuse design scenario s a x = let e : s ≡ 0 = x.status_is in omega arith
 
 -- ---- executions
 pub one_execution : ExecutionPremises → (what : Execution) (root : List ℕ) → is_run (command_of what root) ≡ false
@@ -76,45 +60,3 @@ one_execution laws Budget root not_run design scenario s t a b x y = (
   x.text_is ∙ (laws.one_text design (behaviours design) x.programs y.programs (processors_of scenario) x.laid_out
       y.laid_out ∙ sym y.text_is),
 )
-
--- none of them is the status of a refused text or design, of a code that is too long, or of a source that was not read
-abbrev pub IsMade : ℕ → Type 0
-IsMade s = (s < 3) ⊎ ((5 ≤ s) × (s < 9))
-
-pub execution_status : (what : Execution) (design : DesignParts) (scenario : Scenario) (s : ℕ) (a : List ℕ)
-    → executes what design scenario s a → IsMade s
-execution_status TimedWorld design scenario s a (inl x) = let e : s ≡ 0 = x.0 in inl (omega arith)
-execution_status TimedWorld design scenario s a (inr x) = let e : s ≡ 5 = x.0 in inr (omega arith, omega arith)
-execution_status LooseWorld design scenario s a (inl x) = let e : s ≡ 0 = x.0 in inl (omega arith)
-execution_status LooseWorld design scenario s a (inr (inl x)) = let e : s ≡ 6 = x.0 in inr (omega arith, omega arith)
-execution_status LooseWorld design scenario s a (inr (inr x)) = let e : s ≡ 5 = x.0 in inr (omega arith, omega arith)
-execution_status (Run trace) design scenario s a (inl x) = let e : s ≡ 0 = x.0 in inl (omega arith)
-execution_status (Run trace) design scenario s a (inr (inl x)) = let e : s ≡ 6 = x.0 in inr (omega arith, omega arith)
-execution_status (Run trace) design scenario s a (inr (inr x)) = let e : s ≡ 7 = x.0 in inr (omega arith, omega arith)
-execution_status Audit design scenario s a x = let small = verdict_is_small s _ x.judged.0 in inl (omega (arith, small))
-execution_status Budget design scenario s a x = let small = judged_is_small s _ x.status_is in
-    inl (omega (arith, small))
-
--- a run refuses no scenario
-pub no_refused_run : (design : DesignParts) (scenario : Scenario) (trace : Bool) (a : List ℕ)
-    → executes (Run trace) design scenario 5 a → ⊥
-no_refused_run design scenario trace a (inl x) = let e : 5 ≡ 0 = x.0 in absurd (omega (arith, e))
-no_refused_run design scenario trace a (inr (inl x)) = let e : 5 ≡ 6 = x.0 in absurd (omega (arith, e))
-no_refused_run design scenario trace a (inr (inr x)) = let e : 5 ≡ 7 = x.0 in absurd (omega (arith, e))
-
-pub apart : (s n : ℕ) → IsMade s → s ≡ n → ((n ≡ 3) ⊎ ((n ≡ 4) ⊎ ((n ≡ 9) ⊎ ((n ≡ 12) ⊎ (n ≡ 13))))) → ⊥
-apart s n (inl small) e (inl is) = absurd (omega (arith, small, e, is))
-apart s n (inl small) e (inr (inl is)) = absurd (omega (arith, small, e, is))
-apart s n (inl small) e (inr (inr (inl is))) = absurd (omega (arith, small, e, is))
-apart s n (inl small) e (inr (inr (inr (inl is)))) = absurd (omega (arith, small, e, is))
-apart s n (inl small) e (inr (inr (inr (inr is)))) = absurd (omega (arith, small, e, is))
-apart s n (inr large) e (inl is) = let least = large.0 in let most = large.1 in
-    absurd (omega (arith, least, most, e, is))
-apart s n (inr large) e (inr (inl is)) = let least = large.0 in let most = large.1 in
-    absurd (omega (arith, least, most, e, is))
-apart s n (inr large) e (inr (inr (inl is))) = let least = large.0 in let most = large.1 in
-    absurd (omega (arith, least, most, e, is))
-apart s n (inr large) e (inr (inr (inr (inl is)))) = let least = large.0 in let most = large.1 in
-    absurd (omega (arith, least, most, e, is))
-apart s n (inr large) e (inr (inr (inr (inr is)))) = let least = large.0 in let most = large.1 in
-    absurd (omega (arith, least, most, e, is))

@@ -6,7 +6,7 @@ use Rattle.aadl_tree.specs.Terminals.{Spot}
 use Rattle.aadl_tree.specs.SpellingParts.{Part, plain}
 use Rattle.aadl_tree.specs.Names as n
 use Rattle.aadl_tree.specs.Annexes as x
-use Rattle.aadl_tree.specs.proof.DeclarationViews.{transition_view}
+use Rattle.aadl_tree.specs.proof.AnnexViews.{transition_view}
 use Rattle.aadl_tree.specs.proof.PlaceMaps.{kept_place}
 use Rattle.aadl_grammar.specs.proof.ParserAnswers.{Reads}
 use Rattle.aadl_grammar.proofs.PartSequences.{begun}

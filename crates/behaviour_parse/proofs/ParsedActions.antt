@@ -13,7 +13,7 @@ use Rattle.aadl_tree.specs.declared.actions.Loop.{Loop}
 use Rattle.aadl_tree.specs.declared.actions.Action.TheOpen.{Choice-F}
 use Rattle.aadl_tree.specs.declared.actions.Action.TheViews.{out-roll-Choice}
 use Rattle.aadl_tree.specs.declared.nesting_limit.TheConstants.{GREATEST_NESTING}
-use Rattle.aadl_tree.specs.LanguagesAndNesting.{place}
+use Rattle.aadl_tree.specs.TerminalFaults.{place}
 use Rattle.aadl_tree.specs.Terminals.{Kind, whole, Spot}
 use Rattle.aadl_tree.specs.SpellingParts.{Part, plain, may, last_semicolon}
 use Rattle.aadl_tree.specs.Names.{identifier_parts, reference_parts}

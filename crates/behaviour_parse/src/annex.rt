@@ -8,8 +8,8 @@ ghost use Rattle.aadl_tree.specs.Annexes.{variable_parts, state_parts, guard_par
 ghost use Rattle.aadl_tree.specs.Annexes.{declared_parts, annex_tree_parts};
 ghost use Rattle.aadl_tree.specs.proof.NameViews.{identifier_view};
 ghost use Rattle.aadl_tree.specs.proof.ActionViews.{block_view};
-ghost use Rattle.aadl_tree.specs.proof.DeclarationViews.{variable_view, state_view, guard_view, transition_view};
-ghost use Rattle.aadl_tree.specs.proof.DeclarationViews.{annex_tree_view};
+ghost use Rattle.aadl_tree.specs.proof.AnnexViews.{variable_view, state_view, guard_view, transition_view};
+ghost use Rattle.aadl_tree.specs.proof.AnnexViews.{annex_tree_view};
 ghost use Rattle.aadl_tree.specs.proof.PlaceMaps.{kept_place};
 ghost use Rattle.aadl_grammar.specs.proof.GrammarSymbols as s;
 ghost use Rattle.aadl_grammar.specs.proof.StackMachine.{annex_body};

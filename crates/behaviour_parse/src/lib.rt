@@ -10,7 +10,7 @@ ghost use Rattle.aadl_lex.specs.proof.TokenSpellings.{AreAmongTokensOf};
 ghost use Rattle.aadl_tree.specs.Annexes.{AnnexTree as Tree};
 ghost use Rattle.aadl_tree.specs.proof.BehaviourFaultPlaces.{end_of, BehaviourStopsAt, BehaviourNestsAt};
 ghost use Rattle.aadl_tree.specs.TextTreesAndFaults.{IsBehaviourOf};
-ghost use Rattle.aadl_tree.specs.proof.DeclarationViews.{annex_tree_view};
+ghost use Rattle.aadl_tree.specs.proof.AnnexViews.{annex_tree_view};
 ghost use Rattle.aadl_tree.specs.proof.PlaceMaps.{kept_place};
 ghost use Rattle.behaviour_parse.specs.proof.ParseOutcomes.{IsOnlyBehaviourOf, IsFaultOfBehaviour};
 

@@ -10,8 +10,8 @@ use Rattle.pals_base.specs.declared.values.PortValue.{PortValue}
 use Rattle.pals_base.specs.declared.behaviour.Act.{Act}
 use Rattle.pals_base.specs.declared.behaviour.Act.TheVariants as variants
 use Rattle.pals_base.specs.declared.behaviour.Branch.{Branch}
-use Rattle.pals_base.specs.Actions.{Effect, act, acts, act_first, for_each, numbers, counted_from, count_of}
-use Rattle.pals_base.specs.Actions.{without_loop}
+use Rattle.pals_base.specs.Actions.{Effect, act, acts, act_first, for_each, without_loop}
+use Rattle.pals_base.specs.ForRanges.{numbers, counted_from, count_of}
 use Rattle.pals_base.specs.PlainTrees.{Actions, For}
 use Rattle.pals_base.specs.ExpressionValues.{on_value}
 use Rattle.pals_base.specs.proof.TreeViews.{action_of, actions_along, branches_along}

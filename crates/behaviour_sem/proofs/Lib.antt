@@ -2,3 +2,4 @@ pub mod ActionMeanings
 pub mod StateIndependence
 pub mod TransitionsAndInputs
 pub mod StepEnds
+pub mod HeldInputs

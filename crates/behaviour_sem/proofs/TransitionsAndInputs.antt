@@ -1,16 +1,12 @@
 -- Transitions that are tried and taken one after another, and inputs that are held port by port.
-use Rattle.std.proofs.Common.{◌≡◌, ℕ, zero, suc, ◌+◌, ℤ, ◌<◌, List, [], ◌∷◌, ◌++◌, length, take, drop, drop-cons}
-use Rattle.std.proofs.Common.{get_or, add-one, append_assoc, refl, sym, ap, ◌∙◌, arith}
-use Rattle.std.proofs.lemmas.List.{take_more_set, drop-set-lt}
-use Rattle.std.specs.Prelude.{Bool, true, false, Result, Ok, Err, Some, slice_index_or, slice_set, nat_eq, filter}
-use Rattle.std.specs.Prelude.{if◌then◌else◌}
+use Rattle.std.proofs.Common.{◌≡◌, ℕ, suc, ℤ, ◌<◌, List, ◌∷◌, length, drop, drop-cons, get_or, refl, sym, ap, ◌∙◌}
+use Rattle.std.specs.Prelude.{Bool, true, false, Result, Ok, Err, Some, nat_eq, filter, if◌then◌else◌}
 use Rattle.pals_base.specs.declared.values.Trap.{Trap}
 use Rattle.pals_base.specs.declared.frames.Frame.{Frame}
 use Rattle.pals_base.specs.declared.values.PortValue.{PortValue}
-use Rattle.pals_base.specs.declared.values.PortValue.TheVariants.{Absent}
 use Rattle.pals_base.specs.ExpressionValues.{on_value}
 use Rattle.pals_base.specs.Actions.{Effect, acts}
-use Rattle.pals_base.specs.SingleStep.{Fired, along, held_of, holding, opens, first_open, is_complete, leaving, settled}
+use Rattle.pals_base.specs.SingleStep.{Fired, along, opens, first_open, is_complete, leaving, settled}
 use Rattle.pals_base.specs.PlainTrees.{Edge}
 use Rattle.behaviour_sem.specs.declared.early_end.EarlyEnd.{EarlyEnd}
 use Rattle.behaviour_sem.specs.declared.early_end.EarlyEnd.TheVariants as stop
@@ -20,7 +16,6 @@ use Rattle.behaviour_sem.specs.proof.ActionExecution.{effect}
 use Rattle.behaviour_sem.specs.proof.TransitionMoves.{goes, move}
 use Rattle.behaviour_sem.specs.declared.transitions.StepState.{StepState}
 use Rattle.pals_base.specs.declared.behaviour.BehaviourParts.{BehaviourParts}
-use Rattle.pals_base.proofs.StepSequences.{holding-none}
 use Rattle.behaviour_sem.proofs.StateIndependence.{acts-seen, opens-seen}
 
 -- ---- stops
@@ -107,30 +102,3 @@ settled-more n b fresh at under_way =
     (λ e. on_value (along e fresh at) (λ next. settled n b fresh next))) under_way
     ∙ on_value-on_value (first_open (leaving b at.frame.state) at.frame fresh) (λ e. along e fresh at)
     (λ next. settled n b fresh next)
-
--- ---- held inputs
-pub holding-more : (at : ℕ) (held : List ℤ) (inputs : List PortValue) (v : ℤ) (rest : List ℤ) → drop at held ≡ v ∷ rest
-    → holding (drop at held) (drop at inputs)
-    ≡ held_of v (slice_index_or inputs at Absent) ∷ holding rest (drop (suc at) inputs)
-holding-more zero held [] v rest e = ap (λ h. holding h []) e ∙ ap (λ h. v ∷ h) (sym (holding-none rest))
-holding-more zero held (i ∷ inputs) v rest e = ap (λ h. holding h (i ∷ inputs)) e
-holding-more (suc at) [] inputs v rest e = cc
-holding-more (suc at) (w ∷ held) [] v rest e = ap (λ h. holding h []) e ∙ ap (λ h. v ∷ h) (sym (holding-none rest))
-holding-more (suc at) (w ∷ held) (i ∷ inputs) v rest e = holding-more at held inputs v rest e
-
--- a place written: what is held up to it, and of the places that are left
-pub holding-set : (at : ℕ) (held : List ℤ) (inputs : List PortValue) (before v : ℤ) → at < length held
-    → before ≡ get_or held at before → v ≡ held_of before (slice_index_or inputs at Absent)
-    → take (at + 1) (slice_set held at v) ++ holding (drop (at + 1) (slice_set held at v)) (drop (at + 1) inputs)
-    ≡ take at held ++ holding (drop at held) (drop at inputs)
-holding-set at held inputs before v within item newest =
-    let rest = holding (drop (suc at) held) (drop (suc at) inputs) in
-    ap (λ l. l ++ holding (drop (at + 1) (slice_set held at v)) (drop (at + 1) inputs)) (take_more_set held at v within)
-    ∙ ap (λ l. (take at held ++ v ∷ []) ++ holding l (drop (at + 1) inputs))
-    (drop-set-lt (at + 1) held at v (omega arith))
-    ∙ ap (λ n. (take at held ++ v ∷ []) ++ holding (drop n held) (drop n inputs)) (add-one at)
-    ∙ append_assoc (take at held) (v ∷ []) rest
-    ∙ ap (λ w. take at held ++ w ∷ rest) newest
-    ∙ sym (ap (λ l. take at held ++ l)
-    (holding-more at held inputs before (drop (suc at) held)
-    (drop-cons held at before within ∙ ap (λ w. w ∷ drop (suc at) held) (sym item))))

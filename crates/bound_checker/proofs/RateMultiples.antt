@@ -13,7 +13,8 @@ use Rattle.pals_base.specs.PeriodBound.{least_period}
 use Rattle.pals_base.specs.declared.limits.TheConstants.{HOUR}
 use Rattle.bound_checker.specs.proof.OverflowLimits.{IsWithinHour, IsRate}
 use Rattle.bound_checker.specs.ShortestPeriods.{greatest_rate, IsSuited, IsLeastMultiple, HasNoMultiple}
-use Rattle.bound_checker.specs.proof.DivisorsAndMultiples.{IsLeastCommon, HasMultiplesOf}
+use Rattle.bound_checker.specs.proof.DivisorsAndMultiples.{IsLeastCommon}
+use Rattle.bound_checker.specs.proof.RateMultiples.{HasMultiplesOf}
 
 -- ---- lists
 init_of_All : (P : ℕ → Type 0) (xs : List ℕ) (x : ℕ) → All P (xs ++ x ∷ []) → All P xs

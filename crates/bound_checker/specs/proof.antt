@@ -2,3 +2,4 @@
 pub mod OverflowLimits
 pub mod DivisorsAndMultiples
 pub mod MessageTimes
+pub mod RateMultiples

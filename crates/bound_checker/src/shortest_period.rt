@@ -2,7 +2,7 @@
 ghost use Rattle.std.specs.Prelude.{◌≡◌, All, MatchOption};
 ghost use Rattle.bound_checker.specs.proof.OverflowLimits.{IsWithinHour, IsRate};
 ghost use Rattle.bound_checker.specs.ShortestPeriods.{greatest_rate, IsLeastMultiple, HasNoMultiple};
-ghost use Rattle.bound_checker.specs.proof.DivisorsAndMultiples.{HasMultiplesOf};
+ghost use Rattle.bound_checker.specs.proof.RateMultiples.{HasMultiplesOf};
 
 use crate::bound::least_period;
 use crate::common_multiple::lcm;

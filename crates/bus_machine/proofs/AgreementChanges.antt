@@ -11,11 +11,12 @@ use Rattle.pals_model.specs.declared.design.Component.{Component}
 use Rattle.pals_model.specs.declared.design.Link.{Link}
 use Rattle.pals_model.specs.declared.flight_copy.FlightCopy.{FlightCopy}
 use Rattle.pals_runs.specs.declared.journal.Stop.{Stop}
-use Rattle.bus_machine.specs.Plans.{component_at, no_component}
-use Rattle.bus_machine.specs.Nodes.{NodeState}
+use Rattle.bus_machine.specs.Plans.{component_at, no_component, link_at}
+use Rattle.bus_machine.specs.Nodes.{NodeState, sent_rounds}
 use Rattle.bus_machine.specs.NodeEvents.{slot_at}
-use Rattle.bus_machine.specs.States.{Run, BusState, node_at, no_node, flight_at, link_at, with_node, with_flight}
-use Rattle.bus_machine.specs.MissedStarts.{sent_rounds, rounds_sent_on}
+use Rattle.bus_machine.specs.States.{BusState, node_at, no_node, flight_at, with_node, with_flight}
+use Rattle.bus_machine.specs.Runs.{Run}
+use Rattle.bus_machine.specs.MissedStarts.{rounds_sent_on}
 use Rattle.bus_machine.specs.Agreement.{NodeAgrees, SlotAgrees, IsCopy, Agrees}
 use Rattle.bus_machine.proofs.InputAgreement.{SlotsAgree}
 

@@ -9,7 +9,8 @@ use Rattle.list_lemmas.proofs.ElementPositions.{slice_get-zip}
 use Rattle.pals_base.specs.declared.values.PortValue.{PortValue}
 use Rattle.pals_base.specs.declared.values.PortValue.TheVariants.{Absent}
 use Rattle.pals_base.specs.Adaptors.{adapt}
-use Rattle.pals_base.specs.StepSequences.{upwards, columns}
+use Rattle.pals_base.specs.Tuples.{columns}
+use Rattle.pals_base.specs.UpwardNumbers.{upwards}
 use Rattle.pals_base.proofs.UpwardNumbers.{length-upwards}
 use Rattle.pals_model.specs.declared.design.Component.{Component}
 use Rattle.pals_model.specs.declared.design.Link.{Link}
@@ -17,8 +18,9 @@ use Rattle.pals_model.specs.declared.design.Feed.{Feed}
 use Rattle.pals_model.specs.declared.design.DesignParts.{DesignParts}
 use Rattle.pals_model.specs.declared.port_sources.PortSource.{PortSource}
 use Rattle.pals_model.specs.declared.port_sources.PortSource.TheVariants as source
-use Rattle.pals_model.specs.ComponentInputs.{rate_of, values_at, feed, inputs_in, source_of, sources_of, reading}
-use Rattle.pals_model.specs.ComponentInputs.{read_feed, read_link}
+use Rattle.pals_model.specs.ComponentInputs.{values_at, feed, inputs_in, source_of, sources_of, reading, read_feed}
+use Rattle.pals_model.specs.ComponentInputs.{read_link}
+use Rattle.pals_model.specs.PortKinds.{rate_of}
 use Rattle.pals_model.specs.Composition.{comp, msg}
 use Rattle.pals_model.proofs.SourceLaws.{source_at, reads_link}
 use Rattle.bus_machine.specs.declared.plan.Input.{Input}
@@ -26,7 +28,7 @@ use Rattle.bus_machine.specs.Plans.{plan_for, input_of, input_from_feed, input_f
 use Rattle.bus_machine.specs.declared.plan.Plan.{Plan}
 use Rattle.bus_machine.specs.Nodes.{NodeState, message_in, brought, vectors_of}
 use Rattle.bus_machine.specs.NodeEvents.{lacks, missing, slot_at}
-use Rattle.bus_machine.specs.States.{Run}
+use Rattle.bus_machine.specs.Runs.{Run}
 use Rattle.bus_machine.specs.Agreement.{SlotAgrees}
 use Rattle.bus_machine.proofs.ListsAndOldestCopies.{none_found}
 

@@ -7,3 +7,4 @@ pub mod NodeEventAgreement
 pub mod MessageAndRunAgreement
 pub mod TargetExamples
 pub mod QuantitiesAndSentRounds
+pub mod SentRounds

@@ -12,7 +12,7 @@ use Rattle.list_lemmas.proofs.Options.{some_by_test}
 use Rattle.list_lemmas.proofs.ElementPositions.{get_or-map_constant}
 use Rattle.pals_base.specs.declared.values.PortValue.{PortValue}
 use Rattle.pals_base.specs.declared.values.LinkNo.{LinkNo}
-use Rattle.pals_base.specs.StepSequences.{upwards}
+use Rattle.pals_base.specs.UpwardNumbers.{upwards}
 use Rattle.pals_base.proofs.UpwardNumbers.{length-upwards, get_or-map_upwards}
 use Rattle.pals_model.specs.declared.design.Component.{Component}
 use Rattle.pals_model.specs.declared.design.Link.{Link}
@@ -29,13 +29,13 @@ use Rattle.pals_runs.specs.declared.phase.Phase.TheVariants.{Waiting, Running, B
 use Rattle.pals_runs.specs.declared.journal.Arrived.{Arrived}
 use Rattle.pals_runs.specs.declared.journal.Arrived.TheVariants.{Kept, Ignored, Early}
 use Rattle.pals_model.specs.ComponentInputs.{sources_of}
-use Rattle.bus_machine.specs.Plans.{input_of, component_at, no_component, plan_of, plan_for}
-use Rattle.bus_machine.specs.Nodes.{NodeState, opening_node}
+use Rattle.bus_machine.specs.Plans.{input_of, component_at, no_component, plan_of, plan_for, link_at, no_link}
+use Rattle.bus_machine.specs.Nodes.{NodeState, opening_node, sent_rounds}
 use Rattle.bus_machine.specs.NodeEvents.{slot_at, arrived, with_message, received}
 use Rattle.bus_machine.specs.LinkEvents.{is_in_flight, arriving, tuple_in, once_more, repeated}
-use Rattle.bus_machine.specs.States.{Run, BusState, opening, node_at, no_node, flight_at, link_at, no_link, with_node}
-use Rattle.bus_machine.specs.States.{with_flight}
-use Rattle.bus_machine.specs.MissedStarts.{missing_link, sent_rounds, rounds_sent_on}
+use Rattle.bus_machine.specs.States.{BusState, opening, node_at, no_node, flight_at, with_node, with_flight}
+use Rattle.bus_machine.specs.Runs.{Run}
+use Rattle.bus_machine.specs.MissedStarts.{missing_link, rounds_sent_on}
 use Rattle.bus_machine.specs.Machine.{BusEvent, Start, Step, Finish, Send, Arrive, Drop, Repeat, arrival, early_stop}
 use Rattle.bus_machine.specs.Machine.{after_arrive, after, is_allowed}
 use Rattle.bus_machine.specs.Replay.{opens, goes_on}

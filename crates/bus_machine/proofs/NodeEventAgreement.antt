@@ -7,7 +7,7 @@ use Rattle.std.proofs.lemmas.Bool.{eqb-true, false≢true}
 use Rattle.std.proofs.lemmas.List.Elements.{All-append, All-replicate}
 use Rattle.std.proofs.lemmas.Option.{slice_get_within, get_or_from_slice_get}
 use Rattle.list_lemmas.proofs.ListOperations.{length-map_enumerate_from}
-use Rattle.bus_machine.proofs.QuantitiesAndSentRounds.{sent_most}
+use Rattle.bus_machine.proofs.SentRounds.{sent_most}
 use Rattle.list_lemmas.proofs.Options.{option_map-none}
 use Rattle.list_lemmas.proofs.ElementPositions.{get_or-map_constant}
 use Rattle.pals_base.specs.declared.values.PortValue.{PortValue}
@@ -22,13 +22,14 @@ use Rattle.pals_model.specs.DesignRules.{IsComponent}
 use Rattle.pals_model.proofs.FirstMatches.{at_element}
 use Rattle.pals_runs.specs.declared.phase.Phase.{Phase}
 use Rattle.pals_runs.specs.declared.phase.Phase.TheVariants.{Waiting, Running, Between, Holding, Done}
-use Rattle.bus_machine.specs.Plans.{component_at, plan_of}
-use Rattle.bus_machine.specs.Nodes.{NodeState, round_of}
+use Rattle.bus_machine.specs.Plans.{component_at, plan_of, link_at, no_link}
+use Rattle.bus_machine.specs.Nodes.{NodeState, round_of, sent_rounds}
 use Rattle.bus_machine.specs.NodeEvents.{is_waiting, missing, started, next_step, stepped, running_step, finished}
 use Rattle.bus_machine.specs.NodeEvents.{may_send, sent_from, message_from, slot_at}
 use Rattle.bus_machine.specs.LinkEvents.{sent_copy}
-use Rattle.bus_machine.specs.States.{Run, BusState, node_at, flight_at, link_at, no_link, with_node}
-use Rattle.bus_machine.specs.MissedStarts.{missing_link, link_into, sent_rounds, rounds_sent_on}
+use Rattle.bus_machine.specs.States.{BusState, node_at, flight_at, with_node}
+use Rattle.bus_machine.specs.Runs.{Run}
+use Rattle.bus_machine.specs.MissedStarts.{missing_link, link_into, rounds_sent_on}
 use Rattle.bus_machine.specs.Machine.{after_start, on_step, flight_after_send, after_send}
 use Rattle.bus_machine.specs.Agreement.{SlotAgrees, IsCopy, Agrees}
 use Rattle.bus_machine.specs.proof.AgreementLaws.{IsRunOf}

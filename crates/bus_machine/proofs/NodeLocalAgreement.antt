@@ -13,7 +13,9 @@ use Rattle.pals_base.specs.declared.values.PortValue.{PortValue}
 use Rattle.pals_base.specs.declared.values.PortValue.TheVariants.{Absent}
 use Rattle.pals_base.specs.declared.frames.Frame.{Frame}
 use Rattle.pals_base.specs.SingleStep.{fire}
-use Rattle.pals_base.specs.StepSequences.{Stepped, cut, with_places, upwards}
+use Rattle.pals_base.specs.StepSequences.{Stepped}
+use Rattle.pals_base.specs.Tuples.{cut, with_places}
+use Rattle.pals_base.specs.UpwardNumbers.{upwards}
 use Rattle.pals_base.specs.PeriodBound.{sent_steps}
 use Rattle.pals_base.proofs.UpwardNumbers.{map_upwards_more}
 use Rattle.pals_model.specs.declared.design.Component.{Component}
@@ -35,7 +37,7 @@ use Rattle.bus_machine.specs.Plans.{plan_for}
 use Rattle.bus_machine.specs.Nodes.{NodeState, at_rest, finished_steps}
 use Rattle.bus_machine.specs.NodeEvents.{missing, started, stepped, fired, finished, part_left, after_round, may_send}
 use Rattle.bus_machine.specs.NodeEvents.{sent_from, after_send, message_from}
-use Rattle.bus_machine.specs.States.{Run}
+use Rattle.bus_machine.specs.Runs.{Run}
 use Rattle.bus_machine.specs.Agreement.{IsAtRest, IsUnderWay, IsInRound, IsHeld, PhaseAgrees, PartsAgree, NodeAgrees}
 use Rattle.bus_machine.specs.Agreement.{reached}
 use Rattle.bus_machine.proofs.ListsAndOldestCopies.{cut_places}

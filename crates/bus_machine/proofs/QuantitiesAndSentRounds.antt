@@ -1,7 +1,7 @@
 -- What a quantity of nodes becomes where one node changes, and how many rounds a node has sent by its count.
-use Rattle.std.proofs.Common.{◌≡◌, ◌≢◌, inl, inr, ℕ, suc, ◌+◌, ◌-◌, ◌<◌, ◌≤◌, nat_eq, Bool, true, false, cond}
-use Rattle.std.proofs.Common.{if◌then◌else◌, length, refl, sym, ap, ◌∙◌, subst, arith}
-use Rattle.std.proofs.lemmas.Bool.{cases_eq, cases_lt, eqb-true, eqb-false, false≢true}
+use Rattle.std.proofs.Common.{◌≡◌, ◌≢◌, inl, inr, ℕ, ◌+◌, ◌-◌, ◌<◌, nat_eq, Bool, true, false, cond, length, refl, sym}
+use Rattle.std.proofs.Common.{ap, ◌∙◌, subst, arith}
+use Rattle.std.proofs.lemmas.Bool.{cases_eq, cases_lt, eqb-true, eqb-false}
 use Rattle.std.proofs.lemmas.List.{length-set, get_or_past}
 use Rattle.bus_machine.specs.Nodes.{NodeState}
 use Rattle.bus_machine.specs.States.{BusState, node_at, no_node, with_node}
@@ -58,17 +58,3 @@ keeps_at f s node k m same = elim (cases_eq k node) [
       ])
   | inr other ↦ ap f (node_stays s node k m other)
 ]
-
--- ---- rounds that are sent: as many as are counted, or one less until that of the round in hand is sent
-pub sent_most : (sent : Bool) (count : ℕ) → (if sent then count else (count - 1)) ≤ count
-sent_most true count = omega arith
-sent_most false count = omega arith
-
-pub sent_at_start : (sent : Bool) (count : ℕ) → sent ≡ true → count + 1 - 1 ≡ (if sent then count else (count - 1))
-sent_at_start true count is = omega arith
-sent_at_start false count is = absurd (false≢true is)
-
-pub sent_behind : (sent : Bool) (count round : ℕ) → sent ≡ false → count ≡ suc round
-    → count ≡ (if sent then count else (count - 1)) + 1
-sent_behind true count round unsent some = absurd (false≢true (sym unsent))
-sent_behind false count round unsent some = omega arith

@@ -1,7 +1,8 @@
 -- When the nodes, slots and flights of a run agree with the composition.
 use Rattle.std.specs.Prelude.{◌≡◌, ℕ, suc, ◌<◌, ◌≤◌, true, false, List, length, map, All, Option, Some, None, slice_get}
 use Rattle.pals_base.specs.declared.values.PortValue.{PortValue}
-use Rattle.pals_base.specs.StepSequences.{Stepped, upwards}
+use Rattle.pals_base.specs.StepSequences.{Stepped}
+use Rattle.pals_base.specs.UpwardNumbers.{upwards}
 use Rattle.pals_model.specs.declared.design.Component.{Component}
 use Rattle.pals_model.specs.declared.design.Link.{Link}
 use Rattle.pals_model.specs.declared.flight_copy.FlightCopy.{FlightCopy}
@@ -11,7 +12,8 @@ use Rattle.pals_runs.specs.declared.phase.Phase.{Phase}
 use Rattle.pals_runs.specs.declared.phase.Phase.TheVariants.{Waiting, Running, Between, Holding, Done}
 use Rattle.bus_machine.specs.Nodes.{NodeState}
 use Rattle.bus_machine.specs.NodeEvents.{slot_at}
-use Rattle.bus_machine.specs.States.{Run, BusState, node_at, flight_at}
+use Rattle.bus_machine.specs.States.{BusState, node_at, flight_at}
+use Rattle.bus_machine.specs.Runs.{Run}
 use Rattle.bus_machine.specs.MissedStarts.{rounds_sent_on}
 
 -- ---- nodes

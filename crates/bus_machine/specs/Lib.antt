@@ -11,3 +11,4 @@ pub mod Agreement
 pub mod ActionsAndTargets
 pub mod WorldTexts
 pub mod proof
+pub mod Runs

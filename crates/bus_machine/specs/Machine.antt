@@ -12,12 +12,13 @@ use Rattle.pals_model.specs.Flights.{without_oldest}
 use Rattle.pals_runs.specs.declared.journal.Arrived.{Arrived}
 use Rattle.pals_runs.specs.declared.journal.Arrived.TheVariants.{Kept, Ignored, Early}
 use Rattle.pals_runs.specs.declared.journal.Stop.{Stop}
-use Rattle.bus_machine.specs.Plans.{plan_of}
+use Rattle.bus_machine.specs.Plans.{plan_of, link_at}
 use Rattle.bus_machine.specs.Nodes.{round_of}
 use Rattle.bus_machine.specs.NodeEvents.{is_waiting, started, next_step, stepped, running_step, finished, may_send}
 use Rattle.bus_machine.specs.NodeEvents.{sent_from, message_from, arrived, received}
 use Rattle.bus_machine.specs.LinkEvents.{sent_copy, is_in_flight, arriving, repeated}
-use Rattle.bus_machine.specs.States.{Run, BusState, node_at, flight_at, link_at, with_node, with_flight}
+use Rattle.bus_machine.specs.States.{BusState, node_at, flight_at, with_node, with_flight}
+use Rattle.bus_machine.specs.Runs.{Run}
 use Rattle.bus_machine.specs.MissedStarts.{missing_link, cause_of}
 use Rattle.pals_runs.specs.declared.journal.Stop.TheVariants as stop
 

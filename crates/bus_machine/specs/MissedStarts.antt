@@ -5,11 +5,12 @@ use Rattle.pals_model.specs.declared.design.DesignParts.{DesignParts}
 use Rattle.pals_model.specs.ComponentInputs.{link_goes_to}
 use Rattle.pals_runs.specs.declared.journal.Cause.{Cause}
 use Rattle.pals_runs.specs.declared.journal.Cause.TheVariants.{NotSent, InTransit, Lost}
-use Rattle.bus_machine.specs.Plans.{plan_of}
-use Rattle.bus_machine.specs.Nodes.{NodeState, round_of}
+use Rattle.bus_machine.specs.Plans.{plan_of, link_at}
 use Rattle.bus_machine.specs.NodeEvents.{missing}
 use Rattle.bus_machine.specs.LinkEvents.{is_in_flight}
-use Rattle.bus_machine.specs.States.{Run, BusState, node_at, flight_at, link_at}
+use Rattle.bus_machine.specs.States.{BusState, node_at, flight_at}
+use Rattle.bus_machine.specs.Runs.{Run}
+use Rattle.bus_machine.specs.Nodes.{sent_rounds}
 
 -- the link into an in port
 abbrev pub link_into : DesignParts → ℕ → ℕ → ℕ
@@ -18,10 +19,6 @@ link_into design node port = unwrap_or (position (link_goes_to node port) design
 -- the first link whose message a start of this node would miss
 abbrev pub missing_link : Run → BusState → ℕ → Option ℕ
 missing_link run s node = option_map (link_into run.design node) (missing (plan_of run.design node) (node_at s node))
-
--- how many rounds a node has sent
-abbrev pub sent_rounds : NodeState → ℕ
-sent_rounds n = if n.sent then n.count else round_of n
 
 -- how many rounds the source of a link has sent
 abbrev pub rounds_sent_on : Run → BusState → ℕ → ℕ

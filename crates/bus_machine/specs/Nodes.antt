@@ -1,13 +1,13 @@
 -- A node: what it stands at, the job that is out, and what its in ports bring to a round.
 use Rattle.std.specs.Prelude.{ℕ, ◌-◌, Bool, true, false, List, [], ◌∷◌, map, zip, replicate, Option, Some, None}
-use Rattle.std.specs.Prelude.{slice_index_or}
+use Rattle.std.specs.Prelude.{slice_index_or, if◌then◌else◌}
 use Rattle.pals_base.specs.declared.values.PortValue.{PortValue}
 use Rattle.pals_base.specs.declared.values.PortValue.TheVariants.{Absent}
 use Rattle.pals_base.specs.declared.frames.Frame.{Frame}
 use Rattle.pals_base.specs.declared.values.NodeNo.{NodeNo}
 use Rattle.pals_base.specs.SingleStep.{initial}
 use Rattle.pals_base.specs.Adaptors.{adapt}
-use Rattle.pals_base.specs.StepSequences.{columns}
+use Rattle.pals_base.specs.Tuples.{columns}
 use Rattle.pals_model.specs.declared.part.Part.{Part}
 use Rattle.pals_runs.specs.declared.phase.Phase.{Phase}
 use Rattle.pals_runs.specs.declared.phase.Phase.TheVariants.{Waiting, Running, Between, Holding, Done}
@@ -106,3 +106,7 @@ finished_steps rate Done = None
 abbrev pub at_rest : Bool → Phase
 at_rest true = Done
 at_rest false = Waiting
+
+-- how many rounds a node has sent
+abbrev pub sent_rounds : NodeState → ℕ
+sent_rounds n = if n.sent then n.count else round_of n

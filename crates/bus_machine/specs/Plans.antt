@@ -8,7 +8,8 @@ use Rattle.pals_model.specs.declared.design.Feed.{Feed}
 use Rattle.pals_model.specs.declared.design.Tap.{Tap}
 use Rattle.pals_model.specs.declared.design.DesignParts.{DesignParts}
 use Rattle.pals_model.specs.declared.port_sources.PortSource.{PortSource}
-use Rattle.pals_model.specs.ComponentInputs.{rate_of, sources_of}
+use Rattle.pals_model.specs.ComponentInputs.{sources_of}
+use Rattle.pals_model.specs.PortKinds.{rate_of}
 use Rattle.pals_model.specs.Composition.{taps_of}
 use Rattle.bus_machine.specs.declared.plan.Input.{Input}
 use Rattle.bus_machine.specs.declared.plan.Plan.{Plan}
@@ -62,3 +63,10 @@ plan_for design node c = record {
 -- what a design says to the node of a component
 abbrev pub plan_of : DesignParts → ℕ → Plan
 plan_of design node = plan_for design node (component_at design node)
+
+abbrev pub no_link : Link
+no_link = record { source = record { 0 = 0 }; out_port = 0; target = record { 0 = 0 }; in_port = 0; adaptor = None }
+
+
+abbrev pub link_at : DesignParts → ℕ → Link
+link_at design link = slice_index_or design.links link no_link

@@ -1,24 +1,14 @@
 -- The state of a run: its nodes, its links and perhaps a stop.
 use Rattle.std.specs.Prelude.{ℕ, true, List, [], length, map, Option, None, slice_index_or, slice_set, fold, min}
-use Rattle.pals_base.specs.StepSequences.{upwards}
+use Rattle.pals_base.specs.UpwardNumbers.{upwards}
 use Rattle.pals_model.specs.declared.design.Link.{Link}
-use Rattle.pals_model.specs.declared.design.DesignParts.{DesignParts}
-use Rattle.pals_model.specs.declared.environment.Env.{Env}
-use Rattle.pals_model.specs.declared.delays.Delays.{Delays}
 use Rattle.pals_model.specs.declared.flight_copy.FlightCopy.{FlightCopy}
 use Rattle.pals_model.specs.Composition.{no_frame}
 use Rattle.pals_runs.specs.declared.phase.Phase.TheVariants.{Done}
 use Rattle.pals_runs.specs.declared.journal.Stop.{Stop}
 use Rattle.bus_machine.specs.Plans.{plan_of}
 use Rattle.bus_machine.specs.Nodes.{NodeState, opening_node}
-
--- what a run is of: a design, the values of its root in ports, how many rounds, and how long messages take
-pub record Run : Type 0 where
-  pub design : DesignParts
-  pub env : Env
-  pub rounds : ℕ
-  pub delays : Delays
-
+use Rattle.bus_machine.specs.Runs.{Run}
 pub record BusState : Type 0 where
   pub nodes : List NodeState
   -- the copies in flight on each link
@@ -43,12 +33,6 @@ node_at s node = slice_index_or s.nodes node no_node
 
 abbrev pub flight_at : BusState → ℕ → List FlightCopy
 flight_at s link = slice_index_or s.flights link []
-
-abbrev pub no_link : Link
-no_link = record { source = record { 0 = 0 }; out_port = 0; target = record { 0 = 0 }; in_port = 0; adaptor = None }
-
-abbrev pub link_at : DesignParts → ℕ → Link
-link_at design link = slice_index_or design.links link no_link
 
 abbrev pub with_node : BusState → ℕ → NodeState → BusState
 with_node s node n = record s { nodes = slice_set s.nodes node n }

@@ -1,17 +1,17 @@
 -- The text of a world: the rounds that its events finished, and the messages that they sent.
 use Rattle.std.specs.Prelude.{ℕ, ◌/◌, nat_eq, nat_lt, Bool, false, if◌then◌else◌, List, [], ◌∷◌, ◌++◌, codes, decimal}
 use Rattle.std.specs.Prelude.{length, map, fold, max, flat_map, count_by, Option, Some, None, slice_get}
-use Rattle.pals_base.specs.StepSequences.{upwards}
+use Rattle.pals_base.specs.UpwardNumbers.{upwards}
 use Rattle.pals_model.specs.declared.design.DesignParts.{DesignParts}
 use Rattle.pals_model.specs.declared.environment.Env.{Env}
 use Rattle.pals_model.specs.declared.part.Part.{Part}
-use Rattle.pals_model.specs.ComponentInputs.{rate_of, links_from}
-use Rattle.pals_model.specs.PortKinds.{out_kind}
+use Rattle.pals_model.specs.OutgoingLinks.{links_from}
+use Rattle.pals_model.specs.PortKinds.{rate_of, out_kind}
 use Rattle.pals_model.specs.Composition.{msg, part}
 use Rattle.pals_model.specs.RoundTexts.{text_of, tuple_text, row_lines}
 use Rattle.pals_runs.specs.declared.events_and_faults.Event.{Event}
 use Rattle.pals_runs.specs.JournalLines.{link_word, spaced}
-use Rattle.bus_machine.specs.States.{link_at}
+use Rattle.bus_machine.specs.Plans.{link_at}
 use Rattle.pals_runs.specs.declared.events_and_faults.Event.TheVariants as event
 
 abbrev pub is_finish : ℕ → Event → Bool

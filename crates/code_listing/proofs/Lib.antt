@@ -10,3 +10,4 @@ pub mod ToldComponentBlocks
 pub mod ToldLinks
 pub mod UnbrokenLines
 pub mod ToldListings
+pub mod ZippedAndNumberedItems

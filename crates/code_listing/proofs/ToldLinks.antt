@@ -8,7 +8,8 @@ use Rattle.std.proofs.lemmas.Bool.{and_parts, leb-true}
 use Rattle.std.proofs.lemmas.List.{append-nil}
 use Rattle.std.proofs.lemmas.List.Folds.{list_all-append}
 use Rattle.pals_base.specs.declared.allowed_adaptors.Adaptor.{Adaptor}
-use Rattle.pals_base.specs.declared.allowed_adaptors.Adaptor.TheVariants.{Repeat, First, Last, At, Latest, Max, Min, Average}
+use Rattle.pals_base.specs.declared.allowed_adaptors.Adaptor.TheVariants.{Repeat, First, Last, At, Latest, Max, Min}
+use Rattle.pals_base.specs.declared.allowed_adaptors.Adaptor.TheVariants.{Average}
 use Rattle.pals_base.specs.declared.limits.TheConstants.{RATE}
 use Rattle.pals_base.specs.AllowedAdaptors.{is_allowed}
 use Rattle.pals_model.specs.declared.design.Component.{Component}
@@ -16,7 +17,7 @@ use Rattle.pals_model.specs.declared.design.Link.{Link}
 use Rattle.pals_model.specs.declared.design.Feed.{Feed}
 use Rattle.pals_model.specs.declared.design.Tap.{Tap}
 use Rattle.pals_model.specs.declared.design.DesignParts.{DesignParts}
-use Rattle.pals_model.specs.ComponentInputs.{rate_of, rate_in}
+use Rattle.pals_model.specs.PortKinds.{rate_of, rate_in}
 use Rattle.pals_model.specs.NamesInTexts.{port_name, in_port_name, target_name, link_name}
 use Rattle.pals_model.specs.DesignRules.{IsDesign, IsComponent, IsSource, IsTarget, IsLink, IsFeed, IsTap}
 use Rattle.pals_model.proofs.FirstMatches.{at_element}

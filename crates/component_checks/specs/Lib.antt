@@ -6,3 +6,4 @@ pub mod ThreadRatesAndFindings
 pub mod RootFindings
 pub mod TypeFindings
 pub mod proof
+pub mod AdaptorTexts

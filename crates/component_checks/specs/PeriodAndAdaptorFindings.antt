@@ -1,19 +1,16 @@
 -- What is wrong with periods, rates and adaptors.
-use Rattle.std.specs.Prelude.{ℕ, ◌+◌, ◌*◌, ◌-◌, ◌/◌, drop, Bool, true, false, not, ◌&&◌, nat_eq, nat_le, nat_lt, List}
-use Rattle.std.specs.Prelude.{[], ◌∷◌, ◌++◌, codes, Option, Some, None, if◌then◌else◌}
+use Rattle.std.specs.Prelude.{ℕ, ◌+◌, ◌/◌, Bool, true, false, not, ◌&&◌, nat_eq, nat_lt, List, [], ◌∷◌, ◌++◌, codes}
+use Rattle.std.specs.Prelude.{Option, Some, None, if◌then◌else◌}
 use Rattle.std.specs.Option.{is_some}
-use Rattle.std.specs.List.{starts_with}
-use Rattle.std.specs.Str.{bytes_eq}
 use Rattle.std.specs.Fmt.{decimal}
 use Rattle.pals_base.specs.declared.behaviour.Kind.{Kind}
 use Rattle.pals_base.specs.declared.period_bound.Gamma.{Gamma}
 use Rattle.pals_base.specs.declared.allowed_adaptors.Adaptor.{Adaptor}
-use Rattle.pals_base.specs.declared.allowed_adaptors.Adaptor.TheVariants.{Repeat, First, Last, At, Latest, Max, Min, Average}
 use Rattle.pals_base.specs.declared.limits.TheConstants.{RATE}
 use Rattle.pals_base.specs.PeriodBound.{least_period}
 use Rattle.pals_base.specs.AllowedAdaptors.{divides_or_divided, is_allowed, suits_kind}
 use Rattle.annex_resolve.specs.declared.violation.Violation.{Violation}
-use Rattle.annex_resolve.specs.NamesAndFindings.{finding, found_if}
+use Rattle.annex_resolve.specs.FindingRecords.{finding, found_if}
 use Rattle.annex_resolve.specs.declared.violation.TheConstants.{NOT_DIVISOR, RATE_TOO_HIGH, RATES_DONT_DIVIDE}
 use Rattle.annex_resolve.specs.declared.violation.TheConstants.{NO_ADAPTOR, STRAY_ADAPTOR, ADAPTOR_OUT_OF_RANGE}
 use Rattle.annex_resolve.specs.declared.violation.TheConstants.{PERIOD_TOO_SHORT}
@@ -29,36 +26,6 @@ period_findings at path (Some t) None = []
 period_findings at path (Some t) (Some p) =
     if divides p t then found_if (nat_lt RATE (t / p)) at RATE_TOO_HIGH (name_and_number path (t / p))
     else finding at NOT_DIVISOR (name_and_number (name_and_number path p) t) ∷ []
-
--- ---- adaptors, by their texts
-abbrev pub is_digit : ℕ → Bool
-is_digit c = nat_le 48 c && nat_le c 57
-
-abbrev pub is_first_digit : ℕ → Bool
-is_first_digit c = nat_le 49 c && nat_le c 57
-
--- a number of one or two digits, the first not 0
-abbrev pub place_number : List ℕ → Option ℕ
-place_number [] = None
-place_number (d ∷ []) = if is_first_digit d then Some (d - 48) else None
-place_number (c ∷ d ∷ []) = if is_first_digit c && is_digit d then Some (10 * (c - 48) + (d - 48)) else None
-place_number (c ∷ d ∷ e ∷ rest) = None
-
-abbrev pub at_place : Option ℕ → Option Adaptor
-at_place None = None
-at_place (Some n) = Some (At n)
-
-abbrev pub adaptor_named : List ℕ → Option Adaptor
-adaptor_named text =
-    if bytes_eq text (codes "repeat") then Some Repeat
-    else if bytes_eq text (codes "first") then Some First
-    else if bytes_eq text (codes "last") then Some Last
-    else if bytes_eq text (codes "latest") then Some Latest
-    else if bytes_eq text (codes "max") then Some Max
-    else if bytes_eq text (codes "min") then Some Min
-    else if bytes_eq text (codes "average") then Some Average
-    else if starts_with nat_eq text (codes "at ") then at_place (place_number (drop 3 text))
-    else None
 
 -- a bad type takes every adaptor
 abbrev pub kind_suits : Option Adaptor → Option Kind → Bool

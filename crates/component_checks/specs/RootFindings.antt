@@ -9,7 +9,7 @@ use Rattle.aadl_names.specs.declared.recognised_properties.PropertyName.TheVaria
 use Rattle.aadl_names.specs.ReferenceResolution.{implementation_at}
 use Rattle.aadl_names.specs.RecognisedProperties.{association_at}
 use Rattle.annex_resolve.specs.declared.violation.Violation.{Violation}
-use Rattle.annex_resolve.specs.NamesAndFindings.{found_if}
+use Rattle.annex_resolve.specs.FindingRecords.{found_if}
 use Rattle.component_checks.specs.BoundsAndRates.{within_hour, range_within, skew_of, range_of, gamma_by}
 use Rattle.component_checks.specs.PeriodAndAdaptorFindings.{bound_findings}
 use Rattle.annex_resolve.specs.declared.violation.TheConstants.{NO_PERIOD, GAMMA_MISSING, GAMMA_ORDER}

@@ -7,11 +7,12 @@ use Rattle.aadl_tree.specs.Values.{Association}
 use Rattle.aadl_tree.specs.Declarations.{Subcomponent, PackageTree}
 use Rattle.aadl_names.specs.declared.recognised_properties.PropertyName.TheVariants.{Period, Dispatch}
 use Rattle.aadl_names.specs.Spelling.{spelled_reference}
-use Rattle.aadl_names.specs.RecognisedProperties.{association_value, reference_of}
+use Rattle.aadl_names.specs.RecognisedProperties.{association_value}
+use Rattle.aadl_names.specs.PropertyValueShapes.{reference_of}
 use Rattle.aadl_uses.specs.declared.thread_locations.SubAt.{SubAt}
 use Rattle.aadl_uses.specs.declared.thread_locations.ThreadAt.{ThreadAt}
 use Rattle.annex_resolve.specs.declared.violation.Violation.{Violation}
-use Rattle.annex_resolve.specs.NamesAndFindings.{found_if}
+use Rattle.annex_resolve.specs.FindingRecords.{found_if}
 use Rattle.component_checks.specs.BoundsAndRates.{within_hour, rate_of}
 use Rattle.component_checks.specs.PeriodAndAdaptorFindings.{period_findings}
 use Rattle.annex_resolve.specs.declared.violation.TheConstants.{NOT_PERIODIC}

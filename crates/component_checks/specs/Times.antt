@@ -9,9 +9,10 @@ use Rattle.aadl_names.specs.declared.recognised_properties.PropertyName.TheVaria
 use Rattle.aadl_names.specs.declared.recognised_properties.PropertyName.TheVariants.{Skew, Execution, Network, Initial}
 use Rattle.aadl_names.specs.declared.recognised_properties.PropertyHolder.{PropertyHolder}
 use Rattle.aadl_names.specs.RecognisedProperties.{association_at, association_value, listed, counts, is_named, name_of}
-use Rattle.aadl_names.specs.RecognisedProperties.{recognised, time_of, range_of}
+use Rattle.aadl_names.specs.RecognisedProperties.{recognised}
+use Rattle.aadl_names.specs.PropertyValueShapes.{time_of, range_of}
 use Rattle.annex_resolve.specs.declared.violation.Violation.{Violation}
-use Rattle.annex_resolve.specs.NamesAndFindings.{found_if}
+use Rattle.annex_resolve.specs.FindingRecords.{found_if}
 use Rattle.annex_resolve.specs.declared.violation.TheConstants.{NUMBER_TOO_BIG}
 
 -- what an association gives, if there is one

@@ -1,7 +1,6 @@
 //! Adaptors, read from their texts.
 ghost use Rattle.std.specs.Prelude.{◌≡◌, drop};
-ghost use Rattle.component_checks.specs.PeriodAndAdaptorFindings.{is_digit, is_first_digit, place_number};
-ghost use Rattle.component_checks.specs.PeriodAndAdaptorFindings.{adaptor_named};
+ghost use Rattle.component_checks.specs.AdaptorTexts.{is_digit, is_first_digit, place_number, adaptor_named};
 
 use pals_base::Adaptor;
 

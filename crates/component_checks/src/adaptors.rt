@@ -1,6 +1,6 @@
 //! What is wrong with adaptors.
 ghost use Rattle.std.specs.Prelude.{◌≡◌, ◌<◌, ◌++◌, OnOk};
-ghost use Rattle.annex_resolve.specs.NamesAndFindings.{found_if};
+ghost use Rattle.annex_resolve.specs.FindingRecords.{found_if};
 ghost use Rattle.component_checks.specs.PeriodAndAdaptorFindings.{kind_suits, is_right};
 
 use crate::periods::name_and_number;

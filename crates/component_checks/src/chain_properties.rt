@@ -2,9 +2,9 @@
 ghost use Rattle.std.specs.Prelude.{◌≡◌, IfOk, codes, option_map, option_copied};
 ghost use Rattle.aadl_tree.specs.proof.PlaceMaps.{kept_place};
 ghost use Rattle.aadl_tree.specs.proof.ValueViews.{association_view, associations_view, value_view};
-ghost use Rattle.aadl_names.specs.RecognisedProperties.{text_of};
+ghost use Rattle.aadl_names.specs.PropertyValueShapes.{text_of};
 ghost use Rattle.component_checks.specs.proof.ChainProperties.{carried_by, adaptor_of};
-ghost use Rattle.component_checks.specs.PeriodAndAdaptorFindings.{adaptor_named};
+ghost use Rattle.component_checks.specs.AdaptorTexts.{adaptor_named};
 ghost use Rattle.component_checks.specs.ThreadRatesAndFindings.{says};
 
 use crate::adaptor_named;

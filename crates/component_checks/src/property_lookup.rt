@@ -23,7 +23,7 @@ pub fn sub_of<'t>(tree: &'t PackageTree, sub: SubAt) -> Option<&'t Subcomponent>
 }
 
 // Whether an association gives a property to what it stands at.
-#[tactic(auto, using(aadl_tree::proofs::FieldViews::view_out_association))]
+#[tactic(auto, using(aadl_tree::proofs::ValueViews::view_out_association))]
 fn gives(association: &Association, property: PropertyName) -> bool
     ensures { result
         ≡ (counts (association_view kept_place association.now) && is_named (name_of property) (association_view kept_place association.now)) }

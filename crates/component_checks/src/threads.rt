@@ -1,7 +1,7 @@
 //! What is wrong with threads: their dispatch and their periods.
 ghost use Rattle.std.specs.Prelude.{◌≡◌, ◌++◌, OnOk};
 ghost use Rattle.aadl_tree.specs.proof.PackageViews.{placed};
-ghost use Rattle.annex_resolve.specs.NamesAndFindings.{found_if};
+ghost use Rattle.annex_resolve.specs.FindingRecords.{found_if};
 ghost use Rattle.component_checks.specs.ThreadRatesAndFindings as spec;
 
 use crate::add_period_findings;

@@ -5,7 +5,7 @@ ghost use Rattle.std.specs.Option.{option_and_then};
 ghost use Rattle.aadl_tree.specs.proof.PlaceMaps.{kept_place};
 ghost use Rattle.aadl_tree.specs.proof.ValueViews.{figure_view, unit_view, quantity_view, value_view, association_view};
 ghost use Rattle.aadl_tree.specs.proof.ValueViews.{associations_view};
-ghost use Rattle.aadl_names.specs.RecognisedProperties as properties;
+ghost use Rattle.aadl_names.specs.PropertyValueShapes as properties;
 ghost use Rattle.component_checks.specs.BoundsAndRates.{within_hour, range_within};
 ghost use Rattle.component_checks.specs.Times as spec;
 
@@ -48,7 +48,7 @@ fn product(number: u64, unit: u64) -> u128
 }
 
 // A number with its unit, where it is a time.
-#[tactic(auto, unfolding(aadl_names::specs::RecognisedProperties::time_in))]
+#[tactic(auto, unfolding(aadl_names::specs::PropertyValueShapes::time_in))]
 fn time_in(x: &Quantity) -> Option<u128>
     ensures { result ≡ properties.time_in (quantity_view kept_place x.now) }
 {
@@ -180,7 +180,7 @@ pub fn shown(property: PropertyName) -> &'static str
 }
 
 // Adds the finding that an association gives a property a time above an hour.
-#[tactic(auto, using(aadl_tree::proofs::FieldViews::view_out_association))]
+#[tactic(auto, using(aadl_tree::proofs::ValueViews::view_out_association))]
 fn add_big_as(
     alloc: Global,
     association: &Association,
@@ -217,7 +217,7 @@ fn add_association_big(
 
 // Adds what is above an hour in an association at a kind of place, where the association does not
 // apply elsewhere.
-#[tactic(auto, using(aadl_tree::proofs::FieldViews::view_out_association))]
+#[tactic(auto, using(aadl_tree::proofs::ValueViews::view_out_association))]
 fn add_counted_big(
     alloc: Global,
     holder: PropertyHolder,

@@ -5,8 +5,9 @@ ghost use Rattle.aadl_tree.specs.proof.PlaceMaps.{kept_place};
 ghost use Rattle.aadl_tree.specs.proof.NameViews.{identifiers_view, reference_view};
 ghost use Rattle.aadl_tree.specs.proof.ValueViews.{value_view, values_view, association_view};
 ghost use Rattle.aadl_tree.specs.Values.{list};
-ghost use Rattle.aadl_tree.specs.proof.DeclarationViews.{feature_view, variable_view, annex_tree_view};
-ghost use Rattle.aadl_names.specs.RecognisedProperties.{only_text, text_of};
+ghost use Rattle.aadl_tree.specs.proof.DeclarationViews.{feature_view};
+ghost use Rattle.aadl_tree.specs.proof.AnnexViews.{variable_view, annex_tree_view};
+ghost use Rattle.aadl_names.specs.PropertyValueShapes.{only_text, text_of};
 ghost use Rattle.annex_resolve.specs.ExpressionTypesAndFindings.{kind_in};
 ghost use Rattle.component_checks.specs.TypeFindings as spec;
 

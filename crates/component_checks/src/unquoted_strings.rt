@@ -1,6 +1,6 @@
 //! Strings without their quotes.
 ghost use Rattle.std.specs.Prelude.{◌≡◌};
-ghost use Rattle.aadl_names.specs.RecognisedProperties as properties;
+ghost use Rattle.aadl_names.specs.PropertyValueShapes as properties;
 
 /// The bytes between the quotes of a string.
 pub fn unquoted(bytes: &[u8]) -> &[u8]

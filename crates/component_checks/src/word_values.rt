@@ -2,7 +2,7 @@
 ghost use Rattle.std.specs.Prelude.{◌≡◌, IfOk};
 ghost use Rattle.aadl_tree.specs.proof.PlaceMaps.{kept_place};
 ghost use Rattle.aadl_tree.specs.proof.ValueViews.{value_view};
-ghost use Rattle.aadl_names.specs.RecognisedProperties.{reference_of};
+ghost use Rattle.aadl_names.specs.PropertyValueShapes.{reference_of};
 ghost use Rattle.component_checks.specs.ThreadRatesAndFindings as spec;
 
 use aadl_names::name_texts::spelled_reference;

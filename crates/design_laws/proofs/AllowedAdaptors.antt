@@ -8,10 +8,11 @@ use Rattle.std.proofs.lemmas.Bool.{false≢true, eqb-true, and_parts}
 use Rattle.pals_base.specs.declared.behaviour.Kind.{Kind}
 use Rattle.pals_base.specs.declared.allowed_adaptors.Adaptor.{Adaptor}
 use Rattle.pals_base.specs.AllowedAdaptors.{divides_or_divided, is_allowed}
-use Rattle.annex_resolve.specs.NamesAndFindings.{finding, found_if}
+use Rattle.annex_resolve.specs.FindingRecords.{finding, found_if}
 use Rattle.annex_resolve.specs.declared.violation.TheConstants.{RATES_DONT_DIVIDE, STRAY_ADAPTOR, ADAPTOR_OUT_OF_RANGE}
-use Rattle.component_checks.specs.PeriodAndAdaptorFindings.{name_and_number, adaptor_named, kind_suits, is_right}
-use Rattle.component_checks.specs.PeriodAndAdaptorFindings.{adaptor_findings, pair_findings}
+use Rattle.component_checks.specs.PeriodAndAdaptorFindings.{name_and_number, kind_suits, is_right, adaptor_findings}
+use Rattle.component_checks.specs.PeriodAndAdaptorFindings.{pair_findings}
+use Rattle.component_checks.specs.AdaptorTexts.{adaptor_named}
 use Rattle.design_laws.proofs.EmptyFindingLists as tests
 
 -- the adaptor of a text fits two rates and a type

@@ -14,7 +14,7 @@ use Rattle.component_checks.specs.BoundsAndRates.{not_zero, in_order, skew_of, r
 use Rattle.component_checks.specs.BoundsAndRates.{gamma_by}
 use Rattle.component_checks.specs.PeriodAndAdaptorFindings.{bound_findings, period_findings, name_and_number}
 use Rattle.annex_resolve.specs.declared.violation.TheConstants.{NOT_DIVISOR, RATE_TOO_HIGH, PERIOD_TOO_SHORT}
-use Rattle.annex_resolve.specs.NamesAndFindings.{finding, found_if}
+use Rattle.annex_resolve.specs.FindingRecords.{finding, found_if}
 use Rattle.model_violations.proofs.RateBounds.{bounds_of}
 use Rattle.design_laws.proofs.EmptyFindingLists.{not_wrong}
 

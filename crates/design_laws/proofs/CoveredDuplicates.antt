@@ -13,7 +13,8 @@ use Rattle.aadl_tree.specs.Declarations.{Declaration, type, implementation, Pack
 use Rattle.aadl_names.specs.declared.fault.PackageFault.{PackageFault}
 use Rattle.aadl_names.specs.declared.fault.PackageFault.TheVariants.{Twice}
 use Rattle.aadl_names.specs.declared.spelled_name.SpelledName.{SpelledName}
-use Rattle.aadl_names.specs.Spelling.{entry_of, spelled_implementation}
+use Rattle.aadl_names.specs.Spelling.{spelled_implementation}
+use Rattle.aadl_names.specs.DuplicateNames.{entry_of}
 use Rattle.aadl_names.specs.BehaviourAnnexes.{behaviours, variables_of, states_of}
 use Rattle.aadl_names.specs.ReferenceResolution.{is_thread, type_in, type_numbered, type_number, features_of, ports_of}
 use Rattle.aadl_names.specs.DuplicatesByNamespace.{port_entries, variable_entries, state_entries, twice_in_behaviour}

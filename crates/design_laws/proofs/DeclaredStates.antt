@@ -1,8 +1,8 @@
 -- The states that transitions name are declared.
 use Rattle.std.proofs.Common.{◌≡◌, ◌∙◌, ℕ, ◌+◌, ◌<◌, suc, Bool, true, false, nat_lt, cond, ◌||◌, List, [], ◌∷◌, ◌++◌}
-use Rattle.std.proofs.Common.{map, length, Some, None, refl, sym, ap, subst, arith}
-use Rattle.std.specs.Prelude.{flat_map, slice_get, IsTrue}
-use Rattle.std.specs.List.{list_any, list_all, position_or_len, enumerate_from}
+use Rattle.std.proofs.Common.{length, Some, None, refl, sym, ap, subst, arith}
+use Rattle.std.specs.Prelude.{IsTrue}
+use Rattle.std.specs.List.{list_any, list_all, position_or_len}
 use Rattle.std.specs.Option.{unwrap_or}
 use Rattle.std.proofs.lemmas.Bool.{false≢true, lt-ltb, and_from}
 use Rattle.std.proofs.lemmas.List.Recursion.{is_position_or_len}
@@ -10,21 +10,17 @@ use Rattle.list_lemmas.proofs.ListOperations.{append_is_nil_right, append_is_nil
 use Rattle.list_lemmas.proofs.Elements.{list_any-map, AllByRecursion-weaker}
 use Rattle.aadl_tree.specs.Names.{Identifier, same_name}
 use Rattle.aadl_tree.specs.Annexes.{Transition, AnnexTree}
-use Rattle.aadl_tree.specs.Declarations.{Declaration, Implementation, implementation, PackageTree}
+use Rattle.aadl_tree.specs.Declarations.{Implementation, PackageTree}
 use Rattle.aadl_names.specs.declared.fault.PackageFault.{PackageFault}
-use Rattle.aadl_names.specs.declared.fault.PackageFault.TheVariants.{Unknown, WrongKind}
+use Rattle.aadl_names.specs.declared.fault.PackageFault.TheVariants.{Unknown}
 use Rattle.aadl_names.specs.NameUsesInAnnexes.{Known}
 use Rattle.aadl_names.specs.BehaviourAnnexes as names
-use Rattle.aadl_names.specs.ReferenceResolution.{is_thread}
-use Rattle.aadl_names.specs.DuplicatesByNamespace.{twice_names}
 use Rattle.aadl_names.specs.PackageFaults.{is_among, known_in, state_uses, guard_uses, effect_uses, transition_uses}
-use Rattle.aadl_names.specs.PackageFaults.{behaviour_faults, annex_faults, declaration_faults, wrong_names}
-use Rattle.aadl_names.specs.PackageFaults.{package_faults}
+use Rattle.aadl_names.specs.PackageFaults.{behaviour_faults}
 use Rattle.aadl_names.proofs.PortDuplicates.{same_name-swapped}
 use Rattle.annex_resolve.specs.declared.states.StateAt.{StateAt}
 use Rattle.annex_resolve.specs.BehavioursAndFindings.{states_of, first_number, state_number, transitions_of}
 use Rattle.design_laws.specs.proof.FittingAnnexNames.{is_declared}
-use Rattle.design_laws.proofs.EmptyFindingLists.{none_at}
 use Rattle.design_laws.proofs.PairwiseDistinctNames.{all_none}
 use Rattle.design_laws.proofs.PartitionedPairs.{all_true}
 use Rattle.design_laws.proofs.ThreadMemberNames.{same_states}
@@ -122,36 +118,6 @@ all_declared tree x annex none =
     (transitions_of annex) each)
 
 -- ---- the first behaviour of a thread's implementation
-of_thread : {Y : Type 0} (b : Bool) (xs ys zs : List Y) → b ≡ true → cond b (xs ++ ys) zs ≡ [] → xs ≡ []
+pub of_thread : {Y : Type 0} (b : Bool) (xs ys zs : List Y) → b ≡ true → cond b (xs ++ ys) zs ≡ [] → xs ≡ []
 of_thread true xs ys zs is e = append_is_nil_left xs ys e
 of_thread false xs ys zs is e = absurd (cc is)
-
-first_faults : (tree : PackageTree ℕ) (x : Implementation ℕ) (bs : List (ℕ × AnnexTree ℕ)) (b : ℕ × AnnexTree ℕ)
-    → slice_get bs 0 ≡ Some b
-    → is_thread x.category ≡ true → annex_faults tree x bs ≡ []
-    → behaviour_faults tree x b.1 ≡ []
-first_faults tree x [] b is thread none = absurd (cc is)
-first_faults tree x (c ∷ bs) b is thread none =
-    let same : c ≡ b = cc is in
-    let others = map (λ (d : ℕ × AnnexTree ℕ). WrongKind d.0) in
-    subst (λ (d : ℕ × AnnexTree ℕ). behaviour_faults tree x d.1 ≡ []) same
-    (of_thread (is_thread x.category) (behaviour_faults tree x c.1) (others bs) (others (c ∷ bs)) thread none)
-
-pub declaration_clean : (tree : PackageTree ℕ) (root n : ℕ) (d : Declaration ℕ) → package_faults tree root ≡ []
-    → slice_get tree.declarations n ≡ Some d → declaration_faults tree root (n, d) ≡ []
-unfolding wrong_names
-declaration_clean tree root n d none is =
-    let all = append_is_nil_right _ (flat_map (declaration_faults tree root) (enumerate_from 0 tree.declarations))
-    (append_is_nil_left (wrong_names tree root) (twice_names tree) none) in
-    let here = none_at (declaration_faults tree root) 0 tree.declarations all n d is in
-    let zero' : 0 + n ≡ n = omega arith in
-    subst (λ k. declaration_faults tree root (k, d) ≡ []) zero' here
-
-pub first_clean : (tree : PackageTree ℕ) (root n : ℕ) (x : Implementation ℕ) (b : ℕ × AnnexTree ℕ)
-    → package_faults tree root ≡ []
-    → slice_get tree.declarations n ≡ Some (implementation x) → is_thread x.category ≡ true
-    → slice_get (names.behaviours x.annexes) 0 ≡ Some b → behaviour_faults tree x b.1 ≡ []
-first_clean tree root n x b none is thread first =
-    first_faults tree x (names.behaviours x.annexes) b first thread
-    (append_is_nil_right _ (annex_faults tree x (names.behaviours x.annexes))
-    (declaration_clean tree root n (implementation x) none is))

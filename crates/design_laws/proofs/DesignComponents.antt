@@ -33,7 +33,7 @@ use Rattle.component_checks.specs.ThreadRatesAndFindings.{thread_rate, thread_fi
 use Rattle.model_violations.specs.PortsAndVariables.{ins_in, outs_in, first_of, variable_of, variables_in, variables_of}
 use Rattle.model_violations.specs.PortsAndVariables.{named_of, var_of, values_of, scope_of}
 use Rattle.model_violations.specs.ThreadBehaviours.{first_annex, behaviour_by, behaviour_in}
-use Rattle.model_violations.proofs.FilteredAndFirstItems.{ports_both}
+use Rattle.model_violations.proofs.PortAndVariableLists.{ports_both}
 use Rattle.design_laws.specs.proof.PackageNames.{AreNamed}
 use Rattle.design_laws.proofs.PartitionedPairs.{all_unmapped}
 use Rattle.design_laws.proofs.PairwiseDistinctNames.{all_none}

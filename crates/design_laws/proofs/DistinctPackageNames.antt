@@ -16,12 +16,11 @@ use Rattle.aadl_tree.specs.Annexes.{AnnexTree}
 use Rattle.aadl_tree.specs.Declarations.{Feature, Subcomponent, Connection, TypeDeclaration, Implementation}
 use Rattle.aadl_tree.specs.Declarations.{Declaration, type, implementation, PackageTree, declaration_parts}
 use Rattle.aadl_tree.specs.Declarations.{package_parts}
-use Rattle.aadl_tree.specs.proof.BehaviourFaultPlaces.{IsGiven}
+use Rattle.aadl_tree.specs.proof.GivenTrees.{IsGiven}
 use Rattle.aadl_names.specs.declared.spelled_name.SpelledName.{SpelledName}
-use Rattle.aadl_names.specs.Spelling.{entry_of}
+use Rattle.aadl_names.specs.DuplicateNames.{entry_of, twice}
 use Rattle.aadl_names.specs.BehaviourAnnexes.{behaviours, variables_of, states_of}
 use Rattle.aadl_names.specs.ReferenceResolution.{is_thread, type_in, type_numbered, type_number, features_of, ports_of}
-use Rattle.aadl_names.specs.DuplicateNames.{twice}
 use Rattle.aadl_names.specs.DuplicatesByNamespace.{port_entries, variable_entries, state_entries, twice_in_behaviour}
 use Rattle.aadl_names.specs.DuplicatesByNamespace.{twice_in_first, member_entries, twice_in, type_entry}
 use Rattle.aadl_names.specs.DuplicatesByNamespace.{implementation_entry, twice_names}

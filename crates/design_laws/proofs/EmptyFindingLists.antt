@@ -5,7 +5,7 @@ use Rattle.std.specs.Prelude.{flat_map, filter, slice_get}
 use Rattle.std.specs.List.{enumerate_from}
 use Rattle.std.proofs.lemmas.Bool.{not-false}
 use Rattle.list_lemmas.proofs.ListOperations.{append_is_nil}
-use Rattle.annex_resolve.specs.NamesAndFindings.{found_if}
+use Rattle.annex_resolve.specs.FindingRecords.{found_if}
 
 -- nothing is wrong
 pub not_wrong : (wrong : Bool) (at number : ℕ) (details : List ℕ) → found_if wrong at number details ≡ []

@@ -10,7 +10,8 @@ use Rattle.aadl_names.specs.declared.fault.PackageFault.{PackageFault}
 use Rattle.aadl_names.specs.declared.port_place.PortPlace.{PortPlace}
 use Rattle.aadl_names.specs.proof.FirstFaultSoFar.{found}
 use Rattle.aadl_names.specs.ReferenceResolution.{implementation_at, connections_of}
-use Rattle.aadl_uses.specs.proof.PackageContainment.{containment, FirstIn}
+use Rattle.aadl_uses.specs.proof.PackageContainment.{containment}
+use Rattle.aadl_uses.specs.proof.FirstRecursion.{FirstIn}
 use Rattle.aadl_uses.specs.Uses.{IsInUse}
 use Rattle.aadl_uses.specs.declared.connections_by_target.Wire.{Wire}
 use Rattle.aadl_uses.specs.SecondConnections.{IsDuplicate, target_in}
@@ -20,7 +21,7 @@ use Rattle.aadl_uses.proofs.FirstConnectionTables.{is_second-tells, no_second}
 use Rattle.aadl_uses.specs.proof.ContainmentOrders.{IsOrder}
 use Rattle.aadl_chains.specs.proof.PortsJoinedOutside.{opposite, LeadsFrom, leads_from}
 use Rattle.aadl_chains.proofs.JoinedOutsideByConnection.{leads_to, leads_found}
-use Rattle.aadl_chains.specs.Chains.{IsEndFault}
+use Rattle.aadl_chains.specs.ChainFaults.{IsEndFault}
 use Rattle.aadl_chains.specs.proof.DeclaredEnds.{AreDeclared}
 use Rattle.aadl_chains.specs.proof.ConnectionsOnChains.{IsOnChain}
 use Rattle.aadl_chains.specs.proof.ConnectionFaults.{IsFoundAt, IsFoundIn, dead_end, second}

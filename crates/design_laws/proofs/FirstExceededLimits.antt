@@ -13,7 +13,7 @@ use Rattle.list_lemmas.proofs.Elements.{Contains-nil, Contains-cons_cases}
 use Rattle.aadl_uses.specs.Uses.{component_at}
 use Rattle.aadl_uses.specs.ThreadsBelow.{Lists, MoreThan, IsThreadOf, IsThreadAt, PathBefore}
 use Rattle.aadl_uses.proofs.ThreadCounts.{more_threads}
-use Rattle.aadl_uses.specs.proof.MarkedPathCounts.{Among}
+use Rattle.aadl_uses.specs.proof.OrderedLists.{Among}
 use Rattle.aadl_chains.specs.proof.LimitedCounts.{Distinct}
 use Rattle.aadl_chains.specs.LinksFeedsAndTaps.{Ends, IsLink, TargetBefore, OtherTarget}
 use Rattle.aadl_chains.proofs.LimitedCounts.{no_more}

@@ -10,11 +10,13 @@ use Rattle.aadl_names.specs.proof.FirstFaultSoFar.{found}
 use Rattle.aadl_names.specs.ReferenceResolution.{root_number}
 use Rattle.aadl_names.specs.PackageFaults.{package_faults}
 use Rattle.aadl_names.proofs.SameFirstFaults.{found_is_first}
-use Rattle.aadl_uses.specs.proof.PackageContainment.{containment, targets_in, FirstIn}
-use Rattle.aadl_uses.specs.Uses.{IsInUse, IsRecursive}
+use Rattle.aadl_uses.specs.proof.PackageContainment.{containment, targets_in}
+use Rattle.aadl_uses.specs.proof.FirstRecursion.{FirstIn}
+use Rattle.aadl_uses.specs.Uses.{IsInUse}
+use Rattle.aadl_uses.specs.Recursion.{IsRecursive}
 use Rattle.aadl_uses.proofs.PackageContainment.{within, in_use_by}
 use Rattle.aadl_uses.proofs.FirstRecursion.{no_way_back}
-use Rattle.aadl_chains.specs.Chains.{IsEndFault}
+use Rattle.aadl_chains.specs.ChainFaults.{IsEndFault}
 use Rattle.aadl_chains.proofs.PermittedConnections.{declared}
 use Rattle.aadl_instance.proofs.Roots.{is_root_at, root_declared}
 use Rattle.aadl_instance.proofs.FaultPrecedence.{name_fault, recursion_fault, end_fault, no_root, root_fault}

@@ -28,7 +28,7 @@ use Rattle.list_lemmas.proofs.Elements.{AllByRecursion-append}
 use Rattle.aadl_tree.specs.proof.PlaceMaps.{kept_place}
 use Rattle.aadl_tree.specs.Names.{Identifier, identifiers, listed_in}
 use Rattle.aadl_tree.specs.proof.NameViews.{identifier_view, identifiers_view}
-use Rattle.aadl_tree.specs.proof.DeclarationViews.{variable_view, state_view, annex_tree_view, content_view, annex_view}
+use Rattle.aadl_tree.specs.proof.AnnexViews.{variable_view, state_view, annex_tree_view, content_view, annex_view}
 use Rattle.aadl_tree.specs.proof.DeclarationViews.{feature_view, subcomponent_view, type_view, implementation_view}
 use Rattle.aadl_tree.specs.proof.DeclarationViews.{declaration_view}
 use Rattle.aadl_tree.specs.Annexes.{AnnexTree, VariableDeclaration, StateDeclaration}

@@ -23,7 +23,7 @@ use Rattle.aadl_tree.specs.Declarations.{implementation, PackageTree}
 use Rattle.aadl_names.specs.declared.recognised_properties.PropertyName.{PropertyName}
 use Rattle.aadl_names.specs.declared.recognised_properties.PropertyName.TheVariants.{Period, Skew, Execution, Network}
 use Rattle.aadl_names.specs.declared.recognised_properties.PropertyHolder.TheVariants as holders
-use Rattle.aadl_names.specs.FirstFaults.{wrong_if}
+use Rattle.aadl_names.specs.DuplicateNames.{wrong_if}
 use Rattle.aadl_names.specs.BehaviourAnnexes.{behaviours}
 use Rattle.aadl_names.specs.RecognisedProperties.{recognised, list_faults}
 use Rattle.aadl_names.specs.ReferenceResolution.{implementation_in, implementation_at, subcomponents_of, type_in}
@@ -35,9 +35,9 @@ use Rattle.aadl_names.specs.PackageFaults as naming
 use Rattle.aadl_uses.specs.Uses.{sub_at, below, standing}
 use Rattle.aadl_uses.specs.declared.thread_locations.SubAt.{SubAt}
 use Rattle.aadl_uses.specs.ThreadLocations.{sub_in, subs_along, thread_at}
-use Rattle.aadl_uses.specs.proof.MarkedPathCounts.{Among}
+use Rattle.aadl_uses.specs.proof.OrderedLists.{Among}
 use Rattle.aadl_instance.specs.FlattenedDesign.{Parts, IsFlat}
-use Rattle.annex_resolve.specs.NamesAndFindings.{found_if}
+use Rattle.annex_resolve.specs.FindingRecords.{found_if}
 use Rattle.design_laws.proofs.EmptyFindingLists.{is_right, not_wrong}
 use Rattle.component_checks.specs.BoundsAndRates.{within_hour, range_within, not_zero, in_order, gamma_by}
 use Rattle.component_checks.specs.BoundsAndRates as numbers
@@ -62,11 +62,11 @@ use Rattle.model_violations.specs.DeclarationFindings.{sub_findings}
 use Rattle.model_violations.specs.DeclarationFindings as uses
 use Rattle.model_violations.specs.Violations.{shown_by, used_findings, carriers_of}
 use Rattle.design_laws.proofs.SoundInstanceParts.{names_clean, declared_at, implementation_clean, type_clean, is_used}
+use Rattle.design_laws.proofs.SoundInstanceParts.{declaration_clean}
 use Rattle.design_laws.proofs.InstanceBehaviours.{first_is}
 use Rattle.design_laws.proofs.PropertyTimes.{period_at_sub, period_at, skew_at, execution_at, network_at, IsGood}
 use Rattle.design_laws.proofs.PropertyTimes.{LooksGood, looks_good, first_good, first_behind, IsTime, period_good}
 use Rattle.design_laws.proofs.PropertyTimes.{skew_good, execution_good, network_good}
-use Rattle.design_laws.proofs.DeclaredStates.{declaration_clean}
 
 -- ---- numbers compare as equal both ways
 

@@ -23,7 +23,7 @@ use Rattle.aadl_tree.specs.Annexes.{VariableDeclaration, AnnexTree}
 use Rattle.aadl_tree.specs.Declarations.{Feature}
 use Rattle.aadl_names.specs.declared.recognised_properties.PropertyName.TheVariants.{Initial}
 use Rattle.aadl_names.specs.RecognisedProperties.{association_at, association_value, association_named, name_of}
-use Rattle.aadl_names.specs.RecognisedProperties.{only_text}
+use Rattle.aadl_names.specs.PropertyValueShapes.{only_text}
 use Rattle.annex_resolve.specs.declared.violation.TheConstants.{BAD_TYPE}
 use Rattle.annex_resolve.specs.declared.scope.DeclaredName.{DeclaredName}
 use Rattle.annex_resolve.specs.ExpressionTypesAndFindings.{kind_named, kind_in, fits}

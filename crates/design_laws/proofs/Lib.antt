@@ -75,3 +75,4 @@ mod MemoryFreeLists
 mod MemoryFreeAnnexes
 pub mod MemoryFreeFaults
 pub mod SortedFindings
+pub mod InstanceBehaviourRules

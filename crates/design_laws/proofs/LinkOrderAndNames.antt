@@ -12,7 +12,7 @@ use Rattle.pals_base.specs.declared.limits.TheConstants.{PORTS}
 use Rattle.pals_model.specs.declared.design.DesignParts.{DesignParts}
 use Rattle.pals_model.specs.DesignRules as model
 use Rattle.aadl_tree.specs.Declarations.{Feature, Implementation, PackageTree}
-use Rattle.aadl_names.specs.Spelling.{entry_of}
+use Rattle.aadl_names.specs.DuplicateNames.{entry_of}
 use Rattle.aadl_names.specs.ReferenceResolution.{implementation_at, ports_at, ports_of}
 use Rattle.aadl_names.specs.DuplicatesByNamespace.{port_entries, member_entries}
 use Rattle.aadl_uses.specs.Uses.{component_at}

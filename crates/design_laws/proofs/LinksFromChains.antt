@@ -10,8 +10,7 @@ use Rattle.pals_model.specs.declared.design.Link.{Link}
 use Rattle.pals_model.specs.declared.design.Feed.{Feed}
 use Rattle.pals_model.specs.declared.design.Tap.{Tap}
 use Rattle.pals_model.specs.declared.design.DesignParts.{DesignParts}
-use Rattle.pals_model.specs.ComponentInputs.{rate_in, rate_of}
-use Rattle.pals_model.specs.PortKinds.{ins_in, outs_in, in_kind, out_kind, kind_of}
+use Rattle.pals_model.specs.PortKinds.{rate_in, rate_of, ins_in, outs_in, in_kind, out_kind, kind_of}
 use Rattle.pals_model.specs.DesignRules as model
 use Rattle.aadl_tree.specs.Declarations.{Feature, PackageTree}
 use Rattle.aadl_names.specs.ReferenceResolution.{connections_of}
@@ -25,7 +24,7 @@ use Rattle.aadl_instance.specs.Instances.{node_at, port_number, port_name, end_b
 use Rattle.annex_resolve.specs.ExpressionTypesAndFindings.{kind_in}
 use Rattle.model_violations.specs.ConnectionsAndCarriers.{connection_of, adaptor_text}
 use Rattle.model_violations.specs.ChainFindings.{rated}
-use Rattle.component_checks.specs.PeriodAndAdaptorFindings.{adaptor_named}
+use Rattle.component_checks.specs.AdaptorTexts.{adaptor_named}
 use Rattle.design_laws.proofs.AllowedAdaptors.{Fits, fits}
 use Rattle.model_violations.specs.PortsAndVariables.{or_integer}
 use Rattle.model_violations.specs.UsedDeclarations.{IsUse}

@@ -21,8 +21,8 @@ use Rattle.aadl_names.specs.RecognisedProperties.{property_entries, list_faults}
 use Rattle.aadl_names.specs.ReferenceResolution.{is_thread, target_of, ports_of}
 use Rattle.aadl_names.specs.DuplicatesByNamespace as s
 use Rattle.aadl_names.specs.PackageFaults as p
-use Rattle.aadl_uses.specs.Uses.{IsRecursive}
-use Rattle.aadl_chains.specs.Chains.{IsEndFault}
+use Rattle.aadl_uses.specs.Recursion.{IsRecursive}
+use Rattle.aadl_chains.specs.ChainFaults.{IsEndFault}
 use Rattle.aadl_instance.specs.Faults.{FoundIn, Found, IsFault}
 use Rattle.design_laws.proofs.MemoryFreeLists.{AreNamed, none, both, each, either, kind, kinds, unknown, wrong}
 use Rattle.design_laws.proofs.MemoryFreeLists.{twice_named}

@@ -7,8 +7,7 @@ use Rattle.list_lemmas.proofs.Elements.{Contains-nil}
 use Rattle.aadl_names.specs.declared.fault.PackageFault.{PackageFault}
 use Rattle.aadl_names.specs.declared.fault.PackageFault.TheVariants.{Unknown, Twice, WrongKind, Memory}
 use Rattle.aadl_names.specs.declared.spelled_name.SpelledName.{SpelledName}
-use Rattle.aadl_names.specs.FirstFaults.{wrong_if}
-use Rattle.aadl_names.specs.DuplicateNames.{again, twice}
+use Rattle.aadl_names.specs.DuplicateNames.{wrong_if, again, twice}
 use Rattle.aadl_names.proofs.ListMembers.{only_here}
 
 pub record AreNamed (fs : List PackageFault) : Type 0 where

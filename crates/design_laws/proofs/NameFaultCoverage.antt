@@ -10,8 +10,8 @@ use Rattle.list_lemmas.proofs.Elements.{Contains-nil, Contains-cons_cases}
 use Rattle.aadl_names.specs.declared.fault.PackageFault.{PackageFault}
 use Rattle.aadl_names.specs.declared.fault.PackageFault.TheVariants.{Twice, WrongKind}
 use Rattle.aadl_names.specs.declared.spelled_name.SpelledName.{SpelledName}
-use Rattle.aadl_names.specs.FirstFaults.{number_of, wrong_if}
-use Rattle.aadl_names.specs.DuplicateNames.{again, twice}
+use Rattle.aadl_names.specs.FirstFaults.{number_of}
+use Rattle.aadl_names.specs.DuplicateNames.{wrong_if, again, twice}
 use Rattle.aadl_names.proofs.ListMembers.{is_here, only_here, among_all, from_all}
 
 -- ---- lists

@@ -20,7 +20,7 @@ use Rattle.aadl_chains.specs.proof.DeclaredEnds.{AreDeclared}
 use Rattle.aadl_chains.specs.proof.Walks.{OneEach}
 use Rattle.aadl_chains.specs.proof.TracedChains.{IsGiver}
 use Rattle.aadl_chains.proofs.FirstIncomingConnections.{inner_of}
-use Rattle.aadl_chains.proofs.OutermostFirstWalks.{rank, rank_falls}
+use Rattle.aadl_chains.proofs.DeclarationRanks.{rank, rank_falls}
 use Rattle.aadl_chains.proofs.TracedChains.{Descending, descend_first, descend_more, descend_thread, descend_none}
 
 -- no chain leads to a port

@@ -5,7 +5,8 @@ use Rattle.std.proofs.lemmas.Bool.{cases_lt}
 use Rattle.list_lemmas.proofs.ElementPositions.{slice_get-from_Contains}
 use Rattle.aadl_uses.specs.proof.ContainmentGraphs.{Graph, targets_in, below_in, IsWithin}
 use Rattle.aadl_uses.specs.proof.ContainmentOrders.{IsSequence}
-use Rattle.aadl_uses.specs.proof.MarkedPathCounts.{AreListed, own_paths}
+use Rattle.aadl_uses.specs.proof.MarkedPathCounts.{own_paths}
+use Rattle.aadl_uses.specs.proof.OrderedLists.{AreListed}
 use Rattle.aadl_uses.specs.ThreadsBelow.{path_before}
 use Rattle.aadl_uses.proofs.MarkedPathCounts.{Begun, own_listed, listed_more, listed_same, all_listed}
 use Rattle.design_laws.specs.proof.ContainmentLists.{IsAcyclic, HasPaths}

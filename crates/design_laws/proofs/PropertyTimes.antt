@@ -17,14 +17,14 @@ use Rattle.aadl_names.specs.declared.recognised_properties.PropertyName.TheVaria
 use Rattle.aadl_names.specs.declared.recognised_properties.PropertyName.TheVariants.{Network}
 use Rattle.aadl_names.specs.declared.recognised_properties.PropertyHolder.{PropertyHolder}
 use Rattle.aadl_names.specs.declared.recognised_properties.PropertyHolder.TheVariants as holders
-use Rattle.aadl_names.specs.FirstFaults.{wrong_if}
+use Rattle.aadl_names.specs.DuplicateNames.{wrong_if, twice}
 use Rattle.aadl_names.specs.RecognisedProperties.{association_at, association_value, listed, counts, is_named}
-use Rattle.aadl_names.specs.RecognisedProperties.{association_named, name_of, recognised, time_of, range_of, has_shape}
-use Rattle.aadl_names.specs.RecognisedProperties.{misshapen, shape_fault, property_entries, list_faults}
+use Rattle.aadl_names.specs.RecognisedProperties.{association_named, name_of, recognised, has_shape, misshapen}
+use Rattle.aadl_names.specs.RecognisedProperties.{shape_fault, property_entries, list_faults}
+use Rattle.aadl_names.specs.PropertyValueShapes.{time_of, range_of}
 use Rattle.aadl_names.specs.ReferenceResolution.{is_thread}
-use Rattle.aadl_names.specs.DuplicateNames.{twice}
 use Rattle.aadl_names.proofs.FirstFaultSoFar.{wrong_none}
-use Rattle.aadl_uses.specs.proof.MarkedPathCounts.{Among}
+use Rattle.aadl_uses.specs.proof.OrderedLists.{Among}
 use Rattle.aadl_uses.proofs.MarkedPathCounts.{among_left, among_right}
 use Rattle.design_laws.proofs.EmptyFindingLists.{not_wrong}
 use Rattle.component_checks.specs.BoundsAndRates.{within_hour, range_within}

@@ -1,21 +1,12 @@
 -- An instance by the flattened design that it shows, and the rules that the behaviours of its threads keep.
 use Rattle.std.proofs.Common.{◌≡◌, ◌∙◌, ℕ, List, map, sym, ap, subst}
-use Rattle.std.specs.Prelude.{All}
 use Rattle.aadl_tree.specs.Declarations.{PackageTree}
 use Rattle.aadl_uses.specs.declared.thread_locations.ThreadAt.{ThreadAt}
 use Rattle.aadl_uses.specs.ThreadLocations.{thread_at}
 use Rattle.aadl_instance.specs.declared.chain.Chain.{Chain}
 use Rattle.aadl_instance.specs.Instances.{chain_at}
-use Rattle.design_laws.specs.proof.PackageNames.{AreNamed}
 use Rattle.model_violations.specs.Violations.{Shown, shown_by}
-use Rattle.design_laws.specs.proof.AcceptedInstances.{IsShown, NothingFound}
-use Rattle.design_laws.specs.InstanceDesigns.{HasRules}
-use Rattle.design_laws.proofs.SoundInstanceParts.{all_parts}
-use Rattle.design_laws.proofs.InstanceBehaviours as ruling
-use Rattle.design_laws.proofs.InstanceBehaviours.{ThreadLaw}
-use Rattle.std.proofs.Props.{props}
-use Rattle.std.proofs.Math.Logic.{∥∥₁_elim}
-use Rattle.pals_base.specs.BehaviourRules.{IsAcyclic}
+use Rattle.design_laws.specs.proof.AcceptedInstances.{IsShown}
 
 -- ---- an instance is shown by its flattened design
 pub shown_is : (tree : PackageTree ℕ) (s : Shown) → (i : IsShown tree s) → s ≡ shown_by tree i.parts
@@ -52,20 +43,3 @@ of_shown P tree s i h = subst P (sym (shown_is tree s i)) h
 pub to_shown : (P : Shown → Type 0) (tree : PackageTree ℕ) (s : Shown) → (i : IsShown tree s) → P s
     → P (shown_by tree i.parts)
 to_shown P tree s i h = subst P (shown_is tree s i) h
-
--- ---- rules
-pub have_rules : ThreadLaw → (tree : PackageTree ℕ) (s : Shown) → AreNamed tree → IsShown tree s → NothingFound tree s
-    → All (HasRules tree) s.threads
-have_rules law tree s named i nothing =
-    let there = to_shown (NothingFound tree) tree s i nothing in
-    let found = all_parts tree (shown_by tree i.parts) there.used there.none in
-    of_shown (λ (x : Shown). All (HasRules tree) x.threads) tree s i
-    (ruling.have_rules i.flat there.used there.is_use found.declarations named law)
-
--- all threads of an instance keep the rules, where no more is known than that a package without a fault has the
--- instance
-pub all_rules : ThreadLaw → (tree : PackageTree ℕ) (s : Shown) → AreNamed tree → ∥ IsShown tree s ∥₁
-    → NothingFound tree s
-    → All (HasRules tree) s.threads
-unfolding IsAcyclic
-all_rules law tree s named shown nothing = ∥∥₁_elim shown (hlevel props) (λ i. have_rules law tree s named i nothing)

@@ -9,7 +9,7 @@ use Rattle.pals_base.specs.declared.behaviour.Kind.{Kind}
 use Rattle.pals_base.specs.AllowedAdaptors.{divides_or_divided, is_allowed, suits_kind}
 use Rattle.pals_base.specs.Names.{is_word}
 use Rattle.pals_model.specs.declared.design.DesignParts.{DesignParts}
-use Rattle.pals_model.specs.ComponentInputs.{rate_of}
+use Rattle.pals_model.specs.PortKinds.{rate_of}
 use Rattle.pals_model.specs.DesignRules as model
 use Rattle.aadl_tree.specs.Declarations.{Feature, Connection, PackageTree}
 use Rattle.aadl_names.specs.ReferenceResolution.{ports_at, type_number}
@@ -26,7 +26,8 @@ use Rattle.model_violations.specs.ConnectionsAndCarriers.{adaptor_text}
 use Rattle.model_violations.specs.ChainFindings.{timing_findings, adaptor_findings, on_carrier, link_findings}
 use Rattle.model_violations.specs.ChainFindings.{feed_findings}
 use Rattle.model_violations.specs.ChainTargets.{end_name, end_kind, end_rate}
-use Rattle.component_checks.specs.PeriodAndAdaptorFindings.{adaptor_named, kind_suits}
+use Rattle.component_checks.specs.PeriodAndAdaptorFindings.{kind_suits}
+use Rattle.component_checks.specs.AdaptorTexts.{adaptor_named}
 use Rattle.design_laws.specs.proof.PackageNames.{HasWords}
 use Rattle.design_laws.proofs.ThreadMemberNames.{IsPort}
 use Rattle.design_laws.proofs.SoundThreadBehaviour.{port_words}

@@ -21,8 +21,9 @@ use Rattle.annex_resolve.specs.declared.scope.DeclaredName.{DeclaredName}
 use Rattle.annex_resolve.specs.declared.scope.Meaning.{Meaning}
 use Rattle.annex_resolve.specs.declared.scope.Meaning.TheVariants.{InPort, OutPort, Variable, LoopVariable}
 use Rattle.annex_resolve.specs.declared.violation.TheConstants.{BAD_TYPE, LOOP_TOO_LONG}
-use Rattle.annex_resolve.specs.NamesAndFindings.{found_if, entry_named, kind_of, sets, sends, may_set, may_send, given}
-use Rattle.annex_resolve.specs.NamesAndFindings.{given_to, with_loop}
+use Rattle.annex_resolve.specs.NamesAndFindings.{entry_named, kind_of, sets, sends, may_set, may_send, given, given_to}
+use Rattle.annex_resolve.specs.NamesAndFindings.{with_loop}
+use Rattle.annex_resolve.specs.FindingRecords.{found_if}
 use Rattle.annex_resolve.specs.ExpressionTypesAndFindings.{fits, misfit, same_kind, whole_types, expression_kind}
 use Rattle.annex_resolve.specs.ExpressionTypesAndFindings.{expression_types, kind_named}
 use Rattle.annex_resolve.specs.ResolvedTrees.{expression_of, action_of, actions_of, mores_of, elsifs_of, otherwise_of}

@@ -1,6 +1,6 @@
 -- Where an instance has no fault and nothing is found in it, nothing is wrong with any part of it.
 use Rattle.std.proofs.Common.{◌≡◌, ◌∙◌, inl, inr, ℕ, zero, suc, ◌+◌, Bool, true, List, [], ◌∷◌, ◌++◌, Some, refl, sym}
-use Rattle.std.proofs.Common.{ap, subst, arith, Contains}
+use Rattle.std.proofs.Common.{ap, subst, arith, Contains, map}
 use Rattle.std.specs.Prelude.{flat_map, slice_get}
 use Rattle.std.specs.List.{list_any, enumerate_from}
 use Rattle.std.proofs.lemmas.Option.{same_Some, option_and_then_some}
@@ -8,10 +8,12 @@ use Rattle.std.proofs.lemmas.Bool.{or_left, or_right, and_from as both}
 use Rattle.list_lemmas.proofs.ListOperations.{append_is_nil_right, append_is_nil_left}
 use Rattle.list_lemmas.proofs.Numbers.{nat_eq-self}
 use Rattle.aadl_tree.specs.Declarations.{type, TypeDeclaration, Implementation, implementation, PackageTree}
+use Rattle.aadl_tree.specs.Declarations.{Declaration}
 use Rattle.aadl_names.specs.declared.fault.PackageFault.{PackageFault}
-use Rattle.aadl_names.specs.declared.fault.PackageFault.TheVariants.{TooMany}
-use Rattle.aadl_names.specs.ReferenceResolution.{implementation_at, type_number}
-use Rattle.aadl_names.specs.PackageFaults.{package_faults}
+use Rattle.aadl_names.specs.declared.fault.PackageFault.TheVariants.{TooMany, WrongKind}
+use Rattle.aadl_names.specs.ReferenceResolution.{implementation_at, type_number, is_thread}
+use Rattle.aadl_names.specs.PackageFaults.{package_faults, behaviour_faults, annex_faults, declaration_faults}
+use Rattle.aadl_names.specs.PackageFaults.{wrong_names}
 use Rattle.aadl_uses.specs.Uses.{standing, component_at}
 use Rattle.aadl_chains.proofs.PermittedConnections.{implementation_in-some}
 use Rattle.aadl_instance.specs.Faults.{IsOver, FoundIn}
@@ -26,6 +28,10 @@ use Rattle.model_violations.specs.ChainFindings.{link_findings, feed_findings, t
 use Rattle.model_violations.specs.UsedDeclarations.{IsUse, uses_type, type_used}
 use Rattle.model_violations.specs.DeclarationFindings.{type_findings, implementation_findings, declaration_findings}
 use Rattle.model_violations.specs.Violations.{Shown, rates_of, carriers_of, chain_findings, used_findings, findings}
+use Rattle.aadl_tree.specs.Annexes.{AnnexTree}
+use Rattle.aadl_names.specs.BehaviourAnnexes as names
+use Rattle.aadl_names.specs.DuplicatesByNamespace.{twice_names}
+use Rattle.design_laws.proofs.DeclaredStates.{of_thread}
 
 -- ---- no fault
 nothing_in : {X : Type 0} (xs : List X) → ((x : X) → Contains xs x → ⊥) → xs ≡ []
@@ -145,3 +151,35 @@ stands_at tree root path x e = option_and_then_some (implementation_at tree) (st
 pub is_used : (tree : PackageTree ℕ) (root : ℕ) (used : ℕ → Bool) → IsUse tree root used → (path : List ℕ) (n : ℕ)
     → standing tree root path ≡ Some n → used n ≡ true
 is_used tree root used is_use path n stands = (is_use n).1 (path, stands)
+
+first_faults : (tree : PackageTree ℕ) (x : Implementation ℕ) (bs : List (ℕ × AnnexTree ℕ)) (b : ℕ × AnnexTree ℕ)
+    → slice_get bs 0 ≡ Some b
+    → is_thread x.category ≡ true → annex_faults tree x bs ≡ []
+    → behaviour_faults tree x b.1 ≡ []
+first_faults tree x [] b is thread none = absurd (cc is)
+first_faults tree x (c ∷ bs) b is thread none =
+    let same : c ≡ b = cc is in
+    let others = map (λ (d : ℕ × AnnexTree ℕ). WrongKind d.0) in
+    subst (λ (d : ℕ × AnnexTree ℕ). behaviour_faults tree x d.1 ≡ []) same
+    (of_thread (is_thread x.category) (behaviour_faults tree x c.1) (others bs) (others (c ∷ bs)) thread none)
+
+
+pub declaration_clean : (tree : PackageTree ℕ) (root n : ℕ) (d : Declaration ℕ) → package_faults tree root ≡ []
+    → slice_get tree.declarations n ≡ Some d → declaration_faults tree root (n, d) ≡ []
+unfolding wrong_names
+declaration_clean tree root n d none is =
+    let all = append_is_nil_right _ (flat_map (declaration_faults tree root) (enumerate_from 0 tree.declarations))
+    (append_is_nil_left (wrong_names tree root) (twice_names tree) none) in
+    let here = none_at (declaration_faults tree root) 0 tree.declarations all n d is in
+    let zero' : 0 + n ≡ n = omega arith in
+    subst (λ k. declaration_faults tree root (k, d) ≡ []) zero' here
+
+
+pub first_clean : (tree : PackageTree ℕ) (root n : ℕ) (x : Implementation ℕ) (b : ℕ × AnnexTree ℕ)
+    → package_faults tree root ≡ []
+    → slice_get tree.declarations n ≡ Some (implementation x) → is_thread x.category ≡ true
+    → slice_get (names.behaviours x.annexes) 0 ≡ Some b → behaviour_faults tree x b.1 ≡ []
+first_clean tree root n x b none is thread first =
+    first_faults tree x (names.behaviours x.annexes) b first thread
+    (append_is_nil_right _ (annex_faults tree x (names.behaviours x.annexes))
+    (declaration_clean tree root n (implementation x) none is))

@@ -19,7 +19,8 @@ use Rattle.design_laws.specs.proof.PackageNames.{HasWords, NamesDiffer}
 use Rattle.design_laws.specs.proof.ThreadBehaviours.{Behaves}
 use Rattle.design_laws.proofs.ThreadMemberNames.{IsPort, values_apart, values_words, states_apart, states_words}
 use Rattle.design_laws.proofs.KindsAndFirstValues.{ins_typed, outs_typed, variables_typed, variables_first, scope_fits}
-use Rattle.design_laws.proofs.DeclaredStates.{all_declared, first_clean}
+use Rattle.design_laws.proofs.DeclaredStates.{all_declared}
+use Rattle.design_laws.proofs.SoundInstanceParts.{first_clean}
 
 -- ---- ports are named by words
 ports_by : (tree : PackageTree ℕ) → HasWords tree → (m : ℕ) (d : Option (Declaration ℕ))

@@ -15,7 +15,7 @@ use Rattle.pals_base.specs.TypingRules.{are_sound}
 use Rattle.pals_base.specs.SingleStep.{completes, is_complete, is_dispatch, leaving}
 use Rattle.pals_base.specs.BehaviourRules.{has_condition, is_edge, dispatch_count, is_always, ends_unguarded, has_ways}
 use Rattle.pals_base.specs.BehaviourRules.{IsAcyclic}
-use Rattle.pals_base.specs.StepSequences.{upwards}
+use Rattle.pals_base.specs.UpwardNumbers.{upwards}
 use Rattle.pals_base.proofs.WaysAndCycles.{incomplete_within}
 use Rattle.pals_base.proofs.UpwardNumbers.{slice_get-map_upwards, list_all_upwards}
 use Rattle.aadl_tree.specs.Annexes.{Guard, dispatch, otherwise, when, Transition}
@@ -25,7 +25,7 @@ use Rattle.annex_resolve.specs.declared.states.StateAt.{StateAt}
 use Rattle.annex_resolve.specs.declared.departures.Departure.{Departure}
 use Rattle.annex_resolve.specs.declared.departures.GuardKind.{GuardKind}
 use Rattle.annex_resolve.specs.declared.violation.TheConstants.{DISPATCH_COUNT, NO_OTHERWISE, CYCLE_WITHOUT_COMPLETE}
-use Rattle.annex_resolve.specs.NamesAndFindings.{found_if}
+use Rattle.annex_resolve.specs.FindingRecords.{found_if}
 use Rattle.annex_resolve.specs.IncompleteStateCycles.{is_on_cycle}
 use Rattle.annex_resolve.specs.BehavioursAndFindings.{declared, state_number, trigger_of, effect_of, edge_of}
 use Rattle.annex_resolve.specs.BehavioursAndFindings.{guard_types, effect_findings, transition_findings}

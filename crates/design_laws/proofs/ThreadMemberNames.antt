@@ -18,7 +18,7 @@ use Rattle.aadl_tree.specs.Names.{Identifier, same_name, identifiers, listed_in}
 use Rattle.aadl_tree.specs.Annexes.{VariableDeclaration, StateDeclaration, AnnexTree}
 use Rattle.aadl_tree.specs.Declarations.{Feature}
 use Rattle.aadl_names.specs.declared.spelled_name.SpelledName.{SpelledName}
-use Rattle.aadl_names.specs.Spelling.{entry_of}
+use Rattle.aadl_names.specs.DuplicateNames.{entry_of}
 use Rattle.aadl_names.specs.DuplicatesByNamespace.{port_entries, variable_entries, state_entries}
 use Rattle.aadl_names.specs.BehaviourAnnexes as names
 use Rattle.aadl_names.proofs.PortDuplicates.{same_name-swapped}

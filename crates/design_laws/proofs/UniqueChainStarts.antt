@@ -12,7 +12,8 @@ use Rattle.aadl_uses.specs.Uses.{IsInUse}
 use Rattle.aadl_uses.specs.declared.connections_by_target.Wire.{Wire}
 use Rattle.aadl_uses.specs.Wiring.{wire_of, wires_of, wires_at}
 use Rattle.aadl_uses.specs.SecondConnections.{target_in}
-use Rattle.aadl_chains.specs.Chains.{Port, Place, Leads, IsStart, IsSecondEnd}
+use Rattle.aadl_chains.specs.Chains.{Port, Place, Leads, IsStart}
+use Rattle.aadl_chains.specs.ChainFaults.{IsSecondEnd}
 use Rattle.aadl_chains.proofs.PermittedConnections.{declared}
 use Rattle.aadl_chains.specs.proof.SoundConnections.{IsSound}
 use Rattle.aadl_chains.proofs.ChainsFromEnds.{one_into, none_into_start}

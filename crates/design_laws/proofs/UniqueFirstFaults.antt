@@ -12,8 +12,8 @@ use Rattle.aadl_names.specs.declared.fault.PackageFault.{PackageFault}
 use Rattle.aadl_names.specs.declared.fault.PackageFault.TheVariants.{Twice, Recursive, DeadEnd, TwoSources, TooMany}
 use Rattle.aadl_names.specs.FirstFaults.{place_of, number_of, IsFirstByLine}
 use Rattle.aadl_names.specs.ReferenceResolution.{implementation_in, subcomponents_of, connections_of}
-use Rattle.aadl_uses.specs.Uses.{IsRecursive}
-use Rattle.aadl_chains.specs.Chains.{IsEndFault}
+use Rattle.aadl_uses.specs.Recursion.{IsRecursive}
+use Rattle.aadl_chains.specs.ChainFaults.{IsEndFault}
 use Rattle.aadl_instance.specs.Faults.{IsOver, FoundIn, Found, IsFault}
 use Rattle.aadl_instance.proofs.FirstFaultUniqueness.{one_by_line}
 use Rattle.design_laws.proofs.PlacedNames.{Rise}

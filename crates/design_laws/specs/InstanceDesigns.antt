@@ -14,7 +14,7 @@ use Rattle.aadl_uses.specs.declared.thread_locations.ThreadAt.{ThreadAt}
 use Rattle.aadl_instance.specs.declared.chain.Chain.{Chain}
 use Rattle.aadl_instance.specs.declared.chain.ChainEnd.{ChainEnd}
 use Rattle.aadl_instance.specs.declared.chain.ChainEnd.TheVariants.{Thread, Root}
-use Rattle.component_checks.specs.PeriodAndAdaptorFindings.{adaptor_named}
+use Rattle.component_checks.specs.AdaptorTexts.{adaptor_named}
 use Rattle.component_checks.specs.ThreadRatesAndFindings.{root_period, thread_rate}
 use Rattle.component_checks.specs.RootFindings.{root_gamma}
 use Rattle.model_violations.specs.ConnectionsAndCarriers.{connection_of, adaptor_text}

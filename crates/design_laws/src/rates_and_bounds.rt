@@ -8,8 +8,9 @@ ghost use Rattle.pals_base.specs.AllowedAdaptors.{divides_or_divided, is_allowed
 ghost use Rattle.pals_base.specs.PeriodBound.{least_period};
 ghost use Rattle.pals_model.specs.DesignRules.{IsGamma};
 ghost use Rattle.component_checks.specs.BoundsAndRates.{skew_of, range_of, rate_of, gamma_by};
-ghost use Rattle.component_checks.specs.PeriodAndAdaptorFindings.{adaptor_named, period_findings, pair_findings};
-ghost use Rattle.component_checks.specs.PeriodAndAdaptorFindings.{bound_findings, kind_suits};
+ghost use Rattle.component_checks.specs.PeriodAndAdaptorFindings.{period_findings, pair_findings, bound_findings};
+ghost use Rattle.component_checks.specs.PeriodAndAdaptorFindings.{kind_suits};
+ghost use Rattle.component_checks.specs.AdaptorTexts.{adaptor_named};
 
 /// Bounds that count are those of a design: a clock may be off, no range is reversed, and no number is
 /// above one hour.

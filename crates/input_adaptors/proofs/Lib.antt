@@ -7,3 +7,4 @@ pub mod TupleLengthsAndGroups
 pub mod SilenceAndLatestNumber
 pub mod NumbersFromSource
 pub mod SpreadValues
+pub mod GroupSums

@@ -1,7 +1,7 @@
 -- For the functions of `group`: the present numbers of a list of ports, and the least, greatest, latest and mean of
 -- them.
-use Rattle.std.proofs.Common.{◌≡◌, ◌∙◌, ap, sym, refl, ℕ, suc, ◌+◌, ◌<◌, ◌≤◌, ◌*◌, ◌^◌, ◌-◌, ℤ, pos, neg_ℤ, ◌+ℤ◌, ◌≤ℤ◌}
-use Rattle.std.proofs.Common.{List, [], ◌∷◌, ◌++◌, length, take, get_or, fold, Option, Some, None, arith}
+use Rattle.std.proofs.Common.{◌≡◌, ◌∙◌, ap, sym, refl, ℕ, ◌+◌, ◌<◌, ◌≤◌, ◌*◌, ◌^◌, ◌-◌, ℤ, pos, neg_ℤ, ◌+ℤ◌, ◌≤ℤ◌, List}
+use Rattle.std.proofs.Common.{[], ◌∷◌, ◌++◌, length, take, get_or, fold, Option, Some, None, arith}
 use Rattle.std.specs.List.{reduce, filter_map, last_or}
 use Rattle.std.specs.Int.{int_max, int_min}
 use Rattle.std.specs.Ordering.{int_cmp, max_by_ordering, min_by_ordering}
@@ -12,8 +12,8 @@ use mir.Syntax.{w64}
 use mir.Val.{SFits}
 use Rattle.pals_base.specs.declared.values.PortValue.{PortValue}
 use Rattle.pals_base.specs.declared.values.PortValue.TheVariants.{Absent, Present}
-use Rattle.pals_base.specs.Adaptors.{present, of_present, latest_of, greatest_of, least_of, average_of}
-use Rattle.input_adaptors.specs.proof.PortsAsNumbers.{number_of, port_of, mean_of}
+use Rattle.pals_base.specs.Adaptors.{present, of_present, latest_of, greatest_of, least_of}
+use Rattle.input_adaptors.specs.proof.PortsAsNumbers.{number_of, port_of}
 
 -- ---- as a chain of iterators gives them
 pub filter_map-number_of : (ports : List PortValue) → filter_map number_of ports ≡ present ports
@@ -64,12 +64,8 @@ port_of-least (v ∷ vs) = refl
 pub ruleset as_ports = (port_of-latest, port_of-greatest, port_of-least)
 
 -- ---- their sum
-zero-+ℤ : (v : ℤ) → pos 0 +ℤ v ≡ v
+pub zero-+ℤ : (v : ℤ) → pos 0 +ℤ v ≡ v
 zero-+ℤ v = omega (arith, ints)
-
-pub mean_of_sum : (vs : List ℤ) → mean_of (fold ◌+ℤ◌ (pos 0) vs) (length vs) ≡ of_present average_of vs
-mean_of_sum [] = refl
-mean_of_sum (v ∷ vs) = ap (λ x. mean_of (fold ◌+ℤ◌ x vs) (suc (length vs))) (zero-+ℤ v)
 
 present-append : (xs ys : List PortValue) → present (xs ++ ys) ≡ present xs ++ present ys
 present-append [] ys = refl

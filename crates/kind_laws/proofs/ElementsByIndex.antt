@@ -2,7 +2,7 @@
 use Rattle.std.proofs.Common.{◌≡◌, ℕ, zero, suc, ◌+◌, Bool, true, false, if◌then◌else◌, List, [], ◌∷◌, map}
 use Rattle.std.proofs.Common.{slice_index_or, All, subst, arith}
 use Rattle.std.proofs.lemmas.List.Elements.{All-nil, All-cons}
-use Rattle.pals_base.specs.StepSequences.{upwards}
+use Rattle.pals_base.specs.UpwardNumbers.{upwards}
 
 -- at a place of what is made of counted numbers, or past it
 pub upwards_at : {X : Type 0} (P : X → Type 0) (f : ℕ → X) (from n k place : ℕ) (d : X) → place ≡ from + k

@@ -12,7 +12,8 @@ use Rattle.pals_base.specs.declared.values.PortValue.TheVariants.{Absent}
 use Rattle.pals_base.specs.declared.behaviour.PortDecl.{PortDecl}
 use Rattle.pals_base.specs.PeriodBound.{sent_steps}
 use Rattle.pals_base.specs.SingleStep.{initial}
-use Rattle.pals_base.specs.StepSequences.{cut, upwards}
+use Rattle.pals_base.specs.Tuples.{cut}
+use Rattle.pals_base.specs.UpwardNumbers.{upwards}
 use Rattle.pals_base.proofs.StepTermination.{starts_well}
 use Rattle.pals_base.proofs.UpwardNumbers.{get_or-map_upwards, All-map_upwards}
 use Rattle.pals_model.specs.declared.design.Component.{Component}
@@ -22,9 +23,9 @@ use Rattle.pals_model.specs.declared.design.DesignParts.{DesignParts}
 use Rattle.pals_model.specs.declared.environment.Env.{Env}
 use Rattle.pals_model.specs.declared.port_sources.PortSource.{PortSource}
 use Rattle.pals_model.specs.declared.port_sources.PortSource.TheVariants as source
-use Rattle.pals_model.specs.ComponentInputs.{rate_of, rate_in, link_goes_to, feed_goes_to, from_feed, from_link}
-use Rattle.pals_model.specs.ComponentInputs.{source_of, sources_of, values_at, reading}
-use Rattle.pals_model.specs.PortKinds.{out_kind}
+use Rattle.pals_model.specs.ComponentInputs.{link_goes_to, feed_goes_to, from_feed, from_link, source_of, sources_of}
+use Rattle.pals_model.specs.ComponentInputs.{values_at, reading}
+use Rattle.pals_model.specs.PortKinds.{rate_of, rate_in, out_kind}
 use Rattle.pals_model.specs.Composition.{taps_of}
 use Rattle.pals_model.specs.DesignRules.{IsDesign}
 use Rattle.pals_model.specs.proof.FittingValues.{PortFits, TupleFits, PortsFit, FrameFits, link_kind, EnvFits}

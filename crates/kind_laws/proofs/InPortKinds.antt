@@ -11,17 +11,18 @@ use Rattle.pals_base.specs.declared.values.PortValue.{PortValue}
 use Rattle.pals_base.specs.declared.values.PortValue.TheVariants.{Absent}
 use Rattle.pals_base.specs.declared.behaviour.PortDecl.{PortDecl}
 use Rattle.pals_base.specs.AllowedAdaptors.{suits_kind}
-use Rattle.pals_base.specs.StepSequences.{upwards, column}
+use Rattle.pals_base.specs.Tuples.{column}
+use Rattle.pals_base.specs.UpwardNumbers.{upwards}
 use Rattle.pals_base.proofs.UpwardNumbers.{get_or-map_upwards, All-map_upwards}
-use Rattle.pals_base.proofs.StepSequences.{get_or-column}
+use Rattle.pals_base.proofs.ColumnsAndCutTuples.{get_or-column}
 use Rattle.pals_model.specs.declared.design.Component.{Component}
 use Rattle.pals_model.specs.declared.design.Link.{Link}
 use Rattle.pals_model.specs.declared.design.DesignParts.{DesignParts}
 use Rattle.pals_model.specs.declared.environment.Env.{Env}
 use Rattle.pals_model.specs.declared.port_sources.PortSource.{PortSource}
-use Rattle.pals_model.specs.ComponentInputs.{rate_of, root_of, values_at, link_goes_to, feed_goes_to, from_feed}
-use Rattle.pals_model.specs.ComponentInputs.{from_link, source_of, sources_of, read_feed, read_link, reading, inputs_of}
-use Rattle.pals_model.specs.PortKinds.{kind_of, in_kind, root_kind}
+use Rattle.pals_model.specs.ComponentInputs.{root_of, values_at, link_goes_to, feed_goes_to, from_feed, from_link}
+use Rattle.pals_model.specs.ComponentInputs.{source_of, sources_of, read_feed, read_link, reading, inputs_of}
+use Rattle.pals_model.specs.PortKinds.{rate_of, kind_of, in_kind, root_kind}
 use Rattle.pals_model.specs.DesignRules.{IsDesign, IsLink, IsFeed}
 use Rattle.pals_model.specs.proof.FittingValues.{PortFits, TupleFits, PortsFit, link_kind, EnvFits}
 use Rattle.pals_model.proofs.FirstMatches.{found_at, at_element}

@@ -11,7 +11,8 @@ use Rattle.pals_base.specs.declared.behaviour.PortDecl.{PortDecl}
 use Rattle.pals_base.specs.declared.behaviour.BehaviourParts.{BehaviourParts}
 use Rattle.pals_base.specs.SingleStep.{fire, HasShape}
 use Rattle.pals_base.specs.BehaviourRules.{IsBehaviour}
-use Rattle.pals_base.specs.StepSequences.{outputs, column, steps}
+use Rattle.pals_base.specs.StepSequences.{outputs, steps}
+use Rattle.pals_base.specs.Tuples.{column}
 use Rattle.pals_base.proofs.StepTermination.{fires_well}
 use Rattle.pals_base.proofs.UpwardNumbers.{get_or-map_upwards}
 use Rattle.pals_model.specs.PortKinds.{kind_of}

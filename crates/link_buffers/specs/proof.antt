@@ -3,3 +3,4 @@ pub mod Flights
 pub mod Halving
 pub mod DueQueues
 pub mod RingCopies
+pub mod ListSearches

@@ -2,7 +2,8 @@
 ghost use Rattle.std.specs.Prelude.{◌≡◌, ◌+◌, ◌-◌, ◌≤◌, [], ◌∷◌, ◌++◌, max, IfNone, IfOk, OnOk, OnErr, option_copied};
 ghost use Rattle.std.specs.Prelude.{option_map, is_some, if◌then◌else◌};
 ghost use Rattle.pals_model.specs.Flights.{oldest, without_oldest};
-ghost use Rattle.link_buffers.specs.proof.Flights.{flight_of, due_rounds, least};
+ghost use Rattle.link_buffers.specs.proof.Flights.{flight_of, due_rounds};
+ghost use Rattle.link_buffers.specs.proof.ListSearches.{least};
 
 use crate::ring_entries::{Ring, RingEntry, bound_with, least_due, place_of_oldest};
 use crate::ring_middle::{standing_at, take_at};

@@ -1,6 +1,7 @@
 //! Copies in a ring: the place of the oldest of a round, and the least round that is due.
 ghost use Rattle.std.specs.Prelude.{◌≡◌, ◌≤◌, length, map, filter, All};
-ghost use Rattle.link_buffers.specs.proof.Flights.{is_due, least};
+ghost use Rattle.link_buffers.specs.proof.Flights.{is_due};
+ghost use Rattle.link_buffers.specs.proof.ListSearches.{least};
 ghost use Rattle.std.specs.List.{position};
 ghost use Rattle.pals_model.specs.Flights.{is_of};
 ghost use Rattle.link_buffers.specs.proof.RingCopies.{copies_of, AreTopped, AreBelow};

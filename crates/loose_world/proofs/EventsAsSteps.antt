@@ -6,11 +6,12 @@ use Rattle.pals_runs.specs.declared.events_and_faults.Event.{Event}
 use Rattle.pals_runs.specs.declared.events_and_faults.EventFault.{EventFault}
 use Rattle.pals_runs.specs.declared.journal.JournalEntry.{JournalEntry}
 use Rattle.pals_runs.specs.declared.journal.Stop.{Stop}
-use Rattle.bus_machine.specs.States.{Run, opening}
+use Rattle.bus_machine.specs.States.{opening}
+use Rattle.bus_machine.specs.Runs.{Run}
 use Rattle.bus_machine.specs.Machine.{BusEvent, is_allowed, IsStep}
 use Rattle.bus_machine.specs.Replay.{entries}
 use Rattle.pals_bus.specs.BusValues.{BusValue, Happens}
-use Rattle.pals_bus.specs.proof.OpeningBusAndNodeValues.{opening_bus}
+use Rattle.pals_bus.specs.proof.OpeningNodes.{opening_bus}
 use Rattle.pals_bus.specs.LooseEvents.{IsRefused}
 use Rattle.loose_world.specs.declared.loose_run.LooseEnd.{LooseEnd}
 use Rattle.loose_world.specs.declared.loose_run.LooseEnd.TheVariants as end

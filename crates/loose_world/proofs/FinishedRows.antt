@@ -5,7 +5,7 @@ use Rattle.std.specs.Prelude.{fold, max, min, flat_map, slice_index_or, if◌the
 use Rattle.std.proofs.lemmas.Bool.{lt-ltb, le-ltb, cases_lt}
 use Rattle.std.proofs.lemmas.Option.{slice_get-get_or}
 use Rattle.std.proofs.lemmas.List.{nil_from_length}
-use Rattle.pals_base.specs.StepSequences.{upwards}
+use Rattle.pals_base.specs.UpwardNumbers.{upwards}
 use Rattle.pals_base.proofs.UpwardNumbers.{slice_get-map_upwards, map_upwards_same, flat_map_upwards_same}
 use Rattle.pals_model.specs.declared.design.Component.{Component}
 use Rattle.pals_model.specs.declared.part.Part.{Part}
@@ -15,7 +15,8 @@ use Rattle.pals_model.proofs.LineLaws.{same_row}
 use Rattle.pals_runs.specs.declared.events_and_faults.Event.{Event}
 use Rattle.bus_machine.specs.Plans.{component_at, no_component}
 use Rattle.bus_machine.specs.Nodes.{NodeState}
-use Rattle.bus_machine.specs.States.{Run, BusState, node_at, no_node, finished_by_all}
+use Rattle.bus_machine.specs.States.{BusState, node_at, no_node, finished_by_all}
+use Rattle.bus_machine.specs.Runs.{Run}
 use Rattle.bus_machine.specs.Agreement.{Agrees}
 use Rattle.bus_machine.specs.proof.AgreementLaws.{IsRunOf}
 use Rattle.bus_machine.specs.WorldTexts.{finished_by, part_shown, rounds_shown, world_rows}

@@ -14,3 +14,4 @@ pub mod JournalReplays
 pub mod UniqueFaults
 pub mod UniqueEnds
 pub mod EventsAsSteps
+pub mod ToldLines

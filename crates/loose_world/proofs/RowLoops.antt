@@ -6,7 +6,7 @@ use Rattle.std.specs.Prelude.{flat_map}
 use Rattle.std.proofs.lemmas.List.{take_all}
 use Rattle.std.proofs.lemmas.List.Concat.{flat_map-append}
 use Rattle.std.proofs.lemmas.List.Sums.{fold-append, fold_more}
-use Rattle.pals_base.specs.StepSequences.{upwards}
+use Rattle.pals_base.specs.UpwardNumbers.{upwards}
 use Rattle.pals_base.proofs.UpwardNumbers.{upwards-more, map_upwards_more}
 use Rattle.pals_model.specs.RoundTexts.{line_end, row_lines, text_of}
 use Rattle.bus_machine.specs.Nodes.{NodeState}

@@ -4,26 +4,29 @@ use Rattle.std.proofs.Common.{None, refl, sym, ap, ap₂, ◌∙◌, subst, arit
 use Rattle.std.specs.Prelude.{nat_lt, is_some, if◌then◌else◌}
 use Rattle.std.proofs.lemmas.Bool.{ltb-false, false≢true}
 use Rattle.std.proofs.lemmas.Option.{slice_get_within}
-use Rattle.bus_machine.proofs.QuantitiesAndSentRounds.{sent_at_start, sent_behind, grows_at, stays_at}
+use Rattle.bus_machine.proofs.QuantitiesAndSentRounds.{grows_at, stays_at}
+use Rattle.bus_machine.proofs.SentRounds.{sent_at_start, sent_behind}
 use Rattle.list_lemmas.proofs.Numbers.{add_zero_from}
 use Rattle.pals_base.specs.declared.values.NodeNo.{NodeNo}
 use Rattle.pals_base.specs.declared.values.LinkNo.{LinkNo}
 use Rattle.pals_base.specs.declared.values.PortValue.{PortValue}
 use Rattle.pals_model.specs.declared.part.Part.{Part}
-use Rattle.pals_model.specs.ComponentInputs.{rate_of, rate_in, values_at}
+use Rattle.pals_model.specs.ComponentInputs.{values_at}
+use Rattle.pals_model.specs.PortKinds.{rate_of, rate_in}
 use Rattle.pals_runs.specs.declared.phase.Phase.{Phase}
 use Rattle.pals_runs.specs.declared.phase.Phase.TheVariants.{Waiting, Running, Between, Holding, Done}
 use Rattle.pals_runs.specs.declared.journal.Arrived.{Arrived}
 use Rattle.pals_runs.specs.declared.journal.Arrived.TheVariants.{Kept, Ignored, Early}
 use Rattle.pals_runs.specs.declared.events_and_faults.Event.TheVariants as event
 use Rattle.bus_machine.specs.declared.plan.Plan.{Plan}
-use Rattle.bus_machine.specs.Plans.{component_at, plan_of}
-use Rattle.bus_machine.specs.Nodes.{NodeState, at_rest}
+use Rattle.bus_machine.specs.Plans.{component_at, plan_of, link_at}
+use Rattle.bus_machine.specs.Nodes.{NodeState, at_rest, sent_rounds}
 use Rattle.bus_machine.specs.NodeEvents.{is_waiting, started, next_step, stepped, running_step, finished, may_send}
 use Rattle.bus_machine.specs.NodeEvents.{sent_from, with_message, arrived, received, after_send as phase_after_send}
 use Rattle.bus_machine.specs.LinkEvents.{arriving}
-use Rattle.bus_machine.specs.States.{Run, BusState, node_at, flight_at, link_at, with_node}
-use Rattle.bus_machine.specs.MissedStarts.{missing_link, sent_rounds}
+use Rattle.bus_machine.specs.States.{BusState, node_at, flight_at, with_node}
+use Rattle.bus_machine.specs.Runs.{Run}
+use Rattle.bus_machine.specs.MissedStarts.{missing_link}
 use Rattle.bus_machine.specs.Machine.{BusEvent, Start, Step, Finish, Send, Arrive, Drop, Repeat, IsStep, after}
 use Rattle.bus_machine.specs.Machine.{after_start, after_send, after_arrive, on_step, is_allowed}
 use Rattle.bus_machine.specs.Agreement.{PhaseAgrees, Agrees}

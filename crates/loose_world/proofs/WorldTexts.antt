@@ -5,12 +5,13 @@ use Rattle.pals_model.specs.RoundTexts.{text_of, report}
 use Rattle.pals_model.proofs.LineLaws.{text_of-append}
 use Rattle.pals_runs.specs.declared.events_and_faults.Event.{Event}
 use Rattle.pals_runs.specs.declared.journal.Stop.{Stop}
-use Rattle.bus_machine.specs.States.{Run, finished_by_all}
+use Rattle.bus_machine.specs.States.{finished_by_all}
+use Rattle.bus_machine.specs.Runs.{Run}
 use Rattle.bus_machine.specs.Agreement.{Agrees}
 use Rattle.bus_machine.specs.proof.AgreementLaws.{IsRunOf}
 use Rattle.bus_machine.specs.WorldTexts.{sent_lines, world_rows, worldtext}
 use Rattle.pals_bus.specs.BusValues.{BusValue}
-use Rattle.pals_bus.specs.proof.OpeningBusAndNodeValues.{opening_bus}
+use Rattle.pals_bus.specs.proof.OpeningNodes.{opening_bus}
 use Rattle.loose_world.specs.proof.FinishedRows.{finished_lines, common_lines}
 use Rattle.loose_world.specs.declared.loose_run.LooseEnd.TheVariants as end
 use Rattle.loose_world.specs.LooseRuns.{Tells}
@@ -18,7 +19,7 @@ use Rattle.loose_world.specs.proof.EventEffects.{IsLeftBy, IsReplayed}
 use Rattle.loose_world.proofs.EventEffects.{left_by_loose}
 use Rattle.loose_world.proofs.JournalReplays.{journal_replays}
 use Rattle.loose_world.proofs.FinishedRows.{finished_rows, common_rows}
-use Rattle.loose_world.proofs.SentCopies.{lines_are_told}
+use Rattle.loose_world.proofs.ToldLines.{lines_are_told}
 
 pub world_is_told : (run : Run) (events : List Event) (t : BusValue) (lines : List (List ℕ)) → IsRunOf run
     → IsLeftBy run events t lines

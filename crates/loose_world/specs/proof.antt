@@ -8,3 +8,4 @@ pub mod ReportedWorlds
 pub mod WorldLaws
 pub mod EventsAsSteps
 pub mod UniqueEnds
+pub mod SentCopies

@@ -1,17 +1,13 @@
 -- For loops that keep what passes a test, as `ins_in` and `outs_in` do, or take the first of what is made of the
 -- rest, as `first_behaviour` does: what they have after one more thing.
-use Rattle.std.proofs.Common.{◌≡◌, ◌∙◌, ℕ, ◌+◌, ◌<◌, Bool, true, false, not, cond, List, [], ◌∷◌, ◌++◌, length, map}
-use Rattle.std.proofs.Common.{filter, take, drop, get_or, Option, Some, None, refl, sym, ap, arith}
+use Rattle.std.proofs.Common.{◌≡◌, ◌∙◌, ℕ, ◌+◌, ◌<◌, Bool, true, false, cond, List, [], ◌∷◌, ◌++◌, length, map, filter}
+use Rattle.std.proofs.Common.{take, drop, get_or, Option, Some, None, refl, sym, ap}
 use Rattle.std.specs.Prelude.{slice_get}
 use Rattle.std.specs.List.{filter_map, cons_option}
-use Rattle.std.proofs.lemmas.List.{map-append, length-map}
-use Rattle.std.proofs.lemmas.List.Filters.{length-filter_both}
+use Rattle.std.proofs.lemmas.List.{map-append}
 use Rattle.std.proofs.lemmas.List.Elements.{filter-append}
 use Rattle.list_lemmas.proofs.ListOperations.{drop-next}
-use Rattle.aadl_tree.specs.Declarations.{Feature}
 use Rattle.annex_resolve.proofs.MappedLists.{map_next}
-use Rattle.component_checks.specs.TypeFindings.{is_in}
-use Rattle.model_violations.specs.PortsAndVariables.{port_of, ins_in, outs_in}
 
 one_more : {A B C : Type 0} (h : B → C) (p : B → Bool) (v : A → B) (xs : List A) (i : ℕ) (x : A) → i < length xs
     → x ≡ get_or xs i x
@@ -50,11 +46,3 @@ pub first_later : {A B C : Type 0} (f : B → Option C) (v : A → B) (xs : List
 first_later f v xs i x within is none =
     ap (λ l. slice_get (filter_map f (map v l)) 0) (drop-next xs i x within is)
     ∙ ap (λ o. slice_get (cons_option o (filter_map f (map v (drop (i + 1) xs)))) 0) none
-
--- ---- in ports and out ports are together all ports
-pub ports_both : (ports : List (Feature ℕ)) → length (ins_in ports) + length (outs_in ports) ≡ length ports
-ports_both ports =
-    let a = length-map (filter is_in ports) port_of in
-    let b = length-map (filter (λ f. not (is_in f)) ports) port_of in
-    let c = length-filter_both is_in (λ f. not (is_in f)) (λ f. refl) ports in
-    omega (arith, a, b, c)

@@ -7,9 +7,10 @@ use Rattle.aadl_tree.specs.Declarations.{Connection, PackageTree}
 use Rattle.aadl_uses.specs.declared.thread_locations.ThreadAt.{ThreadAt}
 use Rattle.aadl_instance.specs.declared.chain.Chain.{Chain}
 use Rattle.annex_resolve.specs.declared.violation.Violation.{Violation}
-use Rattle.annex_resolve.specs.NamesAndFindings.{found_if}
+use Rattle.annex_resolve.specs.FindingRecords.{found_if}
 use Rattle.annex_resolve.specs.declared.violation.TheConstants.{NOT_DELAYED, STRAY_ADAPTOR}
-use Rattle.component_checks.specs.PeriodAndAdaptorFindings.{adaptor_named, pair_findings}
+use Rattle.component_checks.specs.PeriodAndAdaptorFindings.{pair_findings}
+use Rattle.component_checks.specs.AdaptorTexts.{adaptor_named}
 use Rattle.model_violations.specs.ChainTargets.{end_name, end_kind, end_rate}
 use Rattle.model_violations.specs.ConnectionsAndCarriers.{connection_of, is_delayed, adaptor_text}
 

@@ -11,7 +11,7 @@ use Rattle.aadl_names.specs.declared.port_place.PortPlace.TheVariants.{Own, Inne
 use Rattle.aadl_names.specs.ReferenceResolution.{port_named, ports_of, inner_ports, site}
 use Rattle.annex_resolve.specs.declared.violation.Violation.{Violation}
 use Rattle.annex_resolve.specs.declared.violation.TheConstants.{DELAYED_ROOT, STRAY_ADAPTOR}
-use Rattle.annex_resolve.specs.NamesAndFindings.{found_if}
+use Rattle.annex_resolve.specs.FindingRecords.{found_if}
 use Rattle.annex_resolve.specs.ExpressionTypesAndFindings.{kind_in, misfit}
 use Rattle.model_violations.specs.ConnectionsAndCarriers.{is_delayed, adaptor_text}
 

@@ -4,7 +4,8 @@ use Rattle.std.specs.List.{list_any}
 use Rattle.std.specs.Option.{option_and_then}
 use Rattle.aadl_tree.specs.Declarations.{Connection, PackageTree}
 use Rattle.aadl_names.specs.declared.recognised_properties.PropertyName.TheVariants.{Timing, Adaptor}
-use Rattle.aadl_names.specs.RecognisedProperties.{association_named, association_value, name_of, text_of}
+use Rattle.aadl_names.specs.RecognisedProperties.{association_named, association_value, name_of}
+use Rattle.aadl_names.specs.PropertyValueShapes.{text_of}
 use Rattle.aadl_names.specs.ReferenceResolution.{implementation_at, connections_of}
 use Rattle.aadl_instance.specs.declared.chain.ConnAt.{ConnAt}
 use Rattle.component_checks.specs.ThreadRatesAndFindings.{says}

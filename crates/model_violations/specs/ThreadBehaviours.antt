@@ -8,7 +8,7 @@ use Rattle.aadl_names.specs.BehaviourAnnexes.{behaviours}
 use Rattle.aadl_names.specs.ReferenceResolution.{ports_of}
 use Rattle.annex_resolve.specs.declared.violation.Violation.{Violation}
 use Rattle.annex_resolve.specs.declared.violation.TheConstants.{NO_INITIAL}
-use Rattle.annex_resolve.specs.NamesAndFindings.{finding}
+use Rattle.annex_resolve.specs.FindingRecords.{finding}
 use Rattle.annex_resolve.specs.BehavioursAndFindings.{behaviour_of, annex_findings}
 use Rattle.component_checks.specs.TypeFindings.{variables_findings}
 use Rattle.model_violations.specs.PortsAndVariables.{variables_of, values_of, scope_of}

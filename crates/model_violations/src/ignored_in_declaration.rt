@@ -2,8 +2,8 @@
 ghost use Rattle.std.specs.Prelude.{◌≡◌, ◌++◌, OnOk, map, flat_map};
 ghost use Rattle.aadl_tree.specs.proof.PlaceMaps.{kept_place};
 ghost use Rattle.aadl_tree.specs.proof.DeclarationViews.{connection_view, declaration_view, feature_view};
-ghost use Rattle.aadl_tree.specs.proof.DeclarationViews.{implementation_view, subcomponent_view, type_view, annex_view};
-ghost use Rattle.aadl_tree.specs.proof.DeclarationViews.{variable_view};
+ghost use Rattle.aadl_tree.specs.proof.DeclarationViews.{implementation_view, subcomponent_view, type_view};
+ghost use Rattle.aadl_tree.specs.proof.AnnexViews.{annex_view, variable_view};
 ghost use Rattle.model_violations.specs.IgnoredProperties as spec;
 
 use crate::ignored_in_list::add_list;

@@ -27,7 +27,7 @@ fn is_recognised(holder: PropertyHolder, name: &Name) -> bool
 }
 
 // Whether an association means nothing at a kind of place.
-#[tactic(auto, using(aadl_tree::proofs::FieldViews::view_out_association))]
+#[tactic(auto, using(aadl_tree::proofs::ValueViews::view_out_association))]
 fn is_ignored(holder: PropertyHolder, association: &Association) -> bool
     ensures { result ≡ spec.is_ignored holder (association_view kept_place association.now) }
 {
@@ -35,7 +35,7 @@ fn is_ignored(holder: PropertyHolder, association: &Association) -> bool
 }
 
 // Adds the name of an association that means nothing at a kind of place.
-#[tactic(auto, using(aadl_tree::proofs::FieldViews::view_out_association))]
+#[tactic(auto, using(aadl_tree::proofs::ValueViews::view_out_association))]
 fn add_association(
     alloc: Global,
     holder: PropertyHolder,

@@ -5,7 +5,8 @@ ghost use Rattle.pals_base.specs.declared.limits.TheConstants.{PORTS, VARIABLES}
 ghost use Rattle.aadl_tree.specs.proof.PlaceMaps.{kept_place};
 ghost use Rattle.aadl_tree.specs.proof.PackageViews.{placed};
 ghost use Rattle.aadl_tree.specs.Declarations as trees;
-ghost use Rattle.aadl_tree.specs.proof.DeclarationViews.{annex_view, annex_tree_view, implementation_view};
+ghost use Rattle.aadl_tree.specs.proof.DeclarationViews.{implementation_view};
+ghost use Rattle.aadl_tree.specs.proof.AnnexViews.{annex_view, annex_tree_view};
 ghost use Rattle.aadl_names.specs.BehaviourAnnexes.{behaviour_in, behaviours};
 ghost use Rattle.aadl_names.specs.ReferenceResolution.{implementation_at, ports_of};
 ghost use Rattle.model_violations.specs.ThreadBehaviours as spec;

@@ -5,8 +5,8 @@ ghost use Rattle.aadl_tree.specs.proof.PlaceMaps.{kept_place};
 ghost use Rattle.aadl_tree.specs.proof.NameViews.{identifier_view};
 ghost use Rattle.aadl_tree.specs.proof.ValueViews.{value_view, values_view};
 ghost use Rattle.aadl_tree.specs.Values.{list};
-ghost use Rattle.aadl_tree.specs.proof.DeclarationViews.{variable_view, annex_tree_view};
-ghost use Rattle.aadl_names.specs.RecognisedProperties.{only_text, text_of};
+ghost use Rattle.aadl_tree.specs.proof.AnnexViews.{variable_view, annex_tree_view};
+ghost use Rattle.aadl_names.specs.PropertyValueShapes.{only_text, text_of};
 ghost use Rattle.model_violations.specs.PortsAndVariables as spec;
 
 use crate::port_or_variable::Declared;

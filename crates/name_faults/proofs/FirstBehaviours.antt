@@ -6,7 +6,7 @@ use Rattle.aadl_tree.specs.declared.annex.AnnexContent as source_content
 use Rattle.aadl_tree.specs.declared.annex.Annex.{Annex}
 use Rattle.aadl_tree.specs.Annexes.{AnnexTree, AnnexContent}
 use Rattle.aadl_tree.specs.Annexes as plain
-use Rattle.aadl_tree.specs.proof.DeclarationViews.{annex_view, content_view}
+use Rattle.aadl_tree.specs.proof.AnnexViews.{annex_view, content_view}
 use Rattle.aadl_tree.specs.proof.NameViews.{identifier_view}
 use Rattle.aadl_tree.specs.proof.PlaceMaps.{kept_place}
 use Rattle.aadl_names.specs.BehaviourAnnexes.{behaviours, first_behaviour}

@@ -3,7 +3,7 @@ use Rattle.std.proofs.Common.{◌≡◌, ℕ, List, map, Option, ap, ◌∙◌}
 use Rattle.std.specs.Prelude.{slice_get, option_map}
 use Rattle.std.proofs.lemmas.Option.{slice_get-map}
 use Rattle.aadl_tree.specs.Declarations.{Feature}
-use Rattle.aadl_names.specs.Spelling.{entry_of}
+use Rattle.aadl_names.specs.DuplicateNames.{entry_of}
 use Rattle.aadl_names.specs.DuplicatesByNamespace.{port_entries}
 
 pub entry_there : {A : Type 0} (view : A → Feature ℕ) (ports : List A) (k : ℕ) (there : (Option A))

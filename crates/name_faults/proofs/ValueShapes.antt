@@ -4,7 +4,7 @@ use Rattle.std.proofs.Common.{length, ◌≤◌, arith}
 use Rattle.std.specs.Option.{is_some}
 use Rattle.aadl_tree.specs.Values.{Value, list}
 use Rattle.aadl_tree.specs.proof.ValueViews.{values_of}
-use Rattle.aadl_names.specs.RecognisedProperties.{times, only_text, is_initial_text}
+use Rattle.aadl_names.specs.PropertyValueShapes.{times, only_text, is_initial_text}
 
 pub has_time : (signed : Bool) (a b : Option ℕ)
     → is_some (cond signed None (times a b)) ≡ (not signed && is_some a && is_some b)

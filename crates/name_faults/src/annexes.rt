@@ -2,7 +2,7 @@
 #![tactic(auto, using(aadl_names::proofs::FirstFaultSoFar::found_append))]
 
 ghost use Rattle.std.specs.Prelude.{◌≡◌, OnOk, map, flat_map};
-ghost use Rattle.aadl_tree.specs.proof.DeclarationViews.{variable_view, annex_view};
+ghost use Rattle.aadl_tree.specs.proof.AnnexViews.{variable_view, annex_view};
 ghost use Rattle.aadl_tree.specs.proof.PlaceMaps.{kept_place};
 ghost use Rattle.aadl_names.specs.proof.FirstFaultSoFar.{found};
 ghost use Rattle.aadl_names.specs.BehaviourAnnexes.{variables_in};

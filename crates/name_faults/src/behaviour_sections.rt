@@ -1,7 +1,7 @@
 //! The parts of a behaviour, where nothing stands for what is left out.
 ghost use Rattle.std.specs.Prelude.{◌≡◌, map};
 ghost use Rattle.aadl_tree.specs.Names.{listed_in};
-ghost use Rattle.aadl_tree.specs.proof.DeclarationViews.{annex_tree_view, variable_view, state_view, transition_view};
+ghost use Rattle.aadl_tree.specs.proof.AnnexViews.{annex_tree_view, variable_view, state_view, transition_view};
 ghost use Rattle.aadl_tree.specs.proof.PlaceMaps.{kept_place};
 
 use aadl_tree::{AnnexTree, StateDeclaration, Transition, VariableDeclaration};

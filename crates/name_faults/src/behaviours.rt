@@ -3,7 +3,8 @@
 
 ghost use Rattle.std.specs.Prelude.{◌≡◌, OnOk};
 ghost use Rattle.aadl_tree.specs.proof.PackageViews.{placed};
-ghost use Rattle.aadl_tree.specs.proof.DeclarationViews.{annex_tree_view, annex_view, implementation_view};
+ghost use Rattle.aadl_tree.specs.proof.DeclarationViews.{implementation_view};
+ghost use Rattle.aadl_tree.specs.proof.AnnexViews.{annex_tree_view, annex_view};
 ghost use Rattle.aadl_tree.specs.proof.PlaceMaps.{kept_place};
 ghost use Rattle.aadl_names.specs.proof.FirstFaultSoFar.{found};
 ghost use Rattle.aadl_names.specs.proof.NameTables.{value_of};

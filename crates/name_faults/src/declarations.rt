@@ -7,7 +7,7 @@ ghost use Rattle.aadl_tree.specs.proof.PackageViews.{placed};
 ghost use Rattle.aadl_tree.specs.proof.DeclarationViews.{implementation_view, declaration_view};
 ghost use Rattle.aadl_tree.specs.proof.PlaceMaps.{kept_place};
 ghost use Rattle.aadl_names.specs.proof.FirstFaultSoFar.{found};
-ghost use Rattle.aadl_names.specs.FirstFaults.{wrong_if};
+ghost use Rattle.aadl_names.specs.DuplicateNames.{wrong_if};
 ghost use Rattle.aadl_names.specs.Spelling.{spelled_name};
 ghost use Rattle.aadl_names.specs.ReferenceResolution.{implementation_at};
 ghost use Rattle.aadl_names.specs.PackageFaults as spec;

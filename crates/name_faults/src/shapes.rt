@@ -6,6 +6,7 @@ ghost use Rattle.aadl_tree.specs.proof.ValueViews.{figure_view, unit_view, quant
 ghost use Rattle.aadl_tree.specs.Values.{list};
 ghost use Rattle.aadl_tree.specs.proof.PlaceMaps.{kept_place};
 ghost use Rattle.aadl_names.specs.RecognisedProperties as spec;
+ghost use Rattle.aadl_names.specs.PropertyValueShapes as property_value_shapes;
 
 use crate::spelled_whole_numbers::is_number;
 use aadl_names::PropertyName;
@@ -14,7 +15,7 @@ use aadl_tree::{Identifier, Quantity, Sign, UnsignedNumber, Value};
 
 // Whether it is a unit of time.
 fn is_unit(unit: &Option<Box<Identifier>>) -> bool
-    ensures { result ≡ is_some (spec.unit_in (unit_view kept_place unit.now)) }
+    ensures { result ≡ is_some (property_value_shapes.unit_in (unit_view kept_place unit.now)) }
 {
     match unit {
         Some(unit) => unit_of(unit.spelling.as_str()).is_some(),
@@ -24,7 +25,7 @@ fn is_unit(unit: &Option<Box<Identifier>>) -> bool
 
 // Whether it is a whole number.
 fn is_whole(figure: &UnsignedNumber) -> bool
-    ensures { result ≡ is_some (spec.whole_of (figure_view figure.now)) }
+    ensures { result ≡ is_some (property_value_shapes.whole_of (figure_view figure.now)) }
 {
     match figure {
         UnsignedNumber::Whole(value) => *value >= 0,
@@ -33,15 +34,15 @@ fn is_whole(figure: &UnsignedNumber) -> bool
 }
 
 /// Whether it is a time: a whole number without a sign, and a unit.
-#[tactic(auto, using(crate::proofs::ValueShapes::has_time), unfolding(aadl_names::specs::RecognisedProperties::time_in))]
+#[tactic(auto, using(crate::proofs::ValueShapes::has_time), unfolding(aadl_names::specs::PropertyValueShapes::time_in))]
 pub fn is_time(x: &Quantity) -> bool
-    ensures { result ≡ is_some (spec.time_in (quantity_view kept_place x.now)) }
+    ensures { result ≡ is_some (property_value_shapes.time_in (quantity_view kept_place x.now)) }
 {
     !is_signed(x.number.sign) && is_whole(&x.number.figure) && is_unit(&x.unit)
 }
 
 fn is_signed(sign: Option<Sign>) -> bool
-    ensures { result ≡ spec.is_signed sign }
+    ensures { result ≡ property_value_shapes.is_signed sign }
 {
     match sign {
         Some(_) => true,
@@ -51,7 +52,7 @@ fn is_signed(sign: Option<Sign>) -> bool
 
 // The bytes between the quotes of a string.
 fn unquoted(bytes: &[u8]) -> &[u8]
-    ensures { result.now ≡ spec.unquoted bytes.now }
+    ensures { result.now ≡ property_value_shapes.unquoted bytes.now }
 {
     match bytes {
         [_, inner @ .., _] => inner,
@@ -61,7 +62,7 @@ fn unquoted(bytes: &[u8]) -> &[u8]
 
 // The text of an initial value: `true`, `false`, or a number with a sign or without.
 fn is_initial(bytes: &[u8]) -> bool
-    ensures { result ≡ spec.is_initial bytes.now }
+    ensures { result ≡ property_value_shapes.is_initial bytes.now }
 {
     if bytes == b"true".as_slice() || bytes == b"false".as_slice() {
         return true;
@@ -74,7 +75,7 @@ fn is_initial(bytes: &[u8]) -> bool
 
 // A text that is an initial value.
 fn is_initial_text(value: &Value) -> bool
-    ensures { result ≡ spec.is_initial_text (spec.text_of (value_view kept_place value.now)) }
+    ensures { result ≡ property_value_shapes.is_initial_text (property_value_shapes.text_of (value_view kept_place value.now)) }
 {
     match value {
         Value::Text(bytes) => is_initial(unquoted(bytes.as_slice())),
@@ -84,7 +85,7 @@ fn is_initial_text(value: &Value) -> bool
 
 // One text that is an initial value.
 fn is_initial_only(values: &[Value]) -> bool
-    ensures { result ≡ spec.is_initial_text (spec.only_text (list (values_view kept_place values.now))) }
+    ensures { result ≡ property_value_shapes.is_initial_text (property_value_shapes.only_text (list (values_view kept_place values.now))) }
 {
     match values {
         [only] => is_initial_text(only),
@@ -103,7 +104,7 @@ fn is_initial_list(value: &Value) -> bool
 }
 
 fn is_time_value(value: &Value) -> bool
-    ensures { result ≡ is_some (spec.time_of (value_view kept_place value.now)) }
+    ensures { result ≡ is_some (property_value_shapes.time_of (value_view kept_place value.now)) }
 {
     match value {
         Value::Number { low, high: None } => is_time(low),
@@ -112,7 +113,7 @@ fn is_time_value(value: &Value) -> bool
 }
 
 fn is_range_value(value: &Value) -> bool
-    ensures { result ≡ is_some (spec.range_of (value_view kept_place value.now)) }
+    ensures { result ≡ is_some (property_value_shapes.range_of (value_view kept_place value.now)) }
 {
     match value {
         Value::Number {
@@ -124,7 +125,7 @@ fn is_range_value(value: &Value) -> bool
 }
 
 fn is_text_value(value: &Value) -> bool
-    ensures { result ≡ is_some (spec.text_of (value_view kept_place value.now)) }
+    ensures { result ≡ is_some (property_value_shapes.text_of (value_view kept_place value.now)) }
 {
     match value {
         Value::Text(_) => true,
@@ -133,7 +134,7 @@ fn is_text_value(value: &Value) -> bool
 }
 
 fn is_reference(value: &Value) -> bool
-    ensures { result ≡ is_some (spec.reference_of (value_view kept_place value.now)) }
+    ensures { result ≡ is_some (property_value_shapes.reference_of (value_view kept_place value.now)) }
 {
     match value {
         Value::Named(_) => true,

@@ -5,9 +5,10 @@ ghost use Rattle.std.specs.List.{filter_map};
 ghost use Rattle.aadl_tree.specs.proof.PackageViews.{placed};
 ghost use Rattle.aadl_tree.specs.proof.NameViews.{identifier_view, identifiers_view};
 ghost use Rattle.aadl_tree.specs.proof.DeclarationViews.{feature_view, subcomponent_view, connection_view};
-ghost use Rattle.aadl_tree.specs.proof.DeclarationViews.{annex_tree_view, implementation_view, declaration_view};
+ghost use Rattle.aadl_tree.specs.proof.DeclarationViews.{implementation_view, declaration_view};
+ghost use Rattle.aadl_tree.specs.proof.AnnexViews.{annex_tree_view};
 ghost use Rattle.aadl_tree.specs.proof.PlaceMaps.{kept_place};
-ghost use Rattle.aadl_names.specs.Spelling.{entry_of};
+ghost use Rattle.aadl_names.specs.DuplicateNames.{entry_of};
 ghost use Rattle.aadl_names.specs.DuplicatesByNamespace as spec;
 
 use crate::behaviour_sections::{states_in, variables_in};

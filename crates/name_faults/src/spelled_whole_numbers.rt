@@ -3,7 +3,7 @@ ghost use Rattle.std.specs.Prelude.{◌≡◌, ◌≤◌, length, nat_le, slice_
 ghost use Rattle.std.specs.Char.{is_ascii_digit};
 ghost use Rattle.aadl_lex.specs.Rules as spec;
 ghost use Rattle.aadl_lex.specs.Rules.{decimal, most};
-ghost use Rattle.aadl_names.specs.RecognisedProperties.{is_number};
+ghost use Rattle.aadl_names.specs.PropertyValueShapes.{is_number};
 
 const MOST: u64 = 9_223_372_036_854_775_807;
 

@@ -4,7 +4,7 @@
 ghost use Rattle.std.specs.Prelude.{◌≡◌, OnOk, map, flat_map, option_map};
 ghost use Rattle.aadl_tree.specs.proof.NameViews.{identifier_view};
 ghost use Rattle.aadl_tree.specs.proof.ActionViews.{block_view};
-ghost use Rattle.aadl_tree.specs.proof.DeclarationViews.{guard_view, transition_view};
+ghost use Rattle.aadl_tree.specs.proof.AnnexViews.{guard_view, transition_view};
 ghost use Rattle.aadl_tree.specs.proof.PlaceMaps.{kept_place};
 ghost use Rattle.aadl_names.specs.proof.FirstFaultSoFar.{found};
 ghost use Rattle.aadl_names.specs.PackageFaults as spec;

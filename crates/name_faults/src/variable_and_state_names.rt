@@ -3,7 +3,7 @@ ghost use Rattle.std.specs.Prelude.{◌≡◌, ℕ, List, OnOk, IfOk};
 ghost use Rattle.aadl_tree.specs.Names.{same_name, identifiers};
 ghost use Rattle.std.specs.Option.{option_or};
 ghost use Rattle.aadl_tree.specs.proof.NameViews.{identifier_view, identifiers_view};
-ghost use Rattle.aadl_tree.specs.proof.DeclarationViews.{annex_tree_view};
+ghost use Rattle.aadl_tree.specs.proof.AnnexViews.{annex_tree_view};
 ghost use Rattle.aadl_tree.specs.proof.PlaceMaps.{kept_place};
 ghost use Rattle.aadl_names.specs.proof.NameTables.{value_of};
 ghost use Rattle.aadl_names.specs.BehaviourAnnexes.{variables_of, states_of};

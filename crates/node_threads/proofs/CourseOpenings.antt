@@ -11,7 +11,7 @@ use Rattle.pals_clock.specs.declared.clock.Clocks.{Clocks}
 use Rattle.pals_clock.specs.declared.clock.Clocks.TheVariants.{Meet, Lists}
 use Rattle.pals_model.specs.DesignRules.{IsDesign}
 use Rattle.pals_bus.specs.BusValues.{BusValue}
-use Rattle.pals_bus.specs.proof.OpeningBusAndNodeValues.{opening_bus}
+use Rattle.pals_bus.specs.proof.OpeningNodes.{opening_bus}
 use Rattle.pals_bus.proofs.Openings.{map_more}
 use Rattle.run_laws.specs.Runs.{clock_at, no_clock, lists_in, Begin, opens}
 use Rattle.node_threads.specs.declared.node_end.NodeNote.TheVariants as note

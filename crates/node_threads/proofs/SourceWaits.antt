@@ -7,9 +7,9 @@ use Rattle.pals_clock.specs.ClockStates.{ClockState}
 use Rattle.pals_clock.specs.declared.clock.Clocks.{Clocks}
 use Rattle.pals_clock.specs.declared.clock.Clocks.TheVariants.{Meet, Lists}
 use Rattle.pals_model.specs.declared.design.Link.{Link}
-use Rattle.bus_machine.specs.Nodes.{NodeState}
-use Rattle.bus_machine.specs.States.{node_at, link_at}
-use Rattle.bus_machine.specs.MissedStarts.{sent_rounds}
+use Rattle.bus_machine.specs.Nodes.{NodeState, sent_rounds}
+use Rattle.bus_machine.specs.States.{node_at}
+use Rattle.bus_machine.specs.Plans.{link_at}
 use Rattle.pals_bus.specs.BusValues.{BusValue}
 use Rattle.run_laws.specs.Runs.{IsAwaited}
 use Rattle.run_laws.proofs.MeetingStopsAndBounds.{link_is}

@@ -3,7 +3,7 @@ ghost use Rattle.std.specs.Prelude.{◌≡◌, ◌<◌, ◌≤◌, length, false
 ghost use Rattle.pals_base.specs.declared.limits.TheConstants.{COMPONENTS};
 ghost use Rattle.bus_machine.specs.proof.AgreementLaws.{IsRunOf};
 ghost use Rattle.pals_bus.specs.proof.Meeting.{HasEnded};
-ghost use Rattle.pals_bus.specs.proof.OpeningBusAndNodeValues.{opening_bus};
+ghost use Rattle.pals_bus.specs.proof.OpeningNodes.{opening_bus};
 ghost use Rattle.run_laws.specs.Runs.{target_of, Begin, Runs};
 ghost use Rattle.node_threads.specs.proof.SharedCourses.{clocks_of, IsCourse, Stays, IsOpen, IsDone, next_in, is_send};
 ghost use Rattle.node_threads.specs.proof.NodeEndsAndOutcomes.{AllEnded, EndsFit, end_in, phase_end, closed_end};

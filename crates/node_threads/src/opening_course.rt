@@ -1,6 +1,6 @@
 //! The course of a run before its first event.
 ghost use Rattle.std.specs.Prelude.{◌≡◌, IfOk};
-ghost use Rattle.pals_bus.specs.proof.OpeningBusAndNodeValues.{opening_bus};
+ghost use Rattle.pals_bus.specs.proof.OpeningNodes.{opening_bus};
 ghost use Rattle.node_threads.specs.proof.SharedCourses.{AreClocksOf, IsOf};
 
 use crate::clocks::fresh_lists;

@@ -1,7 +1,7 @@
 //! A run of nodes in threads.
 ghost use Rattle.std.specs.Prelude.{◌≡◌, ◌≢◌, ◌≤◌, ℕ, length, vec_len, None, Some, IfOk, slice_get};
 ghost use Rattle.pals_base.specs.declared.limits.TheConstants.{COMPONENTS};
-ghost use Rattle.pals_bus.specs.proof.OpeningBusAndNodeValues.{opening_bus};
+ghost use Rattle.pals_bus.specs.proof.OpeningNodes.{opening_bus};
 ghost use Rattle.node_threads.specs.proof.SharedCourses.{AreClocksOf};
 ghost use Rattle.node_threads.specs.proof.NodeEndsAndOutcomes.{IsOutcome};
 ghost use Rattle.node_threads.specs.declared.node_end.NodeEnd.TheVariants as ended;

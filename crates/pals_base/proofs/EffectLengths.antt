@@ -9,7 +9,8 @@ use Rattle.pals_base.specs.declared.values.PortValue.{PortValue}
 use Rattle.pals_base.specs.declared.values.PortValue.TheVariants.{Present}
 use Rattle.pals_base.specs.PlainTrees.{Action, Assign, Emit, If, For, Actions, Nothing, Do, Branches, NoBranch, Where}
 use Rattle.pals_base.specs.ExpressionValues.{on_value, eval, is_true}
-use Rattle.pals_base.specs.Actions.{Effect, act, acts, act_first, for_each, numbers, with_vars, without_loop}
+use Rattle.pals_base.specs.Actions.{Effect, act, acts, act_first, for_each, with_vars, without_loop}
+use Rattle.pals_base.specs.ForRanges.{numbers}
 
 -- an effect has v variables and o outputs
 abbrev pub HasLengths : ℕ → ℕ → Effect → Type 0

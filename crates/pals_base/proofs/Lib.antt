@@ -11,3 +11,4 @@ pub mod WaysAndCycles
 pub mod EffectLengths
 pub mod StepTermination
 pub mod RoundUnderWay
+pub mod ColumnsAndCutTuples

@@ -3,7 +3,7 @@ use Rattle.std.proofs.Common.{◌≡◌, ◌∙◌, ℕ, zero, suc, ◌<◌, ℤ
 use Rattle.std.proofs.Common.{refl, sym, ap, subst, arith}
 use Rattle.std.specs.List.{All}
 use Rattle.std.proofs.lemmas.Int.{ints}
-use Rattle.pals_base.specs.Actions.{counted_from, count_of, numbers}
+use Rattle.pals_base.specs.ForRanges.{counted_from, count_of, numbers}
 
 pub length-counted_from : (low : ℤ) (n : ℕ) → length (counted_from low n) ≡ n
 length-counted_from low zero = refl

@@ -6,7 +6,8 @@ use Rattle.std.proofs.lemmas.List.{length-map, map-append}
 use Rattle.std.specs.Prelude.{slice_index_or, slice_set}
 use Rattle.pals_base.specs.declared.values.PortValue.{PortValue}
 use Rattle.pals_base.specs.declared.values.PortValue.TheVariants.{Absent}
-use Rattle.pals_base.specs.StepSequences.{upwards, column, columns, so_far, with_places}
+use Rattle.pals_base.specs.Tuples.{column, columns, so_far, with_places}
+use Rattle.pals_base.specs.UpwardNumbers.{upwards}
 
 -- a tuple with one more place in front of those that are absent
 one_more_place : (tuple : List PortValue) (value : PortValue) (n k : ℕ) → length tuple ≡ n → n < k

@@ -1,31 +1,17 @@
 -- What actions do: new variables and this step's outputs, or a trap.
-use Rattle.std.specs.Prelude.{ℕ, zero, suc, ℤ, pos, negsuc, ◌+ℤ◌, ◌-ℤ◌, Bool, if◌then◌else◌, List, [], ◌∷◌, ◌++◌}
-use Rattle.std.specs.Prelude.{length, take, Result, Ok, slice_set}
+use Rattle.std.specs.Prelude.{ℕ, ℤ, Bool, if◌then◌else◌, List, [], ◌∷◌, ◌++◌, length, take, Result, Ok, slice_set}
 use Rattle.pals_base.specs.declared.values.Trap.{Trap}
 use Rattle.pals_base.specs.declared.frames.Frame.{Frame}
 use Rattle.pals_base.specs.declared.values.PortValue.{PortValue}
 use Rattle.pals_base.specs.declared.values.PortValue.TheVariants.{Present}
 use Rattle.pals_base.specs.ExpressionValues.{eval, on_value, is_true}
 use Rattle.pals_base.specs.PlainTrees.{Action, Assign, Emit, If, For, Actions, Nothing, Do, Branches, NoBranch, Where}
+use Rattle.pals_base.specs.ForRanges.{numbers}
 
 -- the variables, and what the out ports have in this step so far
 pub record Effect : Type 0 where
   pub vars : List ℤ
   pub outs : List PortValue
-
--- n numbers, from `low` on
-abbrev pub counted_from : ℤ → ℕ → List ℤ
-counted_from low zero = []
-counted_from low (suc n) = low ∷ counted_from (low +ℤ pos 1) n
-
--- how many numbers lie from low to low + d, none where d is negative
-abbrev pub count_of : ℤ → ℕ
-count_of (pos d) = suc d
-count_of (negsuc d) = 0
-
--- the numbers of a loop, from the low end to the high end
-abbrev pub numbers : ℤ → ℤ → List ℤ
-numbers low high = counted_from low (count_of (high -ℤ low))
 
 -- a body once for each number, in order
 abbrev pub for_each : List ℤ → (ℤ → Effect → Result Effect Trap) → Effect → Result Effect Trap

@@ -10,7 +10,7 @@ use Rattle.pals_base.specs.Names.{is_word, AreDistinct}
 use Rattle.pals_base.specs.PlainTrees.{Edge, Trigger, Dispatch, Always, When}
 use Rattle.pals_base.specs.TypingRules.{allows, literal_kinds, kinds_of, are_sound}
 use Rattle.pals_base.specs.SingleStep.{may_begin, is_complete, is_dispatch, leaving}
-use Rattle.pals_base.specs.StepSequences.{upwards}
+use Rattle.pals_base.specs.UpwardNumbers.{upwards}
 
 -- ---- names
 -- the names of a thread's ports and variables

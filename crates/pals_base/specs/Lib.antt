@@ -12,3 +12,6 @@ pub mod AllowedAdaptors
 pub mod PeriodBound
 pub mod ClockPicks
 pub mod proof
+pub mod UpwardNumbers
+pub mod ForRanges
+pub mod Tuples

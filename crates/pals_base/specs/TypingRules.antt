@@ -14,7 +14,7 @@ use Rattle.pals_base.specs.PlainTrees.{Expression, Literal, Variable, PortRead, 
 use Rattle.pals_base.specs.PlainTrees.{NoMore, Then, Action, Assign, Emit, If, For, Actions, Nothing, Do, Branches}
 use Rattle.pals_base.specs.PlainTrees.{NoBranch, Where}
 use Rattle.pals_base.specs.ExpressionValues.{same_number}
-use Rattle.pals_base.specs.Actions.{count_of}
+use Rattle.pals_base.specs.ForRanges.{count_of}
 use Rattle.pals_base.specs.declared.limits.TheConstants.{TURNS, NESTED_TURNS}
 
 -- ---- types that a value may have

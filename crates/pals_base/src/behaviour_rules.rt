@@ -2,7 +2,7 @@
 ghost use Rattle.std.specs.Prelude.{◌≡◌, ◌↔◌, length, IsTrue, IfOk, IfSome, Option, slice_get};
 ghost use Rattle.std.specs.List.{list_all};
 ghost use Rattle.pals_base.specs.proof.TreeViews.{trigger_of};
-ghost use Rattle.pals_base.specs.StepSequences.{upwards};
+ghost use Rattle.pals_base.specs.UpwardNumbers.{upwards};
 ghost use Rattle.pals_base.specs.SingleStep.{may_begin};
 ghost use Rattle.pals_base.specs.BehaviourRules.{HasNames, value_names, has_first, has_condition, is_edge, has_ways};
 ghost use Rattle.pals_base.specs.BehaviourRules.{IsAcyclic, IsBehaviour};

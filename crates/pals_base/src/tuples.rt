@@ -1,7 +1,7 @@
 //! Tuples: the values of a port over the steps of a round.
 ghost use Rattle.std.specs.Prelude.{◌≡◌, IfOk, replicate, slice_index_or};
 ghost use Rattle.pals_base.specs.declared.values.PortValue.TheVariants.{Absent};
-ghost use Rattle.pals_base.specs.StepSequences.{column, cut};
+ghost use Rattle.pals_base.specs.Tuples.{column, cut};
 
 use crate::items::Items;
 use crate::values::{NoMemory, PortValue};

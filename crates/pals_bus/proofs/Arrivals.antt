@@ -18,22 +18,23 @@ use Rattle.pals_runs.specs.declared.journal.Stop.{Stop}
 use Rattle.bus_machine.specs.Nodes.{NodeState}
 use Rattle.bus_machine.specs.NodeEvents.{running_step, with_message, arrived, received}
 use Rattle.bus_machine.specs.LinkEvents.{tuple_in, arriving}
-use Rattle.bus_machine.specs.States.{BusState, no_link, node_at, flight_at}
+use Rattle.bus_machine.specs.States.{BusState, node_at, flight_at}
+use Rattle.bus_machine.specs.Plans.{no_link}
 use Rattle.bus_machine.specs.Machine.{Arrive, arrival, early_stop}
 use Rattle.bus_machine.specs.Replay.{Replays, goes_on, stop_entry}
 use Rattle.pals_node.specs.proof.NodeValues.{NodeValue, with_state}
 use Rattle.pals_bus.specs.declared.bus_fields.BusFields.{BusFields}
-use Rattle.pals_bus.specs.proof.OpeningBusAndNodeValues.{node_value}
+use Rattle.pals_bus.specs.proof.NodeLists.{node_value, node_of}
 use Rattle.pals_bus.specs.BusValues.{Happens}
 use Rattle.pals_bus.specs.proof.BusInvariant.{Keeps, owed, run_of, state_of, value_of, copies_in}
 use Rattle.pals_bus.specs.proof.OutOfRangeDefaults.{no_flight, no_node_value}
-use Rattle.pals_bus.specs.proof.NodeLists.{node_of}
 use Rattle.pals_bus.proofs.NodeChanges.{nodes-set, node_is, same_node}
 use Rattle.pals_bus.proofs.FlightRooms.{flight_is, rooms-set}
 use Rattle.pals_bus.proofs.QueueChanges.{queues-set}
 use Rattle.pals_bus.proofs.EventInvariants.{node_happens}
 use Rattle.pals_bus.proofs.StartsStepsAndFinishes.{unsent_before}
-use Rattle.pals_bus.proofs.CopyRemovalAndLoss.{Takes, same_count, some_in_flight, copies_left, target_within}
+use Rattle.pals_bus.proofs.CopyRemovalAndLoss.{Takes, same_count, target_within}
+use Rattle.pals_bus.proofs.MessageLosses.{some_in_flight, copies_left}
 use Rattle.pals_bus.proofs.InvariantConsequences.{agrees}
 
 -- ---- the slot

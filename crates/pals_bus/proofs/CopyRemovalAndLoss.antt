@@ -1,7 +1,7 @@
 -- For arrivals and losses: the oldest copy of a round leaves its flight and the queue of its target.
-use Rattle.std.proofs.Common.{◌≡◌, ◌∙◌, ℕ, ◌+◌, ◌<◌, ◌≤◌, true, false, List, [], ◌∷◌, ◌++◌, length, Option, Some, None}
-use Rattle.std.proofs.Common.{is_some, refl, sym, ap, subst, arith}
-use Rattle.std.specs.Prelude.{IfNone, option_map, slice_set, slice_index_or, sum_by, vec_capacity}
+use Rattle.std.proofs.Common.{◌≡◌, ◌∙◌, ℕ, ◌<◌, ◌≤◌, false, List, [], length, Option, Some, None, is_some, refl, sym}
+use Rattle.std.proofs.Common.{ap, subst, arith}
+use Rattle.std.specs.Prelude.{IfNone, option_map, slice_set, slice_index_or}
 use Rattle.std.specs.Arc.{arc_value}
 use Rattle.std.proofs.lemmas.Bool.{eqb-true}
 use Rattle.std.proofs.lemmas.List.{length-map, length-set, set-get_or, get_or_default}
@@ -13,26 +13,22 @@ use Rattle.pals_model.specs.declared.design.Link.{Link}
 use Rattle.pals_model.specs.declared.flight_copy.FlightCopy.{FlightCopy}
 use Rattle.pals_model.specs.Flights.{is_of, oldest, without_oldest}
 use Rattle.pals_model.specs.DesignRules.{IsDesign}
-use Rattle.pals_runs.specs.declared.journal.JournalEntry.TheVariants as entry
 use Rattle.link_buffers.specs.proof.Flights.{FlightState}
 use Rattle.link_buffers.specs.proof.DueQueues.{QueueState}
 use Rattle.link_buffers.proofs.BufferLaws.{without_none}
 use Rattle.bus_machine.specs.LinkEvents.{is_in_flight}
-use Rattle.bus_machine.specs.States.{no_link, flight_at}
-use Rattle.bus_machine.specs.Machine.{Drop}
-use Rattle.bus_machine.specs.Replay.{Replays, goes_on}
+use Rattle.bus_machine.specs.States.{flight_at}
+use Rattle.bus_machine.specs.Plans.{no_link}
 use Rattle.pals_node.specs.proof.NodeValues.{NodeValue}
 use Rattle.pals_bus.specs.declared.bus_fields.BusFields.{BusFields}
-use Rattle.pals_bus.specs.BusValues.{Happens}
-use Rattle.pals_bus.specs.proof.BusInvariant.{Keeps, owed, run_of, state_of, value_of, copies_in}
+use Rattle.pals_bus.specs.proof.BusInvariant.{Keeps, state_of, value_of, copies_in}
 use Rattle.pals_bus.specs.proof.RoundMessages.{NoLessRoom}
 use Rattle.pals_bus.specs.proof.DueQueues.{AreQueues, without_due}
 use Rattle.pals_bus.specs.proof.OutOfRangeDefaults.{no_flight, no_queue}
-use Rattle.pals_bus.proofs.FlightRooms.{copies-set, flight_is, rooms_kept}
+use Rattle.pals_bus.proofs.FlightRooms.{copies-set, flight_is}
 use Rattle.pals_bus.proofs.QueueChanges.{queue_more}
 use Rattle.pals_bus.proofs.QueueFlightAgreement.{copy_taken}
-use Rattle.pals_bus.proofs.EventInvariants.{flights_happen, keeps_room}
-use Rattle.pals_bus.proofs.StartsStepsAndFinishes.{longer}
+use Rattle.pals_bus.proofs.EventInvariants.{keeps_room}
 
 -- ---- the oldest copy of a round
 
@@ -139,68 +135,6 @@ none_keeps f g link round keeps takes =
 pub none_holds : {X : Type 0} (o : Option X) {P : Type 0} → P → IfNone o P
 none_holds None holds = holds
 none_holds (Some x) holds = tt
-
--- ---- Drop
-some_flies : (o : Option FlightCopy) (tuple : List PortValue)
-    → Some tuple ≡ option_map (λ (copy : FlightCopy). copy.tuple) o
-    → is_some o ≡ true
-some_flies None tuple is = absurd (cc)
-some_flies (Some copy) tuple is = refl
-
-pub some_in_flight : (f g : BusFields) (link : LinkNo) (round : ℕ) (tuple : List PortValue)
-    → Takes f g link round (Some tuple)
-    → is_in_flight round (flight_at (state_of f) link.0) ≡ true
-some_in_flight f g link round tuple takes =
-    ap (is_in_flight round) (flight_is f.flights link.0)
-    ∙ some_flies (oldest round (slice_index_or f.flights link.0 no_flight).copies) tuple takes.taken
-
-pub copies_left : (f g : BusFields) (link : LinkNo) (round : ℕ) (tuple : Option (List PortValue))
-    → Takes f g link round tuple
-    → copies_in g.flights ≡ slice_set (copies_in f.flights) link.0
-    (without_oldest round (flight_at (state_of f) link.0))
-copies_left f g link round tuple takes =
-    takes.copies ∙ ap (λ (copies : List FlightCopy).
-    slice_set (copies_in f.flights) link.0 (without_oldest round copies)) (sym (flight_is f.flights link.0))
-
-pub drop_happens : (f t g : BusFields) (link : LinkNo) (round : ℕ) (tuple : List PortValue) → f.stop ≡ None
-    → Takes f t link round (Some tuple) → g ≡ record t { journal = g.journal }
-    → g.journal.items ≡ f.journal.items ++ entry.Drop link round ∷ []
-    → Happens (value_of f) (Drop link round) (value_of g)
-drop_happens f t g link round tuple going takes same told =
-    let h : BusFields = record f { flights = t.flights; queues = t.queues; journal = g.journal } in
-    let is : g ≡ h = same ∙ ap (λ (k : BusFields). let u : BusFields = record k { journal = g.journal } in u) takes.others in
-    subst (Happens (value_of f) (Drop link round)) (sym (ap value_of is))
-    (flights_happen f (Drop link round) t.flights
-    (slice_set (copies_in f.flights) link.0 (without_oldest round (flight_at (state_of f) link.0))) g.journal.items
-    going (copies_left f t link round (Some tuple) takes) (some_in_flight f t link round tuple takes) refl told)
-
-pub drop_keeps : (f t g : BusFields) (link : LinkNo) (round : ℕ) (tuple : List PortValue) → Keeps f
-    → Takes f t link round (Some tuple) → g ≡ record t { journal = g.journal }
-    → g.journal.items ≡ f.journal.items ++ entry.Drop link round ∷ []
-    → Happens (value_of f) (Drop link round) (value_of g)
-    → length f.journal.items + sum_by owed f.nodes + 1 ≤ vec_capacity g.journal → Keeps g
-drop_keeps f t g link round tuple keeps takes same told happens room =
-    let h : BusFields = record f { flights = t.flights; queues = t.queues; journal = g.journal } in
-    let is : g ≡ h = same ∙ ap (λ (k : BusFields). let u : BusFields = record k { journal = g.journal } in u) takes.others in
-    let step : Happens (value_of f) (Drop link round) (value_of h) =
-    subst (λ (k : BusFields). Happens (value_of f) (Drop link round) (value_of k)) is happens in
-    let size = longer g.journal.items f.journal.items (entry.Drop link round) told in
-    let all : Keeps h = record {
-      design = keeps.design;
-      outgoing = keeps.outgoing;
-      rounds = keeps.rounds;
-      delays = keeps.delays;
-      values = keeps.values;
-      nodes = keeps.nodes;
-      flight_count = same_count f t link round (Some tuple) takes ∙ keeps.flight_count;
-      rooms = rooms_kept (arc_value f.design).links f.nodes f.flights t.flights keeps.rooms takes.room;
-      queues = takes.queues;
-      replays =
-          subst (λ j. Replays (run_of f) j (state_of h)) (sym step.journal)
-          (goes_on (Drop link round) keeps.replays step.step);
-      place = omega (arith, size, room);
-    } in
-    subst Keeps (sym is) all
 
 -- ---- the flight that it leaves
 pub oldest_none : (flights : List FlightState) (at round : ℕ) (n : FlightState) → at < length flights

@@ -17,14 +17,15 @@ use Rattle.link_buffers.specs.declared.due_queue.DueEntry.{DueEntry}
 use Rattle.link_buffers.specs.proof.DueQueues.{QueueState, is_entry, is_due_at}
 use Rattle.link_buffers.proofs.DueOrder.{entry_from_test, entry_is_itself}
 use Rattle.bus_machine.specs.LinkEvents.{is_in_flight}
-use Rattle.bus_machine.specs.States.{flight_at, link_at, no_link}
+use Rattle.bus_machine.specs.States.{flight_at}
+use Rattle.bus_machine.specs.Plans.{link_at, no_link}
 use Rattle.pals_model.specs.Flights.{is_of}
 use Rattle.pals_bus.specs.declared.bus_fields.BusFields.{BusFields}
 use Rattle.pals_bus.specs.BusValues.{BusValue}
 use Rattle.pals_bus.specs.proof.BusInvariant.{Keeps, value_of}
 use Rattle.pals_bus.specs.proof.OutOfRangeDefaults.{no_queue}
-use Rattle.pals_bus.specs.proof.DueQueues.{AreDueEntries, comes_first, is_copy_of}
-use Rattle.pals_bus.specs.proof.DueMessages.{IsDueTo, HasDue, AreLeft, flying}
+use Rattle.pals_bus.specs.proof.DueQueues.{AreDueEntries, comes_first, is_copy_of, flying}
+use Rattle.pals_bus.specs.proof.DueMessages.{IsDueTo, HasDue, AreLeft}
 use Rattle.pals_bus.proofs.FlightRooms.{flight_is}
 use Rattle.pals_bus.proofs.QueueChanges.{one_or_none}
 use Rattle.pals_bus.proofs.QueueFlightAgreement.{count_none}

@@ -17,12 +17,13 @@ use Rattle.pals_model.specs.Delays.{delay_of}
 use Rattle.pals_model.specs.Flights.{is_of, oldest, without_oldest}
 use Rattle.pals_runs.specs.declared.journal.JournalEntry.{JournalEntry}
 use Rattle.link_buffers.proofs.FirstPassingItem.{place_within, without_some, without_none}
-use Rattle.bus_machine.specs.Plans.{plan_of}
-use Rattle.bus_machine.specs.Nodes.{NodeState, round_of}
+use Rattle.bus_machine.specs.Plans.{plan_of, link_at, no_link}
+use Rattle.bus_machine.specs.Nodes.{NodeState, round_of, sent_rounds}
 use Rattle.bus_machine.specs.NodeEvents.{next_step, running_step, stepped, finished, message_from}
 use Rattle.bus_machine.specs.LinkEvents.{repeated, once_more, sent_copy}
-use Rattle.bus_machine.specs.States.{Run, BusState, node_at, flight_at, link_at, no_link, with_node}
-use Rattle.bus_machine.specs.MissedStarts.{missing_link, sent_rounds}
+use Rattle.bus_machine.specs.States.{BusState, node_at, flight_at, with_node}
+use Rattle.bus_machine.specs.Runs.{Run}
+use Rattle.bus_machine.specs.MissedStarts.{missing_link}
 use Rattle.bus_machine.specs.Machine.{BusEvent, Start, Step, Finish, Send, Arrive, Drop, Repeat, is_allowed, after}
 use Rattle.bus_machine.specs.Machine.{after_start, on_step, flight_after_send}
 use Rattle.bus_machine.specs.Agreement.{Agrees}
@@ -30,7 +31,7 @@ use Rattle.bus_machine.specs.proof.AgreementLaws.{IsRunOf}
 use Rattle.bus_machine.specs.Replay.{Replays, opens, goes_on}
 use Rattle.bus_machine.proofs.MessageAndRunAgreement.{replay_agrees}
 use Rattle.bus_machine.proofs.ListsAndOldestCopies.{numbered_at}
-use Rattle.pals_bus.proofs.NodeChanges.{is_unsent}
+use Rattle.pals_bus.proofs.OwedEntries.{is_unsent}
 
 -- copies of one round are due at one reading
 abbrev pub SameDue : List FlightCopy → Type 0

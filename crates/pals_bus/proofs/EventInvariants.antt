@@ -15,7 +15,8 @@ use Rattle.bus_machine.specs.Replay.{Replays, goes_on, entries}
 use Rattle.pals_node.specs.proof.NodeValues.{NodeValue, with_state}
 use Rattle.pals_bus.specs.declared.bus_fields.BusFields.{BusFields}
 use Rattle.pals_bus.specs.BusValues.{BusValue, Happens}
-use Rattle.pals_bus.specs.proof.OpeningBusAndNodeValues.{codes_in, node_value}
+use Rattle.pals_bus.specs.proof.OpeningBusAndNodeValues.{codes_in}
+use Rattle.pals_bus.specs.proof.NodeLists.{node_value}
 use Rattle.pals_bus.specs.proof.BusInvariant.{AreNodes, HasRooms, Keeps, copies_in, owed, run_of, state_of, value_of}
 use Rattle.pals_bus.specs.proof.RoundMessages.{NoLessRoom}
 use Rattle.pals_bus.specs.proof.DueQueues.{AreQueues}

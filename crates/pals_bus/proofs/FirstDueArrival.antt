@@ -17,11 +17,13 @@ use Rattle.link_buffers.specs.declared.due_queue.DueEntry.{DueEntry}
 use Rattle.link_buffers.specs.proof.DueQueues.{is_entry, is_due_at}
 use Rattle.link_buffers.proofs.DueOrder.{entry_is_itself}
 use Rattle.bus_machine.specs.LinkEvents.{is_in_flight}
-use Rattle.bus_machine.specs.States.{Run, BusState, flight_at, link_at}
+use Rattle.bus_machine.specs.States.{BusState, flight_at}
+use Rattle.bus_machine.specs.Plans.{link_at}
+use Rattle.bus_machine.specs.Runs.{Run}
 use Rattle.bus_machine.specs.Machine.{Arrive}
 use Rattle.pals_bus.specs.BusValues.{BusValue, Happens}
-use Rattle.pals_bus.specs.proof.DueQueues.{comes_first, is_copy_of}
-use Rattle.pals_bus.specs.proof.DueMessages.{IsDueTo, IsNextDue, TakesDue, takes_none, takes_next, AreLeft, flying}
+use Rattle.pals_bus.specs.proof.DueQueues.{comes_first, is_copy_of, flying}
+use Rattle.pals_bus.specs.proof.DueMessages.{IsDueTo, IsNextDue, TakesDue, takes_none, takes_next, AreLeft}
 use Rattle.pals_bus.proofs.QueueFlightAgreement.{contains_counted, copy_counts, counts, counts_elsewhere, count_oldest}
 use Rattle.pals_bus.proofs.EqualDueReadings.{SameDue, due_of}
 use Rattle.pals_bus.proofs.CopyRemovalAndLoss.{oldest_round}

@@ -28,3 +28,5 @@ pub mod Openings
 pub mod NodeTargets
 pub mod LooseEvents
 pub mod LeastTargets
+pub mod OwedEntries
+pub mod MessageLosses

@@ -17,7 +17,7 @@ use Rattle.pals_model.specs.declared.design.DesignParts.{DesignParts}
 use Rattle.pals_model.specs.DesignRules.{IsDesign}
 use Rattle.link_buffers.specs.proof.Flights.{FlightState}
 use Rattle.link_buffers.specs.proof.DueQueues.{QueueState}
-use Rattle.bus_machine.specs.States.{no_link}
+use Rattle.bus_machine.specs.Plans.{no_link}
 use Rattle.pals_bus.specs.proof.OutOfRangeDefaults.{no_flight, no_queue}
 use Rattle.pals_bus.specs.proof.RoundMessages.{is_from, HasRoomFor, HasRoomOn}
 use Rattle.pals_bus.specs.proof.DueQueues.{HasQueueRoomFor, HasQueueRoomOn}

@@ -12,8 +12,10 @@ use Rattle.pals_runs.specs.declared.journal.Cause.{Cause}
 use Rattle.pals_runs.specs.declared.journal.Cause.TheVariants.{NotSent, InTransit, Lost}
 use Rattle.link_buffers.specs.proof.Flights.{FlightState}
 use Rattle.bus_machine.specs.LinkEvents.{is_in_flight}
-use Rattle.bus_machine.specs.States.{no_link, node_at}
-use Rattle.bus_machine.specs.MissedStarts.{cause_of, rounds_sent_on, sent_rounds}
+use Rattle.bus_machine.specs.States.{node_at}
+use Rattle.bus_machine.specs.Plans.{no_link}
+use Rattle.bus_machine.specs.MissedStarts.{cause_of, rounds_sent_on}
+use Rattle.bus_machine.specs.Nodes.{sent_rounds}
 use Rattle.pals_node.specs.proof.NodeValues.{NodeValue}
 use Rattle.pals_bus.specs.declared.bus_fields.BusFields.{BusFields}
 use Rattle.pals_bus.specs.proof.BusInvariant.{Keeps, copies_in, copies_in_option, run_of, state_of}

@@ -7,7 +7,7 @@ use Rattle.std.specs.List.{enumerate_from}
 use Rattle.std.proofs.lemmas.List.{get_or-drop, drop_all, drop_more, drop-drop}
 use Rattle.pals_base.specs.declared.values.LinkNo.{LinkNo}
 use Rattle.pals_model.specs.declared.design.Link.{Link}
-use Rattle.bus_machine.specs.States.{no_link}
+use Rattle.bus_machine.specs.Plans.{no_link}
 use Rattle.pals_bus.specs.proof.OutOfRangeDefaults.{no_link_no}
 use Rattle.pals_bus.specs.proof.RoundMessages.{is_from}
 use Rattle.pals_bus.specs.proof.LinksFrom.{no_numbers, number_of}

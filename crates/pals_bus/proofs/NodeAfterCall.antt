@@ -9,10 +9,9 @@ use Rattle.pals_runs.specs.declared.journal.JournalEntry.{JournalEntry}
 use Rattle.bus_machine.specs.Nodes.{NodeState}
 use Rattle.pals_node.specs.proof.NodeValues.{NodeValue, with_state}
 use Rattle.pals_bus.specs.declared.bus_fields.BusFields.{BusFields}
-use Rattle.pals_bus.specs.proof.OpeningBusAndNodeValues.{node_value}
+use Rattle.pals_bus.specs.proof.NodeLists.{node_value, node_of}
 use Rattle.pals_bus.specs.proof.BusInvariant.{Keeps, node_in, value_of}
 use Rattle.pals_bus.specs.proof.OutOfRangeDefaults.{no_node_value}
-use Rattle.pals_bus.specs.proof.NodeLists.{node_of}
 use Rattle.pals_bus.proofs.NodeChanges.{nodes-set, node_is, node_shown, same_node}
 
 -- what contracts see of the node after it

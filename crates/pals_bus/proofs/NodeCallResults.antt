@@ -21,11 +21,10 @@ use Rattle.pals_node.specs.proof.NodeValues.{JobValue, NodeValue}
 use Rattle.pals_node.specs.proof.Answers.{Starts, StartEnds, Steps, Finishes, FinishesWith, Sends}
 use Rattle.pals_bus.specs.declared.bus_fields.BusFields.{BusFields}
 use Rattle.pals_bus.specs.BusValues.{BusValue, Happens}
-use Rattle.pals_bus.specs.proof.OpeningBusAndNodeValues.{node_value}
+use Rattle.pals_bus.specs.proof.NodeLists.{node_value, node_of}
 use Rattle.pals_bus.specs.proof.Answers.{Going, StartsRound, MissesMessage, StepsOn, FinishesStep, SendsRound}
 use Rattle.pals_bus.specs.proof.BusInvariant.{Keeps, owed, node_in, copies_in, run_of, state_of, value_of}
 use Rattle.pals_bus.specs.proof.RoundMessages.{HasRoomFor, AreSent}
-use Rattle.pals_bus.specs.proof.NodeLists.{node_of}
 use Rattle.pals_bus.specs.proof.DueQueues.{AreQueues, AreQueuesAmid, HasQueueRoomFor}
 use Rattle.pals_bus.proofs.NodeAfterCall.{Turned, turn_shown, turn_told}
 use Rattle.pals_bus.proofs.StartsStepsAndFinishes.{start_happens, start_keeps, start_misses, miss_keeps, step_happens}

@@ -18,7 +18,7 @@ use Rattle.pals_model.specs.PortKinds.{ins_in}
 use Rattle.pals_model.specs.DesignRules.{IsComponent, IsDesign, port_place}
 use Rattle.link_buffers.specs.proof.Flights.{FlightState}
 use Rattle.link_buffers.specs.proof.DueQueues.{QueueState, is_entry}
-use Rattle.bus_machine.specs.States.{no_link}
+use Rattle.bus_machine.specs.Plans.{no_link}
 use Rattle.pals_node.specs.proof.NodeValues.{NodeValue}
 use Rattle.pals_bus.specs.proof.OutOfRangeDefaults.{no_node_value, no_queue, no_link_no}
 use Rattle.pals_bus.specs.proof.BusInvariant.{copies_in}

@@ -21,7 +21,7 @@ use Rattle.link_buffers.specs.proof.Flights.{FlightState}
 use Rattle.link_buffers.specs.proof.DueQueues.{QueueState, is_entry}
 use Rattle.link_buffers.proofs.BufferLaws.{count_with, count_without, count_moved}
 use Rattle.link_buffers.proofs.DueOrder.{entry_from_test, entry_is_itself}
-use Rattle.bus_machine.specs.States.{no_link}
+use Rattle.bus_machine.specs.Plans.{no_link}
 use Rattle.pals_bus.specs.proof.OutOfRangeDefaults.{no_flight, no_queue}
 use Rattle.pals_bus.specs.proof.DueQueues.{copies_to, is_copy_of, with_due, without_due}
 use Rattle.pals_bus.proofs.QueueChanges.{one_or_none}

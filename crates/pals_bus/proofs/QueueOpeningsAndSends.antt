@@ -12,7 +12,7 @@ use Rattle.pals_model.specs.declared.design.Link.{Link}
 use Rattle.pals_model.specs.declared.flight_copy.FlightCopy.{FlightCopy}
 use Rattle.link_buffers.specs.proof.Flights.{FlightState}
 use Rattle.link_buffers.specs.proof.DueQueues.{QueueState, is_entry}
-use Rattle.bus_machine.specs.States.{no_link}
+use Rattle.bus_machine.specs.Plans.{no_link}
 use Rattle.pals_node.specs.proof.NodeValues.{NodeValue}
 use Rattle.pals_bus.specs.proof.OutOfRangeDefaults.{no_node_value, no_flight, no_queue}
 use Rattle.pals_bus.specs.proof.DueQueues.{AreQueues, AreQueuesAmid, is_awaited, is_between, is_copy_of, with_due}

@@ -15,7 +15,8 @@ use Rattle.pals_runs.specs.declared.journal.JournalEntry.TheVariants as entry
 use Rattle.link_buffers.specs.proof.Flights.{FlightState}
 use Rattle.link_buffers.specs.proof.DueQueues.{QueueState}
 use Rattle.bus_machine.specs.LinkEvents.{once_more, repeated}
-use Rattle.bus_machine.specs.States.{no_link, flight_at}
+use Rattle.bus_machine.specs.States.{flight_at}
+use Rattle.bus_machine.specs.Plans.{no_link}
 use Rattle.bus_machine.specs.Machine.{Repeat}
 use Rattle.bus_machine.specs.Replay.{Replays, goes_on}
 use Rattle.pals_node.specs.proof.NodeValues.{NodeValue}

@@ -20,13 +20,14 @@ use Rattle.bus_machine.specs.Replay.{Replays, goes_on}
 use Rattle.pals_node.specs.proof.NodeValues.{NodeValue}
 use Rattle.pals_node.specs.proof.Answers.{Sends}
 use Rattle.pals_bus.specs.declared.bus_fields.BusFields.{BusFields}
-use Rattle.pals_bus.specs.proof.OpeningBusAndNodeValues.{node_value}
+use Rattle.pals_bus.specs.proof.NodeLists.{node_value}
 use Rattle.pals_bus.specs.BusValues.{Happens}
 use Rattle.pals_bus.specs.proof.BusInvariant.{Keeps, owed, run_of, state_of, value_of}
 use Rattle.pals_bus.specs.proof.RoundMessages.{is_from, HasRoomFor, AreSent}
 use Rattle.pals_bus.specs.proof.DueQueues.{AreQueues, AreQueuesAmid}
 use Rattle.pals_bus.specs.proof.OutOfRangeDefaults.{no_node_value}
-use Rattle.pals_bus.proofs.NodeChanges.{nodes-set, node_is, same_node, is_unsent, owed_less, owed_sent}
+use Rattle.pals_bus.proofs.NodeChanges.{nodes-set, node_is, same_node}
+use Rattle.pals_bus.proofs.OwedEntries.{is_unsent, owed_less, owed_sent}
 use Rattle.pals_bus.proofs.FlightRooms.{room_of, rooms-set}
 use Rattle.pals_bus.proofs.QueueChanges.{queues_amid}
 use Rattle.pals_bus.proofs.RoundMessages.{sends_all, sent_elsewhere}

@@ -14,7 +14,7 @@ use Rattle.pals_model.specs.DesignRules.{IsDesign}
 use Rattle.link_buffers.specs.proof.Flights.{FlightState}
 use Rattle.link_buffers.specs.proof.DueQueues.{QueueState}
 use Rattle.bus_machine.specs.LinkEvents.{sent_copy}
-use Rattle.bus_machine.specs.States.{link_at, no_link}
+use Rattle.bus_machine.specs.Plans.{link_at, no_link}
 use Rattle.pals_bus.specs.declared.bus_fields.BusFields.{BusFields}
 use Rattle.pals_bus.specs.proof.RoundMessages.{is_from, place_of, HasRoomFor, with_copy, AreSent}
 use Rattle.pals_bus.specs.proof.DueQueues.{AreQueuesAmid, with_due}

@@ -22,14 +22,15 @@ use Rattle.pals_node.specs.declared.answers.StartEnd.TheVariants as start
 use Rattle.pals_node.specs.proof.NodeValues.{NodeValue, JobValue, with_state}
 use Rattle.pals_node.specs.proof.Answers.{Starts, StartEnds, Steps, Finishes}
 use Rattle.pals_bus.specs.declared.bus_fields.BusFields.{BusFields}
-use Rattle.pals_bus.specs.proof.OpeningBusAndNodeValues.{node_value}
+use Rattle.pals_bus.specs.proof.NodeLists.{node_value}
 use Rattle.pals_bus.specs.BusValues.{Happens}
 use Rattle.pals_bus.specs.proof.Answers.{StartsRound, MissesMessage, StepsOn}
 use Rattle.pals_bus.specs.proof.BusInvariant.{HasRooms, Keeps, owed, run_of, state_of, value_of, copies_in}
 use Rattle.pals_bus.specs.proof.RoundMessages.{HasRoomFor}
 use Rattle.pals_bus.specs.proof.DueQueues.{AreQueues, HasQueueRoomFor}
 use Rattle.pals_bus.specs.proof.OutOfRangeDefaults.{no_node_value}
-use Rattle.pals_bus.proofs.NodeChanges.{nodes-set, node_is, same_node, owed_more, owed_less, owed_finished}
+use Rattle.pals_bus.proofs.NodeChanges.{nodes-set, node_is, same_node}
+use Rattle.pals_bus.proofs.OwedEntries.{owed_more, owed_less, owed_finished}
 use Rattle.pals_bus.proofs.FlightRooms.{rooms-set}
 use Rattle.pals_bus.proofs.QueueChanges.{few_into, queues_started, queues-set}
 use Rattle.pals_bus.proofs.EventInvariants.{node_happens}

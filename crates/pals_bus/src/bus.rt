@@ -9,8 +9,8 @@ ghost use Rattle.bus_machine.specs.Plans.{plan_of};
 ghost use Rattle.bus_machine.specs.States.{node_at, flight_at};
 ghost use Rattle.bus_machine.specs.ActionsAndTargets.{next_of};
 ghost use Rattle.pals_model.specs.Flights.{oldest};
-ghost use Rattle.pals_bus.specs.proof.OpeningBusAndNodeValues.{opening_bus, codes_in, AreCodes};
-ghost use Rattle.pals_bus.specs.proof.OpeningNodes.{AreOpening};
+ghost use Rattle.pals_bus.specs.proof.OpeningBusAndNodeValues.{codes_in, AreCodes};
+ghost use Rattle.pals_bus.specs.proof.OpeningNodes.{opening_bus, AreOpening};
 
 use crate::bus_fields::BusFields;
 use crate::node_list::NodeList;

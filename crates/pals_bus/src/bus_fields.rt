@@ -4,7 +4,8 @@ ghost use Rattle.std.specs.Arc.{arc_value};
 ghost use Rattle.pals_base.specs.declared.limits.TheConstants.{PORTS};
 ghost use Rattle.pals_model.specs.ComponentInputs.{values_at};
 ghost use Rattle.bus_machine.specs.Nodes.{round_of};
-ghost use Rattle.bus_machine.specs.States.{link_at, node_at};
+ghost use Rattle.bus_machine.specs.States.{node_at};
+ghost use Rattle.bus_machine.specs.Plans.{link_at};
 ghost use Rattle.pals_bus.specs.proof.OutOfRangeDefaults.{no_flight, no_queue};
 ghost use Rattle.pals_bus.specs.proof.BusInvariant.{Keeps, owed, copies_in, state_of};
 ghost use Rattle.pals_bus.specs.proof.DueQueues.{HasQueueRoomFor};
@@ -64,7 +65,7 @@ impl Drop for BusFields {
 
 impl BusFields {
     /// Makes room in the journal for the entries of one event, and for those that the nodes owe.
-    #[tactic(auto, using(crate::proofs::NodeChanges::all_owed))]
+    #[tactic(auto, using(crate::proofs::OwedEntries::all_owed))]
     pub fn reserve_entries(&mut self) -> Result<(), NoMemory>
         requires keeps { Keeps self.old }
         ensures keeps { Keeps self.new }
@@ -78,7 +79,7 @@ impl BusFields {
 
     /// Makes room in the journal for `count` arrivals and a stop, and for the entries that the
     /// nodes owe.
-    #[tactic(auto, using(crate::proofs::NodeChanges::all_owed))]
+    #[tactic(auto, using(crate::proofs::OwedEntries::all_owed))]
     pub fn reserve_arrivals(&mut self, count: usize) -> Result<(), NoMemory>
         requires keeps { Keeps self.old }
         requires count { count < 2 ^ 63 }

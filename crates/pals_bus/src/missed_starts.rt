@@ -7,8 +7,9 @@ ghost use Rattle.pals_base.specs.declared.limits.TheConstants.{LINKS};
 ghost use Rattle.pals_model.specs.ComponentInputs.{link_goes_to};
 ghost use Rattle.bus_machine.specs.LinkEvents.{is_in_flight};
 ghost use Rattle.bus_machine.specs.Machine.{missed_stop};
-ghost use Rattle.bus_machine.specs.States.{no_link};
-ghost use Rattle.bus_machine.specs.MissedStarts.{link_into, cause_of, sent_rounds};
+ghost use Rattle.bus_machine.specs.Plans.{no_link};
+ghost use Rattle.bus_machine.specs.MissedStarts.{link_into, cause_of};
+ghost use Rattle.bus_machine.specs.Nodes.{sent_rounds};
 ghost use Rattle.pals_bus.specs.proof.BusInvariant.{Keeps, run_of, state_of, copies_in_option};
 
 use crate::bus_fields::BusFields;

@@ -17,7 +17,9 @@ use Rattle.pals_base.specs.declared.values.PortValue.{PortValue}
 use Rattle.pals_base.specs.declared.values.PortValue.TheVariants.{Absent}
 use Rattle.pals_base.specs.declared.frames.Frame.{Frame}
 use Rattle.pals_base.specs.SingleStep.{initial}
-use Rattle.pals_base.specs.StepSequences.{steps, Stepped, cut, columns, frame_after, upwards}
+use Rattle.pals_base.specs.StepSequences.{steps, Stepped, frame_after}
+use Rattle.pals_base.specs.Tuples.{cut, columns}
+use Rattle.pals_base.specs.UpwardNumbers.{upwards}
 use Rattle.pals_base.specs.PeriodBound.{sent_steps}
 use Rattle.pals_model.specs.declared.design.Component.{Component}
 use Rattle.pals_model.specs.declared.design.Link.{Link}
@@ -25,8 +27,9 @@ use Rattle.pals_model.specs.declared.design.Tap.{Tap}
 use Rattle.pals_model.specs.declared.part.Part.{Part}
 use Rattle.pals_model.specs.declared.design.DesignParts.{DesignParts}
 use Rattle.pals_model.specs.declared.environment.Env.{Env}
-use Rattle.pals_model.specs.ComponentInputs.{rate_of, rate_in, values_at, feed, inputs_of, inputs_in, source_of}
-use Rattle.pals_model.specs.ComponentInputs.{from_link, from_feed, link_goes_to, feed_goes_to, reading}
+use Rattle.pals_model.specs.ComponentInputs.{values_at, feed, inputs_of, inputs_in, source_of, from_link, from_feed}
+use Rattle.pals_model.specs.ComponentInputs.{link_goes_to, feed_goes_to, reading}
+use Rattle.pals_model.specs.PortKinds.{rate_of, rate_in}
 use Rattle.pals_model.specs.Composition.{comp, next, state, msg, no_frame, steps_from, steps_of_round, message_of}
 use Rattle.pals_model.specs.Composition.{tuple_in, part, taps_of}
 use Rattle.pals_model.specs.proof.CompositionLaws.{own_steps, OneFrameEach, OneMessageEach, StateBegins}

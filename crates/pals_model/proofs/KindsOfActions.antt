@@ -14,7 +14,8 @@ use Rattle.pals_base.specs.declared.behaviour.PortDecl.{PortDecl}
 use Rattle.pals_base.specs.declared.behaviour.VarDecl.{VarDecl}
 use Rattle.pals_base.specs.declared.behaviour.BehaviourParts.{BehaviourParts}
 use Rattle.pals_base.specs.declared.expression_kinds.Kinds.{Kinds}
-use Rattle.pals_base.specs.Actions.{Effect, act, acts, act_first, for_each, numbers, with_vars, without_loop}
+use Rattle.pals_base.specs.Actions.{Effect, act, acts, act_first, for_each, with_vars, without_loop}
+use Rattle.pals_base.specs.ForRanges.{numbers}
 use Rattle.pals_base.specs.ExpressionValues.{is_true, eval}
 use Rattle.pals_base.specs.TypingRules.{suits_variable, suits_port, kinds_of, turns, is_short, is_sound, are_sound}
 use Rattle.pals_base.specs.TypingRules.{branches_are_sound}

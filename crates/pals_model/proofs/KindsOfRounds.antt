@@ -15,18 +15,20 @@ use Rattle.pals_base.specs.declared.behaviour.Kind.{Kind}
 use Rattle.pals_base.specs.declared.behaviour.PortDecl.{PortDecl}
 use Rattle.pals_base.specs.AllowedAdaptors.{suits_kind}
 use Rattle.pals_base.specs.PeriodBound.{sent_steps}
-use Rattle.pals_base.specs.StepSequences.{upwards, column, columns, outputs, cut}
+use Rattle.pals_base.specs.StepSequences.{outputs}
+use Rattle.pals_base.specs.Tuples.{column, columns, cut}
+use Rattle.pals_base.specs.UpwardNumbers.{upwards}
 use Rattle.pals_base.proofs.UpwardNumbers.{get_or-map_upwards}
-use Rattle.pals_base.proofs.StepSequences.{get_or-column}
+use Rattle.pals_base.proofs.ColumnsAndCutTuples.{get_or-column}
 use Rattle.pals_model.specs.declared.design.Component.{Component}
 use Rattle.pals_model.specs.declared.design.Link.{Link}
 use Rattle.pals_model.specs.declared.design.Tap.{Tap}
 use Rattle.pals_model.specs.declared.design.DesignParts.{DesignParts}
 use Rattle.pals_model.specs.declared.environment.Env.{Env}
-use Rattle.pals_model.specs.ComponentInputs.{rate_of, root_of, values_at, link_goes_to, feed_goes_to, from_feed}
-use Rattle.pals_model.specs.ComponentInputs.{from_link, source_of, sources_of, read_feed, read_link, reading, inputs_of}
-use Rattle.pals_model.specs.ComponentInputs.{inputs_in, feed}
-use Rattle.pals_model.specs.PortKinds.{kind_of, in_kind, out_kind, outs_in, root_kind}
+use Rattle.pals_model.specs.ComponentInputs.{root_of, values_at, link_goes_to, feed_goes_to, from_feed, from_link}
+use Rattle.pals_model.specs.ComponentInputs.{source_of, sources_of, read_feed, read_link, reading, inputs_of, inputs_in}
+use Rattle.pals_model.specs.ComponentInputs.{feed}
+use Rattle.pals_model.specs.PortKinds.{rate_of, kind_of, in_kind, out_kind, outs_in, root_kind}
 use Rattle.pals_model.specs.Composition.{comp, state, msg, taps_of}
 use Rattle.pals_model.specs.DesignRules.{IsDesign, IsLink, IsFeed, IsTap}
 use Rattle.pals_model.specs.proof.CompositionLaws.{own_steps}

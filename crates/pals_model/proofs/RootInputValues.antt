@@ -5,7 +5,7 @@ use Rattle.std.specs.Prelude.{slice_index_or}
 use Rattle.std.proofs.lemmas.Bool.{cases_lt}
 use Rattle.pals_base.specs.declared.values.PortValue.{PortValue}
 use Rattle.pals_base.specs.declared.values.PortValue.TheVariants.{Absent}
-use Rattle.pals_base.specs.StepSequences.{column}
+use Rattle.pals_base.specs.Tuples.{column}
 
 pub value_here : (lists : List (List PortValue)) (at round : ℕ) (list : List PortValue) (d : PortValue)
     → at < length lists → list ≡ slice_index_or lists at list

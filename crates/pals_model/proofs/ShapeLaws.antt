@@ -12,18 +12,19 @@ use Rattle.pals_base.specs.declared.frames.Frame.{Frame}
 use Rattle.pals_base.specs.declared.behaviour.BehaviourParts.{BehaviourParts}
 use Rattle.pals_base.specs.SingleStep.{fire, HasShape}
 use Rattle.pals_base.specs.BehaviourRules.{IsBehaviour}
-use Rattle.pals_base.specs.StepSequences.{frame_after, outputs, columns, upwards}
+use Rattle.pals_base.specs.StepSequences.{frame_after, outputs}
+use Rattle.pals_base.specs.Tuples.{columns}
+use Rattle.pals_base.specs.UpwardNumbers.{upwards}
 use Rattle.pals_base.proofs.StepTermination.{fires_well, starts_well}
-use Rattle.pals_base.proofs.StepSequences.{length-columns, length-each_column, length-cut}
+use Rattle.pals_base.proofs.ColumnsAndCutTuples.{length-columns, length-each_column, length-cut}
 use Rattle.pals_base.proofs.UpwardNumbers.{length-upwards}
 use Rattle.pals_model.specs.declared.design.Component.{Component}
 use Rattle.pals_model.specs.declared.design.Link.{Link}
 use Rattle.pals_model.specs.declared.design.Tap.{Tap}
 use Rattle.pals_model.specs.declared.design.DesignParts.{DesignParts}
 use Rattle.pals_model.specs.declared.environment.Env.{Env}
-use Rattle.pals_model.specs.ComponentInputs.{rate_of, rate_in, values_at, feed, inputs_of, inputs_in, sources_of}
-use Rattle.pals_model.specs.ComponentInputs.{source_of, reading}
-use Rattle.pals_model.specs.PortKinds.{outs_in}
+use Rattle.pals_model.specs.ComponentInputs.{values_at, feed, inputs_of, inputs_in, sources_of, source_of, reading}
+use Rattle.pals_model.specs.PortKinds.{rate_of, rate_in, outs_in}
 use Rattle.pals_model.specs.Composition.{comp, state, msg, taps_of}
 use Rattle.pals_model.specs.DesignRules.{IsDesign, IsComponent, IsLink, IsTap}
 use Rattle.pals_model.specs.proof.CompositionLaws.{own_steps}

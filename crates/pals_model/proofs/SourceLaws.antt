@@ -6,7 +6,7 @@ use Rattle.std.proofs.lemmas.Bool.{eq-eqb, eqb-true, and_parts, cases_order, fal
 use Rattle.std.proofs.lemmas.Option.{slice_get-map}
 use Rattle.list_lemmas.proofs.Options.{option_map-parts}
 use Rattle.list_lemmas.proofs.PairwiseProperties.{AllPairs-slice_get}
-use Rattle.pals_base.specs.StepSequences.{upwards}
+use Rattle.pals_base.specs.UpwardNumbers.{upwards}
 use Rattle.pals_base.proofs.UpwardNumbers.{upwards_is}
 use Rattle.pals_model.specs.declared.design.Component.{Component}
 use Rattle.pals_model.specs.declared.design.Link.{Link}

@@ -15,7 +15,8 @@ use Rattle.pals_base.specs.Actions.{acts}
 use Rattle.pals_base.specs.SingleStep.{Fired, HasShape, fire, holding, silence, is_present, is_complete, leaving}
 use Rattle.pals_base.specs.SingleStep.{first_open, along, settled, dispatched, reaction, outcome, unless_halted}
 use Rattle.pals_base.specs.BehaviourRules.{IsBehaviour}
-use Rattle.pals_base.specs.StepSequences.{Stepped, steps, frame_after, outputs, so_far, with_places}
+use Rattle.pals_base.specs.StepSequences.{Stepped, steps, frame_after, outputs}
+use Rattle.pals_base.specs.Tuples.{so_far, with_places}
 use Rattle.pals_base.proofs.StepTermination.{fires_well}
 use Rattle.pals_base.proofs.StepSequences.{frame_after-append, outputs-append}
 use Rattle.pals_base.proofs.RoundUnderWay.{so_far-none, so_far-one_more, so_far-all}

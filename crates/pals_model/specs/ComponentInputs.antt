@@ -1,12 +1,13 @@
 -- What a component reads in a round.
-use Rattle.std.specs.Prelude.{if◌then◌else◌, ◌++◌, ℕ, nat_eq, ◌&&◌, Bool, bytes_eq, List, [], ◌∷◌, length, map, filter}
+use Rattle.std.specs.Prelude.{if◌then◌else◌, ◌++◌, ℕ, nat_eq, ◌&&◌, Bool, bytes_eq, List, [], ◌∷◌, length, map}
 use Rattle.std.specs.Prelude.{position, replicate, Option, Some, None, slice_get, slice_index_or}
 use Rattle.std.specs.List.{list_any, enumerate_from}
 use Rattle.std.specs.Option.{unwrap_or}
 use Rattle.pals_base.specs.declared.values.PortValue.{PortValue}
 use Rattle.pals_base.specs.declared.values.PortValue.TheVariants.{Absent}
 use Rattle.pals_base.specs.Adaptors.{adapt}
-use Rattle.pals_base.specs.StepSequences.{column, columns, upwards}
+use Rattle.pals_base.specs.Tuples.{column, columns}
+use Rattle.pals_base.specs.UpwardNumbers.{upwards}
 use Rattle.pals_model.specs.declared.design.Component.{Component}
 use Rattle.pals_model.specs.declared.design.Link.{Link}
 use Rattle.pals_model.specs.declared.design.Feed.{Feed}
@@ -14,6 +15,7 @@ use Rattle.pals_model.specs.declared.design.DesignParts.{DesignParts}
 use Rattle.pals_model.specs.declared.environment.Env.{Env}
 use Rattle.pals_model.specs.declared.port_sources.PortSource.{PortSource}
 use Rattle.pals_model.specs.declared.port_sources.PortSource.TheVariants as source
+use Rattle.pals_model.specs.PortKinds.{rate_of}
 
 -- ---- the environment
 -- the names that do not stand among those before, each once
@@ -41,15 +43,6 @@ root_of design feed = place_of (slice_index_or (feed_names design) feed []) (roo
 -- the value that each root in port has in a round, absent past its list
 abbrev pub values_at : Env → ℕ → List PortValue
 values_at env round = column round env.lists
-
--- ---- rates
-abbrev pub rate_in : Option Component → ℕ
-rate_in None = 1
-rate_in (Some c) = c.rate
-
--- the rate of a component
-abbrev pub rate_of : DesignParts → ℕ → ℕ
-rate_of design node = rate_in (slice_get design.components node)
 
 -- ---- where an in port reads from
 abbrev pub link_goes_to : ℕ → ℕ → Link → Bool
@@ -79,15 +72,6 @@ sources_of design node c = map (λ port. source_of design node port) (upwards 0 
 -- those of all components
 abbrev pub all_sources : DesignParts → List (List PortSource)
 all_sources design = map (λ numbered. sources_of design numbered.0 numbered.1) (enumerate_from 0 design.components)
-
--- the numbers of the links into a component, and of those from it, in their order
-abbrev pub links_into : DesignParts → ℕ → List ℕ
-links_into design node =
-    map (λ numbered. numbered.0) (filter (λ numbered. nat_eq numbered.1.target.0 node) (enumerate_from 0 design.links))
-
-abbrev pub links_from : DesignParts → ℕ → List ℕ
-links_from design node =
-    map (λ numbered. numbered.0) (filter (λ numbered. nat_eq numbered.1.source.0 node) (enumerate_from 0 design.links))
 
 -- ---- what it brings
 -- a root in port is read as a source of rate 1

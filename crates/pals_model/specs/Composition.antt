@@ -6,7 +6,8 @@ use Rattle.pals_base.specs.declared.values.PortValue.{PortValue}
 use Rattle.pals_base.specs.declared.values.PortValue.TheVariants.{Absent}
 use Rattle.pals_base.specs.declared.frames.Frame.{Frame}
 use Rattle.pals_base.specs.SingleStep.{initial}
-use Rattle.pals_base.specs.StepSequences.{steps, cut, Stepped, frame_after, outputs, so_far}
+use Rattle.pals_base.specs.StepSequences.{steps, Stepped, frame_after, outputs}
+use Rattle.pals_base.specs.Tuples.{cut, so_far}
 use Rattle.pals_base.specs.PeriodBound.{sent_steps}
 use Rattle.pals_model.specs.declared.design.Component.{Component}
 use Rattle.pals_model.specs.declared.design.Link.{Link}
@@ -14,7 +15,8 @@ use Rattle.pals_model.specs.declared.design.Tap.{Tap}
 use Rattle.pals_model.specs.declared.design.DesignParts.{DesignParts}
 use Rattle.pals_model.specs.declared.environment.Env.{Env}
 use Rattle.pals_model.specs.declared.part.Part.{Part}
-use Rattle.pals_model.specs.ComponentInputs.{rate_of, inputs_of, values_at, feed}
+use Rattle.pals_model.specs.ComponentInputs.{inputs_of, values_at, feed}
+use Rattle.pals_model.specs.PortKinds.{rate_of}
 use Rattle.pals_base.specs.declared.behaviour.BehaviourParts.{BehaviourParts}
 
 -- the frames after some rounds, and the messages of the last of these rounds

@@ -7,3 +7,4 @@ pub mod Delays
 pub mod DesignRules
 pub mod Flights
 pub mod proof
+pub mod OutgoingLinks

@@ -40,3 +40,12 @@ first_kind design (Some feed) = feed_kind design feed
 -- the type of the root in port of a name: that of the in port that its first feed goes to
 abbrev pub root_kind : DesignParts → List ℕ → Kind
 root_kind design name = first_kind design (find (λ feed. bytes_eq name feed.name) design.feeds)
+
+abbrev pub rate_in : Option Component → ℕ
+rate_in None = 1
+rate_in (Some c) = c.rate
+
+
+-- the rate of a component
+abbrev pub rate_of : DesignParts → ℕ → ℕ
+rate_of design node = rate_in (slice_get design.components node)

@@ -10,7 +10,7 @@ use Rattle.pals_base.specs.declared.values.PortValue.{PortValue}
 use Rattle.pals_base.specs.declared.values.PortValue.TheVariants.{Absent}
 use Rattle.pals_base.specs.declared.frames.Frame.{Frame}
 use Rattle.pals_base.specs.SingleStep.{initial}
-use Rattle.pals_base.proofs.StepSequences.{length-columns, length-each_column}
+use Rattle.pals_base.proofs.ColumnsAndCutTuples.{length-columns, length-each_column}
 use Rattle.pals_model.specs.declared.part.Part.{Part}
 use Rattle.pals_runs.specs.declared.phase.Phase.TheVariants.{Running}
 use Rattle.bus_machine.specs.declared.plan.Input.{Input}

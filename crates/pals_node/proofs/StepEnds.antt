@@ -7,7 +7,7 @@ use Rattle.std.proofs.lemmas.Bool.{eqb-true, eqb-false, cases_lt}
 use Rattle.pals_base.specs.declared.values.PortValue.{PortValue}
 use Rattle.pals_base.specs.declared.frames.Frame.{Frame}
 use Rattle.pals_base.specs.SingleStep.{Fired, HasShape}
-use Rattle.pals_base.specs.StepSequences.{with_places}
+use Rattle.pals_base.specs.Tuples.{with_places}
 use Rattle.pals_runs.specs.declared.phase.Phase.TheVariants.{Running, Holding}
 use Rattle.bus_machine.specs.declared.plan.Plan.{Plan}
 use Rattle.bus_machine.specs.Nodes.{at_rest}

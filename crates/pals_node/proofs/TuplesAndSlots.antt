@@ -10,8 +10,8 @@ use Rattle.std.proofs.lemmas.List.Elements.{All-head, All-tail, All-cons}
 use Rattle.std.proofs.lemmas.Option.{slice_get-get_or, get_or_from_slice_get}
 use Rattle.pals_base.specs.declared.values.PortValue.{PortValue}
 use Rattle.pals_base.specs.declared.values.PortValue.TheVariants.{Absent}
-use Rattle.pals_base.specs.StepSequences.{column, cut, with_places}
-use Rattle.pals_base.proofs.StepSequences.{cut-at}
+use Rattle.pals_base.specs.Tuples.{column, cut, with_places}
+use Rattle.pals_base.proofs.ColumnsAndCutTuples.{cut-at}
 
 -- ---- cut tuples
 pub cut_place : (count at : ℕ) (tuple : List PortValue) (d : PortValue) → at < length tuple

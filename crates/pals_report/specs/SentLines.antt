@@ -6,7 +6,7 @@ use Rattle.pals_model.specs.declared.design.DesignParts.{DesignParts}
 use Rattle.pals_model.specs.PortKinds.{out_kind}
 use Rattle.pals_model.specs.RoundTexts.{tuple_text}
 use Rattle.pals_runs.specs.JournalLines.{link_word, spaced}
-use Rattle.bus_machine.specs.States.{link_at}
+use Rattle.bus_machine.specs.Plans.{link_at}
 
 -- the type of the out port that a link comes from
 abbrev pub source_kind : DesignParts → ℕ → Kind

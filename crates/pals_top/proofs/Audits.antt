@@ -10,7 +10,7 @@ use Rattle.run_laws.proofs.SoundTraces.{sound_are_traces}
 use Rattle.run_laws.proofs.HistoryVerdicts.{traces_are_sound}
 use Rattle.pals_top.specs.declared.answer.Answer.{Answer}
 use Rattle.pals_top.specs.Audit.{SaysVerdict, IsAudited}
-use Rattle.pals_top.specs.LooseWorlds.{run_of}
+use Rattle.pals_top.specs.BundleScenarios.{run_of}
 use Rattle.pals_top.specs.proof.StatusAndText.{status_of, text_of}
 
 pub audit_of : (design : DesignParts) (scenario : Scenario) (status : ℕ) (text : List ℕ)

@@ -10,9 +10,10 @@ use Rattle.pals_runs.specs.declared.events_and_faults.EventFault.{EventFault}
 use Rattle.pals_runs.specs.declared.journal.Stop.{Stop}
 use Rattle.pals_runs.specs.JournalLines.{entry_line}
 use Rattle.bus_machine.specs.proof.AgreementLaws.{IsRunOf}
-use Rattle.bus_machine.specs.States.{Run, finished_by_all}
+use Rattle.bus_machine.specs.States.{finished_by_all}
+use Rattle.bus_machine.specs.Runs.{Run}
 use Rattle.pals_bus.specs.BusValues.{BusValue}
-use Rattle.pals_bus.specs.proof.OpeningBusAndNodeValues.{opening_bus}
+use Rattle.pals_bus.specs.proof.OpeningNodes.{opening_bus}
 use Rattle.scenario_json.specs.declared.scenario.Scenario.{Scenario}
 use Rattle.scenario_json.specs.proof.ScenarioValidity.{IsScenarioOf}
 use Rattle.loose_world.specs.declared.loose_run.LooseEnd.{LooseEnd}
@@ -24,8 +25,9 @@ use Rattle.loose_world.specs.proof.EventsAsSteps.{EventsAreSteps}
 use Rattle.loose_world.proofs.LooseRuns.{loose_keeps_run}
 use Rattle.pals_report.specs.EventFaultLines.{event_fault_line}
 use Rattle.pals_top.specs.declared.answer.Answer.{Answer}
-use Rattle.pals_top.specs.proof.PrivateFunctions.{status_at, text_at}
-use Rattle.pals_top.specs.LooseWorlds.{run_of, IsWorldAnswer}
+use Rattle.pals_top.specs.proof.LooseWorldEnds.{status_at, text_at}
+use Rattle.pals_top.specs.LooseWorlds.{IsWorldAnswer}
+use Rattle.pals_top.specs.BundleScenarios.{run_of}
 use Rattle.pals_top.specs.declared.status.TheConstants.{DONE, SCENARIO_REFUSED, STOPPED}
 use Rattle.pals_top.specs.proof.StatusAndText.{status_of, text_of, Says}
 

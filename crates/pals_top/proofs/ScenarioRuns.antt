@@ -11,7 +11,7 @@ use Rattle.pals_clock.specs.declared.clock.Clocks.TheVariants.{Meet, Lists}
 use Rattle.pals_model.specs.declared.design.DesignParts.{DesignParts}
 use Rattle.step_code.specs.declared.instr.CodeParts.{CodeParts}
 use Rattle.pals_bus.specs.BusValues.{BusValue}
-use Rattle.pals_bus.specs.proof.OpeningBusAndNodeValues.{opening_bus}
+use Rattle.pals_bus.specs.proof.OpeningNodes.{opening_bus}
 use Rattle.scenario_json.specs.declared.scenario.Scenario.{Scenario}
 use Rattle.scenario_json.specs.proof.InputsDelaysAndClocks.{AreClocksOf, AreClocksFor}
 use Rattle.scenario_json.specs.proof.ScenarioValidity.{IsScenarioOf}
@@ -21,7 +21,7 @@ use Rattle.node_threads.specs.declared.node_end.NodeEnd.{NodeEnd}
 use Rattle.node_threads.specs.proof.NodeEndsAndOutcomes.{IsOutcome}
 use Rattle.run_texts.specs.declared.run_report.RunReport.{RunReport}
 use Rattle.run_texts.specs.RunTexts.{TellsRun}
-use Rattle.pals_top.specs.LooseWorlds.{run_of}
+use Rattle.pals_top.specs.BundleScenarios.{run_of}
 
 in_range : (design : DesignParts) (clocks : List ClockState) → AreClocksOf design clocks → (node : ℕ)
     → All (λ reading. reading ≤ READING) (clock_at clocks node).readings

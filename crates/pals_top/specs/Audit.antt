@@ -10,7 +10,7 @@ use Rattle.scenario_json.specs.declared.scenario.Scenario.{Scenario}
 use Rattle.run_laws.specs.HistoriesAndTraces.{IsTraceOf}
 use Rattle.run_laws.specs.TraceVerdicts.{verdict}
 use Rattle.pals_top.specs.declared.status.TheConstants.{DONE, NOT_SO}
-use Rattle.pals_top.specs.LooseWorlds.{run_of}
+use Rattle.pals_top.specs.BundleScenarios.{run_of}
 
 abbrev pub is_sound : Verdict → Bool
 is_sound (Sound rounds stop) = true

@@ -10,6 +10,7 @@ use Rattle.scenario_json.specs.Scenarios.{Means}
 use Rattle.pals_report.specs.ScenarioFaultLines.{scenario_fault_line}
 use Rattle.bundle_designs.specs.BundleMeanings.{IsAccepted}
 use Rattle.pals_top.specs.declared.status.TheConstants.{SCENARIO_REFUSED}
+use Rattle.bus_machine.specs.Runs.{Run}
 
 -- The bundle means this design and this scenario.
 pub record HasScenario (root bundle : List ℕ) (command : Command) (design : DesignParts)
@@ -31,3 +32,8 @@ pub record HasScenarioFault (root bundle : List ℕ) (command : Command) (text :
 abbrev pub IsScenarioRefused : List ℕ → List ℕ → Command → ℕ → List ℕ → Type 0
 IsScenarioRefused root bundle command status text =
     (status ≡ SCENARIO_REFUSED) × HasScenarioFault root bundle command text
+
+-- the run that a scenario asks for
+abbrev pub run_of : DesignParts → Scenario → Run
+run_of design scenario =
+    record { design = design; env = scenario.env; rounds = scenario.rounds; delays = scenario.delays }

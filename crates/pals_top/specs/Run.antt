@@ -4,7 +4,7 @@ use Rattle.pals_model.specs.declared.design.DesignParts.{DesignParts}
 use Rattle.scenario_json.specs.declared.scenario.Scenario.{Scenario}
 use Rattle.run_texts.specs.RunTexts.{IsCompletedRun, IsStoppedRun, IsEndedRun}
 use Rattle.pals_top.specs.declared.status.TheConstants.{DONE, STOPPED, CLOCK_ENDED}
-use Rattle.pals_top.specs.LooseWorlds.{run_of}
+use Rattle.pals_top.specs.BundleScenarios.{run_of}
 
 -- The nodes keep to the scenario's clocks, in some order, until all are done, or a stop stands, or each node is done
 -- or its list has ended.

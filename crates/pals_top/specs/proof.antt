@@ -3,3 +3,4 @@ pub mod PrivateFunctions
 pub mod CodedBundles
 pub mod RefusalLines
 pub mod StatusAndText
+pub mod LooseWorldEnds

@@ -8,11 +8,11 @@ ghost use Rattle.pals_runs.specs.JournalLines.{entry_line};
 ghost use Rattle.pals_bus.specs.proof.OpeningBusAndNodeValues.{AreCodes};
 ghost use Rattle.scenario_json.specs.proof.ScenarioValidity.{IsScenarioOf};
 ghost use Rattle.loose_world.specs.proof.FinishedRows.{finished_lines, common_lines};
-ghost use Rattle.scenario_laws.specs.proof.EventsAndTraces.{AreLooseEvents};
+ghost use Rattle.scenario_laws.specs.proof.LooseEvents.{AreLooseEvents};
 ghost use Rattle.pals_top.specs.declared.status.TheConstants.{DONE, STOPPED};
 ghost use Rattle.pals_top.specs.ExecutionCommands.{LooseWorld};
 ghost use Rattle.pals_top.specs.LooseWorlds.{IsWorldAnswer};
-ghost use Rattle.pals_top.specs.proof.PrivateFunctions.{status_at, text_at};
+ghost use Rattle.pals_top.specs.proof.LooseWorldEnds.{status_at, text_at};
 ghost use Rattle.pals_top.specs.proof.StatusAndText.{status_of, text_of, Says};
 
 use crate::answer::Answer;

@@ -10,8 +10,11 @@ use Rattle.pals_base.specs.declared.values.PortValue.TheVariants.{Absent}
 use Rattle.pals_base.specs.declared.frames.Frame.{Frame}
 use Rattle.pals_base.specs.PeriodBound.{sent_steps}
 use Rattle.pals_base.specs.SingleStep.{initial}
-use Rattle.pals_base.specs.StepSequences.{Stepped, outputs, frame_after, cut, column, upwards}
-use Rattle.pals_base.proofs.StepSequences.{frame_after-append, outputs-append, slice_get-columns}
+use Rattle.pals_base.specs.StepSequences.{Stepped, outputs, frame_after}
+use Rattle.pals_base.specs.Tuples.{cut, column}
+use Rattle.pals_base.specs.UpwardNumbers.{upwards}
+use Rattle.pals_base.proofs.StepSequences.{frame_after-append, outputs-append}
+use Rattle.pals_base.proofs.ColumnsAndCutTuples.{slice_get-columns}
 use Rattle.pals_base.proofs.UpwardNumbers.{length-map_upwards}
 use Rattle.pals_model.specs.declared.design.Component.{Component}
 use Rattle.pals_model.specs.declared.design.Link.{Link}
@@ -19,11 +22,11 @@ use Rattle.pals_model.specs.declared.design.DesignParts.{DesignParts}
 use Rattle.pals_model.specs.declared.environment.Env.{Env}
 use Rattle.pals_model.specs.declared.port_sources.PortSource.{PortSource}
 use Rattle.pals_model.specs.declared.port_sources.PortSource.TheVariants as source
-use Rattle.pals_model.specs.ComponentInputs.{rate_of, rate_in, sources_of, reading, values_at, feed, inputs_in}
+use Rattle.pals_model.specs.ComponentInputs.{sources_of, reading, values_at, feed, inputs_in}
+use Rattle.pals_model.specs.PortKinds.{rate_of, rate_in, outs_in}
 use Rattle.pals_model.specs.Composition.{Configuration, comp, state, no_frame, steps_of_round, message_of, tuple_in}
 use Rattle.pals_model.specs.proof.CompositionLaws.{own_steps}
 use Rattle.pals_model.specs.DesignRules.{IsDesign, IsLink}
-use Rattle.pals_model.specs.PortKinds.{outs_in}
 use Rattle.pals_model.proofs.CompositionLaws.{one_frame_each, state_begins, state_goes_on, steps_of_round-at}
 use Rattle.pals_model.proofs.ShapeLaws.{component_at, length-outputs}
 use Rattle.pals_model.proofs.FirstMatches.{at_element}

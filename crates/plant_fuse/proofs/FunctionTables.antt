@@ -2,7 +2,7 @@
 use Rattle.std.proofs.Common.{◌≡◌, ◌∙◌, ℕ, zero, suc, ◌+◌, List, [], ◌∷◌, map, Some, None, slice_get, slice_index_or}
 use Rattle.std.proofs.Common.{refl, sym, ap, ap₂, arith}
 use Rattle.std.specs.List.{enumerate_from}
-use Rattle.pals_base.specs.StepSequences.{upwards}
+use Rattle.pals_base.specs.UpwardNumbers.{upwards}
 
 -- ---- numbers
 get_from_same : {X : Type 0} (f g : ℕ → X) (from n at place : ℕ) → place ≡ from + at → f place ≡ g place

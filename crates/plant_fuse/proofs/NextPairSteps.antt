@@ -6,7 +6,8 @@ use Rattle.pals_base.specs.declared.values.PortValue.{PortValue}
 use Rattle.pals_base.specs.declared.frames.Frame.{Frame}
 use Rattle.pals_base.specs.declared.behaviour.BehaviourParts.{BehaviourParts}
 use Rattle.pals_base.specs.SingleStep.{fire}
-use Rattle.pals_base.specs.StepSequences.{outputs, upwards}
+use Rattle.pals_base.specs.StepSequences.{outputs}
+use Rattle.pals_base.specs.UpwardNumbers.{upwards}
 use Rattle.pals_base.proofs.UpwardNumbers.{map_upwards_more, map_upwards_same}
 use Rattle.pals_base.proofs.StepSequences.{frame_after-append, outputs-append}
 use Rattle.sync_product.specs.declared.round_inputs.RoundInputs.{RoundInputs}

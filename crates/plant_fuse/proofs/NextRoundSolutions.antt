@@ -13,7 +13,9 @@ use Rattle.pals_base.specs.declared.values.PortValue.TheVariants.{Absent}
 use Rattle.pals_base.specs.declared.frames.Frame.{Frame}
 use Rattle.pals_base.specs.PeriodBound.{sent_steps}
 use Rattle.pals_base.specs.SingleStep.{initial}
-use Rattle.pals_base.specs.StepSequences.{frame_after, outputs, cut, upwards}
+use Rattle.pals_base.specs.StepSequences.{frame_after, outputs}
+use Rattle.pals_base.specs.Tuples.{cut}
+use Rattle.pals_base.specs.UpwardNumbers.{upwards}
 use Rattle.pals_base.proofs.StepSequences.{frame_after-append, outputs-append}
 use Rattle.pals_base.proofs.UpwardNumbers.{length-map_upwards, map_upwards_same, get_or-map_upwards}
 use Rattle.pals_model.specs.declared.design.Component.{Component}
@@ -22,7 +24,8 @@ use Rattle.pals_model.specs.declared.design.DesignParts.{DesignParts}
 use Rattle.pals_model.specs.declared.environment.Env.{Env}
 use Rattle.pals_model.specs.declared.port_sources.PortSource.{PortSource}
 use Rattle.pals_model.specs.declared.port_sources.PortSource.TheVariants as source
-use Rattle.pals_model.specs.ComponentInputs.{rate_of, rate_in, source_of, reading, values_at}
+use Rattle.pals_model.specs.ComponentInputs.{source_of, reading, values_at}
+use Rattle.pals_model.specs.PortKinds.{rate_of, rate_in}
 use Rattle.pals_model.specs.Composition.{Configuration, no_frame}
 use Rattle.pals_model.specs.DesignRules.{IsDesign}
 use Rattle.pals_model.proofs.ShapeLaws.{length-outputs}

@@ -8,7 +8,8 @@ use Rattle.std.proofs.lemmas.List.{get_or_default}
 use Rattle.pals_model.specs.declared.design.Link.{Link}
 use Rattle.pals_model.specs.declared.design.DesignParts.{DesignParts}
 use Rattle.pals_model.specs.declared.port_sources.PortSource.TheVariants as source
-use Rattle.pals_model.specs.ComponentInputs.{rate_of, source_of}
+use Rattle.pals_model.specs.ComponentInputs.{source_of}
+use Rattle.pals_model.specs.PortKinds.{rate_of}
 use Rattle.pals_model.proofs.SourceLaws.{reads_link}
 use Rattle.pals_runs.specs.declared.plant_pairs.Pair.{Pair}
 use Rattle.plant_fuse.specs.FusedComposition.{goes, is_back, is_forth, IsPair, ArePairs}

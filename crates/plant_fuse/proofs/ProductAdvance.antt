@@ -12,18 +12,20 @@ use Rattle.list_lemmas.proofs.ElementPositions.{slice_get-map_some, slice_get-ma
 use Rattle.list_lemmas.proofs.ListOperations.{length-map_enumerate_from, same_from_places, map-map}
 use Rattle.pals_base.proofs.SettledStates.{map-same}
 use Rattle.pals_base.proofs.UpwardNumbers.{length-map_upwards}
-use Rattle.pals_base.proofs.StepSequences.{cut_whole}
+use Rattle.pals_base.proofs.ColumnsAndCutTuples.{cut_whole}
 use Rattle.pals_base.specs.declared.values.PortValue.{PortValue}
 use Rattle.pals_base.specs.declared.values.PortValue.TheVariants.{Absent}
 use Rattle.pals_base.specs.declared.frames.Frame.{Frame}
 use Rattle.pals_base.specs.PeriodBound.{sent_steps}
-use Rattle.pals_base.specs.StepSequences.{frame_after, column, cut, upwards}
+use Rattle.pals_base.specs.StepSequences.{frame_after}
+use Rattle.pals_base.specs.Tuples.{column, cut}
+use Rattle.pals_base.specs.UpwardNumbers.{upwards}
 use Rattle.pals_model.specs.declared.design.Component.{Component}
 use Rattle.pals_model.specs.declared.design.Link.{Link}
 use Rattle.pals_model.specs.declared.design.Tap.{Tap}
 use Rattle.pals_model.specs.declared.design.DesignParts.{DesignParts}
 use Rattle.pals_model.specs.declared.part.Part.{Part}
-use Rattle.pals_model.specs.ComponentInputs.{rate_of, rate_in}
+use Rattle.pals_model.specs.PortKinds.{rate_of, rate_in}
 use Rattle.pals_model.specs.Composition.{Configuration, taps_of}
 use Rattle.pals_model.specs.DesignRules.{IsDesign, IsLink}
 use Rattle.pals_model.proofs.ShapeLaws.{component_at, length-outputs}

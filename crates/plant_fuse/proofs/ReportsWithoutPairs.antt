@@ -10,8 +10,9 @@ use Rattle.list_lemmas.proofs.ElementPositions.{slice_get-map_enumerate}
 use Rattle.pals_base.specs.declared.values.PortValue.{PortValue}
 use Rattle.pals_base.specs.declared.frames.Frame.{Frame}
 use Rattle.pals_base.specs.SingleStep.{initial}
-use Rattle.pals_base.specs.StepSequences.{Stepped, frame_after, column}
-use Rattle.pals_base.proofs.StepSequences.{slice_get-columns}
+use Rattle.pals_base.specs.StepSequences.{Stepped, frame_after}
+use Rattle.pals_base.specs.Tuples.{column}
+use Rattle.pals_base.proofs.ColumnsAndCutTuples.{slice_get-columns}
 use Rattle.pals_base.proofs.UpwardNumbers.{flat_map_upwards_same}
 use Rattle.pals_model.specs.declared.design.Component.{Component}
 use Rattle.pals_model.specs.declared.design.Tap.{Tap}

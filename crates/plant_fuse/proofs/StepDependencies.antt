@@ -12,14 +12,17 @@ use Rattle.pals_base.specs.declared.frames.Frame.{Frame}
 use Rattle.pals_base.specs.declared.behaviour.BehaviourParts.{BehaviourParts}
 use Rattle.pals_base.specs.PeriodBound.{sent_steps}
 use Rattle.pals_base.specs.SingleStep.{fire, initial}
-use Rattle.pals_base.specs.StepSequences.{outputs, cut, upwards}
+use Rattle.pals_base.specs.StepSequences.{outputs}
+use Rattle.pals_base.specs.Tuples.{cut}
+use Rattle.pals_base.specs.UpwardNumbers.{upwards}
 use Rattle.pals_model.specs.declared.design.Component.{Component}
 use Rattle.pals_model.specs.declared.design.Link.{Link}
 use Rattle.pals_model.specs.declared.design.DesignParts.{DesignParts}
 use Rattle.pals_model.specs.declared.environment.Env.{Env}
 use Rattle.pals_model.specs.declared.port_sources.PortSource.{PortSource}
 use Rattle.pals_model.specs.declared.port_sources.PortSource.TheVariants as source
-use Rattle.pals_model.specs.ComponentInputs.{rate_of, rate_in, source_of, reading, values_at}
+use Rattle.pals_model.specs.ComponentInputs.{source_of, reading, values_at}
+use Rattle.pals_model.specs.PortKinds.{rate_of, rate_in}
 use Rattle.pals_model.specs.DesignRules.{IsDesign}
 use Rattle.pals_runs.specs.declared.plant_pairs.Pair.{Pair}
 use Rattle.plant_fuse.specs.FusedComposition.{ArePairs, is_back, is_forth, Inputs, inputs_to, outputs_in, left_by}

@@ -11,14 +11,17 @@ use Rattle.pals_base.specs.declared.values.PortValue.TheVariants.{Absent}
 use Rattle.pals_base.specs.declared.frames.Frame.{Frame}
 use Rattle.pals_base.specs.PeriodBound.{sent_steps}
 use Rattle.pals_base.specs.SingleStep.{initial}
-use Rattle.pals_base.specs.StepSequences.{frame_after, outputs, cut, upwards}
+use Rattle.pals_base.specs.StepSequences.{frame_after, outputs}
+use Rattle.pals_base.specs.Tuples.{cut}
+use Rattle.pals_base.specs.UpwardNumbers.{upwards}
 use Rattle.pals_runs.specs.declared.plant_pairs.Pair.{Pair}
 use Rattle.pals_model.specs.declared.design.Component.{Component}
 use Rattle.pals_model.specs.declared.design.Link.{Link}
 use Rattle.pals_model.specs.declared.design.DesignParts.{DesignParts}
 use Rattle.pals_model.specs.declared.environment.Env.{Env}
 use Rattle.pals_model.specs.declared.port_sources.PortSource.{PortSource}
-use Rattle.pals_model.specs.ComponentInputs.{rate_of, sources_of, reading, values_at}
+use Rattle.pals_model.specs.ComponentInputs.{sources_of, reading, values_at}
+use Rattle.pals_model.specs.PortKinds.{rate_of}
 use Rattle.pals_model.specs.declared.port_sources.PortSource.TheVariants as source
 
 -- ---- pairs

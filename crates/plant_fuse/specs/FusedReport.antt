@@ -2,7 +2,7 @@
 -- equations.
 use Rattle.std.specs.Prelude.{◌≡◌, ℕ, suc, ◌*◌, List, map, flat_map, slice_get}
 use Rattle.std.specs.List.{enumerate_from}
-use Rattle.pals_base.specs.StepSequences.{upwards}
+use Rattle.pals_base.specs.UpwardNumbers.{upwards}
 use Rattle.pals_model.specs.declared.design.Component.{Component}
 use Rattle.pals_model.specs.declared.design.Tap.{Tap}
 use Rattle.pals_model.specs.declared.design.DesignParts.{DesignParts}

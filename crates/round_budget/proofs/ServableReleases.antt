@@ -6,10 +6,10 @@ use Rattle.std.proofs.lemmas.List.Elements.{All-from_recursion}
 use Rattle.list_lemmas.proofs.Elements.{AllByRecursion-map}
 use Rattle.pals_base.specs.declared.limits.TheConstants.{HOUR}
 use Rattle.pals_base.specs.PeriodBound.{alarm, step_period}
-use Rattle.pals_base.specs.StepSequences.{upwards}
+use Rattle.pals_base.specs.UpwardNumbers.{upwards}
 use Rattle.step_code.specs.declared.instr.CodeParts.{CodeParts}
 use Rattle.pals_model.specs.declared.design.DesignParts.{DesignParts}
-use Rattle.pals_model.specs.ComponentInputs.{rate_of}
+use Rattle.pals_model.specs.PortKinds.{rate_of}
 use Rattle.pals_model.specs.DesignRules.{IsDesign}
 use Rattle.round_budget.specs.Budgets as budgets
 use Rattle.round_budget.specs.Budgets.{release_of, releases_of, releases_in, releases, in_order, most_of, by_most}
@@ -19,7 +19,8 @@ use Rattle.round_budget.proofs.ReleaseOrders.{every_in_order}
 use Rattle.round_budget.proofs.FilteredSums.{one_le}
 use Rattle.round_budget.proofs.ReleaseTimes.{IsRelease, releases_are}
 use Rattle.round_budget.specs.declared.releases.Release.{Release}
-use Rattle.round_budget.specs.proof.ReleaseAndLineValues.{release_value, CanServe}
+use Rattle.round_budget.specs.proof.ReleaseAndLineValues.{release_value}
+use Rattle.round_budget.specs.proof.ServableReleases.{CanServe}
 
 -- it comes at the round's alarm or later
 record ComesLate (design : DesignParts) (x : budgets.Release) : Type 0 where

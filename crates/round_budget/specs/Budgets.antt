@@ -5,12 +5,12 @@ use Rattle.std.specs.Prelude.{◌∷◌, flat_map, map, Option, Some, None, slic
 use Rattle.std.specs.List.{sum_by}
 use Rattle.pals_base.specs.declared.period_bound.Gamma.{Gamma}
 use Rattle.pals_base.specs.PeriodBound.{alarm, step_period}
-use Rattle.pals_base.specs.StepSequences.{upwards}
+use Rattle.pals_base.specs.UpwardNumbers.{upwards}
 use Rattle.step_code.specs.declared.instr.CodeParts.{CodeParts}
 use Rattle.step_code.specs.CappedWeights.{capped}
 use Rattle.step_code.specs.PathWeights.{weight_of}
 use Rattle.pals_model.specs.declared.design.DesignParts.{DesignParts}
-use Rattle.pals_model.specs.ComponentInputs.{rate_of}
+use Rattle.pals_model.specs.PortKinds.{rate_of}
 use Rattle.pals_base.specs.declared.values.NodeNo.{NodeNo}
 
 -- ---- releases

@@ -5,3 +5,4 @@ pub mod TurnController
 pub mod TurnControllerBudget
 pub mod ReleaseAndLineValues
 pub mod TimetablePromises
+pub mod ServableReleases

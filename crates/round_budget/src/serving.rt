@@ -1,6 +1,7 @@
 //! Steps served one after the other.
 ghost use Rattle.std.specs.Prelude.{All, IfOk};
-ghost use Rattle.round_budget.specs.proof.ReleaseAndLineValues.{release_value, served_lines, AreLines, CanServe};
+ghost use Rattle.round_budget.specs.proof.ReleaseAndLineValues.{release_value, served_lines, AreLines};
+ghost use Rattle.round_budget.specs.proof.ServableReleases.{CanServe};
 
 use crate::releases::Release;
 use pals_base::{Nanos, NoMemory, NodeNo};

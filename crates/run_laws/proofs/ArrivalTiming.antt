@@ -16,12 +16,12 @@ use Rattle.pals_model.proofs.SourceLaws.{same_link}
 use Rattle.pals_runs.specs.declared.events_and_faults.Event.TheVariants as event
 use Rattle.pals_runs.specs.declared.journal.Arrived.{Arrived}
 use Rattle.pals_runs.specs.declared.journal.Arrived.TheVariants.{Kept}
-use Rattle.bus_machine.specs.Plans.{plan_of, component_at}
-use Rattle.bus_machine.specs.Nodes.{NodeState}
+use Rattle.bus_machine.specs.Plans.{plan_of, component_at, link_at}
+use Rattle.bus_machine.specs.Nodes.{NodeState, sent_rounds}
 use Rattle.bus_machine.specs.NodeEvents.{slot_at, with_message}
 use Rattle.bus_machine.specs.LinkEvents.{is_in_flight, arriving}
-use Rattle.bus_machine.specs.States.{Run, BusState, node_at, flight_at, link_at, with_node, with_flight}
-use Rattle.bus_machine.specs.MissedStarts.{sent_rounds}
+use Rattle.bus_machine.specs.States.{BusState, node_at, flight_at, with_node, with_flight}
+use Rattle.bus_machine.specs.Runs.{Run}
 use Rattle.bus_machine.specs.Machine.{Arrive, arrival, early_stop, after}
 use Rattle.bus_machine.specs.Agreement.{Agrees}
 use Rattle.bus_machine.specs.proof.AgreementLaws.{IsRunOf}

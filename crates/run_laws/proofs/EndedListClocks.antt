@@ -7,11 +7,12 @@ use Rattle.pals_clock.specs.ClockStates.{ClockState}
 use Rattle.pals_model.specs.ComponentInputs.{values_at}
 use Rattle.pals_runs.specs.declared.phase.Phase.{Phase}
 use Rattle.pals_runs.specs.declared.phase.Phase.TheVariants.{Waiting, Running, Between, Holding, Done}
-use Rattle.bus_machine.specs.Plans.{plan_of}
+use Rattle.bus_machine.specs.Plans.{plan_of, link_at}
 use Rattle.bus_machine.specs.Nodes.{NodeState}
 use Rattle.bus_machine.specs.NodeEvents.{started, stepped, finished, sent_from, next_step, running_step, received}
 use Rattle.bus_machine.specs.LinkEvents.{arriving}
-use Rattle.bus_machine.specs.States.{Run, BusState, node_at, flight_at, link_at, with_node}
+use Rattle.bus_machine.specs.States.{BusState, node_at, flight_at, with_node}
+use Rattle.bus_machine.specs.Runs.{Run}
 use Rattle.bus_machine.specs.MissedStarts.{missing_link}
 use Rattle.bus_machine.specs.Machine.{BusEvent, Start, Step, Finish, Send, Arrive, Drop, Repeat, IsStep, after}
 use Rattle.bus_machine.specs.Machine.{after_start, on_step}

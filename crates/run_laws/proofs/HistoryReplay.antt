@@ -14,17 +14,18 @@ use Rattle.pals_runs.specs.declared.journal.Arrived.TheVariants.{Kept, Ignored, 
 use Rattle.pals_runs.specs.declared.journal.Stop.TheVariants as stop
 use Rattle.pals_runs.specs.declared.journal.JournalEntry.{JournalEntry}
 use Rattle.pals_runs.specs.declared.journal.JournalEntry.TheVariants as entry
-use Rattle.bus_machine.specs.Plans.{plan_of}
+use Rattle.bus_machine.specs.Plans.{plan_of, no_link, link_at}
 use Rattle.bus_machine.specs.Nodes.{round_of}
 use Rattle.bus_machine.specs.NodeEvents.{next_step}
 use Rattle.bus_machine.specs.EarliestReadings.{start_alarm, step_alarm, release_alarm}
-use Rattle.bus_machine.specs.States.{Run, BusState, no_link, node_at, link_at}
+use Rattle.bus_machine.specs.States.{BusState, node_at}
+use Rattle.bus_machine.specs.Runs.{Run}
 use Rattle.bus_machine.specs.MissedStarts.{missing_link}
 use Rattle.bus_machine.specs.Machine.{BusEvent, Start, Step, Finish, Send, Arrive, Drop, Repeat, arrival, early_stop}
 use Rattle.bus_machine.specs.Replay.{Replays, entries, start_entry, stop_entry, opens as replay_opens}
 use Rattle.bus_machine.specs.Replay.{goes_on as replay_goes_on}
 use Rattle.run_laws.specs.JournalReadings.{last_of, latest}
-use Rattle.run_laws.specs.EntriesInLines.{Timed, timed}
+use Rattle.run_laws.specs.EntryEventsAndReadings.{Timed, timed}
 use Rattle.run_laws.specs.proof.RisingReadings.{LinesRise}
 use Rattle.run_laws.proofs.MissedLinks.{missed_link}
 use Rattle.run_laws.specs.HistoriesAndTraces.{IsRead, IsInTime, History, opens, goes_on}

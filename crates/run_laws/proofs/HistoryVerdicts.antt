@@ -27,18 +27,19 @@ use Rattle.pals_runs.specs.declared.verdicts.TraceRule.{TraceRule}
 use Rattle.pals_runs.specs.declared.verdicts.TraceRule.TheVariants as rule
 use Rattle.pals_runs.specs.declared.verdicts.Verdict.TheVariants.{Sound}
 use Rattle.pals_runs.specs.JournalLines.{entry_line}
-use Rattle.bus_machine.specs.Plans.{plan_of}
+use Rattle.bus_machine.specs.Plans.{plan_of, link_at}
 use Rattle.bus_machine.specs.Nodes.{NodeState, round_of}
 use Rattle.bus_machine.specs.NodeEvents.{is_waiting, next_step}
 use Rattle.bus_machine.specs.EarliestReadings.{start_alarm, step_alarm, release_alarm}
-use Rattle.bus_machine.specs.States.{Run, BusState, no_node, node_at, link_at, finished_by_all}
+use Rattle.bus_machine.specs.States.{BusState, no_node, node_at, finished_by_all}
+use Rattle.bus_machine.specs.Runs.{Run}
 use Rattle.bus_machine.specs.MissedStarts.{missing_link}
 use Rattle.bus_machine.specs.Machine.{BusEvent, Start, Step, Finish, Send, Arrive, Drop, Repeat, is_allowed, after}
 use Rattle.bus_machine.specs.Machine.{arrival, early_stop}
 use Rattle.bus_machine.specs.Replay.{entries, start_entry, stop_entry}
 use Rattle.bus_machine.proofs.MessageAndRunAgreement.{replay_agrees}
 use Rattle.run_laws.specs.JournalReadings.{latest}
-use Rattle.run_laws.specs.EntriesInLines.{timed, has_reading, event_of}
+use Rattle.run_laws.specs.EntryEventsAndReadings.{timed, has_reading, event_of}
 use Rattle.run_laws.specs.TraceRules.{same_result, is_in_order, falls, is_before, too_early, is_due, waits, is_line_of}
 use Rattle.run_laws.specs.TraceRules.{first_entry, tells_stop, broken}
 use Rattle.run_laws.specs.TraceVerdicts.{Audit, opening_audit, noted, second_entry, audit_event, audit_after}

@@ -5,12 +5,13 @@ use Rattle.std.specs.Prelude.{if◌then◌else◌, slice_index_or}
 use Rattle.std.proofs.lemmas.Bool.{false≢true, cases_lt}
 use Rattle.std.proofs.lemmas.Grind.{flat_map-append}
 use Rattle.std.proofs.lemmas.List.{get_or_past, length-map}
-use Rattle.bus_machine.proofs.QuantitiesAndSentRounds.{sent_at_start, sent_behind, grows_at, stays_at}
+use Rattle.bus_machine.proofs.QuantitiesAndSentRounds.{grows_at, stays_at}
+use Rattle.bus_machine.proofs.SentRounds.{sent_at_start, sent_behind}
 use Rattle.list_lemmas.proofs.Numbers.{add_zero_from}
 use Rattle.pals_base.specs.declared.values.NodeNo.{NodeNo}
 use Rattle.pals_base.specs.declared.values.LinkNo.{LinkNo}
 use Rattle.pals_base.specs.declared.values.PortValue.{PortValue}
-use Rattle.pals_base.specs.StepSequences.{upwards}
+use Rattle.pals_base.specs.UpwardNumbers.{upwards}
 use Rattle.pals_base.proofs.UpwardNumbers.{length-upwards}
 use Rattle.pals_model.specs.ComponentInputs.{values_at}
 use Rattle.pals_runs.specs.declared.phase.Phase.{Phase}
@@ -20,13 +21,14 @@ use Rattle.pals_runs.specs.declared.journal.Arrived.TheVariants.{Kept, Ignored, 
 use Rattle.pals_runs.specs.declared.journal.Stop.{Stop}
 use Rattle.pals_runs.specs.declared.journal.JournalEntry.{JournalEntry}
 use Rattle.pals_runs.specs.declared.journal.JournalEntry.TheVariants as entry
-use Rattle.bus_machine.specs.Plans.{component_at, plan_of}
-use Rattle.bus_machine.specs.Nodes.{NodeState, round_of, opening_node}
+use Rattle.bus_machine.specs.Plans.{component_at, plan_of, link_at}
+use Rattle.bus_machine.specs.Nodes.{NodeState, round_of, opening_node, sent_rounds}
 use Rattle.bus_machine.specs.NodeEvents.{is_waiting, started, next_step, stepped, running_step, finished, may_send}
 use Rattle.bus_machine.specs.NodeEvents.{sent_from, with_message, arrived, received}
 use Rattle.bus_machine.specs.LinkEvents.{arriving}
-use Rattle.bus_machine.specs.States.{Run, BusState, opening, node_at, no_node, flight_at, link_at, with_node}
-use Rattle.bus_machine.specs.MissedStarts.{missing_link, sent_rounds}
+use Rattle.bus_machine.specs.States.{BusState, opening, node_at, no_node, flight_at, with_node}
+use Rattle.bus_machine.specs.Runs.{Run}
+use Rattle.bus_machine.specs.MissedStarts.{missing_link}
 use Rattle.bus_machine.specs.Machine.{BusEvent, Start, Step, Finish, Send, Arrive, Drop, Repeat, after, after_start}
 use Rattle.bus_machine.specs.Machine.{after_send, after_arrive, on_step, is_allowed, arrival, early_stop}
 use Rattle.bus_machine.specs.Replay.{entries, start_entry, stop_entry}

@@ -5,12 +5,11 @@ use Rattle.std.proofs.lemmas.Option.{none-some}
 use Rattle.pals_runs.specs.declared.events_and_faults.Event.{Event}
 use Rattle.pals_runs.specs.declared.events_and_faults.Event.TheVariants as event
 use Rattle.pals_runs.specs.declared.events_and_faults.EventFault.TheVariants as fault
-use Rattle.bus_machine.specs.States.{Run}
+use Rattle.bus_machine.specs.Runs.{Run}
 use Rattle.bus_machine.specs.proof.AgreementLaws.{IsRunOf}
 use Rattle.run_laws.specs.Worlds.{World, opening_world, world_after}
-use Rattle.run_laws.specs.EventFaults.{IsWithin}
+use Rattle.run_laws.specs.EventLists.{IsWithin, world_left}
 use Rattle.run_laws.specs.proof.WorldInvariant.{KeepsTime}
-use Rattle.run_laws.specs.EventLists.{world_left}
 use Rattle.run_laws.specs.proof.WorldLaws.{EventKeepsTime, ArrivalsAreKept, CountsAreClose, ListsAreInStep}
 use Rattle.run_laws.specs.proof.WorldLaws.{ListsKeepArrivals, ListsGoRight}
 use Rattle.run_laws.proofs.WorldNodeTiming.{counts_close}

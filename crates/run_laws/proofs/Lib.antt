@@ -73,3 +73,4 @@ pub mod KeptWorldInvariant
 pub mod MessageWhereabouts
 pub mod WorldTimeRanges
 pub mod TwoCounterWorlds
+pub mod StopBounds

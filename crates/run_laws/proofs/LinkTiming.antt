@@ -27,13 +27,14 @@ use Rattle.pals_runs.specs.declared.journal.Arrived.{Arrived}
 use Rattle.pals_runs.specs.declared.journal.Arrived.TheVariants.{Kept, Ignored, Early}
 use Rattle.pals_runs.specs.declared.journal.JournalEntry.{JournalEntry}
 use Rattle.pals_runs.specs.declared.journal.JournalEntry.TheVariants as entry
-use Rattle.bus_machine.specs.Plans.{plan_of, component_at, no_component}
-use Rattle.bus_machine.specs.Nodes.{NodeState, round_of}
+use Rattle.bus_machine.specs.Plans.{plan_of, component_at, no_component, link_at, no_link}
+use Rattle.bus_machine.specs.Nodes.{NodeState, round_of, sent_rounds}
 use Rattle.bus_machine.specs.NodeEvents.{started, stepped, finished, sent_from, next_step, running_step, may_send}
 use Rattle.bus_machine.specs.NodeEvents.{received, with_message, slot_at, message_from}
 use Rattle.bus_machine.specs.LinkEvents.{arriving, sent_copy}
-use Rattle.bus_machine.specs.States.{Run, BusState, opening, node_at, no_node, flight_at, link_at, no_link, with_node}
-use Rattle.bus_machine.specs.MissedStarts.{missing_link, sent_rounds}
+use Rattle.bus_machine.specs.States.{BusState, opening, node_at, no_node, flight_at, with_node}
+use Rattle.bus_machine.specs.Runs.{Run}
+use Rattle.bus_machine.specs.MissedStarts.{missing_link}
 use Rattle.bus_machine.specs.Machine.{BusEvent, Start, Step, Finish, Send, Arrive, Drop, Repeat, is_allowed, after}
 use Rattle.bus_machine.specs.Machine.{after_start, after_send, after_arrive, on_step, arrival, early_stop}
 use Rattle.bus_machine.specs.Machine.{flight_after_send}

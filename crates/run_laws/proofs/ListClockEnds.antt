@@ -15,9 +15,10 @@ use Rattle.pals_runs.specs.declared.journal.Stop.{Stop}
 use Rattle.pals_runs.specs.declared.journal.Stop.TheVariants as stop
 use Rattle.pals_runs.specs.declared.journal.JournalEntry.{JournalEntry}
 use Rattle.bus_machine.specs.declared.plan.Plan.{Plan}
-use Rattle.bus_machine.specs.Plans.{plan_of, component_at}
+use Rattle.bus_machine.specs.Plans.{plan_of, component_at, link_at, no_link}
 use Rattle.bus_machine.specs.Nodes.{NodeState}
-use Rattle.bus_machine.specs.States.{Run, BusState, node_at, link_at, no_link}
+use Rattle.bus_machine.specs.States.{BusState, node_at}
+use Rattle.bus_machine.specs.Runs.{Run}
 use Rattle.bus_machine.specs.Agreement.{PhaseAgrees}
 use Rattle.bus_machine.specs.proof.AgreementLaws.{IsRunOf}
 use Rattle.bus_machine.specs.declared.node_action.NodeAction.{NodeAction}
@@ -30,7 +31,7 @@ use Rattle.run_laws.specs.Runs.{clock_at, HasEnded, Runs}
 use Rattle.run_laws.specs.proof.LinkTiming.{due_of}
 use Rattle.run_laws.specs.proof.ReadingsAndStops.{CauseFits, StopFits}
 use Rattle.run_laws.specs.ListPicks.{picks_of, IsPickFor}
-use Rattle.run_laws.specs.TimelyRounds.{IsOver, PicksAll, ListStop}
+use Rattle.run_laws.specs.ListRunEndsAndStops.{IsOver, PicksAll, ListStop}
 use Rattle.run_laws.specs.proof.ListClockEnds.{EndsAreTimely, DoneArePicked, EndedPicksEnd, ListsStop}
 use Rattle.run_laws.proofs.NodeActions.{IsPlan, length-targets, sized, size}
 use Rattle.run_laws.proofs.TargetPicks.{picks_end}

@@ -5,7 +5,8 @@ use Rattle.std.proofs.lemmas.Bool.{and_parts, cases_Bool, cases_lt, eqb-true, lt
 use Rattle.pals_base.specs.declared.values.PortValue.{PortValue}
 use Rattle.pals_model.specs.declared.flight_copy.FlightCopy.{FlightCopy}
 use Rattle.bus_machine.specs.NodeEvents.{slot_at}
-use Rattle.bus_machine.specs.States.{node_at, flight_at, link_at}
+use Rattle.bus_machine.specs.States.{node_at, flight_at}
+use Rattle.bus_machine.specs.Plans.{link_at}
 use Rattle.bus_machine.specs.MissedStarts.{rounds_sent_on}
 use Rattle.run_laws.specs.proof.WorldInvariant.{IsOnce, copies, waits, taken, one_if, Flies, IsInSlot, IsTaken}
 use Rattle.run_laws.specs.proof.WorldInvariant.{IsNowhere}

@@ -22,12 +22,13 @@ use Rattle.pals_runs.specs.declared.journal.Arrived.{Arrived}
 use Rattle.pals_runs.specs.declared.journal.Stop.{Stop}
 use Rattle.pals_runs.specs.declared.journal.JournalEntry.{JournalEntry}
 use Rattle.pals_runs.specs.declared.journal.JournalEntry.TheVariants as entry
-use Rattle.bus_machine.specs.Plans.{plan_of, component_at, no_component}
+use Rattle.bus_machine.specs.Plans.{plan_of, component_at, no_component, link_at}
 use Rattle.bus_machine.specs.Nodes.{NodeState, round_of}
 use Rattle.bus_machine.specs.NodeEvents.{started, stepped, finished, sent_from, next_step, running_step, received}
 use Rattle.bus_machine.specs.NodeEvents.{arrived}
 use Rattle.bus_machine.specs.LinkEvents.{arriving}
-use Rattle.bus_machine.specs.States.{Run, BusState, opening, node_at, no_node, flight_at, link_at, with_node}
+use Rattle.bus_machine.specs.States.{BusState, opening, node_at, no_node, flight_at, with_node}
+use Rattle.bus_machine.specs.Runs.{Run}
 use Rattle.bus_machine.specs.MissedStarts.{missing_link}
 use Rattle.bus_machine.specs.Machine.{BusEvent, Start, Step, Finish, Send, Arrive, Drop, Repeat, IsStep, is_allowed}
 use Rattle.bus_machine.specs.Machine.{after, after_start, after_send, after_arrive, on_step, arrival, early_stop}

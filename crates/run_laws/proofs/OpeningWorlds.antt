@@ -10,12 +10,13 @@ use Rattle.pals_base.specs.declared.values.PortValue.{PortValue}
 use Rattle.pals_model.specs.declared.design.Component.{Component}
 use Rattle.pals_model.specs.declared.flight_copy.FlightCopy.{FlightCopy}
 use Rattle.pals_runs.specs.declared.phase.Phase.TheVariants.{Waiting, Running}
-use Rattle.bus_machine.specs.Plans.{plan_of}
-use Rattle.bus_machine.specs.Nodes.{NodeState, opening_node}
+use Rattle.bus_machine.specs.Plans.{plan_of, link_at}
+use Rattle.bus_machine.specs.Nodes.{NodeState, opening_node, sent_rounds}
 use Rattle.bus_machine.specs.NodeEvents.{slot_at}
 use Rattle.bus_machine.specs.EarliestReadings.{start_alarm}
-use Rattle.bus_machine.specs.States.{Run, opening, node_at, flight_at, link_at}
-use Rattle.bus_machine.specs.MissedStarts.{rounds_sent_on, sent_rounds}
+use Rattle.bus_machine.specs.States.{opening, node_at, flight_at}
+use Rattle.bus_machine.specs.Runs.{Run}
+use Rattle.bus_machine.specs.MissedStarts.{rounds_sent_on}
 use Rattle.bus_machine.specs.proof.AgreementLaws.{IsRunOf}
 use Rattle.run_laws.specs.Deadlines.{last_before}
 use Rattle.run_laws.specs.Worlds.{opening_world, reading_at, since_at, ready_at}

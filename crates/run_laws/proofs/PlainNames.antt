@@ -23,7 +23,7 @@ use Rattle.pals_model.proofs.NameLaws.{node_is_found, link_is_found}
 use Rattle.pals_model.proofs.ShapeLaws.{component_at, is_behaviour}
 use Rattle.pals_model.proofs.WordBytes.{all_pass, is_inner, word_inner, path_inner}
 use Rattle.pals_runs.specs.JournalLines.{node_word, link_word, path_in, name_in}
-use Rattle.bus_machine.specs.States.{link_at, no_link}
+use Rattle.bus_machine.specs.Plans.{link_at, no_link}
 use Rattle.run_laws.specs.LineForms.{is_there}
 use Rattle.run_laws.proofs.PlainWords.{is_plain, there_cons}
 

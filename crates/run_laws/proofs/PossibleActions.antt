@@ -17,10 +17,11 @@ use Rattle.pals_runs.specs.declared.phase.Phase.TheVariants.{Waiting, Running, B
 use Rattle.pals_runs.specs.declared.journal.JournalEntry.{JournalEntry}
 use Rattle.bus_machine.specs.declared.node_action.NodeAction.{NodeAction}
 use Rattle.bus_machine.specs.declared.node_action.NodeAction.TheVariants as action
-use Rattle.bus_machine.specs.Plans.{plan_of, component_at}
+use Rattle.bus_machine.specs.Plans.{plan_of, component_at, link_at, no_link}
 use Rattle.bus_machine.specs.Nodes.{round_of, finished_steps}
 use Rattle.bus_machine.specs.NodeEvents.{is_waiting, next_step, running_step}
-use Rattle.bus_machine.specs.States.{Run, BusState, node_at, flight_at, link_at, no_link}
+use Rattle.bus_machine.specs.States.{BusState, node_at, flight_at}
+use Rattle.bus_machine.specs.Runs.{Run}
 use Rattle.bus_machine.specs.Machine.{BusEvent, Start, Step, Finish, Send, Arrive, is_allowed}
 use Rattle.bus_machine.specs.ActionsAndTargets.{Progress, send_is_next, next_in}
 use Rattle.bus_machine.specs.Agreement.{PhaseAgrees}

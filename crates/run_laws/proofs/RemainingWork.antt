@@ -24,13 +24,14 @@ use Rattle.pals_runs.specs.declared.journal.Arrived.{Arrived}
 use Rattle.pals_runs.specs.declared.journal.Arrived.TheVariants.{Kept, Ignored, Early}
 use Rattle.pals_runs.specs.declared.journal.Stop.{Stop}
 use Rattle.bus_machine.specs.declared.plan.Plan.{Plan}
-use Rattle.bus_machine.specs.Plans.{plan_of, component_at, no_component}
+use Rattle.bus_machine.specs.Plans.{plan_of, component_at, no_component, link_at, no_link}
 use Rattle.bus_machine.specs.Nodes.{NodeState, round_of, finished_steps, at_rest}
 use Rattle.bus_machine.specs.NodeEvents.{is_waiting, started, next_step, stepped, running_step, finished, after_round}
 use Rattle.bus_machine.specs.NodeEvents.{may_send, after_send as phase_after_send, sent_from, message_from, arrived}
 use Rattle.bus_machine.specs.NodeEvents.{received}
 use Rattle.bus_machine.specs.LinkEvents.{sent_copy, arriving}
-use Rattle.bus_machine.specs.States.{Run, BusState, opening, node_at, flight_at, link_at, no_link, with_node}
+use Rattle.bus_machine.specs.States.{BusState, opening, node_at, flight_at, with_node}
+use Rattle.bus_machine.specs.Runs.{Run}
 use Rattle.bus_machine.specs.MissedStarts.{missing_link}
 use Rattle.bus_machine.specs.Machine.{BusEvent, Start, Step, Finish, Send, Arrive, Drop, Repeat, is_allowed, after}
 use Rattle.bus_machine.specs.Machine.{after_start, after_send, after_arrive, on_step, flight_after_send, arrival}

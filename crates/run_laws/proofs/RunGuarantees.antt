@@ -4,7 +4,8 @@ use Rattle.pals_clock.specs.declared.clock.Clocks.{Clocks}
 use Rattle.pals_clock.specs.declared.clock.Clocks.TheVariants.{Meet, Lists}
 use Rattle.pals_runs.specs.declared.journal.JournalEntry.{JournalEntry}
 use Rattle.bus_machine.specs.proof.AgreementLaws.{IsRunOf}
-use Rattle.bus_machine.specs.States.{Run, BusState}
+use Rattle.bus_machine.specs.States.{BusState}
+use Rattle.bus_machine.specs.Runs.{Run}
 use Rattle.run_laws.specs.Runs.{Runs}
 use Rattle.run_laws.specs.RunGuarantees.{KeepsClocks}
 use Rattle.run_laws.specs.proof.RunGuarantees.{ClausesAreKept}
@@ -12,7 +13,8 @@ use Rattle.run_laws.proofs.NodePicks.{readings_are_picks, runs_replay, runs_agre
 use Rattle.run_laws.proofs.LinePicks.{lines_are_picks}
 use Rattle.run_laws.proofs.ListClockEnds.{ends_are_timely, done_are_picked, ended_picks_end, lists_stop}
 use Rattle.run_laws.proofs.MeetingLines.{meetings_show_targets}
-use Rattle.run_laws.proofs.MeetingStopsAndBounds.{meetings_stop, meetings_end, no_meeting_stops, stops_are_bounded}
+use Rattle.run_laws.proofs.MeetingStopsAndBounds.{meetings_stop, meetings_end, no_meeting_stops}
+use Rattle.run_laws.proofs.StopBounds.{stops_are_bounded}
 
 keeps_clocks : (run : Run) (clocks : Clocks) (journal : List JournalEntry) (s : BusState) → IsRunOf run
     → Runs run clocks journal s → KeepsClocks run clocks journal s

@@ -8,23 +8,24 @@ use Rattle.pals_base.specs.declared.values.NodeNo.{NodeNo}
 use Rattle.pals_clock.specs.declared.clock.Clocks.{Clocks}
 use Rattle.pals_clock.specs.declared.clock.Clocks.TheVariants.{Lists}
 use Rattle.pals_runs.specs.declared.journal.JournalEntry.{JournalEntry}
-use Rattle.bus_machine.specs.Plans.{plan_of}
+use Rattle.bus_machine.specs.Plans.{plan_of, link_at}
 use Rattle.bus_machine.specs.Nodes.{round_of}
 use Rattle.bus_machine.specs.NodeEvents.{next_step}
-use Rattle.bus_machine.specs.States.{Run, BusState, node_at, link_at}
+use Rattle.bus_machine.specs.States.{BusState, node_at}
+use Rattle.bus_machine.specs.Runs.{Run}
 use Rattle.bus_machine.specs.Machine.{BusEvent, Start, Step, Finish, Send, Arrive, Drop, Repeat, is_allowed}
 use Rattle.bus_machine.specs.ActionsAndTargets.{target}
 use Rattle.bus_machine.specs.proof.AgreementLaws.{IsRunOf}
 use Rattle.bus_machine.specs.declared.node_action.NodeAction.{NodeAction}
 use Rattle.bus_machine.specs.declared.node_action.NodeAction.TheVariants as action
 use Rattle.run_laws.specs.Runs.{Does, KeepsTo, Runs, next_start, opens as run_opens, picks_for, goes_on as run_goes_on}
-use Rattle.run_laws.proofs.MeetingStopsAndBounds.{no_less}
+use Rattle.run_laws.proofs.StopBounds.{no_less}
 use Rattle.run_laws.proofs.MeetingReadings.{no_fall}
 use Rattle.run_laws.proofs.MeetingLines.{step_now}
 use Rattle.run_laws.proofs.EventReadings.{does_read}
 use Rattle.run_laws.proofs.StartAndSendReadings.{shown_for, send_round}
 use Rattle.run_laws.specs.HistoriesAndTraces.{IsRead, IsInTime, History, opens, goes_on}
-use Rattle.run_laws.specs.proof.SoundTraces.{RunsAreHistories}
+use Rattle.run_laws.specs.proof.RunTraces.{RunsAreHistories}
 
 -- what is done is read from the node's clock, no less than its target
 read_for : (run : Run) (clocks : Clocks) (journal : List JournalEntry) (s : BusState) (node : NodeNo)

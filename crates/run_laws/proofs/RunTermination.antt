@@ -18,9 +18,9 @@ use Rattle.pals_runs.specs.declared.journal.JournalEntry.{JournalEntry}
 use Rattle.bus_machine.specs.declared.node_action.NodeAction.{NodeAction}
 use Rattle.bus_machine.specs.declared.plan.Plan.{Plan}
 use Rattle.bus_machine.specs.Plans.{plan_of, component_at}
-use Rattle.bus_machine.specs.Nodes.{NodeState}
-use Rattle.bus_machine.specs.States.{Run, BusState, opening, node_at}
-use Rattle.bus_machine.specs.MissedStarts.{sent_rounds}
+use Rattle.bus_machine.specs.Nodes.{NodeState, sent_rounds}
+use Rattle.bus_machine.specs.States.{BusState, opening, node_at}
+use Rattle.bus_machine.specs.Runs.{Run}
 use Rattle.bus_machine.specs.Machine.{after}
 use Rattle.bus_machine.specs.Replay.{entries}
 use Rattle.bus_machine.specs.ActionsAndTargets.{target, action_in, next_in}
@@ -32,7 +32,7 @@ use Rattle.run_laws.specs.NodeActions.{upcoming}
 use Rattle.run_laws.specs.Runs.{no_clock, clock_at, lists_in, left_for, target_of, HasEnded, Picks, Runs, opens}
 use Rattle.run_laws.specs.Runs.{picks_for, goes_on}
 use Rattle.run_laws.specs.Meetings.{AllDone}
-use Rattle.run_laws.specs.TimelyRounds.{IsOver, AllOver, AllAtEnd}
+use Rattle.run_laws.specs.ListRunEndsAndStops.{IsOver, AllOver, AllAtEnd}
 use Rattle.run_laws.specs.proof.RunTermination.{HasCome, IsEnding, EachRunEnds, EachGoesOn, JournalsEnd, EndsAreNamed}
 use Rattle.run_laws.proofs.NodePicks.{runs_agree, node_agrees, many_clocks}
 use Rattle.run_laws.proofs.SentBeforeStart.{sent_true}

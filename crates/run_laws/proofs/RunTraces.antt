@@ -11,8 +11,7 @@ use Rattle.pals_runs.specs.JournalLines.{entry_line}
 use Rattle.bus_machine.specs.States.{finished_by_all}
 use Rattle.run_laws.specs.EntriesOfDesigns.{IsEntryIn}
 use Rattle.run_laws.specs.HistoriesAndTraces.{trace_of}
-use Rattle.run_laws.specs.proof.RunTraces.{RunsAreSound, TracesAreTexts}
-use Rattle.run_laws.specs.proof.SoundTraces.{RunsAreTraces}
+use Rattle.run_laws.specs.proof.RunTraces.{RunsAreSound, TracesAreTexts, RunsAreTraces}
 use Rattle.run_laws.proofs.EntryForms.{entries_have_lines}
 use Rattle.run_laws.proofs.TextLines.{texts_have_lines}
 use Rattle.run_laws.proofs.EntryRanges.{entries_fit}

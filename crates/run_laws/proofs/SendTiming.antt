@@ -20,13 +20,13 @@ use Rattle.pals_runs.specs.declared.events_and_faults.Event.TheVariants as event
 use Rattle.pals_runs.specs.declared.phase.Phase.{Phase}
 use Rattle.pals_runs.specs.declared.phase.Phase.TheVariants.{Waiting, Running, Between, Holding, Done}
 use Rattle.bus_machine.specs.declared.plan.Plan.{Plan}
-use Rattle.bus_machine.specs.Plans.{plan_of, component_at}
-use Rattle.bus_machine.specs.Nodes.{NodeState, round_of, finished_steps, at_rest}
+use Rattle.bus_machine.specs.Plans.{plan_of, component_at, link_at}
+use Rattle.bus_machine.specs.Nodes.{NodeState, round_of, finished_steps, at_rest, sent_rounds}
 use Rattle.bus_machine.specs.NodeEvents.{may_send, sent_from, after_send, message_from, slot_at}
 use Rattle.bus_machine.specs.LinkEvents.{is_in_flight, sent_copy}
 use Rattle.bus_machine.specs.EarliestReadings.{start_alarm, step_alarm, release_alarm}
-use Rattle.bus_machine.specs.States.{Run, BusState, node_at, flight_at, link_at}
-use Rattle.bus_machine.specs.MissedStarts.{sent_rounds}
+use Rattle.bus_machine.specs.States.{BusState, node_at, flight_at}
+use Rattle.bus_machine.specs.Runs.{Run}
 use Rattle.bus_machine.specs.Machine.{flight_after_send}
 use Rattle.bus_machine.specs.Machine as machine
 use Rattle.bus_machine.specs.proof.AgreementLaws.{IsRunOf}

@@ -26,17 +26,18 @@ use Rattle.pals_runs.specs.declared.journal.JournalEntry.{JournalEntry}
 use Rattle.pals_runs.specs.declared.journal.JournalEntry.TheVariants as entry
 use Rattle.pals_runs.specs.declared.verdicts.TraceRule.TheVariants as rule
 use Rattle.pals_runs.specs.JournalLines.{entry_line}
-use Rattle.bus_machine.specs.Plans.{plan_of}
+use Rattle.bus_machine.specs.Plans.{plan_of, no_link, link_at}
 use Rattle.bus_machine.specs.Nodes.{round_of}
 use Rattle.bus_machine.specs.NodeEvents.{is_waiting, next_step}
 use Rattle.bus_machine.specs.EarliestReadings.{start_alarm, step_alarm, release_alarm}
-use Rattle.bus_machine.specs.States.{Run, BusState, no_link, node_at, flight_at, link_at}
+use Rattle.bus_machine.specs.States.{BusState, node_at, flight_at}
+use Rattle.bus_machine.specs.Runs.{Run}
 use Rattle.bus_machine.specs.MissedStarts.{missing_link, cause_of}
 use Rattle.bus_machine.specs.Machine.{BusEvent, Start, Step, Finish, Send, Arrive, IsStep, is_allowed, after, arrival}
 use Rattle.bus_machine.specs.Machine.{missed_stop, early_stop}
 use Rattle.bus_machine.specs.Replay.{entries, start_entry, stop_entry}
 use Rattle.run_laws.specs.JournalReadings.{latest}
-use Rattle.run_laws.specs.EntriesInLines.{timed, has_reading, event_of}
+use Rattle.run_laws.specs.EntryEventsAndReadings.{timed, has_reading, event_of}
 use Rattle.run_laws.specs.TraceRules.{same_result, fits, is_in_order, falls, is_before, too_early, is_due, waits}
 use Rattle.run_laws.specs.TraceRules.{is_line_of, first_entry, tells_stop, broken}
 use Rattle.run_laws.specs.EntriesOfDesigns.{IsEntryIn}

@@ -12,7 +12,7 @@ use Rattle.std.proofs.lemmas.List.Sums.{fold-append, prefix_len-le-length}
 use Rattle.std.proofs.lemmas.Option.{same_Some}
 use Rattle.std.proofs.lemmas.Slice.Eq.{bytes_eq-Decides}
 use Rattle.list_lemmas.proofs.Options.{none_unless_some}
-use Rattle.pals_base.specs.StepSequences.{upwards}
+use Rattle.pals_base.specs.UpwardNumbers.{upwards}
 use Rattle.pals_base.proofs.UpwardNumbers.{length-upwards}
 use Rattle.pals_model.specs.declared.design.DesignParts.{DesignParts}
 use Rattle.pals_model.specs.RoundTexts.{report_lines}
@@ -29,12 +29,15 @@ use Rattle.pals_runs.specs.declared.verdicts.Verdict.{Verdict}
 use Rattle.pals_runs.specs.declared.verdicts.Verdict.TheVariants.{Sound, Wrong}
 use Rattle.pals_runs.specs.JournalLines.{entry_line}
 use Rattle.bus_machine.specs.Nodes.{NodeState}
-use Rattle.bus_machine.specs.States.{Run, BusState, opening, finished_by_all, no_node, link_at}
+use Rattle.bus_machine.specs.States.{BusState, opening, finished_by_all, no_node}
+use Rattle.bus_machine.specs.Plans.{link_at}
+use Rattle.bus_machine.specs.Runs.{Run}
 use Rattle.bus_machine.specs.Machine.{after}
 use Rattle.bus_machine.specs.Replay.{entries}
 use Rattle.run_laws.specs.LineForms.{form_of}
 use Rattle.run_laws.specs.JournalReadings.{last_of, latest}
-use Rattle.run_laws.specs.EntriesInLines.{Timed, told, timed, has_reading}
+use Rattle.run_laws.specs.EntriesInLines.{told}
+use Rattle.run_laws.specs.EntryEventsAndReadings.{Timed, timed, has_reading}
 use Rattle.run_laws.specs.TraceRules.{is_line_of, reading_of, broken}
 use Rattle.run_laws.specs.TraceVerdicts.{report_size, row_size, wrong_row, Audit, opening_audit, noted, second_entry}
 use Rattle.run_laws.specs.TraceVerdicts.{audit_event, audit_after, line_broken, is_done, end_broken, wrong_or, entry_or}

@@ -13,9 +13,10 @@ use Rattle.pals_runs.specs.declared.phase.Phase.TheVariants.{Waiting, Running, B
 use Rattle.pals_runs.specs.declared.journal.JournalEntry.{JournalEntry}
 use Rattle.bus_machine.specs.declared.plan.Plan.{Plan}
 use Rattle.bus_machine.specs.Plans.{plan_of}
-use Rattle.bus_machine.specs.Nodes.{NodeState, round_of}
-use Rattle.bus_machine.specs.States.{Run, BusState, node_at}
-use Rattle.bus_machine.specs.MissedStarts.{missing_link, sent_rounds}
+use Rattle.bus_machine.specs.Nodes.{NodeState, round_of, sent_rounds}
+use Rattle.bus_machine.specs.States.{BusState, node_at}
+use Rattle.bus_machine.specs.Runs.{Run}
+use Rattle.bus_machine.specs.MissedStarts.{missing_link}
 use Rattle.bus_machine.specs.Machine.{BusEvent, Start, Step, Finish, Send, Arrive, Drop, Repeat, is_allowed, arrival}
 use Rattle.bus_machine.specs.Machine.{early_stop}
 use Rattle.bus_machine.specs.Replay.{entries, start_entry}

@@ -27,12 +27,13 @@ use Rattle.pals_runs.specs.declared.events_and_faults.Event.TheVariants as event
 use Rattle.pals_runs.specs.declared.phase.Phase.TheVariants.{Waiting, Running, Done}
 use Rattle.bus_machine.specs.declared.plan.Input.{Input}
 use Rattle.bus_machine.specs.declared.plan.Plan.{Plan}
-use Rattle.bus_machine.specs.Plans.{plan_of, component_at, input_of, input_from_feed, input_from_link}
-use Rattle.bus_machine.specs.Nodes.{NodeState}
+use Rattle.bus_machine.specs.Plans.{plan_of, component_at, input_of, input_from_feed, input_from_link, link_at}
+use Rattle.bus_machine.specs.Nodes.{NodeState, sent_rounds}
 use Rattle.bus_machine.specs.NodeEvents.{lacks, missing, started, slot_at, may_send}
 use Rattle.bus_machine.specs.EarliestReadings.{step_alarm}
-use Rattle.bus_machine.specs.States.{Run, BusState, node_at, flight_at, link_at, with_node}
-use Rattle.bus_machine.specs.MissedStarts.{missing_link, link_into, sent_rounds}
+use Rattle.bus_machine.specs.States.{BusState, node_at, flight_at, with_node}
+use Rattle.bus_machine.specs.Runs.{Run}
+use Rattle.bus_machine.specs.MissedStarts.{missing_link, link_into}
 use Rattle.bus_machine.specs.Machine.{after_start}
 use Rattle.bus_machine.specs.proof.AgreementLaws.{IsRunOf}
 use Rattle.run_laws.specs.Worlds.{World, reading_at, ready_at, sendings, moved, world_after}

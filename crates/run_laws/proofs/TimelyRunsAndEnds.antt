@@ -18,15 +18,17 @@ use Rattle.pals_runs.specs.declared.journal.Stop.{Stop}
 use Rattle.pals_runs.specs.declared.journal.Stop.TheVariants as stop
 use Rattle.bus_machine.specs.declared.node_action.NodeAction.{NodeAction}
 use Rattle.bus_machine.specs.proof.AgreementLaws.{IsRunOf}
-use Rattle.bus_machine.specs.Plans.{plan_of}
-use Rattle.bus_machine.specs.States.{Run, BusState, node_at, link_at, no_link}
-use Rattle.bus_machine.specs.MissedStarts.{sent_rounds}
+use Rattle.bus_machine.specs.Plans.{plan_of, link_at, no_link}
+use Rattle.bus_machine.specs.States.{BusState, node_at}
+use Rattle.bus_machine.specs.Runs.{Run}
+use Rattle.bus_machine.specs.Nodes.{sent_rounds}
 use Rattle.bus_machine.specs.ActionsAndTargets.{targets, target, next_in}
 use Rattle.run_laws.specs.JournalReadings.{sends}
 use Rattle.run_laws.specs.Runs.{clock_at, lists_in, HasEnded, Runs}
 use Rattle.run_laws.specs.ListPicks.{picks_of, IsPickFor}
 use Rattle.run_laws.specs.proof.LinkTiming.{due_of}
-use Rattle.run_laws.specs.TimelyRounds.{IsTimely, PicksAll, PicksEndAt, ListStop, AllAtEnd}
+use Rattle.run_laws.specs.TimelyRounds.{IsTimely}
+use Rattle.run_laws.specs.ListRunEndsAndStops.{PicksAll, PicksEndAt, ListStop, AllAtEnd}
 use Rattle.run_laws.specs.Meetings.{AllDone, MeetingStop}
 use Rattle.run_laws.specs.proof.ReadingsAndStops.{StopFits}
 use Rattle.run_laws.specs.proof.RunTermination.{IsFirstEnded}

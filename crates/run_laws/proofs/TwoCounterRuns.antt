@@ -9,7 +9,7 @@ use Rattle.std.proofs.lemmas.Bool.{leb-true, not-true}
 use Rattle.std.proofs.lemmas.Grind.{common_steps}
 use Rattle.std.proofs.lemmas.List.Elements.{All-weaker}
 use Rattle.std.proofs.lemmas.Option.{slice_get_within}
-use Rattle.pals_base.specs.StepSequences.{upwards}
+use Rattle.pals_base.specs.UpwardNumbers.{upwards}
 use Rattle.pals_base.proofs.UpwardNumbers.{slice_get-upwards}
 use Rattle.pals_clock.specs.ClockStates.{ClockState, unpicked, standing_at}
 use Rattle.pals_model.specs.declared.design.Link.{Link}
@@ -17,7 +17,9 @@ use Rattle.pals_model.proofs.FirstMatches.{at_element}
 use Rattle.pals_model.proofs.WordBytes.{all_pass}
 use Rattle.pals_runs.specs.declared.journal.JournalEntry.{JournalEntry}
 use Rattle.pals_runs.specs.declared.phase.Phase.TheVariants.{Done}
-use Rattle.bus_machine.specs.States.{Run, BusState, opening, node_at, flight_at, link_at}
+use Rattle.bus_machine.specs.States.{BusState, opening, node_at, flight_at}
+use Rattle.bus_machine.specs.Plans.{link_at}
+use Rattle.bus_machine.specs.Runs.{Run}
 use Rattle.bus_machine.specs.Machine.{Start, Finish, Send, after}
 use Rattle.bus_machine.specs.proof.StoppedCounterRuns.{a, b}
 use Rattle.bus_machine.specs.declared.node_action.NodeAction.TheVariants as action

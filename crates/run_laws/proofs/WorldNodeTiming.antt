@@ -15,11 +15,11 @@ use Rattle.pals_runs.specs.declared.phase.Phase.TheVariants.{Waiting, Running, B
 use Rattle.bound_checker.specs.proof.MessageTimes.{IsNear}
 use Rattle.bus_machine.specs.declared.plan.Plan.{Plan}
 use Rattle.bus_machine.specs.Plans.{plan_of, component_at}
-use Rattle.bus_machine.specs.Nodes.{NodeState, round_of, finished_steps}
+use Rattle.bus_machine.specs.Nodes.{NodeState, round_of, finished_steps, sent_rounds}
 use Rattle.bus_machine.specs.NodeEvents.{may_send}
 use Rattle.bus_machine.specs.EarliestReadings.{start_alarm, step_alarm, release_alarm}
-use Rattle.bus_machine.specs.States.{Run, node_at}
-use Rattle.bus_machine.specs.MissedStarts.{sent_rounds}
+use Rattle.bus_machine.specs.States.{node_at}
+use Rattle.bus_machine.specs.Runs.{Run}
 use Rattle.bus_machine.specs.Agreement.{PhaseAgrees}
 use Rattle.bus_machine.specs.proof.AgreementLaws.{IsRunOf}
 use Rattle.run_laws.specs.Worlds.{World, reading_at, since_at, ready_at, sendings}

@@ -5,7 +5,8 @@ use Rattle.pals_runs.specs.declared.phase.Phase.TheVariants.{Waiting, Running, B
 use Rattle.bus_machine.specs.Plans.{plan_of}
 use Rattle.bus_machine.specs.NodeEvents.{may_send}
 use Rattle.bus_machine.specs.EarliestReadings.{start_alarm, step_alarm, release_alarm}
-use Rattle.bus_machine.specs.States.{Run, node_at}
+use Rattle.bus_machine.specs.States.{node_at}
+use Rattle.bus_machine.specs.Runs.{Run}
 use Rattle.run_laws.specs.Worlds.{World, since_at, ready_at, flight_since}
 
 -- the last reading below this alarm's clock that may be as far behind as the skew allows

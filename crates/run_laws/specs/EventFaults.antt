@@ -1,11 +1,11 @@
 -- Why a world refuses an event.
-use Rattle.std.specs.Prelude.{◌≡◌, ℕ, ◌+◌, ◌-◌, nat_eq, nat_lt, nat_le, Bool, not, if◌then◌else◌, List, [], ◌∷◌, length}
-use Rattle.std.specs.Prelude.{map, Option, Some, None}
+use Rattle.std.specs.Prelude.{ℕ, ◌+◌, ◌-◌, nat_eq, nat_lt, nat_le, Bool, not, if◌then◌else◌, List, [], ◌∷◌, length, map}
+use Rattle.std.specs.Prelude.{Option, Some, None}
 use Rattle.std.specs.List.{enumerate_from}
 use Rattle.std.specs.Option.{unwrap_or}
 use Rattle.pals_base.specs.declared.values.NodeNo.{NodeNo}
 use Rattle.pals_base.specs.declared.values.LinkNo.{LinkNo}
-use Rattle.pals_base.specs.StepSequences.{upwards}
+use Rattle.pals_base.specs.UpwardNumbers.{upwards}
 use Rattle.pals_model.specs.declared.flight_copy.FlightCopy.{FlightCopy}
 use Rattle.pals_runs.specs.declared.events_and_faults.Event.{Event}
 use Rattle.pals_runs.specs.declared.events_and_faults.EventFault.{EventFault}
@@ -13,9 +13,10 @@ use Rattle.pals_runs.specs.declared.events_and_faults.EventSubject.{EventSubject
 use Rattle.bus_machine.specs.Plans.{plan_of}
 use Rattle.bus_machine.specs.NodeEvents.{next_step}
 use Rattle.bus_machine.specs.EarliestReadings.{start_alarm, step_alarm, release_alarm}
-use Rattle.bus_machine.specs.States.{Run, node_at, flight_at}
+use Rattle.bus_machine.specs.States.{node_at, flight_at}
+use Rattle.bus_machine.specs.Runs.{Run}
 use Rattle.bus_machine.specs.Machine.{BusEvent, Start, Step, Finish, Send, Arrive, is_allowed}
-use Rattle.run_laws.specs.Worlds.{World, reading_at, since_at, flight_since, world_after}
+use Rattle.run_laws.specs.Worlds.{World, reading_at, since_at, flight_since}
 use Rattle.run_laws.specs.Deadlines.{node_deadline, message_deadline}
 use Rattle.pals_runs.specs.declared.events_and_faults.Event.TheVariants as event
 use Rattle.pals_runs.specs.declared.events_and_faults.EventFault.TheVariants as fault
@@ -133,9 +134,3 @@ event_fault run w (event.Repeat link round) = Some fault.LossOrRepeat
 -- the first row of the table that fits
 abbrev pub fault_of : Run → World → Event → Option EventFault
 fault_of run w e = if is_named run e then event_fault run w e else Some fault.BadName
-
--- ---- a list of events
--- none of them has a fault in its turn
-abbrev pub IsWithin : Run → World → List Event → Type 0
-IsWithin run w [] = Unit {0}
-IsWithin run w (e ∷ events) = (fault_of run w e ≡ None) × IsWithin run (world_after run w e) events

@@ -1,13 +1,15 @@
 -- What a list of events leaves of a world, and what it is for it to go right.
-use Rattle.std.specs.Prelude.{◌≡◌, ℕ, suc, ◌<◌, ◌≤◌, List, [], ◌∷◌, ◌++◌, length, None}
+use Rattle.std.specs.Prelude.{◌≡◌, ℕ, suc, ◌<◌, ◌≤◌, List, [], ◌∷◌, ◌++◌, length, None, ◌+◌}
 use Rattle.pals_base.specs.declared.values.LinkNo.{LinkNo}
 use Rattle.pals_runs.specs.declared.journal.Arrived.TheVariants.{Kept}
 use Rattle.pals_runs.specs.declared.events_and_faults.Event.{Event}
-use Rattle.bus_machine.specs.States.{Run, node_at}
+use Rattle.bus_machine.specs.States.{node_at}
+use Rattle.bus_machine.specs.Runs.{Run}
 use Rattle.bus_machine.specs.Machine.{arrival}
 use Rattle.bus_machine.specs.Agreement.{Agrees}
 use Rattle.run_laws.specs.Worlds.{World, opening_world, world_after}
 use Rattle.pals_runs.specs.declared.events_and_faults.Event.TheVariants as event
+use Rattle.run_laws.specs.EventFaults.{fault_of}
 
 abbrev pub world_left : Run → World → List Event → World
 world_left run w [] = w
@@ -27,3 +29,8 @@ pub record GoRight (run : Run) (events : List Event) : Type 0 where
   pub kept : (before later : List Event) (link : LinkNo) (round : ℕ)
       → events ≡ before ++ event.Arrive link round ∷ later
       → arrival run (world_left run (opening_world run) before).bus link round ≡ Kept
+
+-- none of them has a fault in its turn
+abbrev pub IsWithin : Run → World → List Event → Type 0
+IsWithin run w [] = Unit {0}
+IsWithin run w (e ∷ events) = (fault_of run w e ≡ None) × IsWithin run (world_after run w e) events

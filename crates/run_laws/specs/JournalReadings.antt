@@ -6,7 +6,7 @@ use Rattle.std.specs.Option.{unwrap_or}
 use Rattle.pals_base.specs.declared.values.NodeNo.{NodeNo}
 use Rattle.pals_model.specs.declared.design.DesignParts.{DesignParts}
 use Rattle.pals_runs.specs.declared.journal.JournalEntry.{JournalEntry}
-use Rattle.run_laws.specs.EntriesInLines.{Timed, timed}
+use Rattle.run_laws.specs.EntryEventsAndReadings.{Timed, timed}
 use Rattle.pals_runs.specs.declared.journal.JournalEntry.TheVariants as entry
 
 -- ---- readings, in the order of the journal

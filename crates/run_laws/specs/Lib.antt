@@ -19,3 +19,5 @@ pub mod Worlds
 pub mod Deadlines
 pub mod EventFaults
 pub mod EventLists
+pub mod ListRunEndsAndStops
+pub mod EntryEventsAndReadings

@@ -1,5 +1,5 @@
 -- With nodes that meet: what each line shows, and when a run stops.
-use Rattle.std.specs.Prelude.{◌≡◌, ℕ, ◌+◌, ◌*◌, ◌<◌, ◌≤◌, List, [], ◌∷◌, ◌++◌, length, Option, Some}
+use Rattle.std.specs.Prelude.{◌≡◌, ℕ, ◌+◌, ◌*◌, ◌<◌, List, [], ◌∷◌, ◌++◌, length, Option, Some}
 use Rattle.pals_base.specs.PeriodBound.{alarm}
 use Rattle.pals_base.specs.declared.values.LinkNo.{LinkNo}
 use Rattle.pals_model.specs.Delays.{delay_of}
@@ -7,8 +7,9 @@ use Rattle.pals_runs.specs.declared.phase.Phase.TheVariants.{Done}
 use Rattle.pals_runs.specs.declared.journal.Cause.TheVariants.{InTransit}
 use Rattle.pals_runs.specs.declared.journal.Stop.{Stop}
 use Rattle.pals_runs.specs.declared.journal.JournalEntry.{JournalEntry}
-use Rattle.bus_machine.specs.Plans.{plan_of}
-use Rattle.bus_machine.specs.States.{Run, BusState, node_at, link_at}
+use Rattle.bus_machine.specs.Plans.{plan_of, link_at}
+use Rattle.bus_machine.specs.States.{BusState, node_at}
+use Rattle.bus_machine.specs.Runs.{Run}
 use Rattle.run_laws.specs.JournalReadings.{starts}
 use Rattle.run_laws.specs.NodeLinkQuantifiers.{EachNode}
 use Rattle.pals_runs.specs.declared.journal.Stop.TheVariants as stop
@@ -60,9 +61,3 @@ MeetingStop run (stop.Missed link round reading cause) =
 MeetingStop run (stop.Early link round reading) =
     ((plan_of run.design (link_at run.design link.0).source.0).release_offset + delay_of run.delays link.0 round ≡ 0)
     × (reading ≡ Some (alarm run.design.period round))
-
--- each delay is between the least and the greatest of the bounds
-abbrev pub DelaysFit : Run → Type 0
-DelaysFit run = (number round : ℕ) → number < length run.design.links
-    → (run.design.gamma.mu_min ≤ delay_of run.delays number round)
-    × (delay_of run.delays number round ≤ run.design.gamma.mu_max)

@@ -13,10 +13,11 @@ use Rattle.pals_model.specs.declared.design.Link.{Link}
 use Rattle.pals_model.specs.declared.flight_copy.FlightCopy.{FlightCopy}
 use Rattle.pals_model.specs.Flights.{oldest}
 use Rattle.pals_runs.specs.declared.journal.JournalEntry.{JournalEntry}
-use Rattle.bus_machine.specs.Plans.{plan_of}
+use Rattle.bus_machine.specs.Plans.{plan_of, link_at}
 use Rattle.bus_machine.specs.NodeEvents.{is_waiting}
-use Rattle.bus_machine.specs.States.{Run, BusState, opening, node_at, flight_at, link_at}
-use Rattle.bus_machine.specs.MissedStarts.{sent_rounds}
+use Rattle.bus_machine.specs.States.{BusState, opening, node_at, flight_at}
+use Rattle.bus_machine.specs.Runs.{Run}
+use Rattle.bus_machine.specs.Nodes.{sent_rounds}
 use Rattle.bus_machine.specs.Machine.{BusEvent, Start, Step, Finish, Send, Arrive, Drop, Repeat, IsStep}
 use Rattle.bus_machine.specs.Replay.{entries}
 use Rattle.bus_machine.specs.declared.node_action.NodeAction.{NodeAction}

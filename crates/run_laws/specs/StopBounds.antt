@@ -1,13 +1,13 @@
 -- What a stop, with any clocks, says of the bounds: how late or early the message's delay and its source's send
 -- were.
-use Rattle.std.specs.Prelude.{◌≡◌, ℕ, ◌+◌, ◌-◌, ◌*◌, ◌<◌, ◌≤◌, max, List, Option, Some, slice_get}
+use Rattle.std.specs.Prelude.{◌≡◌, ℕ, ◌+◌, ◌-◌, ◌*◌, ◌<◌, ◌≤◌, max, List, Option, Some, slice_get, length}
 use Rattle.pals_base.specs.PeriodBound.{alarm, backoff}
 use Rattle.pals_model.specs.Delays.{delay_of}
 use Rattle.pals_runs.specs.declared.journal.Cause.TheVariants.{InTransit}
 use Rattle.pals_runs.specs.declared.journal.Stop.{Stop}
 use Rattle.pals_runs.specs.declared.journal.JournalEntry.{JournalEntry}
-use Rattle.bus_machine.specs.Plans.{plan_of}
-use Rattle.bus_machine.specs.States.{Run, link_at}
+use Rattle.bus_machine.specs.Plans.{plan_of, link_at}
+use Rattle.bus_machine.specs.Runs.{Run}
 use Rattle.run_laws.specs.JournalReadings.{sends}
 use Rattle.pals_runs.specs.declared.journal.Stop.TheVariants as stop
 
@@ -31,3 +31,9 @@ BoundedStop run journal (stop.Missed link round reading cause) = cause ≡ InTra
 BoundedStop run journal (stop.Early link round reading) = (at : ℕ) → reading ≡ Some at
     → run.design.gamma.mu_min ≤ delay_of run.delays link.0 round
     → alarm run.design.period round + 2 * run.design.gamma.eps ≤ at
+
+-- each delay is between the least and the greatest of the bounds
+abbrev pub DelaysFit : Run → Type 0
+DelaysFit run = (number round : ℕ) → number < length run.design.links
+    → (run.design.gamma.mu_min ≤ delay_of run.delays number round)
+    × (delay_of run.delays number round ≤ run.design.gamma.mu_max)

@@ -15,9 +15,11 @@ use Rattle.pals_runs.specs.declared.verdicts.Verdict.{Verdict}
 use Rattle.pals_runs.specs.declared.verdicts.Verdict.TheVariants.{Sound, Wrong}
 use Rattle.bus_machine.specs.Nodes.{NodeState}
 use Rattle.run_laws.specs.LineForms.{form_of}
-use Rattle.run_laws.specs.EntriesInLines.{Timed, told, timed, has_reading, event_of}
+use Rattle.run_laws.specs.EntriesInLines.{told}
+use Rattle.run_laws.specs.EntryEventsAndReadings.{Timed, timed, has_reading, event_of}
 use Rattle.run_laws.specs.TraceRules.{broken, is_line_of, reading_of}
-use Rattle.bus_machine.specs.States.{Run, BusState, opening, finished_by_all}
+use Rattle.bus_machine.specs.States.{BusState, opening, finished_by_all}
+use Rattle.bus_machine.specs.Runs.{Run}
 use Rattle.bus_machine.specs.Machine.{BusEvent, after}
 use Rattle.bus_machine.specs.Replay.{entries}
 use Rattle.pals_runs.specs.declared.journal.JournalEntry.TheVariants as entry

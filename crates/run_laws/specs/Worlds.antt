@@ -9,9 +9,10 @@ use Rattle.pals_model.specs.declared.environment.Env.{Env}
 use Rattle.pals_runs.specs.declared.phase.Phase.{Phase}
 use Rattle.pals_runs.specs.declared.phase.Phase.TheVariants.{Waiting, Running, Between, Holding, Done}
 use Rattle.pals_runs.specs.declared.events_and_faults.Event.{Event}
-use Rattle.bus_machine.specs.Plans.{plan_of}
+use Rattle.bus_machine.specs.Plans.{plan_of, link_at}
 use Rattle.bus_machine.specs.NodeEvents.{running_step}
-use Rattle.bus_machine.specs.States.{Run, BusState, opening, node_at, link_at}
+use Rattle.bus_machine.specs.States.{BusState, opening, node_at}
+use Rattle.bus_machine.specs.Runs.{Run}
 use Rattle.bus_machine.specs.MissedStarts.{missing_link}
 use Rattle.bus_machine.specs.Machine.{BusEvent, Start, Step, Finish, Send, Arrive, Drop, Repeat, after}
 use Rattle.pals_runs.specs.declared.events_and_faults.Event.TheVariants as event

@@ -20,3 +20,5 @@ pub mod TwoCounterTraces
 pub mod TwoCounterWorlds
 pub mod WorldInvariant
 pub mod WorldLaws
+pub mod JournalStartsAndSends
+pub mod RunReplay

@@ -1,7 +1,8 @@
 //! Laws of histories and of the traces that tell them: a trace is judged sound exactly where it is one of a history
 //! that is over. Each law is the contract of a function that does nothing.
-ghost use Rattle.run_laws.specs.proof.SoundTraces.{HistoriesReplay, RunsAreHistories, RunsAreTraces, SoundAreTraces};
-ghost use Rattle.run_laws.specs.proof.SoundTraces.{SoundIsTrace, ToldAreLines, TracesAreSound};
+ghost use Rattle.run_laws.specs.proof.SoundTraces.{HistoriesReplay, SoundAreTraces, SoundIsTrace, TracesAreSound};
+ghost use Rattle.run_laws.specs.proof.RunTraces.{RunsAreHistories, RunsAreTraces};
+ghost use Rattle.run_laws.specs.proof.EntryLines.{ToldAreLines};
 
 /// A trace is judged sound, with this number of rounds and this stop, exactly where it is the report of so
 /// many rounds of the composition and then the lines of a history that has come to its end: it stands at

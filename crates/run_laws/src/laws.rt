@@ -4,14 +4,16 @@ ghost use Rattle.run_laws.specs.proof.RunGuarantees.{ClausesAreKept};
 ghost use Rattle.run_laws.specs.proof.RunTermination.{EachGoesOn, EachRunEnds, EndsAreNamed, JournalsEnd};
 ghost use Rattle.run_laws.specs.proof.RisingReadings.{HourIsLeast, ReadingsRise};
 ghost use Rattle.run_laws.specs.proof.TimelyRunsAndEnds.{BoundsAreInTime, EndsAgree, NoneStops, PickedAreDone};
-ghost use Rattle.run_laws.specs.proof.StepsUnderLock.{DueArrives, EndsStay, ListEnds, ListPicks, RunsReplay};
+ghost use Rattle.run_laws.specs.proof.StepsUnderLock.{DueArrives, EndsStay, ListEnds, ListPicks};
+ghost use Rattle.run_laws.specs.proof.RunReplay.{RunsReplay};
 ghost use Rattle.run_laws.specs.proof.MeetingLaws.{MeetingsEnd, MeetingsShowTargets, MeetingsStop, NoMeetingStops};
 ghost use Rattle.run_laws.specs.proof.ListPicks.{LinesArePicks, NodesPick, ReadingsArePicks};
 ghost use Rattle.run_laws.specs.proof.TwoCounterRuns.{SomeListEnds, SomeMeetingEnds};
 ghost use Rattle.run_laws.specs.proof.RunTraces.{RunsAreSound, TracesAreTexts};
 ghost use Rattle.run_laws.specs.proof.ReadingsAndStops.{AllTimesFit, StopsFit};
 ghost use Rattle.run_laws.specs.proof.ListClockEnds.{DoneArePicked, EndedPicksEnd, EndsAreTimely, ListsStop};
-ghost use Rattle.run_laws.specs.proof.LinkTiming.{LinksAreTimed, RoundsAreShown};
+ghost use Rattle.run_laws.specs.proof.LinkTiming.{LinksAreTimed};
+ghost use Rattle.run_laws.specs.proof.JournalStartsAndSends.{RoundsAreShown};
 
 /// With list clocks a node does its actions in their order, each at its list's pick for it, so that
 /// the readings of its lines are a prefix of its picks. An arrival or a stop shows the pick for the

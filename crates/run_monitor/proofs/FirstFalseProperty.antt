@@ -1,22 +1,19 @@
 -- The first violation is at the least round at which a formula is false, and the first that is false there.
 use Rattle.std.proofs.Common.{◌≡◌, ◌∙◌, ◌⊎◌, inl, inr, ℕ, zero, suc, ◌+◌, ◌<◌, ◌≤◌, Bool, true, false, not, List, []}
-use Rattle.std.proofs.Common.{◌∷◌, ◌++◌, length, map, Option, Some, None, slice_get, position, refl, sym, ap, ap₂}
-use Rattle.std.proofs.Common.{subst, arith, eq-or-lt_of_le, true≢false, length-append, zero-add}
+use Rattle.std.proofs.Common.{◌∷◌, map, Option, Some, None, slice_get, position, refl, sym, ap, subst, arith}
+use Rattle.std.proofs.Common.{eq-or-lt_of_le, true≢false, zero-add}
 use Rattle.std.specs.List.{list_any, position_from}
 use Rattle.std.specs.Option.{option_map, option_or}
 use Rattle.std.proofs.lemmas.Bool.{or_from, or_left, or_right, false≢true}
 use Rattle.std.proofs.lemmas.Iterator.Adapters.{position_from-zero}
 use Rattle.list_lemmas.proofs.ElementPositions.{slice_get-map_some}
-use Rattle.list_lemmas.proofs.Options.{option_or-none}
 use Rattle.pals_base.specs.declared.frames.Frame.{Frame}
-use Rattle.pals_base.specs.StepSequences.{upwards}
-use Rattle.pals_base.proofs.UpwardNumbers.{upwards-more}
+use Rattle.pals_base.specs.UpwardNumbers.{upwards}
 use Rattle.pals_runs.specs.Formula.{Formula}
 use Rattle.run_monitor.specs.declared.false_property.FalseProperty.{FalseProperty}
-use Rattle.run_monitor.specs.FormulaSemantics.{holds}
-use Rattle.run_monitor.specs.FalseProperties.{history, verdicts, violation_at, violation_in, violation}
+use Rattle.run_monitor.specs.FormulaSemantics.{holds, history}
+use Rattle.run_monitor.specs.FalseProperties.{verdicts, violation_at, violation_in}
 use Rattle.run_monitor.specs.proof.FirstFalseProperty.{ViolatedIsFirst, OthersHold}
-use Rattle.run_monitor.proofs.FormulaLaws.{past_stays}
 
 -- ---- the place of the first that is false
 -- none is, or one at this place, with all before it true
@@ -195,43 +192,9 @@ others_hold design env rounds fs fine =
       | inr some ↦ absurd (true≢false (sym some.any ∙ fine))
     ]
 
--- ---- one round more
-pub verdicts-stay : (fs : List Formula) (h more : List (List Frame)) (round : ℕ) → round < length h
-    → verdicts fs (h ++ more) round ≡ verdicts fs h round
-verdicts-stay [] h more round within = refl
-verdicts-stay (f ∷ fs) h more round within =
-    ap₂ (λ b bs. b ∷ bs) (past_stays f h more round within) (verdicts-stay fs h more round within)
-
-abbrev violation_of : ℕ → List Bool → Option FalseProperty
+abbrev pub violation_of : ℕ → List Bool → Option FalseProperty
 violation_of round bs = option_map (λ k. record { property = k; round = round }) (position not bs)
 
-violations-stay : (fs : List Formula) (h more : List (List Frame)) (from count : ℕ) → from + count ≤ length h
-    → violation_in fs (h ++ more) (upwards from count) ≡ violation_in fs h (upwards from count)
-violations-stay fs h more from zero within = refl
-violations-stay fs h more from (suc count) within =
-    ap₂ option_or (ap (violation_of from) (verdicts-stay fs h more from (omega arith)))
-    (violations-stay fs h more (suc from) count (omega arith))
-
-or_assoc : (a b c : Option FalseProperty) → option_or a (option_or b c) ≡ option_or (option_or a b) c
+pub or_assoc : (a b c : Option FalseProperty) → option_or a (option_or b c) ≡ option_or (option_or a b) c
 or_assoc None b c = refl
 or_assoc (Some v) b c = refl
-
-violation-append : (fs : List Formula) (h : List (List Frame)) (xs ys : List ℕ)
-    → violation_in fs h (xs ++ ys) ≡ option_or (violation_in fs h xs) (violation_in fs h ys)
-violation-append fs h [] ys = refl
-violation-append fs h (x ∷ xs) ys =
-    ap (option_or (violation_at fs h x)) (violation-append fs h xs ys)
-    ∙ or_assoc (violation_at fs h x) (violation_in fs h xs) (violation_in fs h ys)
-
-pub violation-more : (fs : List Formula) (h : List (List Frame)) (row : List Frame)
-    → violation fs (h ++ row ∷ []) (length (h ++ row ∷ []))
-    ≡ option_or (violation fs h (length h)) (violation_at fs (h ++ row ∷ []) (length h))
-violation-more fs h row =
-    let longer = h ++ row ∷ [] in
-    let size : length longer ≡ suc (length h) = length-append h (row ∷ []) ∙ omega arith in
-    ap (violation fs longer) size
-    ∙ ap (violation_in fs longer)
-    (upwards-more 0 (length h) ∙ ap (λ k. upwards 0 (length h) ++ k ∷ []) (zero-add (length h)))
-    ∙ violation-append fs longer (upwards 0 (length h)) (length h ∷ [])
-    ∙ ap₂ option_or (violations-stay fs h (row ∷ []) 0 (length h) (omega arith))
-    (option_or-none (violation_at fs longer (length h)))

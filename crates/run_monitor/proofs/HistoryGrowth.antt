@@ -4,9 +4,8 @@ use Rattle.std.proofs.Common.{add-one, eq-or-lt_of_le}
 use Rattle.pals_base.specs.declared.frames.Frame.{Frame}
 use Rattle.pals_base.proofs.UpwardNumbers.{map_upwards_more}
 use Rattle.pals_model.specs.Composition.{comp}
-use Rattle.run_monitor.specs.FormulaSemantics.{holds}
-use Rattle.run_monitor.specs.FalseProperties.{history}
-use Rattle.run_monitor.specs.proof.FormulaAndHistoryLaws.{HistoryHasRounds, HistoryGoesOn, SaidAtOnce}
+use Rattle.run_monitor.specs.FormulaSemantics.{holds, history}
+use Rattle.run_monitor.specs.proof.FrameRowGrowth.{HistoryHasRounds, HistoryGoesOn, SaidAtOnce}
 use Rattle.run_monitor.proofs.FormulaLaws.{past_stays}
 
 pub history_goes_on : HistoryGoesOn

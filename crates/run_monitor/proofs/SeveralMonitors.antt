@@ -15,11 +15,11 @@ use Rattle.pals_model.specs.declared.environment.Env.{Env}
 use Rattle.pals_model.specs.Composition.{comp}
 use Rattle.pals_runs.specs.Formula.{Formula}
 use Rattle.run_monitor.specs.declared.false_property.FalseProperty.{FalseProperty}
-use Rattle.run_monitor.specs.FormulaSemantics.{holds}
-use Rattle.run_monitor.specs.FalseProperties.{history, verdicts}
+use Rattle.run_monitor.specs.FormulaSemantics.{holds, history}
+use Rattle.run_monitor.specs.FalseProperties.{verdicts}
 use Rattle.run_monitor.specs.proof.MonitorState.{MonitorState, whole, said, StandsFor, IsNew, GoesOn}
 use Rattle.run_monitor.specs.proof.SeveralMonitors.{MonitorsState, HasWatched, WatchesOn, WatchesRound, EachGoesOn}
-use Rattle.run_monitor.proofs.FirstFalseProperty.{violation-more}
+use Rattle.run_monitor.proofs.WatchTextGrowth.{violation-more}
 use Rattle.run_monitor.proofs.HistoryGrowth.{history_goes_on, history_has_rounds}
 
 abbrev no_monitor : MonitorState

@@ -6,7 +6,7 @@ use Rattle.std.proofs.lemmas.Bool.{and_parts, and_from, or_left, or_right, or_ca
 use Rattle.std.proofs.lemmas.List.Folds.{list_any-append, list_all-append}
 use Rattle.std.proofs.Math.Bool.{or-false, and-true}
 use Rattle.list_lemmas.proofs.Booleans.{and_assoc_left}
-use Rattle.pals_base.specs.StepSequences.{upwards}
+use Rattle.pals_base.specs.UpwardNumbers.{upwards}
 use Rattle.pals_base.proofs.UpwardNumbers.{upwards-more, list_all_upwards}
 use Rattle.run_monitor.specs.TemporalOperators.{rounds_to, rounds_after, previously, once, always, since}
 

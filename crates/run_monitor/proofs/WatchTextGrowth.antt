@@ -1,20 +1,23 @@
 -- The rows of watched properties, round by round.
 use Rattle.std.proofs.Common.{◌≡◌, ◌∙◌, ℕ, zero, suc, ◌+◌, ◌<◌, ◌≤◌, List, [], ◌∷◌, ◌++◌, length, map, refl, ap, ap₂}
-use Rattle.std.proofs.Common.{arith, append-nil, zero-add}
+use Rattle.std.proofs.Common.{arith, append-nil, zero-add, length-append}
 use Rattle.std.specs.Prelude.{flat_map}
 use Rattle.std.proofs.lemmas.Grind.{flat_map-append}
 use Rattle.pals_base.specs.declared.frames.Frame.{Frame}
-use Rattle.pals_base.specs.StepSequences.{upwards}
+use Rattle.pals_base.specs.UpwardNumbers.{upwards}
 use Rattle.pals_base.proofs.UpwardNumbers.{upwards-more}
 use Rattle.pals_model.specs.Composition.{comp}
 use Rattle.pals_model.specs.RoundTexts.{line_end, text_of, round_line}
 use Rattle.pals_runs.specs.Formula.{Formula}
-use Rattle.run_monitor.specs.FormulaSemantics.{holds}
-use Rattle.run_monitor.specs.FalseProperties.{history}
+use Rattle.run_monitor.specs.FormulaSemantics.{holds, history}
 use Rattle.run_monitor.specs.WatchText.{verdict_line, watched_lines}
-use Rattle.run_monitor.specs.proof.FormulaAndHistoryLaws.{RowsGoOn}
+use Rattle.run_monitor.specs.proof.FrameRowGrowth.{RowsGoOn}
 use Rattle.run_monitor.proofs.FormulaLaws.{past_stays}
 use Rattle.run_monitor.proofs.HistoryGrowth.{history_goes_on, history_has_rounds}
+use Rattle.std.specs.Option.{option_or}
+use Rattle.list_lemmas.proofs.Options.{option_or-none}
+use Rattle.run_monitor.specs.FalseProperties.{verdicts, violation_at, violation_in, violation}
+use Rattle.run_monitor.proofs.FirstFalseProperty.{or_assoc, violation_of}
 
 lines-stay : (properties : List (List ℕ × Formula)) (h more : List (List Frame)) (round : ℕ) → round < length h
     → map (λ p. verdict_line p.0 (holds p.1 (h ++ more) round)) properties
@@ -48,3 +51,39 @@ rows_go_on design env rounds properties =
     (ap (λ h. flat_map (watched_lines properties h) (upwards 0 rounds)) (history_goes_on design env rounds)
     ∙ rows-stay properties before (row ∷ []) 0 rounds (omega (arith, size)))
     (append-nil (watched_lines properties after rounds))
+
+pub verdicts-stay : (fs : List Formula) (h more : List (List Frame)) (round : ℕ) → round < length h
+    → verdicts fs (h ++ more) round ≡ verdicts fs h round
+verdicts-stay [] h more round within = refl
+verdicts-stay (f ∷ fs) h more round within =
+    ap₂ (λ b bs. b ∷ bs) (past_stays f h more round within) (verdicts-stay fs h more round within)
+
+
+violations-stay : (fs : List Formula) (h more : List (List Frame)) (from count : ℕ) → from + count ≤ length h
+    → violation_in fs (h ++ more) (upwards from count) ≡ violation_in fs h (upwards from count)
+violations-stay fs h more from zero within = refl
+violations-stay fs h more from (suc count) within =
+    ap₂ option_or (ap (violation_of from) (verdicts-stay fs h more from (omega arith)))
+    (violations-stay fs h more (suc from) count (omega arith))
+
+
+violation-append : (fs : List Formula) (h : List (List Frame)) (xs ys : List ℕ)
+    → violation_in fs h (xs ++ ys) ≡ option_or (violation_in fs h xs) (violation_in fs h ys)
+violation-append fs h [] ys = refl
+violation-append fs h (x ∷ xs) ys =
+    ap (option_or (violation_at fs h x)) (violation-append fs h xs ys)
+    ∙ or_assoc (violation_at fs h x) (violation_in fs h xs) (violation_in fs h ys)
+
+
+pub violation-more : (fs : List Formula) (h : List (List Frame)) (row : List Frame)
+    → violation fs (h ++ row ∷ []) (length (h ++ row ∷ []))
+    ≡ option_or (violation fs h (length h)) (violation_at fs (h ++ row ∷ []) (length h))
+violation-more fs h row =
+    let longer = h ++ row ∷ [] in
+    let size : length longer ≡ suc (length h) = length-append h (row ∷ []) ∙ omega arith in
+    ap (violation fs longer) size
+    ∙ ap (violation_in fs longer)
+    (upwards-more 0 (length h) ∙ ap (λ k. upwards 0 (length h) ++ k ∷ []) (zero-add (length h)))
+    ∙ violation-append fs longer (upwards 0 (length h)) (length h ∷ [])
+    ∙ ap₂ option_or (violations-stay fs h (row ∷ []) 0 (length h) (omega arith))
+    (option_or-none (violation_at fs longer (length h)))

@@ -1,20 +1,14 @@
 -- What formulas say over the rounds of a design, and the first round at which one is false.
-use Rattle.std.specs.Prelude.{ℕ, suc, Bool, not, List, [], ◌∷◌, map, position, Option, None}
+use Rattle.std.specs.Prelude.{ℕ, Bool, not, List, [], ◌∷◌, map, position, Option, None}
 use Rattle.std.specs.Option.{option_map, option_or}
 use Rattle.std.specs.List.{list_any}
 use Rattle.pals_base.specs.declared.frames.Frame.{Frame}
-use Rattle.pals_base.specs.StepSequences.{upwards}
+use Rattle.pals_base.specs.UpwardNumbers.{upwards}
 use Rattle.pals_model.specs.declared.design.DesignParts.{DesignParts}
 use Rattle.pals_model.specs.declared.environment.Env.{Env}
-use Rattle.pals_model.specs.Composition.{comp}
 use Rattle.pals_runs.specs.Formula.{Formula}
 use Rattle.run_monitor.specs.declared.false_property.FalseProperty.{FalseProperty}
-use Rattle.run_monitor.specs.FormulaSemantics.{holds}
-
--- the frames of all components after each of the first rounds
-abbrev pub history : DesignParts → Env → ℕ → List (List Frame)
-history design env rounds = map (λ round. (comp design env (suc round)).frames) (upwards 0 rounds)
-
+use Rattle.run_monitor.specs.FormulaSemantics.{holds, history}
 -- what each formula says at a round
 abbrev pub verdicts : List Formula → List (List Frame) → ℕ → List Bool
 verdicts fs h round = map (λ f. holds f h round) fs

@@ -1,13 +1,17 @@
 -- What a formula says at a round of a history. A history has the frames of all components after each round, from
 -- round 0.
-use Rattle.std.specs.Prelude.{ℕ, ℤ, pos, Bool, not, ◌&&◌, ◌||◌, is_some, List, [], slice_index_or, int_le, int_lt}
+use Rattle.std.specs.Prelude.{ℕ, ℤ, pos, Bool, not, ◌&&◌, ◌||◌, is_some, List, [], slice_index_or, int_le, int_lt, suc}
+use Rattle.std.specs.Prelude.{map}
 use Rattle.pals_base.specs.declared.frames.Frame.{Frame}
 use Rattle.pals_base.specs.ExpressionValues.{same_number}
-use Rattle.pals_model.specs.Composition.{no_frame}
+use Rattle.pals_model.specs.Composition.{no_frame, comp}
 use Rattle.pals_runs.specs.declared.forms.Compare.{Compare}
 use Rattle.pals_runs.specs.declared.forms.Compare.TheVariants.{Eq, Ne, Lt, Le, Gt, Ge}
 use Rattle.pals_runs.specs.Formula.{Formula, Var, Halted, Not, And, Or, Previous, Once, Historically, Since}
 use Rattle.run_monitor.specs.TemporalOperators.{previously, once, always, since}
+use Rattle.pals_base.specs.UpwardNumbers.{upwards}
+use Rattle.pals_model.specs.declared.design.DesignParts.{DesignParts}
+use Rattle.pals_model.specs.declared.environment.Env.{Env}
 
 -- ---- one round
 abbrev pub frame_in : List Frame → ℕ → Frame
@@ -36,3 +40,7 @@ holds (Previous f) h n = previously (holds f h) n
 holds (Once f) h n = once (holds f h) n
 holds (Historically f) h n = always (holds f h) n
 holds (Since f g) h n = since (holds f h) (holds g h) n
+
+-- the frames of all components after each of the first rounds
+abbrev pub history : DesignParts → Env → ℕ → List (List Frame)
+history design env rounds = map (λ round. (comp design env (suc round)).frames) (upwards 0 rounds)

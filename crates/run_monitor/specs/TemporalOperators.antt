@@ -1,7 +1,7 @@
 -- The operators of past time over all rounds up to one; a test says what holds at each round.
 use Rattle.std.specs.Prelude.{ℕ, zero, suc, ◌-◌, Bool, false, ◌&&◌, List}
 use Rattle.std.specs.List.{list_any, list_all}
-use Rattle.pals_base.specs.StepSequences.{upwards}
+use Rattle.pals_base.specs.UpwardNumbers.{upwards}
 
 -- the rounds from 0 to n
 abbrev pub rounds_to : ℕ → List ℕ

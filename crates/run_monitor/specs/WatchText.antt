@@ -2,14 +2,14 @@
 use Rattle.std.specs.Prelude.{ℕ, codes, decimal, Bool, true, false, List, [], ◌∷◌, ◌++◌, map, flat_map, slice_index_or}
 use Rattle.std.specs.Prelude.{Option, Some, None}
 use Rattle.pals_base.specs.declared.frames.Frame.{Frame}
-use Rattle.pals_base.specs.StepSequences.{upwards}
+use Rattle.pals_base.specs.UpwardNumbers.{upwards}
 use Rattle.pals_model.specs.declared.design.DesignParts.{DesignParts}
 use Rattle.pals_model.specs.declared.environment.Env.{Env}
 use Rattle.pals_model.specs.RoundTexts.{text_of, round_line}
 use Rattle.pals_runs.specs.Formula.{Formula}
 use Rattle.run_monitor.specs.declared.false_property.FalseProperty.{FalseProperty}
-use Rattle.run_monitor.specs.FormulaSemantics.{holds}
-use Rattle.run_monitor.specs.FalseProperties.{history, violation}
+use Rattle.run_monitor.specs.FormulaSemantics.{holds, history}
+use Rattle.run_monitor.specs.FalseProperties.{violation}
 
 -- a property is a name and its formula; they come in byte order of their names
 abbrev pub names_of : List (List ℕ × Formula) → List (List ℕ)

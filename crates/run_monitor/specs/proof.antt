@@ -7,3 +7,4 @@ pub mod FlatForms
 pub mod FormBits
 pub mod MonitorState
 pub mod SeveralMonitors
+pub mod FrameRowGrowth

@@ -8,7 +8,7 @@ ghost use Rattle.pals_model.specs.Composition.{comp};
 ghost use Rattle.pals_runs.specs.Formula.{Formula};
 ghost use Rattle.pals_runs.specs.proof.FormulasOfForms.{formula_of};
 ghost use Rattle.run_monitor.specs.proof.FormBits.{row_of};
-ghost use Rattle.run_monitor.specs.FalseProperties.{history};
+ghost use Rattle.run_monitor.specs.FormulaSemantics.{history};
 ghost use Rattle.run_monitor.specs.proof.MonitorState.{said, GoesOn};
 ghost use Rattle.run_monitor.specs.proof.SeveralMonitors.{said_by, EachGoesOn, HasWatched, WatchesOn, WatchesRound};
 

@@ -9,7 +9,8 @@ use Rattle.pals_model.specs.RoundTexts.{text_of, report}
 use Rattle.pals_runs.specs.declared.phase.Phase.TheVariants.{Done}
 use Rattle.pals_runs.specs.declared.journal.Stop.{Stop}
 use Rattle.bus_machine.specs.Agreement.{Agrees}
-use Rattle.bus_machine.specs.States.{Run, node_at, finished_by_all}
+use Rattle.bus_machine.specs.States.{node_at, finished_by_all}
+use Rattle.bus_machine.specs.Runs.{Run}
 use Rattle.pals_bus.specs.BusValues.{BusValue}
 use Rattle.loose_world.specs.proof.FinishedRows.{common_lines}
 use Rattle.loose_world.proofs.FinishedRows.{common_rows}
@@ -17,13 +18,14 @@ use Rattle.node_threads.specs.proof.SharedCourses.{EndsAt as EndsAtOn}
 use Rattle.node_threads.specs.declared.node_end.NodeEnd.{NodeEnd}
 use Rattle.node_threads.specs.declared.node_end.NodeEnd.TheVariants as end
 use Rattle.node_threads.specs.proof.NodeEndsAndOutcomes.{EndFits, EndsFit, IsOutcome}
-use Rattle.run_laws.specs.TimelyRounds.{IsOver, AllAtEnd}
+use Rattle.run_laws.specs.ListRunEndsAndStops.{IsOver, AllAtEnd}
 use Rattle.run_laws.specs.proof.RunTraces.{AreReadings}
 use Rattle.run_laws.proofs.NodePicks.{runs_agree}
 use Rattle.run_texts.specs.declared.run_report.RunReport.{RunReport}
 use Rattle.run_texts.specs.declared.run_report.RunReport.TheVariants as told
 use Rattle.run_texts.specs.RunTexts.{EndsAt, TellsRun}
-use Rattle.run_texts.specs.proof.NodeEnds.{IsComeEnd, journal_lines, TellsEnd}
+use Rattle.run_texts.specs.proof.NodeEnds.{IsComeEnd}
+use Rattle.run_texts.specs.proof.RunReports.{journal_lines, TellsEnd}
 use Rattle.run_texts.proofs.RunTexts.{outcome, completed, stopped}
 
 -- ---- what the ends say

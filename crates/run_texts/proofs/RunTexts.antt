@@ -11,7 +11,8 @@ use Rattle.pals_runs.specs.declared.journal.Stop.{Stop}
 use Rattle.pals_runs.specs.declared.verdicts.Verdict.TheVariants.{Sound}
 use Rattle.pals_runs.specs.JournalLines.{entry_line}
 use Rattle.bus_machine.specs.proof.AgreementLaws.{IsRunOf}
-use Rattle.bus_machine.specs.States.{Run, BusState, finished_by_all}
+use Rattle.bus_machine.specs.States.{BusState, finished_by_all}
+use Rattle.bus_machine.specs.Runs.{Run}
 use Rattle.run_laws.specs.TextLines.{lines_of}
 use Rattle.run_laws.specs.TraceVerdicts.{verdict}
 use Rattle.run_laws.specs.Meetings.{AllDone}

@@ -10,12 +10,13 @@ use Rattle.pals_runs.specs.declared.journal.Stop.{Stop}
 use Rattle.pals_runs.specs.declared.verdicts.Verdict.TheVariants.{Sound}
 use Rattle.pals_runs.specs.JournalLines.{entry_line}
 use Rattle.bus_machine.specs.Plans.{plan_of}
-use Rattle.bus_machine.specs.States.{Run, BusState, node_at, finished_by_all}
+use Rattle.bus_machine.specs.States.{BusState, node_at, finished_by_all}
+use Rattle.bus_machine.specs.Runs.{Run}
 use Rattle.bus_machine.specs.ActionsAndTargets.{target}
 use Rattle.run_laws.specs.TextLines.{lines_of}
 use Rattle.run_laws.specs.TraceVerdicts.{verdict}
 use Rattle.run_laws.specs.RunGuarantees.{KeepsClauses}
-use Rattle.run_laws.specs.TimelyRounds.{AllAtEnd}
+use Rattle.run_laws.specs.ListRunEndsAndStops.{AllAtEnd}
 use Rattle.run_laws.specs.Meetings.{AllDone}
 use Rattle.run_laws.specs.Runs.{Runs, HasEnded, lists_in}
 use Rattle.run_texts.specs.declared.run_report.RunReport.{RunReport}

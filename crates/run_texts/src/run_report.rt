@@ -8,7 +8,7 @@ ghost use Rattle.loose_world.specs.proof.FinishedRows.{common_lines};
 ghost use Rattle.node_threads.specs.proof.NodeEndsAndOutcomes.{IsOutcome};
 ghost use Rattle.run_laws.specs.proof.RunTraces.{AreReadings};
 ghost use Rattle.run_texts.specs.RunTexts.{TellsRun};
-ghost use Rattle.run_texts.specs.proof.NodeEnds.{journal_lines};
+ghost use Rattle.run_texts.specs.proof.RunReports.{journal_lines};
 
 use crate::first_ended::first_ended;
 use loose_world::{add_common_rows, add_journal};

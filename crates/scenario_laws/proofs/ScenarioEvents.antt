@@ -26,7 +26,7 @@ use Rattle.scenario_json.specs.Events.{word_of, is_usual, node_part, link_parts,
 use Rattle.scenario_json.specs.Events.{event_in, with_event, events_in}
 use Rattle.analysis_fields.proofs.ProcessorFacts.{node_within}
 use Rattle.loose_world.specs.LooseRuns.{IsLooseIn}
-use Rattle.scenario_laws.specs.proof.EventsAndTraces.{loosely, AreLooseEvents}
+use Rattle.scenario_laws.specs.proof.LooseEvents.{loosely, AreLooseEvents}
 use Rattle.scenario_laws.proofs.NamesInDesign.{link_below}
 
 -- ---- nodes and links

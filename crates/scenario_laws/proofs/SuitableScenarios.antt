@@ -16,7 +16,7 @@ use Rattle.scenario_json.specs.Scenarios.{needs_events, needs_trace, Means}
 use Rattle.scenario_json.proofs.ScenarioValidity.{answer_keeps}
 use Rattle.plant_fuse.specs.FusedComposition.{ArePairs}
 use Rattle.plant_fuse.proofs.EquationsWithoutPairs.{no_pairs}
-use Rattle.scenario_laws.specs.proof.EventsAndTraces.{loosely, AreLooseEvents}
+use Rattle.scenario_laws.specs.proof.LooseEvents.{loosely, AreLooseEvents}
 use Rattle.scenario_laws.proofs.SuccessfulFields.{field_keeps, means_fields, means_read}
 use Rattle.scenario_laws.proofs.ScenarioEvents.{events_few, events_loose}
 use Rattle.scenario_laws.proofs.TraceLineLimit.{trace_few}

@@ -3,3 +3,4 @@ pub mod EventsAndTraces
 pub mod ScenarioSuitability
 pub mod ScenarioOrFault
 pub mod FusiblePairs
+pub mod LooseEvents

@@ -18,8 +18,8 @@ use Rattle.step_code.specs.proof.StackHeights.{Member}
 use Rattle.step_code.specs.proof.VerifierRules.{IsVerified}
 use Rattle.step_code.specs.CappedWeights.{capped, AreBest}
 use Rattle.step_code.proofs.LoopCrossings.{around_outer}
-use Rattle.step_code.proofs.ReachedHeights.{known_there, known_later}
-use Rattle.step_code.proofs.WeightBounds.{get_set_other, get_set_same}
+use Rattle.step_code.proofs.CheckedPlaces.{known_there, known_later}
+use Rattle.step_code.proofs.ListMembers.{get_set_other, get_set_same}
 use Rattle.step_code.proofs.InnermostLoops.{is_found}
 use Rattle.step_code.proofs.VerifiedPlaces.{verified_closed, verified_known, verified_entry}
 

@@ -6,8 +6,8 @@ use Rattle.std.proofs.lemmas.List.{length-set, take_more}
 use Rattle.std.proofs.lemmas.Option.{slice_get-get_or}
 use Rattle.step_code.specs.proof.StackHeights.{Member}
 use Rattle.step_code.specs.proof.VerifierAnswers.{Holds}
-use Rattle.step_code.proofs.WeightBounds.{get_set_other, get_set_same}
-use Rattle.step_code.proofs.HeightPropagation.{member_left, member_right, member_either, member_or_not}
+use Rattle.step_code.proofs.ListMembers.{get_set_other, get_set_same, member_left, member_right, member_either}
+use Rattle.step_code.proofs.ListMembers.{member_or_not}
 
 -- the heights that these entries give
 pub record AreEntered (n : ℕ) (entries heights : List (Option ℕ)) : Type 0 where

@@ -4,9 +4,8 @@ use Rattle.std.specs.Prelude.{slice_get}
 use Rattle.pals_base.specs.declared.values.PortValue.{PortValue as Value}
 use Rattle.step_code.specs.declared.instr.Instr.{Instr}
 use Rattle.step_code.specs.InstructionEffects.{Next, Goes, Ends, Traps, Sticks, Senses, step}
-use Rattle.step_code.specs.proof.CodeRuns.{then_run, run}
+use Rattle.step_code.specs.proof.CodeRuns.{then_run, run, IsOver}
 use Rattle.step_code.specs.InstructionsPerStep.{then_count, count}
-use Rattle.step_code.specs.proof.LoopNesting.{IsOver}
 
 abbrev Same : List Instr → Senses → ℕ → ℕ → List ℤ → List ℤ → List Value → Type 0
 Same code s m p stack slots outs =

@@ -1,41 +1,15 @@
 -- Stack heights that an instruction passes on to the places that it leads to: those places exist, and each of them
 -- is set. For the claim of `pass_on`.
-use Rattle.std.proofs.Common.{◌≡◌, inl, inr, ℕ, ◌<◌, List, [], ◌∷◌, ◌++◌, length, Option, Some, None, option_to_list}
-use Rattle.std.proofs.Common.{refl, sym, subst, ⊎_elim}
+use Rattle.std.proofs.Common.{◌≡◌, inl, ℕ, ◌<◌, List, length, Option, Some, None, option_to_list, refl, sym, subst}
+use Rattle.std.proofs.Common.{⊎_elim}
 use Rattle.std.specs.Prelude.{◌⊎◌, slice_set}
 use Rattle.std.proofs.lemmas.List.{length-set}
 use Rattle.std.proofs.lemmas.Option.{slice_get-get_or}
-use Rattle.std.proofs.lemmas.Bool.{cases_eq}
 use Rattle.step_code.specs.declared.instr.Instr.{Instr}
 use Rattle.step_code.specs.PathWeights.{jump_of, next_of, onward}
 use Rattle.step_code.specs.proof.StackHeights.{Member}
 use Rattle.step_code.specs.proof.VerifierAnswers.{Holds, AreThere, AreSet}
-use Rattle.step_code.proofs.WeightBounds.{get_set_other, get_set_same}
-
--- ---- members
-pub member_left : {A : Type 0} (xs ys : List A) (x : A) → Member xs x → Member (xs ++ ys) x
-member_left [] ys x among = absurd among
-member_left (z ∷ xs) ys x among = ⊎_elim (λ e. inl e) (λ later. inr (member_left xs ys x later)) among
-
-pub member_right : {A : Type 0} (xs ys : List A) (x : A) → Member ys x → Member (xs ++ ys) x
-member_right [] ys x among = among
-member_right (z ∷ xs) ys x among = inr (member_right xs ys x among)
-
-pub member_either : {A : Type 0} (xs ys : List A) (x : A) → Member (xs ++ ys) x → Member xs x ⊎ Member ys x
-member_either [] ys x among = inr among
-member_either (z ∷ xs) ys x among =
-    ⊎_elim (λ e. inl (inl e)) (λ later. ⊎_elim (λ a. inl (inr a)) (λ b. inr b) (member_either xs ys x later)) among
-
-pub member_or_not : (ps : List ℕ) (p : ℕ) → Member ps p ⊎ (Member ps p → ⊥)
-member_or_not [] p = inr (λ among. among)
-member_or_not (q ∷ ps) p =
-    ⊎_elim
-    (λ (e : q ≡ p). inl (inl e))
-    (λ (other : q ≡ p → ⊥). ⊎_elim (λ (a : Member ps p). inl (inr a))
-    (λ (none : Member ps p → ⊥). inr (λ among. ⊎_elim (λ e. other e) (λ later. none later) among))
-    (member_or_not ps p))
-    (cases_eq q p)
-
+use Rattle.step_code.proofs.ListMembers.{get_set_other, get_set_same, member_left, member_right}
 -- ---- one place set
 pub place_there : (n : ℕ) (o : Option ℕ) (p : ℕ) → o ≡ Some p → AreThere (option_to_list o) n → p < n
 place_there n o p is there = there.each p (subst (λ x. Member (option_to_list x) p) (sym is) (inl refl))

@@ -15,3 +15,5 @@ pub mod CappedWeights
 pub mod VerifiedPremises
 pub mod StepResults
 pub mod HeaviestPaths
+pub mod CheckedPlaces
+pub mod ListMembers

@@ -13,11 +13,10 @@ use Rattle.step_code.specs.declared.instr.CodeParts.{CodeParts}
 use Rattle.step_code.specs.Loops.{around}
 use Rattle.step_code.specs.PathWeights.{heaviest, entry_weight, weight}
 use Rattle.step_code.specs.proof.CodeRuns.{Outcome, Ended, Trapped, Stuck, Unfinished, left, run_from, from_entry}
-use Rattle.step_code.specs.proof.CodeRuns.{unless_halted, exec, Leaves, has_entry, FitsCode, Sized}
+use Rattle.step_code.specs.proof.CodeRuns.{unless_halted, exec, Leaves, has_entry, FitsCode, Sized, IsOver}
 use Rattle.step_code.specs.InstructionsPerStep.{silent, senses, slots_of}
 use Rattle.step_code.specs.proof.StackHeights.{Member}
 use Rattle.step_code.specs.proof.VerifierRules.{IsVerified}
-use Rattle.step_code.specs.proof.LoopNesting.{IsOver}
 use Rattle.step_code.specs.proof.LevelAndFedCode.{IsFed, GoesOn}
 use Rattle.step_code.proofs.WeightBounds.{ends_within}
 use Rattle.step_code.proofs.StuckFreedom.{Begun, never_stuck}

@@ -22,7 +22,8 @@ use Rattle.step_code.specs.Loops.{around}
 use Rattle.step_code.specs.PathWeights.{onward}
 use Rattle.step_code.specs.proof.CodeRuns.{Rest, then_run, run}
 use Rattle.step_code.specs.proof.LoopNesting.{Nests, IsNested}
-use Rattle.step_code.specs.proof.StackHeights.{takes, after, Member, Reaches, ways, Fed}
+use Rattle.step_code.specs.proof.StackHeights.{takes, after, Member, Reaches, ways}
+use Rattle.step_code.specs.proof.SlotsAndPorts.{Fed}
 use Rattle.step_code.specs.proof.LevelAndFedCode.{IsLevel, IsFed, GoesOn}
 
 abbrev pub Holds : Type 1

@@ -14,7 +14,7 @@ use Rattle.step_code.specs.proof.VerifierRules.{is_none, enters_badly, is_entry,
 use Rattle.step_code.specs.proof.VerifierRules.{jumps_badly, BadJump, IsVerified}
 use Rattle.step_code.proofs.FaultlessInstructions.{untrue, is_sound, clean_closed}
 use Rattle.step_code.proofs.LoopCrossings.{AreClosed}
-use Rattle.step_code.proofs.ReachedHeights.{IsKnown}
+use Rattle.step_code.proofs.CheckedPlaces.{IsKnown}
 
 pub verified_closed : (c : CodeParts) (p : ℕ) → IsVerified c → AreClosed c.instrs p
 verified_closed c p v = clean_closed c p (record { none = λ q r less. v.clean q r })

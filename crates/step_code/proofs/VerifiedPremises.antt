@@ -11,7 +11,8 @@ use Rattle.step_code.specs.declared.instr.CodeParts.{CodeParts}
 use Rattle.step_code.specs.declared.loops.LoopSpan.{LoopSpan}
 use Rattle.step_code.specs.Loops.{loop_at, around}
 use Rattle.step_code.specs.PathWeights.{onward}
-use Rattle.step_code.specs.proof.StackHeights.{takes, after, Member, Reaches, ways, Fed}
+use Rattle.step_code.specs.proof.StackHeights.{takes, after, Member, Reaches, ways}
+use Rattle.step_code.specs.proof.SlotsAndPorts.{Fed}
 use Rattle.step_code.specs.proof.VerifierRules.{on_some, strays, lacks_next, ends_loop, is_no_loop_slot, Underflow}
 use Rattle.step_code.specs.proof.VerifierRules.{HeightsDiffer, IsVerified}
 use Rattle.step_code.specs.proof.LoopNesting.{Free, IsNested}
@@ -20,7 +21,7 @@ use Rattle.step_code.proofs.CleanNesting.{loop_is, clean_nested}
 use Rattle.step_code.specs.proof.LevelAndFedCode.{IsLevel, IsFed}
 use Rattle.step_code.proofs.LoopCrossings.{not_le, has_slot}
 use Rattle.step_code.proofs.FaultlessInstructions.{goes_well}
-use Rattle.step_code.proofs.ReachedHeights.{IsKnown, known_there}
+use Rattle.step_code.proofs.CheckedPlaces.{IsKnown, known_there}
 use Rattle.step_code.proofs.VerifiedPlaces.{verified_known, verified_closed}
 
 -- ---- jumps and loops

@@ -3,7 +3,7 @@
 use Rattle.std.proofs.Common.{◌≡◌, ◌∙◌, ℕ, zero, suc, ◌+◌, ◌-◌, ◌*◌, ◌<◌, ◌≤◌, ℤ, pos, negsuc, ◌+ℤ◌, ◌-ℤ◌, Bool, true}
 use Rattle.std.proofs.Common.{false, if◌then◌else◌, List, [], ◌∷◌, length, map, Option, Some, None, refl, sym, ap}
 use Rattle.std.proofs.Common.{subst, arith}
-use Rattle.std.specs.Prelude.{◌≢◌, slice_get, slice_set, int_lt, Result, Ok, Err}
+use Rattle.std.specs.Prelude.{slice_get, slice_set, int_lt, Result, Ok, Err}
 use Rattle.std.proofs.lemmas.Int.{ints}
 use Rattle.std.proofs.Math.Nat.{mul-le-mul_left, le_of_mul-le-mul_left, mul-add, mul_left_comm}
 use Rattle.pals_base.specs.declared.values.Trap.{Trap}
@@ -12,7 +12,7 @@ use Rattle.pals_base.specs.declared.behaviour.Op.{Op}
 use Rattle.pals_base.specs.declared.behaviour.Op.TheVariants as op
 use Rattle.pals_base.specs.Arithmetic.{negation_of, magnitude_of}
 use Rattle.pals_base.specs.ExpressionValues.{is_true, applied}
-use Rattle.pals_base.specs.Actions.{count_of}
+use Rattle.pals_base.specs.ForRanges.{count_of}
 use Rattle.step_code.specs.declared.instr.Instr.{Instr}
 use Rattle.step_code.specs.declared.instr.Instr.TheVariants.{Push, Load, Store, Port, Fresh, Neg, Abs, Not, Add, Sub}
 use Rattle.step_code.specs.declared.instr.Instr.TheVariants.{Mul, Quot, Mod, Rem, Eq, Ne, Lt, Le, Gt, Ge, And, Or, Xor}
@@ -22,24 +22,9 @@ use Rattle.step_code.specs.InstructionEffects.{on_two, step}
 use Rattle.step_code.specs.declared.loops.LoopSpan.{LoopSpan}
 use Rattle.step_code.specs.Loops.{turns_of, around}
 use Rattle.step_code.specs.PathWeights.{onward, leads, product, greatest, weight_at, heaviest}
-use Rattle.step_code.specs.proof.CodeRuns.{Rest, then_run, run}
-use Rattle.step_code.specs.proof.LoopNesting.{Free, On, Opens, Closes, Nests, IsNested, IsOver}
-
--- ---- lists
-pub get_set_other : {A : Type 0} (xs : List A) (i j : ℕ) (a : A) → i ≢ j
-    → slice_get (slice_set xs i a) j ≡ slice_get xs j
-get_set_other [] i j a other = refl
-get_set_other (x ∷ xs) zero zero a other = absurd (other refl)
-get_set_other (x ∷ xs) zero (suc j) a other = refl
-get_set_other (x ∷ xs) (suc i) zero a other = refl
-get_set_other (x ∷ xs) (suc i) (suc j) a other = get_set_other xs i j a (λ e. other (ap suc e))
-
-pub get_set_same : {A : Type 0} (xs : List A) (i : ℕ) (a y : A) → slice_get xs i ≡ Some y
-    → slice_get (slice_set xs i a) i ≡ Some a
-get_set_same [] i a y is = cc
-get_set_same (x ∷ xs) zero a y is = refl
-get_set_same (x ∷ xs) (suc i) a y is = get_set_same xs i a y is
-
+use Rattle.step_code.specs.proof.CodeRuns.{Rest, then_run, run, IsOver}
+use Rattle.step_code.specs.proof.LoopNesting.{Free, On, Opens, Closes, Nests, IsNested}
+use Rattle.step_code.proofs.ListMembers.{get_set_other, get_set_same}
 -- ---- what an instruction may lead to
 abbrev pub Reached : (ℕ → List ℤ → Type 0) → Next → Type 0
 Reached P (Goes q stack slots outs) = P q slots

@@ -1,7 +1,7 @@
 -- The loops of a code, and those round a place.
 use Rattle.std.specs.Prelude.{ℕ, zero, suc, ◌+◌, ◌-◌, nat_lt, nat_eq, ◌-ℤ◌, Bool, false, ◌&&◌, if◌then◌else◌, List, []}
 use Rattle.std.specs.Prelude.{◌∷◌, filter, Option, Some, None, slice_get}
-use Rattle.pals_base.specs.Actions.{count_of}
+use Rattle.pals_base.specs.ForRanges.{count_of}
 use Rattle.pals_base.specs.ExpressionValues.{same_number}
 use Rattle.step_code.specs.declared.instr.Instr.{Instr}
 use Rattle.step_code.specs.declared.instr.Instr.TheVariants.{LoopStart, LoopNext}

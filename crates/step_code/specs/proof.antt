@@ -10,3 +10,4 @@ pub mod Examples
 pub mod LoopNesting
 pub mod CleanJumpsAndLoops
 pub mod LevelAndFedCode
+pub mod SlotsAndPorts

@@ -13,14 +13,15 @@ use Rattle.pals_base.specs.declared.frames.Frame.{Frame}
 use Rattle.pals_base.specs.declared.values.PortValue.{PortValue as Value}
 use Rattle.pals_base.specs.declared.values.PortValue.TheVariants.{Present}
 use Rattle.pals_base.specs.ExpressionValues.{on_value}
-use Rattle.pals_base.specs.Actions.{Effect, counted_from, for_each, with_vars, without_loop, acts}
+use Rattle.pals_base.specs.Actions.{Effect, for_each, with_vars, without_loop, acts}
+use Rattle.pals_base.specs.ForRanges.{counted_from}
 use Rattle.pals_base.specs.PlainTrees.{Actions}
 use Rattle.step_code.specs.declared.instr.Instr.{Instr}
 use Rattle.step_code.specs.declared.instr.Instr.TheVariants as code
 use Rattle.step_code.specs.InstructionEffects.{Goes, Senses, on_found, step}
 use Rattle.step_code.specs.CodeLengths.{length_acts}
 use Rattle.step_compiler.proofs.AccessBounds.{Sizes}
-use Rattle.step_code.proofs.WeightBounds.{get_set_other, get_set_same}
+use Rattle.step_code.proofs.ListMembers.{get_set_other, get_set_same}
 use Rattle.step_compiler.proofs.ExpressionRuns.{At, at, Leads, Traps', Gives, Shows, leads_on, leads_trap, goes}
 
 -- ---- slots and variables

@@ -10,7 +10,8 @@ use Rattle.pals_base.specs.declared.frames.Frame.{Frame}
 use Rattle.pals_base.specs.declared.values.PortValue.{PortValue as Value}
 use Rattle.pals_base.specs.declared.values.PortValue.TheVariants.{Present}
 use Rattle.pals_base.specs.ExpressionValues.{is_true, eval}
-use Rattle.pals_base.specs.Actions.{Effect, counted_from, count_of, numbers, for_each, with_vars, act, acts, act_first}
+use Rattle.pals_base.specs.Actions.{Effect, for_each, with_vars, act, acts, act_first}
+use Rattle.pals_base.specs.ForRanges.{counted_from, count_of, numbers}
 use Rattle.pals_base.proofs.LoopNumbers.{no_numbers}
 use Rattle.pals_base.specs.PlainTrees.{Expression, Action, Assign, Emit, If, For, Actions, Nothing, Do, Branches}
 use Rattle.pals_base.specs.PlainTrees.{NoBranch, Where}
@@ -22,7 +23,8 @@ use Rattle.step_compiler.specs.TreeInstructions.{code_of, code_act, code_acts, c
 use Rattle.step_compiler.proofs.PlacedCodeLengths.{HasAt, has_front, has_back, code-length, act-length, acts-length}
 use Rattle.step_compiler.proofs.PlacedCodeLengths.{branches-length}
 use Rattle.step_compiler.proofs.AccessBounds.{Sees, Sizes, SeesAct, SeesActs, SeesBranches}
-use Rattle.step_code.proofs.WeightBounds.{get_set_other, get_set_same, spans}
+use Rattle.step_code.proofs.WeightBounds.{spans}
+use Rattle.step_code.proofs.ListMembers.{get_set_other, get_set_same}
 use Rattle.step_compiler.proofs.ExpressionRuns.{At, at, Gives, stays, leads_on, goes, jumps, passes, expr_runs}
 use Rattle.step_compiler.proofs.ActionAndLoopEffects.{Fits, Arrives, Comes, come_after, comes_at, then_comes}
 use Rattle.step_compiler.proofs.ActionAndLoopEffects.{with_value, next_fits, assigned, sent, loop_fits, turn, Bodies}

@@ -8,7 +8,7 @@ use Rattle.std.proofs.lemmas.Bool.{and_parts, cases_Bool, true≢false, false≢
 use Rattle.pals_base.specs.declared.behaviour.BehaviourParts.{BehaviourParts}
 use Rattle.pals_base.specs.PlainTrees.{Edge}
 use Rattle.pals_base.specs.SingleStep.{is_complete, leaving}
-use Rattle.pals_base.specs.StepSequences.{upwards}
+use Rattle.pals_base.specs.UpwardNumbers.{upwards}
 use Rattle.pals_base.specs.BehaviourRules.{is_edge, IsBehaviour}
 use Rattle.pals_base.specs.proof.SettledStates.{settles}
 use Rattle.pals_base.proofs.WaysAndCycles.{settled_unless_cycle}
@@ -20,7 +20,7 @@ use Rattle.step_compiler.specs.proof.BlockOrder.{is_placed, leads_from_outside, 
 use Rattle.step_compiler.specs.proof.BlockOrder.{with_next, ordered, block_order}
 use Rattle.step_compiler.specs.proof.BlockLengthsAndStarts.{order_length}
 use Rattle.step_compiler.proofs.NumbersFromZero.{found_is, none_is, member_upwards}
-use Rattle.step_compiler.proofs.OutsideTransitionMarks.{edge_has}
+use Rattle.step_compiler.proofs.TransitionRules.{edge_has}
 use Rattle.step_compiler.proofs.BlockOrderInvariant.{placed_more, more_true, all_placed, IsBuilt, built_more}
 use Rattle.step_compiler.proofs.BlockOrderInvariant.{completes_first}
 

@@ -10,7 +10,7 @@ use Rattle.list_lemmas.proofs.Booleans.{or_second}
 use Rattle.pals_base.specs.declared.behaviour.BehaviourParts.{BehaviourParts}
 use Rattle.pals_base.specs.PlainTrees.{Edge}
 use Rattle.pals_base.specs.SingleStep.{is_complete}
-use Rattle.pals_base.specs.StepSequences.{upwards}
+use Rattle.pals_base.specs.UpwardNumbers.{upwards}
 use Rattle.step_code.specs.CodeLengths.{length_edge, length_edges}
 use Rattle.step_code.specs.proof.StackHeights.{Member}
 use Rattle.step_compiler.specs.proof.BlockOrder.{is_placed}

@@ -5,7 +5,7 @@ use Rattle.std.specs.Prelude.{nat_eq, ◌||◌, if◌then◌else◌, find}
 use Rattle.std.specs.Option.{option_to_list}
 use Rattle.std.proofs.lemmas.Bool.{eqb-true, eq-eqb}
 use Rattle.std.proofs.lemmas.List.Folds.{list_any_at}
-use Rattle.pals_base.specs.StepSequences.{upwards}
+use Rattle.pals_base.specs.UpwardNumbers.{upwards}
 use Rattle.step_compiler.specs.proof.BlockOrder.{is_placed}
 
 -- ---- what is placed

@@ -1,8 +1,9 @@
 -- Where the blocks and the dispatch transitions of the compiled code stand.
 use Rattle.std.proofs.Common.{◌≡◌, ◌∙◌, ℕ, ◌+◌, ◌<◌, Bool, true, false, ◌||◌, if◌then◌else◌, List, [], ◌∷◌, ◌++◌}
-use Rattle.std.proofs.Common.{length, Some, refl, sym, ap, subst, arith, append_assoc, length-append, nat_eq}
+use Rattle.std.proofs.Common.{length, Some, refl, sym, ap, subst, arith, append_assoc, length-append, nat_eq, ⊎_elim}
+use Rattle.std.proofs.Common.{◌-◌, ◌≤◌}
 use Rattle.std.specs.Prelude.{slice_get, find}
-use Rattle.std.proofs.lemmas.Bool.{false≢true}
+use Rattle.std.proofs.lemmas.Bool.{false≢true, cases_lt, true≢false, or_right}
 use Rattle.pals_base.specs.declared.behaviour.BehaviourParts.{BehaviourParts}
 use Rattle.pals_base.specs.PlainTrees.{Edge, Trigger, Dispatch, Always, When}
 use Rattle.pals_base.specs.SingleStep.{is_complete, leaving, is_dispatch}
@@ -14,9 +15,11 @@ use Rattle.step_compiler.specs.TreeInstructions.{code_acts}
 use Rattle.step_compiler.specs.proof.BlockOrder.{is_placed, block_order}
 use Rattle.step_compiler.specs.BlockInstructions.{trigger_code, last_instr, past, edge_code, block_code, block_length}
 use Rattle.step_compiler.specs.BlockInstructions.{start_of, blocks_code, dispatch_offset}
-use Rattle.step_compiler.specs.proof.BlockLengthsAndStarts.{in_list, block_starts}
+use Rattle.step_compiler.specs.proof.BlockLengthsAndStarts.{in_list, order_length}
+use Rattle.step_compiler.specs.proof.CompiledCode.{block_starts}
 use Rattle.step_compiler.proofs.PlacedCodeLengths.{HasAt, has_front, has_back, edge-length, block-length}
 use Rattle.step_compiler.proofs.BlockOrderCompleteness.{order_full}
+use Rattle.step_compiler.proofs.BlockOrderInvariant.{AreOnce}
 
 -- ---- a list stands at its own beginning
 get_seam : (a : List Instr) (x : Instr) (xs : List Instr) → slice_get (a ++ x ∷ xs) (length a) ≡ Some x
@@ -139,3 +142,53 @@ dispatch_at whole b starts complete (f ∷ es) e p has found =
     (λ later. dispatch_at whole b starts complete es e (p + length_edge f)
     (has_back whole p (length_edge f) (p + length_edge f) (edge_code b starts complete f p)
     (block_code b starts complete es (p + length_edge f)) (edge-length b starts complete f p) refl has) later)
+
+-- each place lies in a block
+pub record LiesIn (b : BehaviourParts) (order : List ℕ) (p k : ℕ) : Type 0 where
+  pub state : ℕ
+  pub placed : is_placed order state ≡ true
+  pub from : p + start_of b order state ≤ k
+  pub before : k < p + start_of b order state + block_length b state
+
+
+lies_first : (b : BehaviourParts) (t : ℕ) (order : List ℕ) (p k : ℕ) (r : Bool) → nat_eq t t ≡ r → p ≤ k
+    → k < p + block_length b t
+    → (p + (if r then 0 else block_length b t + start_of b order t) ≤ k)
+    × (k < p + (if r then 0 else block_length b t + start_of b order t) + block_length b t)
+lies_first b t order p k true is from before = (omega arith, omega arith)
+lies_first b t order p k false is from before = absurd (grind arith)
+
+
+lies_later : (b : BehaviourParts) (t s : ℕ) (order : List ℕ) (p k : ℕ) (r : Bool) → nat_eq t s ≡ r
+    → is_placed order t ≡ false → is_placed order s ≡ true → p + block_length b t + start_of b order s ≤ k
+    → k < p + block_length b t + start_of b order s + block_length b s
+    → (p + (if r then 0 else block_length b t + start_of b order s) ≤ k)
+    × (k < p + (if r then 0 else block_length b t + start_of b order s) + block_length b s)
+lies_later b t s order p k true is out placed from before = let same : t ≡ s = grind arith in
+    absurd (true≢false (sym placed ∙ ap (is_placed order) (sym same) ∙ out))
+lies_later b t s order p k false is out placed from before = (omega arith, omega arith)
+
+
+pub lies_in : (b : BehaviourParts) (order : List ℕ) (p k : ℕ) → AreOnce order → p ≤ k → k < p + order_length b order
+    → LiesIn b order p k
+lies_in b [] p k once from before = absurd (omega arith)
+lies_in b (t ∷ order) p k once from before =
+    ⊎_elim
+    (λ (early : k < p + block_length b t).
+    let x = lies_first b t order p k (nat_eq t t) refl from early in
+    record {
+      state = t;
+      placed = ap (λ y. y || is_placed order t) (let same : nat_eq t t ≡ true = grind arith in same);
+      from = x.0;
+      before = x.1;
+    })
+    (λ (late : p + block_length b t ≤ k).
+    let w = lies_in b order (p + block_length b t) k once.1 late (omega arith) in
+    let x = lies_later b t w.state order p k (nat_eq t w.state) refl once.0 w.placed w.from w.before in
+    record {
+      state = w.state;
+      placed = or_right (nat_eq t w.state) (is_placed order w.state) w.placed;
+      from = x.0;
+      before = x.1;
+    })
+    (cases_lt k (p + block_length b t))

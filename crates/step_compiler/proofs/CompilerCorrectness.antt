@@ -31,24 +31,24 @@ use Rattle.step_code.specs.declared.instr.CodeParts.{CodeParts}
 use Rattle.step_code.specs.InstructionEffects.{Senses}
 use Rattle.step_code.specs.PathWeights.{weight_of}
 use Rattle.step_code.specs.proof.CodeRuns.{Outcome, run, left, run_from, from_entry, unless_halted, exec, Leaves}
-use Rattle.step_code.specs.proof.CodeRuns.{has_entry}
+use Rattle.step_code.specs.proof.CodeRuns.{has_entry, IsOver}
 use Rattle.step_code.specs.InstructionsPerStep.{silent, senses}
 use Rattle.step_code.specs.proof.StackHeights.{Member}
 use Rattle.step_code.specs.proof.VerifierRules.{IsVerified}
 use Rattle.step_code.specs.proof.CodeMeaning.{Means}
 use Rattle.step_code.specs.CodeLengths.{code_length}
-use Rattle.step_code.specs.proof.LoopNesting.{IsOver}
 use Rattle.step_code.proofs.FuelMonotonicity.{longer}
 use Rattle.step_code.proofs.StepResults.{length-holding, member_at, run_over}
 use Rattle.step_compiler.specs.LoopDepths.{depth_acts, depth_edges}
 use Rattle.step_compiler.specs.LaidOutCode.{states_of}
 use Rattle.step_compiler.specs.proof.BlockOrder.{block_order}
 use Rattle.step_compiler.specs.BlockInstructions.{block_code, blocks_code, dispatch_offset, entry_of}
-use Rattle.step_compiler.specs.proof.BlockLengthsAndStarts.{block_starts, in_list, compiled}
+use Rattle.step_compiler.specs.proof.BlockLengthsAndStarts.{in_list}
+use Rattle.step_compiler.specs.proof.CompiledCode.{block_starts, compiled}
 use Rattle.step_compiler.proofs.AccessBounds.{Sizes, IsGood, AreGood}
 use Rattle.step_compiler.proofs.SoundAccesses.{Fitting, acts_seen, trigger_seen}
 use Rattle.step_compiler.proofs.PlacedCodeLengths.{HasAt, blocks-length}
-use Rattle.step_compiler.proofs.OutsideTransitionMarks.{edge_has}
+use Rattle.step_compiler.proofs.TransitionRules.{edge_has}
 use Rattle.step_compiler.proofs.BlockOrderCompleteness.{all_member, order_sum}
 use Rattle.step_compiler.proofs.BlockPlaces.{whole_block, dispatch_at}
 use Rattle.step_compiler.proofs.ExpressionRuns.{At, at, runs}

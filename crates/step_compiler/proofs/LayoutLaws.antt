@@ -9,7 +9,7 @@ use Rattle.pals_base.specs.declared.behaviour.BehaviourParts.{BehaviourParts}
 use Rattle.pals_base.specs.PlainTrees.{Edge}
 use Rattle.pals_base.specs.SingleStep.{is_complete, leaving}
 use Rattle.pals_base.specs.BehaviourRules.{IsBehaviour, is_edge}
-use Rattle.pals_base.specs.StepSequences.{upwards}
+use Rattle.pals_base.specs.UpwardNumbers.{upwards}
 use Rattle.step_code.specs.declared.instr.Instr.{Instr}
 use Rattle.step_code.specs.declared.instr.CodeParts.{CodeParts}
 use Rattle.step_code.specs.CodeLengths.{length_edge, length_trigger}
@@ -18,8 +18,9 @@ use Rattle.step_compiler.specs.proof.BlockOrder.{block_order}
 use Rattle.step_compiler.specs.TreeInstructions.{code_acts}
 use Rattle.step_compiler.specs.BlockInstructions.{trigger_code, past, last_instr, edge_code, block_code, block_length}
 use Rattle.step_compiler.specs.BlockInstructions.{blocks_code, start_of, entry_of}
-use Rattle.step_compiler.specs.proof.BlockLengthsAndStarts.{block_starts, in_list, compiled}
-use Rattle.step_compiler.proofs.OutsideTransitionMarks.{edge_has}
+use Rattle.step_compiler.specs.proof.BlockLengthsAndStarts.{in_list}
+use Rattle.step_compiler.specs.proof.CompiledCode.{block_starts, compiled}
+use Rattle.step_compiler.proofs.TransitionRules.{edge_has}
 use Rattle.step_compiler.proofs.BlockPlaces.{start_is}
 use Rattle.step_compiler.specs.proof.LayoutLaws.{HasLayout, LaidOutCodeIsOne, LaidOutCodesAreOne}
 use Rattle.step_compiler.proofs.UniqueBlockOrder.{blocks_are_ordered, order_is_one}

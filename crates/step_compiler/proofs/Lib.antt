@@ -24,3 +24,5 @@ pub mod VerifierAcceptance
 pub mod BlockOrderMembers
 pub mod UniqueBlockOrder
 pub mod LayoutLaws
+pub mod UnguardedLastTransition
+pub mod TransitionRules

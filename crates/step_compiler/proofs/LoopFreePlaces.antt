@@ -1,26 +1,18 @@
 -- At which places of the compiled code no loop is under way and the stack is empty: where transitions and blocks
 -- begin.
-use Rattle.std.proofs.Common.{◌≡◌, ◌∙◌, inl, inr, ⊎_elim, ℕ, ◌+◌, ◌-◌, ◌<◌, ◌≤◌, Bool, true, false, ◌||◌, if◌then◌else◌}
-use Rattle.std.proofs.Common.{List, [], ◌∷◌, ◌++◌, length, refl, sym, ap, subst, arith, nat_eq}
-use Rattle.std.specs.Prelude.{filter, fold}
-use Rattle.std.proofs.lemmas.Bool.{cases_lt, true≢false, false≢true, or_right}
+use Rattle.std.proofs.Common.{◌≡◌, inl, ℕ, ◌+◌, ◌-◌, Bool, true, false, if◌then◌else◌, List, [], ◌∷◌, ◌++◌, length}
+use Rattle.std.proofs.Common.{refl, subst, arith, nat_eq}
 use Rattle.pals_base.specs.declared.behaviour.BehaviourParts.{BehaviourParts}
 use Rattle.pals_base.specs.PlainTrees.{Edge, Trigger, Dispatch, Always, When}
 use Rattle.pals_base.specs.SingleStep.{is_complete, leaving}
-use Rattle.pals_base.specs.BehaviourRules.{is_always, ends_unguarded}
 use Rattle.step_code.specs.declared.instr.Instr.{Instr}
 use Rattle.step_code.specs.declared.instr.Instr.TheVariants as code
-use Rattle.step_code.specs.proof.StackHeights.{Member}
 use Rattle.step_code.specs.CodeLengths.{length_of, length_acts, length_trigger, length_edge, length_edges}
 use Rattle.step_compiler.specs.TreeInstructions.{code_of, code_acts}
-use Rattle.step_compiler.specs.LoopDepths.{depth_acts, depth_edges}
-use Rattle.step_compiler.specs.proof.BlockOrder.{is_placed}
 use Rattle.step_compiler.specs.BlockInstructions.{trigger_code, last_instr, past, edge_code, block_code, block_length}
 use Rattle.step_compiler.specs.BlockInstructions.{start_of, blocks_code}
-use Rattle.step_compiler.specs.proof.BlockLengthsAndStarts.{order_length}
 use Rattle.step_compiler.proofs.PlacedCodeLengths.{HasAt, has_front, has_back, code-length, acts-length, trigger-length}
 use Rattle.step_compiler.proofs.PlacedCodeLengths.{edge-length, block-length}
-use Rattle.step_compiler.proofs.BlockOrderInvariant.{AreOnce}
 use Rattle.step_compiler.proofs.JumpsWithinLoops.{Outer, Closed, closed_both, one_closed, none_closed, starts_none}
 use Rattle.step_compiler.proofs.JumpsWithinLoops.{expr_closed, acts_closed}
 use Rattle.step_compiler.proofs.StackHeights.{height, edge_height, block_height}
@@ -132,96 +124,5 @@ calm_start whole b starts (t ∷ order) s p has calm =
     (block-length b starts (is_complete b t) (leaving b t) p) refl has)
     (calm_on whole b starts (is_complete b t) (leaving b t) p
     (has_front whole p part (blocks_code b starts order q) has) calm))
-
--- each place lies in a block
-pub record LiesIn (b : BehaviourParts) (order : List ℕ) (p k : ℕ) : Type 0 where
-  pub state : ℕ
-  pub placed : is_placed order state ≡ true
-  pub from : p + start_of b order state ≤ k
-  pub before : k < p + start_of b order state + block_length b state
-
-lies_first : (b : BehaviourParts) (t : ℕ) (order : List ℕ) (p k : ℕ) (r : Bool) → nat_eq t t ≡ r → p ≤ k
-    → k < p + block_length b t
-    → (p + (if r then 0 else block_length b t + start_of b order t) ≤ k)
-    × (k < p + (if r then 0 else block_length b t + start_of b order t) + block_length b t)
-lies_first b t order p k true is from before = (omega arith, omega arith)
-lies_first b t order p k false is from before = absurd (grind arith)
-
-lies_later : (b : BehaviourParts) (t s : ℕ) (order : List ℕ) (p k : ℕ) (r : Bool) → nat_eq t s ≡ r
-    → is_placed order t ≡ false → is_placed order s ≡ true → p + block_length b t + start_of b order s ≤ k
-    → k < p + block_length b t + start_of b order s + block_length b s
-    → (p + (if r then 0 else block_length b t + start_of b order s) ≤ k)
-    × (k < p + (if r then 0 else block_length b t + start_of b order s) + block_length b s)
-lies_later b t s order p k true is out placed from before = let same : t ≡ s = grind arith in
-    absurd (true≢false (sym placed ∙ ap (is_placed order) (sym same) ∙ out))
-lies_later b t s order p k false is out placed from before = (omega arith, omega arith)
-
-pub lies_in : (b : BehaviourParts) (order : List ℕ) (p k : ℕ) → AreOnce order → p ≤ k → k < p + order_length b order
-    → LiesIn b order p k
-lies_in b [] p k once from before = absurd (omega arith)
-lies_in b (t ∷ order) p k once from before =
-    ⊎_elim
-    (λ (early : k < p + block_length b t).
-    let x = lies_first b t order p k (nat_eq t t) refl from early in
-    record {
-      state = t;
-      placed = ap (λ y. y || is_placed order t) (let same : nat_eq t t ≡ true = grind arith in same);
-      from = x.0;
-      before = x.1;
-    })
-    (λ (late : p + block_length b t ≤ k).
-    let w = lies_in b order (p + block_length b t) k once.1 late (omega arith) in
-    let x = lies_later b t w.state order p k (nat_eq t w.state) refl once.0 w.placed w.from w.before in
-    record {
-      state = w.state;
-      placed = or_right (nat_eq t w.state) (is_placed order w.state) w.placed;
-      from = x.0;
-      before = x.1;
-    })
-    (cases_lt k (p + block_length b t))
-
--- ---- members
-pub member_leaving : (es : List Edge) (s : ℕ) (e : Edge) → Member (filter (λ e. nat_eq e.source s) es) e
-    → Member es e × (e.source ≡ s)
-member_leaving [] s e among = absurd among
-member_leaving (x ∷ es) s e among = by (nat_eq x.source s) refl among (λ later. member_leaving es s e later)
-  where
-    by : (t : Bool) → nat_eq x.source s ≡ t
-        → Member (if t then x ∷ filter (λ e. nat_eq e.source s) es else filter (λ e. nat_eq e.source s) es) e
-        → (Member (filter (λ e. nat_eq e.source s) es) e → Member es e × (e.source ≡ s))
-        → Member (x ∷ es) e × (e.source ≡ s)
-    by true is m later =
-        ⊎_elim (λ (here : x ≡ e). let at : x.source ≡ s = grind arith in
-        (inl here, sym (ap (λ (y : Edge). y.source) here) ∙ at)) (λ rest. let y = later rest in (inr y.0, y.1)) m
-    by false is m later = let y = later m in (inr y.0, y.1)
-
-pub edge_depth : (es : List Edge) (e : Edge) → Member es e → depth_acts e.actions ≤ depth_edges es
-edge_depth [] e among = absurd among
-edge_depth (f ∷ es) e among =
-    ⊎_elim (λ (is : f ≡ e). let same = ap (λ (x : Edge). depth_acts x.actions) is in omega arith)
-    (λ later. let le = edge_depth es e later in omega arith) among
-
-pub some_edges : (es : List Edge) → ends_unguarded es ≡ true → 0 < length_edges es
-some_edges [] is = absurd (false≢true is)
-some_edges (e ∷ es) is = omega arith
-
--- the last of transitions has no guard
-abbrev pub LastOpen : List Edge → Type 0
-LastOpen [] = Unit {0}
-LastOpen (e ∷ es) = fold (λ before (f : Edge). is_always f.trigger) (is_always e.trigger) es ≡ true
-
-pub last_open : (es : List Edge) → ends_unguarded es ≡ true → LastOpen es
-last_open [] is = tt
-last_open (e ∷ es) is = is
-
-pub rest_open : (e : Edge) (es : List Edge) → LastOpen (e ∷ es) → LastOpen es
-rest_open e [] is = tt
-rest_open e (f ∷ es) is = is
-
-pub past_inside : (complete : Bool) (e : Edge) (es : List Edge) (p n : ℕ) → is_always e.trigger ≡ false
-    → p + (length_edge e + length_edges es) ≤ n → (complete ≡ false → LastOpen (e ∷ es)) → past complete e p < n
-past_inside true e es p n guarded most unguarded = omega arith
-past_inside false e [] p n guarded most unguarded = absurd (true≢false (sym (unguarded refl) ∙ guarded))
-past_inside false e (f ∷ es) p n guarded most unguarded = omega arith
 
 -- ---- the compiled code

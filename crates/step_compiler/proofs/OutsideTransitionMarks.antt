@@ -1,42 +1,19 @@
 -- The marks by which the next state of the order is looked for: whether transitions from states outside lead to a
 -- state.
 use Rattle.std.proofs.Common.{◌≡◌, ◌∙◌, ℕ, zero, suc, ◌<◌, Bool, true, false, ◌&&◌, ◌||◌, not, if◌then◌else◌, List, []}
-use Rattle.std.proofs.Common.{◌∷◌, length, slice_index_or, slice_set, refl, sym, ap, subst, arith, nat_eq, nat_lt}
+use Rattle.std.proofs.Common.{◌∷◌, length, slice_index_or, slice_set, refl, sym, ap, subst, arith, nat_eq}
 use Rattle.std.specs.Prelude.{fold, replicate}
 use Rattle.std.specs.List.{list_all, list_any}
-use Rattle.std.proofs.lemmas.Bool.{and_parts, ltb-true}
+use Rattle.std.proofs.lemmas.Bool.{and_parts}
 use Rattle.std.proofs.lemmas.List.{get_or-set_same, get_or-set_other, length-set, length-replicate, length-map}
 use Rattle.std.proofs.Math.Bool.{or_assoc}
 use Rattle.pals_base.specs.declared.behaviour.BehaviourParts.{BehaviourParts}
-use Rattle.pals_base.specs.StepSequences.{upwards}
+use Rattle.pals_base.specs.UpwardNumbers.{upwards}
 use Rattle.pals_base.specs.PlainTrees.{Edge}
-use Rattle.pals_base.specs.TypingRules.{are_sound}
-use Rattle.pals_base.specs.BehaviourRules.{has_condition, is_edge, IsBehaviour}
+use Rattle.pals_base.specs.BehaviourRules.{is_edge, IsBehaviour}
 use Rattle.pals_base.proofs.UpwardNumbers.{length-upwards, get_or-map_upwards}
 use Rattle.step_compiler.specs.proof.BlockOrder.{is_placed, leads_from_outside, is_awaited, states_outside, with_target}
-
--- ---- a transition's states, guard and actions
-pub record HasEdge (b : BehaviourParts) (e : Edge) : Type 0 where
-  pub source : e.source < length b.states
-  pub target : e.target < length b.states
-  pub condition : has_condition b e.trigger ≡ true
-  pub sound : are_sound e.actions b 0 1 ≡ true
-
-pub edge_has : (b : BehaviourParts) (e : Edge) → is_edge b e ≡ true → HasEdge b e
-edge_has b e is =
-    let source = nat_lt e.source (length b.states) in
-    let target = nat_lt e.target (length b.states) in
-    let condition = has_condition b e.trigger in
-    let x = and_parts (source && target && condition) (are_sound e.actions b 0 1) is in
-    let y = and_parts (source && target) condition x.0 in
-    let z = and_parts source target y.0 in
-    record {
-      source = ltb-true e.source (length b.states) z.0;
-      target = ltb-true e.target (length b.states) z.1;
-      condition = y.1;
-      sound = x.1;
-    }
-
+use Rattle.step_compiler.proofs.TransitionRules.{edge_has}
 -- ---- marks
 set_by : (t : Bool) (marks : List Bool) (at s : ℕ) → nat_eq at s ≡ t → s < length marks
     → slice_index_or (slice_set marks at true) s false ≡ (slice_index_or marks s false || t)

@@ -10,7 +10,7 @@ use Rattle.pals_base.specs.declared.behaviour.BehaviourParts.{BehaviourParts}
 use Rattle.pals_base.specs.declared.limits.TheConstants.{INSTRUCTIONS}
 use Rattle.pals_base.specs.PlainTrees.{Edge, Trigger, Dispatch, Always, When}
 use Rattle.pals_base.specs.SingleStep.{is_complete, leaving, is_dispatch}
-use Rattle.pals_base.specs.StepSequences.{upwards}
+use Rattle.pals_base.specs.UpwardNumbers.{upwards}
 use Rattle.pals_base.specs.BehaviourRules.{is_edge, is_always, IsBehaviour}
 use Rattle.pals_base.proofs.UpwardNumbers.{slice_get-map_upwards}
 use Rattle.step_code.specs.declared.instr.Instr.{Instr}
@@ -33,15 +33,16 @@ use Rattle.step_compiler.specs.proof.BlockOrder.{block_order}
 use Rattle.step_compiler.specs.LaidOutCode.{states_of}
 use Rattle.step_compiler.specs.BlockInstructions.{trigger_code, last_instr, past, edge_code, block_code, block_length}
 use Rattle.step_compiler.specs.BlockInstructions.{start_of, blocks_code, dispatch_offset, entry_of}
-use Rattle.step_compiler.specs.proof.BlockLengthsAndStarts.{order_length, in_list, block_starts, compiled}
+use Rattle.step_compiler.specs.proof.BlockLengthsAndStarts.{order_length, in_list}
+use Rattle.step_compiler.specs.proof.CompiledCode.{block_starts, compiled}
 use Rattle.step_compiler.proofs.AccessBounds.{SeesTrigger}
 use Rattle.step_compiler.proofs.SoundAccesses.{acts_seen, trigger_seen}
 use Rattle.step_compiler.proofs.PlacedCodeLengths.{HasAt, has_front, has_back, code-length, acts-length, trigger-length}
 use Rattle.step_compiler.proofs.PlacedCodeLengths.{edge-length, blocks-length}
-use Rattle.step_compiler.proofs.OutsideTransitionMarks.{edge_has}
+use Rattle.step_compiler.proofs.TransitionRules.{edge_has}
 use Rattle.step_compiler.proofs.BlockOrderInvariant.{start_below}
 use Rattle.step_compiler.proofs.BlockOrderCompleteness.{all_member, some_member, order_full}
-use Rattle.step_compiler.proofs.BlockPlaces.{whole_at, start_is, whole_block}
+use Rattle.step_compiler.proofs.BlockPlaces.{whole_at, start_is, whole_block, lies_in}
 use Rattle.step_compiler.proofs.CompilerCorrectness.{sizes, fitting, onward_of, dispatch_of, compiled_length}
 use Rattle.step_compiler.proofs.JumpsWithinLoops.{Closed, jump_stays, closed_both, none_closed, expr_closed}
 use Rattle.step_compiler.proofs.JumpsWithinLoops.{acts_closed}
@@ -50,8 +51,9 @@ use Rattle.step_compiler.proofs.VerifiedExpressions.{IsFine, AreFine, one_fine, 
 use Rattle.step_compiler.proofs.VerifiedExpressions.{jump_fine, zero_fine}
 use Rattle.step_compiler.proofs.VerifiedActions.{none_round, Matches, value_fine, acts_fine}
 use Rattle.step_compiler.proofs.LoopFreePlaces.{trigger_closed, edge_closed, IsCalm, calm_edge, calm_at, calm_round}
-use Rattle.step_compiler.proofs.LoopFreePlaces.{calm_outer, calm_start, lies_in, member_leaving, edge_depth, some_edges}
-use Rattle.step_compiler.proofs.LoopFreePlaces.{LastOpen, last_open, rest_open, past_inside}
+use Rattle.step_compiler.proofs.LoopFreePlaces.{calm_outer, calm_start}
+use Rattle.step_compiler.proofs.UnguardedLastTransition.{member_leaving, edge_depth, some_edges, LastOpen, last_open}
+use Rattle.step_compiler.proofs.UnguardedLastTransition.{rest_open, past_inside}
 
 module _ (b : BehaviourParts) (c : CodeParts) (rules : IsBehaviour b)
     (instrs : c.instrs ≡ blocks_code b (in_list (block_starts b)) (block_order b) 0)

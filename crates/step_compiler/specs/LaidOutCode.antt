@@ -8,7 +8,7 @@ use Rattle.step_code.specs.declared.instr.CodeParts.{CodeParts}
 use Rattle.step_compiler.specs.LoopDepths.{depth_edges}
 use Rattle.step_compiler.specs.BlockInstructions.{blocks_code, start_of, entry_of}
 use Rattle.pals_base.specs.SingleStep.{is_complete}
-use Rattle.pals_base.specs.StepSequences.{upwards}
+use Rattle.pals_base.specs.UpwardNumbers.{upwards}
 
 -- ---- the order of blocks
 -- the block of a state may stand next: it is not placed, and all that jump to it are

@@ -4,3 +4,4 @@ pub mod BlockLengthsAndStarts
 pub mod AppendedCode
 pub mod CompileRefusals
 pub mod LayoutLaws
+pub mod CompiledCode

@@ -5,7 +5,8 @@ ghost use Rattle.step_code.specs.CappedWeights.{capped};
 ghost use Rattle.step_code.specs.CodeLengths.{length_edges};
 ghost use Rattle.step_compiler.specs.LaidOutCode.{states_of};
 ghost use Rattle.step_compiler.specs.BlockInstructions.{block_length, start_of, blocks_code, dispatch_offset, entry_of};
-ghost use Rattle.step_compiler.specs.proof.BlockLengthsAndStarts.{start_in, in_list, capped_length, leaving_code};
+ghost use Rattle.step_compiler.specs.proof.BlockLengthsAndStarts.{start_in, in_list, capped_length};
+ghost use Rattle.step_compiler.specs.proof.CompiledCode.{leaving_code};
 ghost use Rattle.step_compiler.specs.proof.AppendedCode.{Adds};
 
 use crate::checked_numbers::behind;

@@ -2,7 +2,7 @@
 ghost use Rattle.std.specs.Prelude.{◌≡◌, length, IfOk, IfErr};
 ghost use Rattle.step_code.specs.CodeLengths.{code_length};
 ghost use Rattle.step_code.specs.proof.CodeMeaning.{Means};
-ghost use Rattle.step_compiler.specs.proof.BlockLengthsAndStarts.{compiled};
+ghost use Rattle.step_compiler.specs.proof.CompiledCode.{compiled};
 ghost use Rattle.step_compiler.specs.LaidOutCode.{IsLaidOut};
 ghost use Rattle.step_compiler.specs.proof.CompileRefusals.{IsCauseFor};
 

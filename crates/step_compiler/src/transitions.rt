@@ -3,7 +3,8 @@ ghost use Rattle.std.specs.Prelude.{◌≡◌, IfOk, OnOk, slice_get};
 ghost use Rattle.pals_base.specs.proof.TreeViews.{trigger_of};
 ghost use Rattle.pals_base.specs.SingleStep.{completes};
 ghost use Rattle.step_compiler.specs.BlockInstructions.{trigger_code, last_instr, past};
-ghost use Rattle.step_compiler.specs.proof.BlockLengthsAndStarts.{transition_code, in_list};
+ghost use Rattle.step_compiler.specs.proof.BlockLengthsAndStarts.{in_list};
+ghost use Rattle.step_compiler.specs.proof.CompiledCode.{transition_code};
 ghost use Rattle.step_compiler.specs.proof.AppendedCode.{Adds};
 
 use crate::actions::push_acts;

@@ -12,11 +12,11 @@ use Rattle.step_code.specs.declared.instr.CodeParts.{CodeParts}
 use Rattle.pals_base.specs.declared.limits.TheConstants.{INSTRUCTIONS}
 use Rattle.step_code.specs.PathWeights.{weight}
 use Rattle.step_code.specs.InstructionEffects.{Next, Goes, Ends, Traps, step}
-use Rattle.step_code.specs.proof.CodeRuns.{Outcome, Ended, Trapped, Rest, then_run, run}
+use Rattle.step_code.specs.proof.CodeRuns.{Outcome, Ended, Trapped, Rest, then_run, run, IsOver}
 use Rattle.step_code.specs.InstructionsPerStep.{count, senses}
-use Rattle.step_code.specs.proof.StackHeights.{takes, Fed, Member}
+use Rattle.step_code.specs.proof.StackHeights.{takes, Member}
+use Rattle.step_code.specs.proof.SlotsAndPorts.{Fed}
 use Rattle.step_code.specs.proof.VerifierRules.{IsVerified}
-use Rattle.step_code.specs.proof.LoopNesting.{IsOver}
 use Rattle.step_code.specs.proof.LevelAndFedCode.{IsFed}
 use Rattle.step_code.proofs.StuckFreedom.{Begun, Fine, Stands, stands_on}
 use Rattle.step_code.proofs.FuelMonotonicity.{Moves, moves}

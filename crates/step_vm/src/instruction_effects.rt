@@ -2,7 +2,8 @@
 ghost use Rattle.std.specs.Prelude.{◌≡◌, ◌≤◌, ◌<◌, ◌+◌, length, map, Some, slice_get};
 ghost use Rattle.pals_base.specs.SingleStep.{is_present};
 ghost use Rattle.pals_base.specs.declared.limits.TheConstants.{INSTRUCTIONS};
-ghost use Rattle.step_code.specs.proof.StackHeights.{takes, Fed};
+ghost use Rattle.step_code.specs.proof.StackHeights.{takes};
+ghost use Rattle.step_code.specs.proof.SlotsAndPorts.{Fed};
 ghost use Rattle.step_vm.specs.proof.MachineAnswers.{Met, GivesResult, GivesBoth, done_by};
 
 use crate::operators::{apply, holds, number_of};

@@ -10,9 +10,10 @@ use Rattle.std.specs.Prelude.{pos}
 use Rattle.pals_model.specs.declared.design.Component.{Component}
 use Rattle.pals_model.specs.declared.design.Link.{Link}
 use Rattle.pals_model.specs.declared.design.DesignParts.{DesignParts}
-use Rattle.pals_model.specs.ComponentInputs.{rate_of}
+use Rattle.pals_model.specs.PortKinds.{rate_of}
 use Rattle.sync_product.specs.proof.ProductStates.{opening_part}
-use Rattle.sync_product.specs.proof.ProductSizes.{FrameSize, PartSize, part_size, part_size_of, tap_ports}
+use Rattle.sync_product.specs.proof.ProductSizes.{FrameSize, PartSize, part_size, part_size_of}
+use Rattle.sync_product.specs.proof.ComponentWiring.{tap_ports}
 use Rattle.sync_product.specs.proof.Rounds.{frames_of}
 
 absent_sizes : (rate : ℕ) (ports : List ℕ)

@@ -5,8 +5,8 @@ use Rattle.std.proofs.Common.{arith}
 use Rattle.std.proofs.lemmas.List.{length-map, get_or-map}
 use Rattle.pals_base.specs.declared.values.PortValue.{PortValue}
 use Rattle.pals_base.specs.declared.values.PortValue.TheVariants.{Absent}
-use Rattle.pals_base.specs.StepSequences.{column, cut}
-use Rattle.pals_base.proofs.StepSequences.{cut-at}
+use Rattle.pals_base.specs.Tuples.{column, cut}
+use Rattle.pals_base.proofs.ColumnsAndCutTuples.{cut-at}
 use Rattle.sync_product.specs.proof.Rounds.{place_before}
 
 pub column-at : (rows : List (List PortValue)) (port at : ℕ) (d : PortValue) (row : List PortValue) → at < length rows

@@ -11,22 +11,25 @@ use Rattle.list_lemmas.proofs.ListOperations.{same_from_places}
 use Rattle.pals_base.specs.declared.values.PortValue.{PortValue}
 use Rattle.pals_base.specs.declared.frames.Frame.{Frame}
 use Rattle.pals_base.specs.PeriodBound.{sent_steps}
-use Rattle.pals_base.specs.StepSequences.{steps, Stepped, column, columns, cut, upwards}
-use Rattle.pals_base.proofs.StepSequences.{slice_get-columns}
+use Rattle.pals_base.specs.StepSequences.{steps, Stepped}
+use Rattle.pals_base.specs.Tuples.{column, columns, cut}
+use Rattle.pals_base.specs.UpwardNumbers.{upwards}
+use Rattle.pals_base.proofs.ColumnsAndCutTuples.{slice_get-columns}
 use Rattle.pals_base.proofs.UpwardNumbers.{length-upwards, slice_get-map_upwards}
 use Rattle.pals_model.specs.declared.design.Component.{Component}
 use Rattle.pals_model.specs.declared.design.Link.{Link}
 use Rattle.pals_model.specs.declared.design.Tap.{Tap}
 use Rattle.pals_model.specs.declared.design.DesignParts.{DesignParts}
 use Rattle.pals_model.specs.declared.part.Part.{Part}
-use Rattle.pals_model.specs.ComponentInputs.{inputs_of, rate_in}
-use Rattle.pals_model.specs.PortKinds.{outs_in}
+use Rattle.pals_model.specs.ComponentInputs.{inputs_of}
+use Rattle.pals_model.specs.PortKinds.{rate_in, outs_in}
 use Rattle.pals_model.specs.DesignRules.{IsDesign, IsLink, IsTap}
 use Rattle.pals_model.specs.Composition.{steps_from, no_frame, part_of, taps_of, tuple_in, message_of}
 use Rattle.pals_model.proofs.CompositionLaws.{length-steps_from, steps_from-at}
 use Rattle.sync_product.specs.declared.round_inputs.RoundInputs.{RoundInputs}
 use Rattle.sync_product.specs.declared.component_stage.Stage.{Stage}
-use Rattle.sync_product.specs.proof.ProductSizes.{StageSize, stage_size, stage_size_of, stage_sizes, tap_ports}
+use Rattle.sync_product.specs.proof.ProductSizes.{StageSize, stage_size, stage_size_of, stage_sizes}
+use Rattle.sync_product.specs.proof.ComponentWiring.{tap_ports}
 use Rattle.sync_product.specs.proof.Rounds.{AreStepped, frames_of, own_part, own_rows, sent_by, sent_from}
 use Rattle.sync_product.specs.proof.ProductStates.{ProductState, advanced, parts_of}
 use Rattle.sync_product.proofs.ComponentLists.{sized_at, count_of_sized}

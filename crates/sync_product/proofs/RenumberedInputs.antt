@@ -8,7 +8,7 @@ use Rattle.list_lemmas.proofs.ElementPositions.{Contains-from_slice_get, slice_g
 use Rattle.pals_base.specs.declared.values.PortValue.{PortValue}
 use Rattle.pals_base.specs.declared.values.PortValue.TheVariants.{Absent}
 use Rattle.pals_base.specs.Adaptors.{adapt}
-use Rattle.pals_base.proofs.StepSequences.{get_or-column}
+use Rattle.pals_base.proofs.ColumnsAndCutTuples.{get_or-column}
 use Rattle.pals_model.specs.declared.design.Link.{Link}
 use Rattle.pals_model.specs.declared.design.Feed.{Feed}
 use Rattle.pals_model.specs.declared.design.DesignParts.{DesignParts}

@@ -8,7 +8,9 @@ use Rattle.pals_base.specs.declared.values.PortValue.TheVariants.{Absent}
 use Rattle.pals_base.specs.declared.frames.Frame.{Frame}
 use Rattle.pals_base.specs.declared.period_bound.Gamma.{Gamma}
 use Rattle.pals_base.specs.PeriodBound.{sent_steps}
-use Rattle.pals_base.specs.StepSequences.{Stepped, steps, cut, columns, upwards}
+use Rattle.pals_base.specs.StepSequences.{Stepped, steps}
+use Rattle.pals_base.specs.Tuples.{cut, columns}
+use Rattle.pals_base.specs.UpwardNumbers.{upwards}
 use Rattle.pals_model.specs.declared.design.Component.{Component}
 use Rattle.pals_model.specs.declared.design.Link.{Link}
 use Rattle.pals_model.specs.declared.design.Tap.{Tap}

@@ -4,7 +4,7 @@ use Rattle.std.proofs.lemmas.List.{length-map}
 use Rattle.list_lemmas.proofs.ListOperations.{length-map_enumerate_from}
 use Rattle.list_lemmas.proofs.ElementPositions.{slice_get-map_some, slice_get-map_enumerate}
 use Rattle.pals_base.specs.PeriodBound.{sent_steps}
-use Rattle.pals_base.specs.StepSequences.{upwards}
+use Rattle.pals_base.specs.UpwardNumbers.{upwards}
 use Rattle.pals_base.proofs.UpwardNumbers.{length-upwards}
 use Rattle.pals_model.specs.declared.design.Component.{Component}
 use Rattle.pals_model.specs.declared.design.DesignParts.{DesignParts}
@@ -14,8 +14,7 @@ use Rattle.sync_product.specs.declared.component_stage.Stage.{Stage}
 use Rattle.sync_product.specs.declared.wiring.WiredComponent.{WiredComponent}
 use Rattle.sync_product.specs.proof.ProductSizes.{PartSize, StageSize, frame_size, frame_size_of, part_size}
 use Rattle.sync_product.specs.proof.ProductSizes.{part_size_of, part_sizes, stage_size, stage_size_of, stage_sizes}
-use Rattle.sync_product.specs.proof.ProductSizes.{tap_ports}
-use Rattle.sync_product.specs.proof.ComponentWiring.{IsWired}
+use Rattle.sync_product.specs.proof.ComponentWiring.{tap_ports, IsWired}
 use Rattle.sync_product.proofs.ComponentLists.{sized_at, count_of_sized}
 
 -- ---- one for each component

@@ -7,7 +7,7 @@ use Rattle.std.proofs.lemmas.Bool.{ne_eqb, eq-eqb}
 use Rattle.std.proofs.lemmas.List.{append-nil}
 use Rattle.pals_model.specs.declared.design.Component.{Component}
 use Rattle.pals_model.specs.declared.design.Tap.{Tap}
-use Rattle.sync_product.specs.proof.ProductSizes.{tap_ports}
+use Rattle.sync_product.specs.proof.ComponentWiring.{tap_ports}
 
 abbrev pub table_from : ℕ → List Component → List Tap → List (List ℕ)
 table_from from cs taps = map (λ (numbered : ℕ × Component). tap_ports taps numbered.0) (enumerate_from from cs)

@@ -1,7 +1,8 @@
 //! The steps that one component makes in a round.
 ghost use Rattle.std.specs.Prelude.{◌≡◌, ◌<◌, [], IfOk, OnOk, length, map, vec_len, slice_index_or, slice_set};
 ghost use Rattle.pals_base.specs.SingleStep.{fire};
-ghost use Rattle.pals_base.specs.StepSequences.{frame_after, outputs, column};
+ghost use Rattle.pals_base.specs.StepSequences.{frame_after, outputs};
+ghost use Rattle.pals_base.specs.Tuples.{column};
 ghost use Rattle.sync_product.specs.proof.Rounds.{vectors};
 ghost use Rattle.sync_product.specs.proof.ProductSizes.{frame_size, part_size, stage_size, frame_size_of, part_size_of};
 ghost use Rattle.sync_product.specs.proof.ProductSizes.{stage_size_of};

@@ -1,9 +1,10 @@
 //! What a product begins with.
 ghost use Rattle.std.specs.Prelude.{◌≡◌, IfOk, map, replicate};
 ghost use Rattle.pals_base.specs.declared.values.PortValue.TheVariants.{Absent};
-ghost use Rattle.pals_model.specs.ComponentInputs.{rate_of};
+ghost use Rattle.pals_model.specs.PortKinds.{rate_of};
 ghost use Rattle.sync_product.specs.proof.ProductStates.{opening_parts};
-ghost use Rattle.sync_product.specs.proof.ProductSizes.{all_taps, stage_size, stage_sizes};
+ghost use Rattle.sync_product.specs.proof.ProductSizes.{stage_size, stage_sizes};
+ghost use Rattle.sync_product.specs.proof.ComponentWiring.{all_taps};
 
 use crate::component_stage::Stage;
 use pals_base::tuples::absent;

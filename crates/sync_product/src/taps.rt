@@ -1,7 +1,7 @@
 //! The out ports that root out ports show, found once for a design in time that is in line with its
 //! taps and components.
 ghost use Rattle.std.specs.Prelude.{◌≡◌, IfOk};
-ghost use Rattle.sync_product.specs.proof.ProductSizes.{all_taps};
+ghost use Rattle.sync_product.specs.proof.ComponentWiring.{all_taps};
 
 use pals_base::{Items, NoMemory};
 use pals_model::Design;

@@ -1,6 +1,6 @@
 //! Tuples written place by place. The calls take no memory.
 ghost use Rattle.std.specs.Prelude.{◌≡◌, length};
-ghost use Rattle.pals_base.specs.StepSequences.{column, cut};
+ghost use Rattle.pals_base.specs.Tuples.{column, cut};
 ghost use Rattle.sync_product.specs.proof.Rounds.{place_before};
 
 use pals_base::tuples::place;

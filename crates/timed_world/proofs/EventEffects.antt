@@ -10,7 +10,8 @@ use Rattle.pals_runs.specs.declared.events_and_faults.Event.{Event}
 use Rattle.pals_runs.specs.declared.events_and_faults.Event.TheVariants as event
 use Rattle.bus_machine.specs.Plans.{plan_of}
 use Rattle.bus_machine.specs.NodeEvents.{running_step}
-use Rattle.bus_machine.specs.States.{Run, BusState, node_at}
+use Rattle.bus_machine.specs.States.{BusState, node_at}
+use Rattle.bus_machine.specs.Runs.{Run}
 use Rattle.bus_machine.specs.Machine.{BusEvent, Start, Step, Finish, Send, Arrive}
 use Rattle.bus_machine.specs.proof.AgreementLaws.{IsRunOf}
 use Rattle.pals_bus.specs.BusValues.{BusValue, Happens}

@@ -5,3 +5,4 @@ pub mod SingleCopiesInFlight
 pub mod EventEffects
 pub mod BusRefusals
 pub mod EventLists
+pub mod MessagesPastDeadline

@@ -1,34 +1,32 @@
 -- At most one copy is in flight on a link: of the last round that its target has started, or of the next one.
 use Rattle.std.proofs.Common.{◌≡◌, ◌⊎◌, inl, inr, ℕ, suc, ◌+◌, ◌-◌, ◌<◌, ◌≤◌, Bool, true, cond, List, [], ◌∷◌, length}
-use Rattle.std.proofs.Common.{map, Option, Some, None, refl, ap, ◌∙◌, sym, subst, arith}
-use Rattle.std.specs.Prelude.{is_some, if◌then◌else◌}
-use Rattle.std.proofs.lemmas.Bool.{cases_order, cases_lt, cases_eq, eq-eqb, ne_eqb}
+use Rattle.std.proofs.Common.{Option, Some, None, refl, ap, sym, subst, arith}
+use Rattle.std.proofs.lemmas.Bool.{cases_order, cases_lt, eq-eqb}
 use Rattle.std.proofs.lemmas.List.Sums.{sum_by-cons}
-use Rattle.bus_machine.proofs.QuantitiesAndSentRounds.{sent_most}
+use Rattle.bus_machine.proofs.SentRounds.{sent_most}
 use Rattle.pals_base.specs.declared.limits.TheConstants.{READING, ROUNDS}
 use Rattle.pals_base.specs.PeriodBound.{alarm}
 use Rattle.pals_model.specs.declared.flight_copy.FlightCopy.{FlightCopy}
 use Rattle.pals_model.specs.Flights.{is_of}
 use Rattle.pals_runs.specs.declared.events_and_faults.EventFault.{EventFault}
-use Rattle.pals_runs.specs.declared.events_and_faults.EventSubject.TheVariants as which
 use Rattle.bus_machine.specs.NodeEvents.{slot_at}
 use Rattle.bus_machine.specs.LinkEvents.{is_in_flight}
-use Rattle.bus_machine.specs.States.{Run, node_at, flight_at, link_at}
-use Rattle.bus_machine.specs.MissedStarts.{sent_rounds, rounds_sent_on}
+use Rattle.bus_machine.specs.States.{node_at, flight_at}
+use Rattle.bus_machine.specs.Plans.{link_at}
+use Rattle.bus_machine.specs.Runs.{Run}
+use Rattle.bus_machine.specs.MissedStarts.{rounds_sent_on}
+use Rattle.bus_machine.specs.Nodes.{sent_rounds}
 use Rattle.bus_machine.specs.proof.AgreementLaws.{IsRunOf}
 use Rattle.run_laws.specs.Worlds.{World, flight_since}
-use Rattle.run_laws.specs.Deadlines.{message_deadline}
-use Rattle.run_laws.specs.EventFaults.{or_else, first_of, past, copy_past, link_past}
+use Rattle.run_laws.specs.EventFaults.{or_else}
 use Rattle.run_laws.specs.proof.WorldInvariant.{KeepsTime, copies}
 use Rattle.run_laws.proofs.TimeArithmetic.{alarm_next, alarm_more, arrives_before}
 use Rattle.run_laws.proofs.WorldNodeTiming.{fits_at, counts_close}
 use Rattle.run_laws.proofs.WorldLinkTiming.{under_way, in_flight_counts, counts_in_flight, rule_of}
 use Rattle.run_laws.proofs.WorldTimeRanges.{times_are_readings}
-use Rattle.timed_world.specs.proof.FlightFaults.{flying_past}
-use Rattle.timed_world.proofs.FaultSearch.{goes_past, has_found}
 
 -- ---- counts
-count_first : (round : ℕ) (a : FlightCopy) (cs : List FlightCopy) → a.round ≡ round
+pub count_first : (round : ℕ) (a : FlightCopy) (cs : List FlightCopy) → a.round ≡ round
     → copies round (a ∷ cs) ≡ 1 + copies round cs
 count_first round a cs is =
     let f : FlightCopy → ℕ = λ y. cond {A = ℕ} (is_of round y) 1 0 in
@@ -43,20 +41,20 @@ count_rest round a cs =
     omega arith
 
 -- ---- what one copy gives
-or_none : (o : Option EventFault) → or_else o None ≡ o
+pub or_none : (o : Option EventFault) → or_else o None ≡ o
 or_none None = refl
 or_none (Some why) = refl
 
 module _ (run : Run) (w : World) (rules : IsRunOf run) (keeps : KeepsTime run w) (number : ℕ)
     (within : number < length run.design.links) where
-  abbrev flight : List FlightCopy
+  abbrev pub flight : List FlightCopy
   flight = flight_at w.bus number
 
-  abbrev count : ℕ
+  abbrev pub count : ℕ
   count = (node_at w.bus (link_at run.design number).target.0).count
 
   -- a round in flight is one of two
-  near : (round : ℕ) → is_in_flight round flight ≡ true → (count ≤ round + 1) × (round ≤ count)
+  pub near : (round : ℕ) → is_in_flight round flight ≡ true → (count ≤ round + 1) × (round ≤ count)
   near round flies =
       let link = link_at run.design number in
       let rule = rule_of run number rules within in
@@ -122,10 +120,10 @@ module _ (run : Run) (w : World) (rules : IsRunOf run) (keeps : KeepsTime run w)
     | inr few ↦ few
   ]
 
-  flies_by : (round : ℕ) (fs : List FlightCopy) → flight ≡ fs → 1 ≤ copies round fs → is_in_flight round flight ≡ true
+  pub flies_by : (round : ℕ) (fs : List FlightCopy) → flight ≡ fs → 1 ≤ copies round fs → is_in_flight round flight ≡ true
   flies_by round fs is some = counts_in_flight round flight (subst (λ cs. 1 ≤ copies round cs) (sym is) some)
 
-  single : (fs : List FlightCopy) → flight ≡ fs → (fs ≡ []) ⊎ ((c : FlightCopy) × (fs ≡ c ∷ []))
+  pub single : (fs : List FlightCopy) → flight ≡ fs → (fs ≡ []) ⊎ ((c : FlightCopy) × (fs ≡ c ∷ []))
   single [] is = inl refl
   single (c ∷ []) is = inr (c, refl)
   single (a ∷ (b ∷ cs)) is =
@@ -145,77 +143,3 @@ module _ (run : Run) (w : World) (rules : IsRunOf run) (keeps : KeepsTime run w)
           | inr more ↦ absurd (not_both b.round a.round there here more)
         ]
       ]
-
-  -- ---- what is past
-  module _ (time : ℕ) where
-    abbrev flying_of : Bool → ℕ → Option EventFault
-    flying_of b round =
-        if b then past time (which.Message (record { 0 = number }) round)
-        (Some (message_deadline run w number round)) else None
-
-    abbrev Same : List FlightCopy → Type 0
-    Same fs =
-        first_of (map (copy_past run w time number) fs)
-        ≡ or_else (flying_of (is_in_flight (count - 1) fs) (count - 1)) (flying_of (is_in_flight count fs) count)
-
-    flies_here : (c : FlightCopy) (round : ℕ) → c.round ≡ round
-        → flying_of (is_in_flight round (c ∷ [])) round ≡ copy_past run w time number c
-    flies_here c round same =
-        ap (λ (b : Bool). flying_of (is_some (cond {A = Option FlightCopy} b (Some c) None)) round)
-        (eq-eqb c.round round same) ∙ ap (λ (k : ℕ). flying_of true k) (sym same)
-
-    flies_not : (c : FlightCopy) (round : ℕ) → (c.round ≡ round → ⊥)
-        → flying_of (is_in_flight round (c ∷ [])) round ≡ None
-    flies_not c round other =
-        ap (λ (b : Bool). flying_of (is_some (cond {A = Option FlightCopy} b (Some c) None)) round)
-        (ne_eqb c.round round other)
-
-    twice : (x y : Option EventFault) → (y ≡ x) ⊎ (y ≡ None) → or_else x y ≡ x
-    twice None y same = elim same [ inl is ↦ is | inr is ↦ is ]
-    twice (Some why) y same = refl
-
-    with_one : (c : FlightCopy) → (count ≤ c.round + 1) × (c.round ≤ count) → Same (c ∷ [])
-    with_one c near_it =
-        let x = copy_past run w time number c in
-        let first = flying_of (is_in_flight (count - 1) (c ∷ [])) (count - 1) in
-        let second = flying_of (is_in_flight count (c ∷ [])) count in
-        or_none x
-        ∙ sym (elim (cases_eq c.round (count - 1)) [
-          | inl before ↦
-              ap (λ (o : Option EventFault). or_else o second) (flies_here c (count - 1) before)
-              ∙ twice x second (elim (cases_eq c.round count)
-              [ inl same ↦ inl (flies_here c count same) | inr other ↦ inr (flies_not c count other) ])
-          | inr not_before ↦
-              let low = near_it.0 in
-              let high = near_it.1 in
-              ap (λ (o : Option EventFault). or_else o second) (flies_not c (count - 1) not_before)
-              ∙ flies_here c count (elim (cases_eq c.round count)
-              [ inl same ↦ same | inr other ↦ absurd (not_before (omega arith)) ])
-        ])
-
-    link_past_is : link_past run w time number
-        ≡ or_else (flying_past run w time number (count - 1)) (flying_past run w time number count)
-    link_past_is = elim (single flight refl) [
-      | inl none ↦ subst Same (sym none) refl
-      | inr one ↦
-          let c = one.0 in
-          let flies : is_in_flight c.round flight ≡ true =
-          flies_by c.round (c ∷ []) one.1
-          (let counted : copies c.round (c ∷ []) ≡ 1 + copies c.round [] = count_first c.round c [] refl in
-          omega arith) in
-          subst Same (sym one.1) (with_one c (near c.round flies))
-    ]
-
-    -- of the two rounds the first is past its time, or the other tells
-    pub first_is_past : (before : ℕ) (why : EventFault) → before ≡ count - 1
-        → flying_past run w time number before ≡ Some why
-        → Some why ≡ link_past run w time number
-    first_is_past before why is past_it =
-        has_found _ (flying_past run w time number (count - 1)) (flying_past run w time number count) why link_past_is
-        (sym (ap (flying_past run w time number) is) ∙ past_it)
-
-    pub first_is_not : (before : ℕ) → before ≡ count - 1 → flying_past run w time number before ≡ None
-        → flying_past run w time number count ≡ link_past run w time number
-    first_is_not before is none =
-        sym (goes_past _ (flying_past run w time number (count - 1)) (flying_past run w time number count) link_past_is
-        (sym (ap (flying_past run w time number) is) ∙ none))

@@ -2,17 +2,18 @@
 use Rattle.std.proofs.Common.{◌≡◌, ℕ, zero, suc, Bool, true, not, cond, List, ◌∷◌, length, map, Option, Some, None}
 use Rattle.std.proofs.Common.{refl, sym, ap, ◌∙◌}
 use Rattle.std.specs.Prelude.{replicate, IfSome}
-use Rattle.pals_base.specs.StepSequences.{upwards}
+use Rattle.pals_base.specs.UpwardNumbers.{upwards}
 use Rattle.pals_model.specs.declared.design.DesignParts.{DesignParts}
 use Rattle.pals_runs.specs.declared.journal.Arrived.TheVariants.{Kept, Ignored, Early}
 use Rattle.pals_runs.specs.declared.journal.JournalEntry.{JournalEntry}
 use Rattle.pals_runs.specs.declared.journal.JournalEntry.TheVariants as entry
 use Rattle.pals_runs.specs.declared.verdicts.TraceRule.TheVariants as rule
 use Rattle.bus_machine.specs.Nodes.{NodeState}
-use Rattle.bus_machine.specs.States.{Run, BusState, opening}
+use Rattle.bus_machine.specs.States.{BusState, opening}
+use Rattle.bus_machine.specs.Runs.{Run}
 use Rattle.bus_machine.specs.Machine.{BusEvent, after}
 use Rattle.run_laws.specs.EntriesOfDesigns.{IsEntryIn}
-use Rattle.run_laws.specs.EntriesInLines.{event_of, has_reading, timed}
+use Rattle.run_laws.specs.EntryEventsAndReadings.{event_of, has_reading, timed}
 use Rattle.run_laws.specs.TraceRules.{broken, is_line_of}
 use Rattle.run_laws.specs.TraceVerdicts.{Audit, audit_after, audit_event, line_broken, noted}
 use Rattle.trace_audit.specs.proof.OwedStops.{owed_by}

@@ -9,10 +9,11 @@ use Rattle.pals_runs.specs.declared.journal.JournalEntry.{JournalEntry}
 use Rattle.pals_runs.specs.JournalLines.{entry_line}
 use Rattle.pals_runs.specs.declared.verdicts.TraceRule.{TraceRule}
 use Rattle.pals_runs.specs.declared.verdicts.TraceRule.TheVariants as rule
-use Rattle.bus_machine.specs.States.{Run, BusState}
+use Rattle.bus_machine.specs.States.{BusState}
+use Rattle.bus_machine.specs.Runs.{Run}
 use Rattle.bus_machine.specs.Machine.{BusEvent, is_allowed}
 use Rattle.bus_machine.specs.Replay.{entries}
-use Rattle.run_laws.specs.EntriesInLines.{timed, event_of}
+use Rattle.run_laws.specs.EntryEventsAndReadings.{timed, event_of}
 use Rattle.run_laws.specs.TraceRules.{broken, falls, first_entry, fits, is_in_order, is_line_of, tells_stop, too_early}
 use Rattle.run_laws.specs.TraceRules.{waits}
 use Rattle.trace_audit.specs.proof.FirstBrokenRule.{first_rule}

@@ -12,3 +12,4 @@ pub mod ReportRows
 pub mod JournalVerdicts
 pub mod SpelledNumerals
 pub mod FirstWords
+pub mod StepOrder

@@ -20,12 +20,13 @@ use Rattle.pals_runs.specs.declared.journal.JournalEntry.TheVariants as entry
 use Rattle.pals_runs.specs.JournalLines.{entry_line}
 use Rattle.bus_machine.specs.Plans.{plan_of}
 use Rattle.bus_machine.specs.NodeEvents.{missing}
-use Rattle.bus_machine.specs.States.{Run, BusState, node_at}
+use Rattle.bus_machine.specs.States.{BusState, node_at}
+use Rattle.bus_machine.specs.Runs.{Run}
 use Rattle.bus_machine.specs.MissedStarts.{link_into, missing_link}
 use Rattle.bus_machine.specs.Machine.{Start, missed_stop}
 use Rattle.bus_machine.specs.Replay.{start_entry}
 use Rattle.run_laws.specs.EntriesOfDesigns.{IsEntryIn, IsReading}
-use Rattle.run_laws.specs.EntriesInLines.{event_of}
+use Rattle.run_laws.specs.EntryEventsAndReadings.{event_of}
 use Rattle.run_laws.specs.TraceRules.{is_line_of}
 use Rattle.run_laws.proofs.EntryLines.{lines_differ}
 

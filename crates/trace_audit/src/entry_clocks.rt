@@ -1,9 +1,9 @@
 //! The clock that an entry reads.
 ghost use Rattle.std.specs.Prelude.{◌≡◌, ◌<◌, length, option_map, IfSome};
-ghost use Rattle.run_laws.specs.EntriesInLines.{timed, has_reading};
+ghost use Rattle.run_laws.specs.EntryEventsAndReadings.{timed, has_reading};
 ghost use Rattle.run_laws.specs.TraceRules.{falls};
 ghost use Rattle.run_laws.specs.TraceVerdicts.{noted};
-ghost use Rattle.bus_machine.specs.States.{link_at};
+ghost use Rattle.bus_machine.specs.Plans.{link_at};
 ghost use Rattle.run_laws.specs.EntriesOfDesigns.{IsEntryIn};
 ghost use Rattle.trace_audit.specs.proof.EntryClocks.{timed_of, read_at};
 

@@ -3,7 +3,7 @@ ghost use Rattle.std.specs.Prelude.{◌≡◌, ◌<◌, length, Some, None, Ok, 
 ghost use Rattle.pals_runs.specs.declared.journal.Stop.TheVariants as stop;
 ghost use Rattle.pals_runs.specs.declared.journal.JournalEntry.TheVariants as entry;
 ghost use Rattle.run_laws.specs.EntriesOfDesigns.{IsEntryIn};
-ghost use Rattle.run_laws.specs.EntriesInLines.{has_reading, timed};
+ghost use Rattle.run_laws.specs.EntryEventsAndReadings.{has_reading, timed};
 ghost use Rattle.run_laws.specs.TraceRules.{broken};
 ghost use Rattle.trace_audit.specs.proof.ToldEvents.{IsReady, IsRedone};
 

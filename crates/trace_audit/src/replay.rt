@@ -2,7 +2,7 @@
 ghost use Rattle.std.specs.Prelude.{◌≡◌, ◌<◌, Option, Some, None, Ok, false, IfOk, IfSome};
 ghost use Rattle.bus_machine.specs.States.{opening};
 ghost use Rattle.run_laws.specs.EntriesOfDesigns.{IsEntryIn};
-ghost use Rattle.run_laws.specs.EntriesInLines.{has_reading};
+ghost use Rattle.run_laws.specs.EntryEventsAndReadings.{has_reading};
 ghost use Rattle.run_laws.specs.TraceVerdicts.{opening_audit, line_broken};
 ghost use Rattle.trace_audit.specs.proof.OwedStops.{owed_by};
 ghost use Rattle.trace_audit.specs.proof.AuditReplays.{IsReplay, Follows, IsClockOf, audit_in};

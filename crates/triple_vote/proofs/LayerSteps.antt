@@ -7,7 +7,8 @@ use Rattle.list_lemmas.proofs.ElementPositions.{slice_get-map_some, slice_get-ma
 use Rattle.pals_base.specs.declared.values.PortValue.{PortValue}
 use Rattle.pals_base.specs.declared.frames.Frame.{Frame}
 use Rattle.pals_base.specs.PeriodBound.{sent_steps}
-use Rattle.pals_base.specs.StepSequences.{frame_after, outputs, upwards}
+use Rattle.pals_base.specs.StepSequences.{frame_after, outputs}
+use Rattle.pals_base.specs.UpwardNumbers.{upwards}
 use Rattle.pals_base.proofs.UpwardNumbers.{length-upwards}
 use Rattle.pals_model.specs.declared.design.Component.{Component}
 use Rattle.pals_model.specs.declared.design.DesignParts.{DesignParts}

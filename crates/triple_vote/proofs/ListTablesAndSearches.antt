@@ -2,7 +2,7 @@
 use Rattle.std.proofs.Common.{◌≡◌, ◌∙◌, ℕ, suc, ◌<◌, Bool, true, false, cond, List, [], ◌∷◌, length, map, get_or, Some}
 use Rattle.std.proofs.Common.{find, Contains, refl, sym, ap, arith}
 use Rattle.std.proofs.lemmas.List.{length-map, ext_get_or}
-use Rattle.pals_base.specs.StepSequences.{upwards}
+use Rattle.pals_base.specs.UpwardNumbers.{upwards}
 use Rattle.pals_base.proofs.UpwardNumbers.{length-upwards, get_or-map_upwards}
 
 -- a list whose elements are those

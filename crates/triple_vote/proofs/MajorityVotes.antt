@@ -1,11 +1,10 @@
 -- In a vote of three, a value that two agree on wins, and nothing does where all differ.
-use Rattle.std.proofs.Common.{◌≡◌, ◌≢◌, ◌∙◌, ◌||◌, Bool, true, false, if◌then◌else◌, List, [], ◌∷◌, length, refl, ap}
-use Rattle.std.proofs.Common.{ap₂, arith}
+use Rattle.std.proofs.Common.{◌≡◌, ◌≢◌, ◌∙◌, ◌||◌, Bool, true, false, if◌then◌else◌, refl, ap, ap₂}
 use Rattle.std.proofs.lemmas.Bool.{or_left, or_right, or_from, false_from_ne_true}
 use Rattle.std.proofs.lemmas.Bool.Decides.{Decides-int_eq}
 use Rattle.pals_base.specs.declared.values.PortValue.{PortValue}
 use Rattle.pals_base.specs.declared.values.PortValue.TheVariants.{Absent, Present}
-use Rattle.triple_vote.specs.Votes.{same_port, vote, votes}
+use Rattle.triple_vote.specs.Votes.{same_port, vote}
 use Rattle.triple_vote.specs.proof.VoteLaws.{VotesOfThree}
 
 -- ---- ports
@@ -46,23 +45,3 @@ vote-no_two x y z a b c =
 pub two_of_three_win : VotesOfThree
 two_of_three_win =
     record { first_two = vote-first_two; outer_two = vote-outer_two; last_two = vote-last_two; no_two = vote-no_two }
-
--- ---- tuples
-pub votes-first_two : (m z : List PortValue) → length z ≡ length m → votes m m z ≡ m
-votes-first_two [] z same = refl
-votes-first_two (x ∷ m) [] same = absurd (omega arith)
-votes-first_two (x ∷ m) (z ∷ zs) same =
-    ap₂ (λ p (ps : List PortValue). p ∷ ps) (vote-first_two x z) (votes-first_two m zs (omega arith))
-
-pub votes-outer_two : (m y : List PortValue) → length y ≡ length m → votes m y m ≡ m
-votes-outer_two [] y same = refl
-votes-outer_two (x ∷ m) [] same = absurd (omega arith)
-votes-outer_two (x ∷ m) (y ∷ ys) same =
-    ap₂ (λ p (ps : List PortValue). p ∷ ps) (vote-outer_two x y) (votes-outer_two m ys (omega arith))
-
-pub votes-last_two : (m x : List PortValue) → length x ≡ length m → votes x m m ≡ m
-votes-last_two [] [] same = refl
-votes-last_two [] (x ∷ xs) same = absurd (omega arith)
-votes-last_two (y ∷ m) [] same = absurd (omega arith)
-votes-last_two (y ∷ m) (x ∷ xs) same =
-    ap₂ (λ p (ps : List PortValue). p ∷ ps) (vote-last_two x y) (votes-last_two m xs (omega arith))

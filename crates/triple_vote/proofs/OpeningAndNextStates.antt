@@ -14,7 +14,7 @@ use Rattle.pals_model.specs.declared.design.Tap.{Tap}
 use Rattle.pals_model.specs.declared.design.DesignParts.{DesignParts}
 use Rattle.pals_model.specs.declared.part.Part.{Part}
 use Rattle.pals_model.specs.declared.port_sources.PortSource.{PortSource}
-use Rattle.pals_model.specs.ComponentInputs.{rate_of}
+use Rattle.pals_model.specs.PortKinds.{rate_of}
 use Rattle.pals_model.specs.Composition.{no_frame, opening}
 use Rattle.pals_model.specs.DesignRules.{IsDesign}
 use Rattle.pals_model.proofs.ShapeLaws.{component_at}
@@ -30,7 +30,8 @@ use Rattle.triple_vote.specs.proof.VotedStates.{VotedState, voted_begun, voted_a
 use Rattle.triple_vote.specs.proof.ReplicaLayers.{lengths, frame_sizes, tap_sizes}
 use Rattle.triple_vote.specs.proof.ThreeLayers.{there_in, parts_in, frame_of, tuple_of, voted_of, AreThree}
 use Rattle.triple_vote.specs.proof.ThreeLayers.{HaveReplicas, AreOpened, StayPut, AreMade, AllReceived, AreShown}
-use Rattle.triple_vote.specs.proof.ThreeLayers.{AreTurned, AreHeard, HasTables, HasReplicas}
+use Rattle.triple_vote.specs.proof.ThreeLayers.{AreTurned, AreHeard}
+use Rattle.triple_vote.specs.proof.ProductInvariant.{HasTables, HasReplicas}
 use Rattle.triple_vote.proofs.ReplicaRounds.{replica_at, receiver_at}
 use Rattle.triple_vote.proofs.LayerUpdates.{room_at}
 use Rattle.triple_vote.proofs.VotedRounds.{replicas-same, receivers-same, within_three, voted_is, shown_is}

@@ -5,14 +5,17 @@ use Rattle.std.proofs.lemmas.Option.{slice_get_within}
 use Rattle.pals_base.specs.declared.values.PortValue.{PortValue}
 use Rattle.pals_base.specs.declared.frames.Frame.{Frame}
 use Rattle.pals_base.specs.PeriodBound.{sent_steps}
-use Rattle.pals_base.specs.StepSequences.{steps, cut, upwards, Stepped}
+use Rattle.pals_base.specs.StepSequences.{steps, Stepped}
+use Rattle.pals_base.specs.Tuples.{cut}
+use Rattle.pals_base.specs.UpwardNumbers.{upwards}
 use Rattle.pals_base.proofs.UpwardNumbers.{get_or-map_upwards}
 use Rattle.pals_model.specs.declared.design.Component.{Component}
 use Rattle.pals_model.specs.declared.design.Link.{Link}
 use Rattle.pals_model.specs.declared.design.Tap.{Tap}
 use Rattle.pals_model.specs.declared.design.DesignParts.{DesignParts}
 use Rattle.pals_model.specs.declared.environment.Env.{Env}
-use Rattle.pals_model.specs.ComponentInputs.{rate_of, rate_in, values_at, feed, inputs_in}
+use Rattle.pals_model.specs.ComponentInputs.{values_at, feed, inputs_in}
+use Rattle.pals_model.specs.PortKinds.{rate_of, rate_in}
 use Rattle.pals_model.specs.Composition.{no_frame, comp, state, msg, steps_of_round, tuple_in, tuple_of}
 use Rattle.pals_model.specs.DesignRules.{IsDesign, IsLink, IsTap}
 use Rattle.pals_model.specs.proof.CompositionLaws.{own_steps}
@@ -26,7 +29,7 @@ use Rattle.triple_vote.specs.Replicas.{is_replicated, copies_of, receivers_in, V
 use Rattle.triple_vote.specs.Replicas.{for_replicas, for_receivers, first_frame, first_tuple, voted_opening, steps_in}
 use Rattle.triple_vote.specs.Replicas.{replica_steps, tuple_at, is_fault, fault_or, own_message, sent_to, vote_of}
 use Rattle.triple_vote.specs.Replicas.{receives_on, vnext, voted_composition, vshown_by, vshown}
-use Rattle.triple_vote.proofs.MajorityVotes.{votes-first_two}
+use Rattle.triple_vote.proofs.TupleVotes.{votes-first_two}
 use Rattle.triple_vote.proofs.ReplicaInputs.{same_inputs}
 
 -- ---- the places of the lists

@@ -7,11 +7,11 @@ use Rattle.std.proofs.lemmas.Option.{slice_get_cases}
 use Rattle.list_lemmas.proofs.ElementPositions.{slice_get-map_some}
 use Rattle.pals_base.specs.declared.values.PortValue.{PortValue}
 use Rattle.pals_base.specs.PeriodBound.{sent_steps}
-use Rattle.pals_base.specs.StepSequences.{column, cut}
-use Rattle.pals_base.proofs.StepSequences.{length-cut}
+use Rattle.pals_base.specs.Tuples.{column, cut}
+use Rattle.pals_base.proofs.ColumnsAndCutTuples.{length-cut}
 use Rattle.pals_model.specs.declared.design.Component.{Component}
 use Rattle.pals_model.specs.declared.design.DesignParts.{DesignParts}
-use Rattle.pals_model.specs.ComponentInputs.{rate_of, rate_in}
+use Rattle.pals_model.specs.PortKinds.{rate_of, rate_in}
 use Rattle.sync_product.specs.declared.component_stage.Stage.{Stage}
 use Rattle.sync_product.specs.proof.ProductSizes.{StageSize, stage_size, stage_size_of, stage_sizes}
 use Rattle.sync_product.proofs.PortColumns.{length-column}

@@ -1,11 +1,12 @@
 -- The votes of tuples, place by place.
 use Rattle.std.proofs.Common.{◌≡◌, ◌∙◌, inl, inr, ℕ, zero, suc, ◌+◌, ◌<◌, ◌≤◌, List, [], ◌∷◌, length, get_or, slice_set}
-use Rattle.std.proofs.Common.{refl, sym, ap, arith, eq-or-lt_of_le}
+use Rattle.std.proofs.Common.{refl, sym, ap, arith, eq-or-lt_of_le, ap₂}
 use Rattle.std.proofs.lemmas.List.{get_or-set_other, ext_get_or}
 use Rattle.std.proofs.lemmas.Grind.{get_or-set_at}
 use Rattle.pals_base.specs.declared.values.PortValue.{PortValue}
 use Rattle.pals_base.specs.declared.values.PortValue.TheVariants.{Absent}
 use Rattle.triple_vote.specs.Votes.{vote, votes}
+use Rattle.triple_vote.proofs.MajorityVotes.{vote-first_two, vote-last_two, vote-outer_two}
 
 pub length-votes : (x y z : List PortValue) → length y ≡ length x → length z ≡ length x
     → length (votes x y z) ≡ length x
@@ -46,3 +47,24 @@ pub voted_all : (to x y z : List PortValue) (at : ℕ) → length to ≡ length 
 voted_all to x y z at same_to same_y same_z past voted =
     ext_get_or Absent to (votes x y z) (same_to ∙ sym (length-votes x y z same_y same_z))
     (λ k within. voted k (omega (arith, within, same_to, past)))
+
+pub votes-first_two : (m z : List PortValue) → length z ≡ length m → votes m m z ≡ m
+votes-first_two [] z same = refl
+votes-first_two (x ∷ m) [] same = absurd (omega arith)
+votes-first_two (x ∷ m) (z ∷ zs) same =
+    ap₂ (λ p (ps : List PortValue). p ∷ ps) (vote-first_two x z) (votes-first_two m zs (omega arith))
+
+
+pub votes-outer_two : (m y : List PortValue) → length y ≡ length m → votes m y m ≡ m
+votes-outer_two [] y same = refl
+votes-outer_two (x ∷ m) [] same = absurd (omega arith)
+votes-outer_two (x ∷ m) (y ∷ ys) same =
+    ap₂ (λ p (ps : List PortValue). p ∷ ps) (vote-outer_two x y) (votes-outer_two m ys (omega arith))
+
+
+pub votes-last_two : (m x : List PortValue) → length x ≡ length m → votes x m m ≡ m
+votes-last_two [] [] same = refl
+votes-last_two [] (x ∷ xs) same = absurd (omega arith)
+votes-last_two (y ∷ m) [] same = absurd (omega arith)
+votes-last_two (y ∷ m) (x ∷ xs) same =
+    ap₂ (λ p (ps : List PortValue). p ∷ ps) (vote-last_two x y) (votes-last_two m xs (omega arith))

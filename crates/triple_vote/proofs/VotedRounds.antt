@@ -8,16 +8,18 @@ use Rattle.list_lemmas.proofs.ElementPositions.{slice_get-map_some, get_or-map_s
 use Rattle.pals_base.specs.declared.values.PortValue.{PortValue}
 use Rattle.pals_base.specs.declared.frames.Frame.{Frame}
 use Rattle.pals_base.specs.PeriodBound.{sent_steps}
-use Rattle.pals_base.specs.StepSequences.{column, columns, cut, steps, upwards, Stepped}
-use Rattle.pals_base.proofs.StepSequences.{slice_get-columns}
+use Rattle.pals_base.specs.StepSequences.{steps, Stepped}
+use Rattle.pals_base.specs.Tuples.{column, columns, cut}
+use Rattle.pals_base.specs.UpwardNumbers.{upwards}
+use Rattle.pals_base.proofs.ColumnsAndCutTuples.{slice_get-columns}
 use Rattle.pals_base.proofs.UpwardNumbers.{map_upwards_same}
 use Rattle.pals_model.specs.declared.design.Component.{Component}
 use Rattle.pals_model.specs.declared.design.Link.{Link}
 use Rattle.pals_model.specs.declared.design.Tap.{Tap}
 use Rattle.pals_model.specs.declared.design.DesignParts.{DesignParts}
-use Rattle.pals_model.specs.ComponentInputs.{rate_in, inputs_of}
+use Rattle.pals_model.specs.ComponentInputs.{inputs_of}
+use Rattle.pals_model.specs.PortKinds.{rate_in, outs_in}
 use Rattle.pals_model.specs.Composition.{no_frame}
-use Rattle.pals_model.specs.PortKinds.{outs_in}
 use Rattle.pals_model.specs.DesignRules.{IsDesign, IsLink, IsTap, IsSource}
 use Rattle.pals_model.proofs.FirstMatches.{at_element}
 use Rattle.pals_model.proofs.ShapeLaws.{component_at}

@@ -5,3 +5,4 @@ pub mod CounterVotes
 pub mod ReplicaLayers
 pub mod ThreeLayers
 pub mod FaultTables
+pub mod ProductInvariant

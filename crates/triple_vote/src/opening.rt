@@ -1,7 +1,7 @@
 //! What replicas begin with.
 ghost use Rattle.std.specs.Prelude.{◌≡◌, IfOk, map, replicate};
 ghost use Rattle.pals_base.specs.declared.values.PortValue.TheVariants.{Absent};
-ghost use Rattle.pals_model.specs.ComponentInputs.{rate_of};
+ghost use Rattle.pals_model.specs.PortKinds.{rate_of};
 ghost use Rattle.triple_vote.specs.proof.ReplicaLayers.{opening_part};
 
 use pals_base::tuples::absent;

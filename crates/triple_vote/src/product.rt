@@ -60,7 +60,8 @@ impl Model for VoteProduct {
     ghost coded = { voted_code };
 
     ghost use Rattle.std.specs.Arc.{arc_value};
-    ghost use Rattle.triple_vote.specs.proof.ThreeLayers.{parts_in, voted_of, HasTables, HasReplicas};
+    ghost use Rattle.triple_vote.specs.proof.ThreeLayers.{parts_in, voted_of};
+    ghost use Rattle.triple_vote.specs.proof.ProductInvariant.{HasTables, HasReplicas};
 
     ghost view = { λ p. record {
       design = arc_value p.design;

@@ -11,7 +11,7 @@ use Rattle.pals_base.specs.declared.limits.TheConstants.{COMPONENTS, PATH_BYTES}
 use Rattle.pals_base.specs.Names.{is_path}
 use Rattle.pals_base.specs.AllowedAdaptors.{divides_or_divided, is_allowed, suits_kind}
 use Rattle.pals_base.specs.SingleStep.{fire}
-use Rattle.pals_base.specs.StepSequences.{upwards}
+use Rattle.pals_base.specs.UpwardNumbers.{upwards}
 use Rattle.pals_base.specs.declared.behaviour.Kind.TheVariants.{Integer}
 use Rattle.pals_base.proofs.UpwardNumbers.{length-map_upwards, slice_get-map_upwards, slice_get-upwards}
 use Rattle.pals_model.specs.declared.design.Component.{Component}
@@ -19,8 +19,8 @@ use Rattle.pals_model.specs.declared.design.Link.{Link}
 use Rattle.pals_model.specs.declared.design.Feed.{Feed}
 use Rattle.pals_model.specs.declared.design.Tap.{Tap}
 use Rattle.pals_model.specs.declared.design.DesignParts.{DesignParts}
-use Rattle.pals_model.specs.ComponentInputs.{rate_of, rate_in, feed}
-use Rattle.pals_model.specs.PortKinds.{ins_in, outs_in, in_kind, out_kind}
+use Rattle.pals_model.specs.ComponentInputs.{feed}
+use Rattle.pals_model.specs.PortKinds.{rate_of, rate_in, ins_in, outs_in, in_kind, out_kind}
 use Rattle.pals_model.specs.Composition.{comp, state}
 use Rattle.pals_model.specs.DesignRules.{IsComponent, IsSource, IsTarget, IsLink, IsFeed, IsTap, IsApart, AgreeInKind}
 use Rattle.pals_model.specs.DesignRules.{LinkPrecedes, FeedPrecedes, greatest_rate, IsDesign}

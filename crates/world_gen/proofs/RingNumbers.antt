@@ -17,7 +17,8 @@ use Rattle.pals_base.specs.Actions.{Effect, acts, with_vars}
 use Rattle.pals_base.specs.PlainTrees.{Edge, Emit, Variable, Do, Nothing, Actions}
 use Rattle.pals_base.specs.SingleStep.{Fired, holding, is_present, silence, is_dispatch, is_complete, along, settled}
 use Rattle.pals_base.specs.SingleStep.{dispatched, reaction, unless_halted, fire, initial}
-use Rattle.pals_base.specs.StepSequences.{Stepped, frame_after, steps, upwards}
+use Rattle.pals_base.specs.StepSequences.{Stepped, frame_after, steps}
+use Rattle.pals_base.specs.UpwardNumbers.{upwards}
 use Rattle.pals_base.proofs.RemainderSigns.{modulus_of-is}
 use Rattle.pals_base.proofs.UpwardNumbers.{slice_get-map_upwards, get_or-map_upwards, map_upwards_same}
 use Rattle.pals_model.specs.declared.design.Component.{Component}
@@ -27,9 +28,11 @@ use Rattle.pals_model.specs.Composition.{steps_from, comp, state, no_frame}
 use Rattle.pals_model.specs.declared.design.Link.{Link}
 use Rattle.pals_runs.specs.declared.phase.Phase.{Phase}
 use Rattle.pals_runs.specs.declared.phase.Phase.TheVariants.{Done}
-use Rattle.bus_machine.specs.Nodes.{NodeState, round_of}
-use Rattle.bus_machine.specs.States.{Run, BusState, node_at, link_at, no_link}
-use Rattle.bus_machine.specs.MissedStarts.{sent_rounds, rounds_sent_on}
+use Rattle.bus_machine.specs.Nodes.{NodeState, round_of, sent_rounds}
+use Rattle.bus_machine.specs.States.{BusState, node_at}
+use Rattle.bus_machine.specs.Plans.{link_at, no_link}
+use Rattle.bus_machine.specs.Runs.{Run}
+use Rattle.bus_machine.specs.MissedStarts.{rounds_sent_on}
 use Rattle.bus_machine.specs.Agreement.{IsAtRest, PhaseAgrees, Agrees}
 use Rattle.world_gen.specs.Rings.{number_sum, next_number, ring_actions, ring_edge, ring_behaviour, before_in}
 use Rattle.world_gen.specs.Rings.{ring_component, ring_link, ring, ring_number}

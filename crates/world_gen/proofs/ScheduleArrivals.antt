@@ -13,7 +13,9 @@ use Rattle.pals_runs.specs.declared.events_and_faults.Event.{Event}
 use Rattle.pals_runs.specs.declared.events_and_faults.Event.TheVariants as event
 use Rattle.pals_runs.specs.declared.journal.Arrived.TheVariants.{Kept}
 use Rattle.bus_machine.specs.NodeEvents.{slot_at}
-use Rattle.bus_machine.specs.States.{Run, BusState, node_at, flight_at, link_at}
+use Rattle.bus_machine.specs.States.{BusState, node_at, flight_at}
+use Rattle.bus_machine.specs.Plans.{link_at}
+use Rattle.bus_machine.specs.Runs.{Run}
 use Rattle.bus_machine.specs.MissedStarts.{rounds_sent_on}
 use Rattle.bus_machine.specs.proof.AgreementLaws.{IsRunOf}
 use Rattle.run_laws.specs.Worlds.{World, since_at, ready_at, sendings, flight_since, world_after}

@@ -15,7 +15,8 @@ use Rattle.bus_machine.specs.declared.plan.Plan.{Plan}
 use Rattle.bus_machine.specs.Plans.{plan_of}
 use Rattle.bus_machine.specs.Nodes.{NodeState, round_of}
 use Rattle.bus_machine.specs.NodeEvents.{running_step, may_send}
-use Rattle.bus_machine.specs.States.{Run, node_at, with_node}
+use Rattle.bus_machine.specs.States.{node_at, with_node}
+use Rattle.bus_machine.specs.Runs.{Run}
 use Rattle.bus_machine.specs.proof.AgreementLaws.{IsRunOf}
 use Rattle.run_laws.specs.Worlds.{World, since_at, ready_at, sendings, moved, world_after}
 use Rattle.run_laws.specs.EventFaults.{fault_of}

@@ -14,11 +14,12 @@ use Rattle.pals_runs.specs.declared.events_and_faults.Event.{Event}
 use Rattle.pals_runs.specs.declared.events_and_faults.Event.TheVariants as event
 use Rattle.pals_runs.specs.declared.phase.Phase.{Phase}
 use Rattle.pals_runs.specs.declared.phase.Phase.TheVariants.{Waiting, Running, Between, Holding, Done}
-use Rattle.bus_machine.specs.Plans.{plan_of, component_at}
-use Rattle.bus_machine.specs.Nodes.{NodeState, finished_steps, at_rest}
+use Rattle.bus_machine.specs.Plans.{plan_of, component_at, link_at}
+use Rattle.bus_machine.specs.Nodes.{NodeState, finished_steps, at_rest, sent_rounds}
 use Rattle.bus_machine.specs.NodeEvents.{after_send, may_send}
-use Rattle.bus_machine.specs.States.{Run, node_at, flight_at, link_at}
-use Rattle.bus_machine.specs.MissedStarts.{sent_rounds, rounds_sent_on}
+use Rattle.bus_machine.specs.States.{node_at, flight_at}
+use Rattle.bus_machine.specs.Runs.{Run}
+use Rattle.bus_machine.specs.MissedStarts.{rounds_sent_on}
 use Rattle.bus_machine.specs.Agreement.{PhaseAgrees}
 use Rattle.bus_machine.specs.proof.AgreementLaws.{IsRunOf}
 use Rattle.run_laws.specs.Worlds.{World, since_at, ready_at, sendings, moved, is_held, world_after}

@@ -1,7 +1,7 @@
 -- Lists with an element for each number.
 use Rattle.std.proofs.Common.{◌≡◌, ℕ, ◌+◌, ◌<◌, List, [], ◌∷◌, ◌++◌, map, All, AllPairs, sym, ap, ◌∙◌, subst₂, arith}
 use Rattle.std.proofs.Common.{append_assoc}
-use Rattle.pals_base.specs.StepSequences.{upwards}
+use Rattle.pals_base.specs.UpwardNumbers.{upwards}
 use Rattle.pals_base.proofs.UpwardNumbers.{map_upwards_more, get_or-map_upwards, length-map_upwards, All-map_upwards}
 
 -- what holds of each number, and of each two

@@ -9,17 +9,18 @@ use Rattle.pals_model.specs.declared.flight_copy.FlightCopy.{FlightCopy}
 use Rattle.pals_runs.specs.declared.events_and_faults.Event.{Event}
 use Rattle.pals_runs.specs.declared.phase.Phase.{Phase}
 use Rattle.pals_runs.specs.declared.phase.Phase.TheVariants.{Waiting, Running, Between, Holding, Done}
-use Rattle.bus_machine.specs.Plans.{plan_of}
-use Rattle.bus_machine.specs.Nodes.{NodeState, round_of}
+use Rattle.bus_machine.specs.Plans.{plan_of, link_at}
+use Rattle.bus_machine.specs.Nodes.{NodeState, round_of, sent_rounds}
 use Rattle.bus_machine.specs.NodeEvents.{may_send}
-use Rattle.pals_base.specs.StepSequences.{upwards}
-use Rattle.bus_machine.specs.States.{Run, BusState, node_at, flight_at, link_at, with_node}
-use Rattle.bus_machine.specs.MissedStarts.{sent_rounds, rounds_sent_on}
+use Rattle.pals_base.specs.UpwardNumbers.{upwards}
+use Rattle.bus_machine.specs.States.{BusState, node_at, flight_at, with_node}
+use Rattle.bus_machine.specs.Runs.{Run}
+use Rattle.bus_machine.specs.MissedStarts.{rounds_sent_on}
 use Rattle.bus_machine.proofs.QuantitiesAndSentRounds.{keeps_at}
 use Rattle.run_laws.specs.Worlds.{World, reading_at, since_at, ready_at, sendings, world_after}
-use Rattle.run_laws.specs.EventFaults.{fault_of, IsWithin}
+use Rattle.run_laws.specs.EventFaults.{fault_of}
+use Rattle.run_laws.specs.EventLists.{IsWithin, world_left}
 use Rattle.run_laws.specs.proof.WorldInvariant.{copies, KeepsTime}
-use Rattle.run_laws.specs.EventLists.{world_left}
 use Rattle.world_gen.specs.proof.Schedules.{step_time, finish_time, send_time, arrive_time, step_count, event_of}
 use Rattle.world_gen.specs.proof.Schedules.{all_of}
 use Rattle.run_laws.proofs.LocalWorldChanges.{changed, ChangesAt}

@@ -12,7 +12,7 @@ use Rattle.pals_base.specs.declared.behaviour.PortDecl.{PortDecl}
 use Rattle.pals_base.specs.declared.behaviour.VarDecl.{VarDecl}
 use Rattle.pals_base.specs.declared.behaviour.StateDecl.{StateDecl}
 use Rattle.pals_base.specs.declared.behaviour.BehaviourParts.{BehaviourParts}
-use Rattle.pals_base.specs.StepSequences.{upwards}
+use Rattle.pals_base.specs.UpwardNumbers.{upwards}
 use Rattle.pals_base.specs.PlainTrees.{Expression, Literal, Variable, PortRead, Chain, NoMore, Then, Assign, Emit}
 use Rattle.pals_base.specs.PlainTrees.{Actions, Nothing, Do, Dispatch, Edge}
 use Rattle.pals_model.specs.declared.design.Component.{Component}

@@ -1,6 +1,6 @@
 //! Rings: designs whose components send to one another in a circle.
 ghost use Rattle.std.specs.Prelude.{◌≡◌, ◌<◌, ◌≤◌, map, IfOk};
-ghost use Rattle.pals_base.specs.StepSequences.{upwards};
+ghost use Rattle.pals_base.specs.UpwardNumbers.{upwards};
 ghost use Rattle.pals_base.specs.declared.limits.TheConstants.{COMPONENTS};
 ghost use Rattle.world_gen.specs.Rings.{ring_rate, ring_adaptor, before_in, ring_path, ring_component, ring_link, ring};
 

@@ -1,3 +1,4 @@
 pub mod OnlyMemoryFaults
 pub mod WorldTexts
 pub mod RingSumsAndCodes
+pub mod DoneRings

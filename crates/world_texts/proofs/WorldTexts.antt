@@ -13,14 +13,14 @@ use Rattle.pals_runs.specs.declared.events_and_faults.Event.{Event}
 use Rattle.pals_runs.specs.declared.events_and_faults.Event.TheVariants as event
 use Rattle.pals_runs.specs.declared.events_and_faults.EventFault.{EventFault}
 use Rattle.pals_runs.specs.declared.events_and_faults.EventFault.TheVariants.{BadName}
-use Rattle.bus_machine.specs.States.{Run}
+use Rattle.bus_machine.specs.Runs.{Run}
 use Rattle.bus_machine.specs.Machine.{Start, Step, Finish, Send, Arrive, Drop, Repeat}
 use Rattle.bus_machine.specs.proof.AgreementLaws.{IsRunOf}
 use Rattle.pals_bus.specs.BusValues.{BusValue}
 use Rattle.pals_bus.specs.LooseEvents.{IsNamedIn}
 use Rattle.run_laws.specs.Worlds.{World, reading_at}
-use Rattle.run_laws.specs.EventFaults.{fault_of, event_fault, is_named, IsWithin}
-use Rattle.run_laws.specs.EventLists.{world_left}
+use Rattle.run_laws.specs.EventFaults.{fault_of, event_fault, is_named}
+use Rattle.run_laws.specs.EventLists.{IsWithin, world_left}
 use Rattle.run_laws.proofs.KeptWorldInvariant.{lists_go_right}
 use Rattle.loose_world.specs.proof.FinishedRows.{finished_lines}
 use Rattle.loose_world.specs.LooseRuns.{InTurn, told_by}

@@ -2,11 +2,11 @@
 use Rattle.std.specs.Prelude.{◌≡◌, ℕ, List, take, Some, slice_get}
 use Rattle.pals_runs.specs.declared.events_and_faults.Event.{Event}
 use Rattle.pals_runs.specs.declared.events_and_faults.EventFault.{EventFault}
-use Rattle.bus_machine.specs.States.{Run}
+use Rattle.bus_machine.specs.Runs.{Run}
 use Rattle.bus_machine.specs.WorldTexts.{worldtext}
 use Rattle.run_laws.specs.Worlds.{opening_world}
-use Rattle.run_laws.specs.EventFaults.{fault_of, IsWithin}
-use Rattle.run_laws.specs.EventLists.{GoRight, world_left}
+use Rattle.run_laws.specs.EventFaults.{fault_of}
+use Rattle.run_laws.specs.EventLists.{IsWithin, GoRight, world_left}
 
 -- ---- from the opening of a run on
 -- the events are within the bounds, and so they go right; the text is that of their world

@@ -1,7 +1,7 @@
 -- The number of things with a property, counted up to a limit.
 use Rattle.std.specs.Prelude.{◌≡◌, ℕ, min, List, [], ◌∷◌, length}
 use Rattle.std.specs.List.{AllByRecursion}
-use Rattle.aadl_uses.specs.proof.MarkedPathCounts.{Among}
+use Rattle.aadl_uses.specs.proof.OrderedLists.{Among}
 
 abbrev pub Distinct : {X : Type 0} → List X → Type 0
 Distinct [] = Unit {0}

@@ -1,11 +1,10 @@
 -- What is known of connections where lines 2 and 4 of the rules find nothing: in what is in use at most one goes
 -- into each port, each ends where it may, and threads have none.
-use Rattle.std.specs.Prelude.{◌≡◌, ℕ, true, List, Some, slice_get}
+use Rattle.std.specs.Prelude.{◌≡◌, ℕ, true, Some, slice_get}
 use Rattle.aadl_tree.specs.Declarations.{Connection, Implementation, PackageTree}
 use Rattle.aadl_names.specs.declared.port_place.PortPlace.{PortPlace}
 use Rattle.aadl_names.specs.ReferenceResolution.{implementation_at, is_thread, site}
 use Rattle.aadl_uses.specs.Uses.{IsInUse}
-use Rattle.aadl_chains.specs.Chains.{Port, Place, Leads, IsStart}
 use Rattle.aadl_chains.specs.proof.DeclaredEnds.{MayEnter}
 
 pub record IsSound (tree : PackageTree ℕ) (root : ℕ) : Type 0 where
@@ -21,10 +20,3 @@ pub record IsSound (tree : PackageTree ℕ) (root : ℕ) : Type 0 where
       → site tree component x.target ≡ Some target → MayEnter tree n target
   pub threads : (n i : ℕ) (component : Implementation ℕ) (x : Connection ℕ) → implementation_at tree n ≡ Some component
       → is_thread component.category ≡ true → slice_get component.connections i ≡ Some x → ⊥
-
--- Connections lead from here to the end, and each chain to the end comes through here.
-pub record Passes (tree : PackageTree ℕ) (root : ℕ) (here end : Port) : Type 0 where
-  pub chain : List Place
-  pub leads : Leads tree root chain here end
-  pub through : (cs : List Place) (from : Port) → IsStart tree root from → Leads tree root cs from end
-      → (bs : List Place) × Leads tree root bs from here

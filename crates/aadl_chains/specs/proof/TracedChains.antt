@@ -53,3 +53,10 @@ pub record IsTapRoute (tree : PackageTree ℕ) (root : ℕ) (to : Port) (route :
 abbrev pub TracesTap : PackageTree ℕ → ℕ → Port → Option ChainRoute → Type 0
 TracesTap tree root to None = (ends : Ends) → IsTap tree root ends → ends.to ≡ to → ⊥
 TracesTap tree root to (Some route) = IsTapRoute tree root to route
+
+-- Connections lead from here to the end, and each chain to the end comes through here.
+pub record Passes (tree : PackageTree ℕ) (root : ℕ) (here end : Port) : Type 0 where
+  pub chain : List Place
+  pub leads : Leads tree root chain here end
+  pub through : (cs : List Place) (from : Port) → IsStart tree root from → Leads tree root cs from end
+      → (bs : List Place) × Leads tree root bs from here

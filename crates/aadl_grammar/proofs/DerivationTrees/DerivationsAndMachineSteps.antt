@@ -13,7 +13,7 @@ use Rattle.aadl_grammar.proofs.DerivationTrees.ForbiddenFollowerMembership.{amon
 use Rattle.aadl_grammar.proofs.DerivationTrees.ForbiddenFollowerMembership.{firsts_in_tail, clear_behind}
 use Rattle.std.specs.Cmp.{first_so, second_so}
 use Rattle.std.proofs.lemmas.Option.{same_Some}
-use Rattle.aadl_grammar.proofs.HeadsAndTails.{not_both}
+use Rattle.aadl_grammar.proofs.KeywordListMembership.{not_both}
 
 -- the row is one of these
 abbrev pub Member : Row → List Row → Type 0

@@ -8,7 +8,7 @@ use Rattle.aadl_grammar.specs.proof.StackMachine.{Stack, class_number}
 use Rattle.aadl_grammar.proofs.DerivationTrees.ForbiddenFollowers.{among, firsts, first_of, nullable, tail, apart}
 use Rattle.aadl_grammar.proofs.DerivationTrees.ForbiddenFollowers.{covers, settled, omits_settled, settled_omits}
 use Rattle.std.specs.Cmp.{first_so, second_so}
-use Rattle.aadl_grammar.proofs.HeadsAndTails.{not_both}
+use Rattle.aadl_grammar.proofs.KeywordListMembership.{not_both}
 
 pub among_left : (n : ℕ) (cs ds : List Class) → among n cs ≡ true → among n (cs ++ ds) ≡ true
 among_left n [] ds e = cc

@@ -1,11 +1,11 @@
 -- A list of terminals spells at most one tree of a symbol. For the claim `a_text_has_one_tree`.
 use Rattle.std.proofs.Common.{◌≡◌, Bool, true, false, ◌∙◌, sym, ap, ap₂, subst, refl, List, [], ◌∷◌, ◌++◌, inl, inr}
-use Rattle.std.proofs.Common.{not, ◌==◌, eq-eqb}
+use Rattle.std.proofs.Common.{not, ◌==◌, eq-eqb, ℕ}
 use Rattle.aadl_tree.specs.Terminals.{Kind}
-use Rattle.aadl_tree.specs.SpellingParts.{Spells}
+use Rattle.aadl_tree.specs.SpellingParts.{Spells, kept}
 use Rattle.aadl_grammar.specs.proof.GrammarSymbols.{Symbol, Row}
 use Rattle.aadl_grammar.specs.proof.ParseTable.{rows, can_omit}
-use Rattle.aadl_grammar.specs.proof.StackMachine.{Stack, class_number, kind_number}
+use Rattle.aadl_grammar.specs.proof.StackMachine.{Stack, class_number, kind_number, whole_package, annex_body}
 use Rattle.aadl_grammar.proofs.DerivationTrees.ForbiddenFollowers.{among, firsts, distinct, distinct_firsts}
 use Rattle.aadl_grammar.proofs.DerivationTrees.ForbiddenFollowerMembership.{Clear, firsts_in_tail}
 use Rattle.aadl_grammar.proofs.DerivationTrees.DerivationsAndMachineSteps.{Member, begins, clear_taken}
@@ -18,7 +18,16 @@ use Rattle.aadl_grammar.proofs.ProductionCompleteness.AllSymbols.{Omitted, Opene
 use Rattle.aadl_grammar.proofs.DerivationTrees.DerivedTrees.{never_nil, derives}
 use Rattle.std.proofs.lemmas.Bool.{or_left, or_right}
 use Rattle.std.specs.Cmp.{first_so, second_so}
-use Rattle.aadl_grammar.proofs.HeadsAndTails.{not_both, heads, tails}
+use Rattle.aadl_grammar.proofs.HeadsAndTails.{heads, tails}
+use Rattle.aadl_grammar.proofs.KeywordListMembership.{not_both}
+use Rattle.aadl_tree.specs.Annexes.{AnnexTree, annex_tree_parts}
+use Rattle.aadl_tree.specs.Declarations.{PackageTree, package_parts}
+use Rattle.aadl_grammar.proofs.PlaceIndependence.AlikeParts.{alike_spells, alike_kept}
+use Rattle.aadl_tree.specs.proof.PlaceMaps.{annex_tree_to, package_to}
+use Rattle.aadl_grammar.proofs.PlaceIndependence.Annexes.{annex_tree_alike}
+use Rattle.aadl_grammar.proofs.PlaceIndependence.Declarations.{package_alike}
+use Rattle.aadl_grammar.proofs.Fates.GrammarLanguages.{body_clear, body_of, body_trees, nowhere, package_clear}
+use Rattle.aadl_grammar.proofs.Fates.GrammarLanguages.{package_trees}
 
 abbrev Spelled : (wanted : Stack) → Trees wanted → List Kind → Type 0
 Spelled wanted ts ks = Spells (parts_all wanted ts) ks []
@@ -169,3 +178,33 @@ one (kind ∷ ks) wanted c ts us sp sq =
     let same = sym (tails kind other ks more e) in
     one ks later d v w (subst (λ (l : List Kind). Spelled later v l) same h)
     (subst (λ (l : List Kind). Spelled later w l) same g)) wanted c ts us sp sq
+
+pub one_package : (ks : List Kind) (t u : PackageTree (Unit {0})) → Spells (package_parts t) ks []
+    → Spells (package_parts u) ks [] → t ≡ u
+one_package ks t u sp sq =
+    ap (λ (x : Trees whole_package). x.0) (one ks whole_package package_clear (package_trees t) (package_trees u) sp sq)
+
+
+pub one_behaviour : (ks : List Kind) (t u : AnnexTree (Unit {0})) → Spells (annex_tree_parts t) ks []
+    → Spells (annex_tree_parts u) ks [] → t ≡ u
+one_behaviour ks t u sp sq = ap body_of (one ks annex_body body_clear (body_trees t) (body_trees u) sp sq)
+
+
+pub package_kept : (ks : List Kind) (t u : PackageTree ℕ) → Spells (package_parts t) ks []
+    → Spells (package_parts u) ks [] → kept (package_parts t) ≡ kept (package_parts u)
+package_kept ks t u sp sq =
+    let same =
+    one_package ks (package_to nowhere t) (package_to nowhere u) (alike_spells ks [] (package_alike nowhere t) sp)
+    (alike_spells ks [] (package_alike nowhere u) sq) in
+    alike_kept (package_alike nowhere t) ∙ ap (λ (x : PackageTree (Unit {0})). kept (package_parts x)) same
+    ∙ sym (alike_kept (package_alike nowhere u))
+
+
+pub behaviour_kept : (ks : List Kind) (t u : AnnexTree ℕ) → Spells (annex_tree_parts t) ks []
+    → Spells (annex_tree_parts u) ks [] → kept (annex_tree_parts t) ≡ kept (annex_tree_parts u)
+behaviour_kept ks t u sp sq =
+    let same =
+    one_behaviour ks (annex_tree_to nowhere t) (annex_tree_to nowhere u)
+    (alike_spells ks [] (annex_tree_alike nowhere t) sp) (alike_spells ks [] (annex_tree_alike nowhere u) sq) in
+    alike_kept (annex_tree_alike nowhere t) ∙ ap (λ (x : AnnexTree (Unit {0})). kept (annex_tree_parts x)) same
+    ∙ sym (alike_kept (annex_tree_alike nowhere u))

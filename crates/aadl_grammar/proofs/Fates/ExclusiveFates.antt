@@ -3,7 +3,8 @@
 use Rattle.std.proofs.Common.{◌≡◌, ℕ, ◌∙◌, sym, ap, subst, refl, List, [], ◌∷◌, ◌++◌, arith, append_assoc}
 use Rattle.std.proofs.lemmas.List.{append-nil, map-append}
 use Rattle.aadl_tree.specs.Terminals.{Kind, Spot, kinds_of}
-use Rattle.aadl_tree.specs.LanguagesAndNesting.{Begins, nesting, IsShallow, IsStuck, place, FailsAt, DeepAt}
+use Rattle.aadl_tree.specs.LanguagesAndNesting.{nesting, IsShallow}
+use Rattle.aadl_tree.specs.TerminalFaults.{Begins, IsStuck, place, FailsAt, DeepAt}
 use Rattle.aadl_grammar.proofs.HeadsAndTails.{heads, tails}
 
 kinds_append : (a b : List Spot) → kinds_of (a ++ b) ≡ kinds_of a ++ kinds_of b

@@ -7,8 +7,8 @@ use Rattle.std.proofs.lemmas.Bool.{true≢false}
 use Rattle.aadl_tree.specs.declared.nesting_limit.TheConstants.{GREATEST_NESTING}
 use Rattle.aadl_tree.specs.declared.mark.Mark.TheVariants as k
 use Rattle.aadl_tree.specs.Terminals.{Kind, word, whole, real, quoted, unread, mark, other, Spot, kinds_of}
-use Rattle.aadl_tree.specs.LanguagesAndNesting.{Begins, opened, is_end, nesting_from, nesting, IsShallow, IsStuck}
-use Rattle.aadl_tree.specs.LanguagesAndNesting.{FailsAt, DeepAt}
+use Rattle.aadl_tree.specs.LanguagesAndNesting.{opened, is_end, nesting_from, nesting, IsShallow}
+use Rattle.aadl_tree.specs.TerminalFaults.{Begins, IsStuck, FailsAt, DeepAt}
 use Rattle.aadl_grammar.specs.proof.StackMachine.{Stack, depth, Fate, finished, syntax_at, deep_at, fate}
 use Rattle.aadl_grammar.proofs.DerivationTrees.ForbiddenFollowerMembership.{Clear}
 use Rattle.aadl_grammar.proofs.DerivationTrees.DerivationsAndMachineSteps.{Derives, steps, derived_ends, ends_derived}

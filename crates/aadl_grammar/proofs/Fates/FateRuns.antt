@@ -5,7 +5,7 @@ use Rattle.std.specs.Prelude.{nat_lt}
 use Rattle.std.proofs.lemmas.Bool as bool
 use Rattle.aadl_tree.specs.declared.nesting_limit.TheConstants.{GREATEST_NESTING}
 use Rattle.aadl_tree.specs.Terminals.{Spot, kinds_of}
-use Rattle.aadl_tree.specs.LanguagesAndNesting.{place}
+use Rattle.aadl_tree.specs.TerminalFaults.{place}
 use Rattle.aadl_grammar.specs.proof.StackMachine.{Stack, step, ends, depth, Fate, finished, syntax_at, deep_at}
 use Rattle.aadl_grammar.specs.proof.StackMachine.{fate_after, fate}
 use Rattle.aadl_grammar.proofs.Fates.MachineWalks.{walk, walk_more, Within, within_nothing, within_more}

@@ -6,7 +6,7 @@ use Rattle.std.specs.Prelude.{nat_lt}
 use Rattle.aadl_tree.specs.declared.mark.Mark.{Mark}
 use Rattle.aadl_tree.specs.Terminals.{Kind, mark, Spot}
 use Rattle.aadl_tree.specs.declared.nesting_limit.TheConstants.{GREATEST_NESTING}
-use Rattle.aadl_tree.specs.LanguagesAndNesting.{place}
+use Rattle.aadl_tree.specs.TerminalFaults.{place}
 use Rattle.aadl_grammar.specs.proof.GrammarSymbols.{the, Symbol, Row}
 use Rattle.aadl_grammar.specs.proof.ParseTable.{behind, rows, can_omit}
 use Rattle.aadl_grammar.specs.proof.StackMachine.{Stack, Move, takes, omitted, refuses, kind_number, fits, move_by}

@@ -1,11 +1,10 @@
 -- The two languages of the grammar, packages and bodies of behaviour annexes, each with the stack that the machine
 -- starts from.
-use Rattle.std.proofs.Common.{ℕ, ◌≡◌, ◌∙◌, sym, ap, refl, ◌≤◌, List, [], ◌∷◌, arith}
+use Rattle.std.proofs.Common.{ℕ, ◌≡◌, refl, ◌≤◌, List, [], ◌∷◌, arith}
 use Rattle.aadl_tree.specs.declared.nesting_limit.TheConstants.{GREATEST_NESTING}
 use Rattle.aadl_tree.specs.Terminals.{Kind}
-use Rattle.aadl_tree.specs.SpellingParts.{Spells, kept}
-use Rattle.aadl_tree.specs.Annexes.{AnnexTree, annex_tree_parts}
-use Rattle.aadl_tree.specs.Declarations.{PackageTree, package_parts}
+use Rattle.aadl_tree.specs.Annexes.{AnnexTree}
+use Rattle.aadl_tree.specs.Declarations.{PackageTree}
 use Rattle.aadl_tree.specs.LanguagesAndNesting.{IsPackage, IsBehaviour}
 use Rattle.aadl_grammar.specs.proof.GrammarSymbols as s
 use Rattle.aadl_grammar.specs.proof.StackMachine.{depth, whole_package, annex_body}
@@ -13,11 +12,10 @@ use Rattle.aadl_grammar.proofs.DerivationTrees.ForbiddenFollowers.{first_of, tai
 use Rattle.aadl_grammar.proofs.DerivationTrees.ForbiddenFollowerMembership.{Clear, apart_means}
 use Rattle.aadl_grammar.specs.proof.SymbolTrees.{Trees}
 use Rattle.aadl_grammar.proofs.DerivationTrees.DerivedTrees.{derives, Written, written}
-use Rattle.aadl_grammar.proofs.PlaceIndependence.AlikeParts.{alike_spells, alike_kept}
+use Rattle.aadl_grammar.proofs.PlaceIndependence.AlikeParts.{alike_spells}
 use Rattle.aadl_tree.specs.proof.PlaceMaps.{annex_tree_to, package_to}
 use Rattle.aadl_grammar.proofs.PlaceIndependence.Annexes.{annex_tree_alike}
 use Rattle.aadl_grammar.proofs.PlaceIndependence.Declarations.{package_alike}
-use Rattle.aadl_grammar.proofs.DerivationTrees.UniqueTrees.{one}
 use Rattle.aadl_grammar.proofs.Fates.FateMeanings.{Language}
 
 pub package_clear : Clear whole_package
@@ -103,30 +101,3 @@ behaviours = record {
   flat = body_flat;
   low = one_open;
 }
-
-pub one_package : (ks : List Kind) (t u : PackageTree (Unit {0})) → Spells (package_parts t) ks []
-    → Spells (package_parts u) ks [] → t ≡ u
-one_package ks t u sp sq =
-    ap (λ (x : Trees whole_package). x.0) (one ks whole_package package_clear (package_trees t) (package_trees u) sp sq)
-
-pub one_behaviour : (ks : List Kind) (t u : AnnexTree (Unit {0})) → Spells (annex_tree_parts t) ks []
-    → Spells (annex_tree_parts u) ks [] → t ≡ u
-one_behaviour ks t u sp sq = ap body_of (one ks annex_body body_clear (body_trees t) (body_trees u) sp sq)
-
-pub package_kept : (ks : List Kind) (t u : PackageTree ℕ) → Spells (package_parts t) ks []
-    → Spells (package_parts u) ks [] → kept (package_parts t) ≡ kept (package_parts u)
-package_kept ks t u sp sq =
-    let same =
-    one_package ks (package_to nowhere t) (package_to nowhere u) (alike_spells ks [] (package_alike nowhere t) sp)
-    (alike_spells ks [] (package_alike nowhere u) sq) in
-    alike_kept (package_alike nowhere t) ∙ ap (λ (x : PackageTree (Unit {0})). kept (package_parts x)) same
-    ∙ sym (alike_kept (package_alike nowhere u))
-
-pub behaviour_kept : (ks : List Kind) (t u : AnnexTree ℕ) → Spells (annex_tree_parts t) ks []
-    → Spells (annex_tree_parts u) ks [] → kept (annex_tree_parts t) ≡ kept (annex_tree_parts u)
-behaviour_kept ks t u sp sq =
-    let same =
-    one_behaviour ks (annex_tree_to nowhere t) (annex_tree_to nowhere u)
-    (alike_spells ks [] (annex_tree_alike nowhere t) sp) (alike_spells ks [] (annex_tree_alike nowhere u) sq) in
-    alike_kept (annex_tree_alike nowhere t) ∙ ap (λ (x : AnnexTree (Unit {0})). kept (annex_tree_parts x)) same
-    ∙ sym (alike_kept (annex_tree_alike nowhere u))

@@ -18,7 +18,7 @@ use Rattle.aadl_grammar.proofs.Fates.ProductionNesting.{odd, plain, blunt, closi
 use Rattle.aadl_grammar.proofs.Fates.ProductionNesting.{rows_shift, rows_shifted, omits_close_nothing}
 use Rattle.std.specs.Cmp.{first_so, second_so}
 use Rattle.std.proofs.lemmas.Option.{same_Some}
-use Rattle.aadl_grammar.proofs.HeadsAndTails.{not_both}
+use Rattle.aadl_grammar.proofs.KeywordListMembership.{not_both}
 
 abbrev pub Good : Bool → Stack → Type 0
 Good ended wanted = good ended wanted ≡ true

@@ -11,8 +11,9 @@ use Rattle.aadl_grammar.proofs.HeadsAndTails.{heads, tails}
 use Rattle.aadl_grammar.proofs.PlaceIndependence.AlikeParts.{alike_spells, alike_kept}
 use Rattle.aadl_tree.specs.proof.PlaceMaps.{package_to, no_place}
 use Rattle.aadl_grammar.proofs.PlaceIndependence.Declarations.{package_alike}
-use Rattle.aadl_grammar.proofs.Fates.GrammarLanguages.{one_package}
-use Rattle.aadl_grammar.specs.proof.MovedPackages.{Behind, Rising, SamePackage}
+use Rattle.aadl_grammar.proofs.DerivationTrees.UniqueTrees.{one_package}
+use Rattle.aadl_grammar.specs.proof.MovedPackages.{SamePackage}
+use Rattle.aadl_grammar.specs.proof.PlaceOrder.{Behind, Rising}
 use Rattle.aadl_grammar.proofs.UniquePlacedTrees.MovedTrees.{moved, survivors, survivors_kinds, package_replaced}
 
 abbrev sent : ℕ → ℕ → (ℕ → ℕ) → ℕ → ℕ

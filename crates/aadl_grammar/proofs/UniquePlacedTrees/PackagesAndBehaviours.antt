@@ -10,7 +10,7 @@ use Rattle.aadl_grammar.proofs.PlaceIndependence.AlikeParts.{Alike, alike_spells
 use Rattle.aadl_tree.specs.proof.PlaceMaps.{no_place, annex_tree_to, package_to}
 use Rattle.aadl_grammar.proofs.PlaceIndependence.Annexes.{annex_tree_alike}
 use Rattle.aadl_grammar.proofs.PlaceIndependence.Declarations.{package_alike}
-use Rattle.aadl_grammar.proofs.Fates.GrammarLanguages.{one_package, one_behaviour}
+use Rattle.aadl_grammar.proofs.DerivationTrees.UniqueTrees.{one_package, one_behaviour}
 use Rattle.aadl_grammar.proofs.UniquePlacedTrees.PlaceOrder.{same_places}
 use Rattle.aadl_grammar.proofs.UniquePlacedTrees.Names.{Fixed}
 use Rattle.aadl_grammar.proofs.UniquePlacedTrees.Annexes.{annex_tree_fixed}

@@ -1,5 +1,5 @@
 use Rattle.aadl_grammar.proofs.CanonicalRoundTrip.{no_other}
-use Rattle.aadl_parse.proofs.PackageFates.{one_text_fault, tree_or_fault}
+use Rattle.aadl_parse.proofs.UniqueParseResults.{one_text_fault, tree_or_fault}
 use Rattle.aadl_parse.proofs.one_answer.Goals as goal
 
 pub returns-clause-tree : goal.returns-clause-tree

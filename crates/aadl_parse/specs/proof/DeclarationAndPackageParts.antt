@@ -9,8 +9,9 @@ use Rattle.aadl_tree.specs.Declarations.{PackageTree, section_parts, feature_par
 use Rattle.aadl_tree.specs.Declarations.{connection_parts, implementation_name_parts, ending_parts}
 use Rattle.aadl_tree.specs.proof.NameViews.{identifier_view, name_view}
 use Rattle.aadl_tree.specs.proof.ValueViews.{associations_view}
-use Rattle.aadl_tree.specs.proof.DeclarationViews.{feature_view, subcomponent_view, connection_view, annex_view}
+use Rattle.aadl_tree.specs.proof.DeclarationViews.{feature_view, subcomponent_view, connection_view}
 use Rattle.aadl_tree.specs.proof.DeclarationViews.{implementation_name_view, with_view, declaration_view}
+use Rattle.aadl_tree.specs.proof.AnnexViews.{annex_view}
 use Rattle.aadl_tree.specs.proof.PlaceMaps.{kept_place}
 use Rattle.aadl_parse.specs.declared.declarations.TypeRest.{TypeRest}
 use Rattle.aadl_parse.specs.declared.declarations.ImplementationRest.{ImplementationRest}

@@ -19,8 +19,8 @@ use Rattle.aadl_tree.specs.proof.PlaceMaps.{annex_tree_to, content_to, annex_to}
 use Rattle.aadl_tree.specs.proof.NameViews.{identifier_view, identifiers_view, reference_view}
 use Rattle.aadl_tree.specs.proof.ValueViews.{associations_view}
 use Rattle.aadl_tree.specs.proof.ActionViews.{block_view}
-use Rattle.aadl_tree.specs.proof.DeclarationViews.{variable_view, state_view, guard_view, transition_view}
-use Rattle.aadl_tree.specs.proof.DeclarationViews.{annex_tree_view, content_view, annex_view}
+use Rattle.aadl_tree.specs.proof.AnnexViews.{variable_view, state_view, guard_view, transition_view, annex_tree_view}
+use Rattle.aadl_tree.specs.proof.AnnexViews.{content_view, annex_view}
 use Rattle.aadl_tree.proofs.PlaceMaps.Names.{each_tied, perhaps_tied, identifier_perhaps, identifiers_tied}
 use Rattle.aadl_tree.proofs.PlaceMaps.Names.{reference_tied}
 use Rattle.aadl_tree.proofs.PlaceMaps.Values.{associations_tied}

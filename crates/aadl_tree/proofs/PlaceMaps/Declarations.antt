@@ -20,9 +20,10 @@ use Rattle.aadl_tree.specs.proof.PlaceMaps.{subcomponent_to, end_to, connection_
 use Rattle.aadl_tree.specs.proof.PlaceMaps.{declaration_to, with_to, package_to}
 use Rattle.aadl_tree.specs.proof.NameViews.{identifier_view, name_view, reference_view}
 use Rattle.aadl_tree.specs.proof.ValueViews.{associations_view}
-use Rattle.aadl_tree.specs.proof.DeclarationViews.{annex_view, with_view, feature_view, subcomponent_view, end_view}
+use Rattle.aadl_tree.specs.proof.DeclarationViews.{with_view, feature_view, subcomponent_view, end_view}
 use Rattle.aadl_tree.specs.proof.DeclarationViews.{connection_view, type_view, implementation_name_view}
 use Rattle.aadl_tree.specs.proof.DeclarationViews.{implementation_view, declaration_view}
+use Rattle.aadl_tree.specs.proof.AnnexViews.{annex_view}
 use Rattle.aadl_tree.specs.proof.PackageViews.{package_view}
 use Rattle.aadl_tree.proofs.PlaceMaps.Names.{each_tied, perhaps_tied, identifier_perhaps, name_tied, reference_tied}
 use Rattle.aadl_tree.proofs.PlaceMaps.Values.{associations_tied}

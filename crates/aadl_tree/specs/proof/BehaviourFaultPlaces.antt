@@ -2,14 +2,9 @@
 use Rattle.std.specs.Prelude.{ℕ, true, List, [], ◌∷◌}
 use Rattle.aadl_lex.specs.declared.token.Token.{Token}
 use Rattle.aadl_tree.specs.Terminals.{spots_from}
-use Rattle.aadl_tree.specs.Declarations.{PackageTree}
-use Rattle.aadl_tree.specs.LanguagesAndNesting.{IsBehaviour, FailsAt, DeepAt}
-use Rattle.aadl_tree.specs.TextTreesAndFaults.{IsTreeOf, outer_nesting}
-
--- the grammar gives the tree for some text
-abbrev pub IsGiven : PackageTree ℕ → Type 0
-IsGiven tree = (text : List ℕ) × IsTreeOf text tree
-
+use Rattle.aadl_tree.specs.LanguagesAndNesting.{IsBehaviour}
+use Rattle.aadl_tree.specs.TerminalFaults.{FailsAt, DeepAt}
+use Rattle.aadl_tree.specs.TextTreesAndFaults.{outer_nesting}
 -- where the last token ends; 0 where there is none
 abbrev pub end_of : List Token → ℕ
 end_of [] = 0

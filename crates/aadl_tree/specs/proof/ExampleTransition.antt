@@ -1,14 +1,11 @@
 -- A transition, what it is spelled by, and its canonical text; and terminals of other texts.
 use Rattle.std.specs.Prelude.{ℕ, ℤ, pos, false, codes, List, [], ◌∷◌, ◌++◌, Some, None}
-use Rattle.aadl_lex.specs.declared.token.Token.{Token}
-use Rattle.aadl_lex.specs.Tokens.{token}
 use Rattle.aadl_tree.specs.Terminals.{Kind, word, whole, mark}
 use Rattle.aadl_tree.specs.Names.{Identifier}
 use Rattle.aadl_tree.specs.Expressions.{Expression, Term, number, named, bare, term, no_factors, total, Terms, no_terms}
 use Rattle.aadl_tree.specs.Expressions.{add, single, expression, no_relations}
 use Rattle.aadl_tree.specs.Actions.{assign, send, actions, no_mores, more, block}
 use Rattle.aadl_tree.specs.Annexes.{Transition, dispatch}
-use Rattle.aadl_lex.specs.declared.token.TokenKind.TheVariants as class
 use Rattle.aadl_tree.specs.declared.mark.Mark.TheVariants as k
 use Rattle.aadl_tree.specs.declared.expressions.Sign.TheVariants as signs
 
@@ -51,18 +48,3 @@ counting_kinds last =
 
 abbrev pub counting_text : List ℕ
 counting_text = codes "s -[ on dispatch ]-> s { x := x + i + 1;" ++ 10 ∷ codes "o!(x) };" ++ 10 ∷ []
-
--- on behavior_specification {**ON x**}
-abbrev pub annex_text : List ℕ
-annex_text = codes "on behavior_specification {**ON x**}"
-
-abbrev pub annex_tokens : List Token
-annex_tokens =
-    token class.Word 0 2 ∷ token class.Word 3 22 ∷ token class.AnnexOpen 26 3 ∷ token class.Word 29 2
-    ∷ token class.Word 32 1 ∷ token class.AnnexClose 33 3 ∷ []
-
--- if (true) x := 1 end
-abbrev pub choice_kinds : List Kind
-choice_kinds =
-    mark k.If ∷ mark k.ParenOpen ∷ mark k.True ∷ mark k.ParenClose ∷ word (codes "x") ∷ mark k.Assign ∷ whole (pos 1)
-    ∷ mark k.End ∷ []

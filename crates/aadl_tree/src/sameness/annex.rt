@@ -27,7 +27,7 @@ impl Same for Block {
 
 impl Same for VariableDeclaration {
     ghost use Rattle.aadl_tree.specs.Annexes.{VariableDeclaration};
-    ghost use Rattle.aadl_tree.specs.proof.DeclarationViews.{variable_view};
+    ghost use Rattle.aadl_tree.specs.proof.AnnexViews.{variable_view};
     ghost use Rattle.aadl_tree.specs.proof.PlaceMaps.{no_place};
 
     ghost Meaning = { VariableDeclaration (Unit {0}) };
@@ -43,7 +43,7 @@ impl Same for VariableDeclaration {
 
 impl Same for StateDeclaration {
     ghost use Rattle.aadl_tree.specs.Annexes.{StateDeclaration};
-    ghost use Rattle.aadl_tree.specs.proof.DeclarationViews.{state_view};
+    ghost use Rattle.aadl_tree.specs.proof.AnnexViews.{state_view};
     ghost use Rattle.aadl_tree.specs.proof.PlaceMaps.{no_place};
 
     ghost Meaning = { StateDeclaration (Unit {0}) };
@@ -59,7 +59,7 @@ impl Same for StateDeclaration {
 
 impl Same for Guard {
     ghost use Rattle.aadl_tree.specs.Annexes.{Guard};
-    ghost use Rattle.aadl_tree.specs.proof.DeclarationViews.{guard_view};
+    ghost use Rattle.aadl_tree.specs.proof.AnnexViews.{guard_view};
     ghost use Rattle.aadl_tree.specs.proof.PlaceMaps.{no_place};
 
     ghost Meaning = { Guard (Unit {0}) };
@@ -78,7 +78,7 @@ impl Same for Guard {
 
 impl Same for Transition {
     ghost use Rattle.aadl_tree.specs.Annexes.{Transition};
-    ghost use Rattle.aadl_tree.specs.proof.DeclarationViews.{transition_view};
+    ghost use Rattle.aadl_tree.specs.proof.AnnexViews.{transition_view};
     ghost use Rattle.aadl_tree.specs.proof.PlaceMaps.{no_place};
 
     ghost Meaning = { Transition (Unit {0}) };
@@ -109,7 +109,7 @@ fn same_declared<T: Same>(left: &Option<Vec<T>>, right: &Option<Vec<T>>) -> bool
 
 impl Same for AnnexTree {
     ghost use Rattle.aadl_tree.specs.Annexes.{AnnexTree};
-    ghost use Rattle.aadl_tree.specs.proof.DeclarationViews.{annex_tree_view};
+    ghost use Rattle.aadl_tree.specs.proof.AnnexViews.{annex_tree_view};
     ghost use Rattle.aadl_tree.specs.proof.PlaceMaps.{no_place};
 
     ghost Meaning = { AnnexTree (Unit {0}) };
@@ -125,7 +125,7 @@ impl Same for AnnexTree {
 
 impl Same for AnnexContent {
     ghost use Rattle.aadl_tree.specs.Annexes.{AnnexContent};
-    ghost use Rattle.aadl_tree.specs.proof.DeclarationViews.{content_view};
+    ghost use Rattle.aadl_tree.specs.proof.AnnexViews.{content_view};
     ghost use Rattle.aadl_tree.specs.proof.PlaceMaps.{no_place};
 
     ghost Meaning = { AnnexContent (Unit {0}) };
@@ -145,7 +145,7 @@ impl Same for AnnexContent {
 
 impl Same for Annex {
     ghost use Rattle.aadl_tree.specs.Annexes.{Annex};
-    ghost use Rattle.aadl_tree.specs.proof.DeclarationViews.{annex_view};
+    ghost use Rattle.aadl_tree.specs.proof.AnnexViews.{annex_view};
     ghost use Rattle.aadl_tree.specs.proof.PlaceMaps.{no_place};
 
     ghost Meaning = { Annex (Unit {0}) };

@@ -2,8 +2,9 @@
 use Rattle.std.specs.Prelude.{◌≡◌, ℕ, ◌≤◌, Bool, true, nat_lt, List, Option, Some, None, Contains}
 use Rattle.aadl_tree.specs.Declarations.{Subcomponent, PackageTree}
 use Rattle.aadl_names.specs.declared.fault.PackageFault.{PackageFault}
-use Rattle.aadl_names.specs.FirstFaults.{place_of}
-use Rattle.aadl_uses.specs.Uses.{sub_at, IsRecursive}
+use Rattle.aadl_names.specs.FirstFaults.{place_of, IsFirst}
+use Rattle.aadl_uses.specs.Uses.{sub_at}
+use Rattle.aadl_uses.specs.Recursion.{IsRecursive}
 use Rattle.aadl_uses.specs.proof.PackageContainment.{containment}
 use Rattle.aadl_uses.specs.proof.ContainmentGraphs.{LeadsBack}
 
@@ -41,3 +42,8 @@ pub record IsSooner (tree : PackageTree ℕ) (old : Option PackageFault) (n s : 
 pub record IsFirstOf (tree : PackageTree ℕ) (subs : List (ℕ × ℕ)) (first : Option PackageFault) : Type 0 where
   pub found : IsFound tree first
   pub before : AreBefore tree subs first
+
+-- the first of what is found, or none where nothing is
+abbrev pub FirstIn : (PackageFault → Type 0) → Option PackageFault → Type 0
+FirstIn Found None = (fault : PackageFault) → Found fault → ⊥
+FirstIn Found (Some fault) = IsFirst Found fault

@@ -1,10 +1,10 @@
 -- How many marked declarations stand below another, up to a limit.
-use Rattle.std.specs.Prelude.{◌≡◌, ◌⊎◌, ℕ, Bool, true, false, min, List, [], ◌∷◌, length, Option, Some, None}
-use Rattle.std.specs.Prelude.{slice_index, slice_index_or}
-use Rattle.std.specs.List.{AllByRecursion}
+use Rattle.std.specs.Prelude.{◌≡◌, ℕ, Bool, true, false, min, List, [], ◌∷◌, length, Option, Some, None, slice_index}
+use Rattle.std.specs.Prelude.{slice_index_or}
 use Rattle.std.specs.Option.{option_and_then}
 use Rattle.aadl_uses.specs.proof.ContainmentGraphs.{Graph, below_in}
 use Rattle.aadl_uses.specs.ThreadsBelow.{path_before}
+use Rattle.aadl_uses.specs.proof.OrderedLists.{AreListed}
 
 -- what stands at the end of a path of subcomponents, the outermost first
 abbrev pub stands_at : Graph → ℕ → List ℕ → Option ℕ
@@ -16,20 +16,6 @@ pub record IsMarkedAt (g : Graph) (marks : List Bool) (n : ℕ) (path : List ℕ
   pub number : ℕ
   pub stands : stands_at g n path ≡ Some number
   pub is_marked : slice_index_or marks number false ≡ true
-
-abbrev pub Among : {X : Type 0} → List X → X → Type 0
-Among [] x = ⊥
-Among (y ∷ ys) x = (x ≡ y) ⊎ Among ys x
-
-abbrev pub Ordered : {X : Type 0} → (X → X → Bool) → List X → Type 0
-Ordered before [] = Unit {0}
-Ordered before (x ∷ xs) = AllByRecursion (λ y. before x y ≡ true) xs × Ordered before xs
-
--- a list of all that have P, each once, in order
-pub record AreListed {X : Type 0} (P : X → Type 0) (before : X → X → Bool) (xs : List X) : Type 0 where
-  pub each : AllByRecursion P xs
-  pub ordered : Ordered before xs
-  pub complete : (x : X) → P x → Among xs x
 
 -- the number of places below a declaration at which a marked one stands, which stops at the limit
 pub record Counted (limit : ℕ) (g : Graph) (marks : List Bool) (n count : ℕ) : Type 0 where

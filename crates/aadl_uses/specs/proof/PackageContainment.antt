@@ -1,17 +1,9 @@
 -- The containment of a package as a graph: the numbers of the declarations that subcomponents name. And what it
 -- means to find the first fault of a kind.
-use Rattle.std.specs.Prelude.{ℕ, List, map, Option, Some, None}
+use Rattle.std.specs.Prelude.{ℕ, List, map, Option, Some}
 use Rattle.aadl_tree.specs.Declarations.{Implementation, Declaration, PackageTree}
-use Rattle.aadl_names.specs.declared.fault.PackageFault.{PackageFault}
-use Rattle.aadl_names.specs.FirstFaults.{IsFirst}
 use Rattle.aadl_names.specs.ReferenceResolution.{implementation_in, subcomponents_of, referred}
 use Rattle.aadl_uses.specs.proof.ContainmentGraphs.{Graph}
-
--- the first of what is found, or none where nothing is
-abbrev pub FirstIn : (PackageFault → Type 0) → Option PackageFault → Type 0
-FirstIn Found None = (fault : PackageFault) → Found fault → ⊥
-FirstIn Found (Some fault) = IsFirst Found fault
-
 -- ---- the numbers that subcomponents name
 abbrev pub targets_of : PackageTree ℕ → Option (Implementation ℕ) → List (Option ℕ)
 targets_of tree x = map (λ sub. referred tree sub.classifier) (subcomponents_of x)

@@ -1,7 +1,8 @@
 -- The paths from declarations to the marked ones below them.
 use Rattle.std.specs.Prelude.{◌≡◌, ℕ, Bool, List, [], Some, Contains, slice_index_or}
 use Rattle.aadl_uses.specs.proof.ContainmentGraphs.{Graph, below_in}
-use Rattle.aadl_uses.specs.proof.MarkedPathCounts.{AreListed, IsMarkedAt}
+use Rattle.aadl_uses.specs.proof.MarkedPathCounts.{IsMarkedAt}
+use Rattle.aadl_uses.specs.proof.OrderedLists.{AreListed}
 use Rattle.aadl_uses.specs.ThreadsBelow.{path_before}
 
 abbrev pub paths_from : List (List (List ℕ)) → ℕ → List (List ℕ)

@@ -1,18 +1,11 @@
 -- The names of replicas and their lines, and one fault more in the table of rounds, as they are gathered for votes.
-use Rattle.std.specs.Prelude.{ℕ, Bool, if◌then◌else◌, List, [], ◌∷◌, ◌++◌, slice_set, slice_index_or, map, flat_map}
+use Rattle.std.specs.Prelude.{ℕ, Bool, if◌then◌else◌, List, map, flat_map}
 use Rattle.std.specs.List.{enumerate_from}
 use Rattle.pals_base.specs.declared.frames.Frame.{Frame}
-use Rattle.pals_base.specs.StepSequences.{upwards}
+use Rattle.pals_base.specs.UpwardNumbers.{upwards}
 use Rattle.pals_model.specs.declared.design.Component.{Component}
-use Rattle.pals_runs.specs.declared.vote_faults.VoteFault.{VoteFault}
-use Rattle.analysis_fields.specs.declared.replica_faults.RoundFault.{RoundFault}
 use Rattle.triple_vote.specs.Replicas.{is_replicated}
 use Rattle.triple_vote.specs.VotedText.{replica_name, replica_lines}
-
--- one more fault, behind those of its round, if a table of the first rounds has it
-abbrev pub filed : List (List VoteFault) → RoundFault → List (List VoteFault)
-filed table f = slice_set table f.round (slice_index_or table f.round [] ++ f.fault ∷ [])
-
 -- ---- the names of replicas: PATH, or PATH#1, PATH#2 and PATH#3
 abbrev pub names_of : List ℕ → Bool → List (List ℕ)
 names_of path replicated = map (replica_name path replicated) (upwards 0 (if replicated then 3 else 1))

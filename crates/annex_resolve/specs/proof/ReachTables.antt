@@ -6,7 +6,7 @@ use Rattle.std.specs.List.{list_any}
 use Rattle.pals_base.specs.declared.behaviour.BehaviourParts.{BehaviourParts}
 use Rattle.pals_base.specs.PlainTrees.{Edge}
 use Rattle.pals_base.specs.SingleStep.{is_complete}
-use Rattle.pals_base.specs.StepSequences.{upwards}
+use Rattle.pals_base.specs.UpwardNumbers.{upwards}
 use Rattle.annex_resolve.specs.declared.cycles.Reachability.{Reachability}
 use Rattle.annex_resolve.specs.IncompleteStateCycles.{reaches}
 

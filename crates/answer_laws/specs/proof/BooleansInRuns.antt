@@ -19,8 +19,7 @@ use Rattle.bus_machine.specs.Agreement.{Agrees}
 use Rattle.kind_laws.specs.proof.VotedKinds.{FaultsFit, VotedFits}
 use Rattle.kind_laws.specs.proof.FusedKinds.{FusedFits}
 use Rattle.kind_laws.specs.proof.BusKinds.{BusFits}
-use Rattle.pals_top.specs.LooseWorlds.{run_of}
-use Rattle.pals_top.specs.BundleScenarios.{HasScenario}
+use Rattle.pals_top.specs.BundleScenarios.{run_of, HasScenario}
 
 -- of each design and scenario that a bundle means
 abbrev pub OfScenarios : (DesignParts → Scenario → Type 0) → Type 0

@@ -1,7 +1,7 @@
 -- The premises from which each bundle has an answer: the laws of lower crates.
 use Rattle.std.specs.Prelude.{◌⊎◌, ◌≢◌, ℕ, List, []}
 use Rattle.aadl_tree.specs.Declarations.{PackageTree}
-use Rattle.aadl_tree.specs.proof.BehaviourFaultPlaces.{IsGiven}
+use Rattle.aadl_tree.specs.proof.GivenTrees.{IsGiven}
 use Rattle.aadl_names.specs.declared.fault.PackageFault.{PackageFault}
 use Rattle.aadl_names.specs.declared.fault.PackageFault.TheVariants.{Memory}
 use Rattle.aadl_instance.specs.Faults.{IsFault}
@@ -12,7 +12,8 @@ use Rattle.pals_model.specs.DesignRules.{IsDesign}
 use Rattle.design_laws.specs.PackageDesigns.{IsDesignIn}
 use Rattle.pals_runs.specs.declared.commands.Command.{Command}
 use Rattle.step_compiler.specs.proof.LayoutLaws.{HasLayout}
-use Rattle.scenario_laws.specs.proof.EventsAndTraces.{EventsAreLoose, EventsAreFew, TracesAreFew}
+use Rattle.scenario_laws.specs.proof.EventsAndTraces.{EventsAreFew, TracesAreFew}
+use Rattle.scenario_laws.specs.proof.LooseEvents.{EventsAreLoose}
 use Rattle.aadl_grammar.specs.proof.TextOutcomes.{HasTree, HasLexFault, Stops, NestsTooDeep}
 use Rattle.design_laws.specs.proof.PackageOutcomes.{HasFirstFault, HasInstance, HasList}
 use Rattle.scenario_laws.specs.proof.ScenarioOrFault.{HasScenario, HasFault}

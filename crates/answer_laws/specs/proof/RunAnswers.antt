@@ -9,17 +9,16 @@ use Rattle.pals_runs.specs.declared.journal.Stop.{Stop}
 use Rattle.pals_runs.specs.declared.verdicts.Verdict.TheVariants.{Sound}
 use Rattle.design_codes.specs.OverlongCodes.{AreShort}
 use Rattle.scenario_json.specs.declared.scenario.Scenario.{Scenario}
-use Rattle.bus_machine.specs.States.{Run}
+use Rattle.bus_machine.specs.Runs.{Run}
 use Rattle.run_laws.specs.TextLines.{lines_of}
 use Rattle.run_laws.specs.TraceVerdicts.{verdict}
 use Rattle.run_laws.specs.proof.TimelyRunsAndEnds.{InTime, AllPicked}
-use Rattle.run_laws.specs.Meetings.{DelaysFit}
+use Rattle.run_laws.specs.StopBounds.{DelaysFit}
 use Rattle.run_texts.specs.RunTexts.{journal_text}
 use Rattle.pals_top.specs.declared.status.TheConstants.{DONE, STOPPED, CLOCK_ENDED}
 use Rattle.pals_top.specs.AnalysisAnswers.{IsAnalysisAnswer}
 use Rattle.pals_top.specs.ExecutionAnswers.{IsExecutionAnswer}
-use Rattle.pals_top.specs.LooseWorlds.{run_of}
-use Rattle.pals_top.specs.BundleScenarios.{HasScenario}
+use Rattle.pals_top.specs.BundleScenarios.{run_of, HasScenario}
 use Rattle.pals_runs.specs.declared.commands.Command.TheVariants as command
 use Rattle.pals_runs.specs.declared.journal.JournalEntry.TheVariants as entry
 use Rattle.pals_top.specs.AnalysisCommands as analysis

@@ -1,7 +1,6 @@
 -- Common divisors and multiples.
-use Rattle.std.specs.Prelude.{◌≡◌, ℕ, ◌+◌, ◌*◌, ◌%◌, ◌≤◌, List, All}
+use Rattle.std.specs.Prelude.{ℕ, ◌*◌}
 use Rattle.std.specs.Int.{◌∣◌}
-use Rattle.pals_base.specs.declared.limits.TheConstants.{HOUR}
 
 -- d divides a and b, and what divides the same multiple of both divides that multiple of d; with n = 1: each common
 -- divisor divides d
@@ -15,10 +14,3 @@ pub record IsLeastCommon (a b m : ℕ) : Type 0 where
   pub left : a ∣ m
   pub right : b ∣ m
   pub least : (t : ℕ) → a ∣ t → b ∣ t → m ∣ t
-
--- up to one hour, the multiples of m are those of all rates
-pub record HasMultiplesOf (rates : List ℕ) (m : ℕ) : Type 0 where
-  pub some_time : 1 ≤ m
-  pub at_most : m ≤ HOUR + 1
-  pub from_all : (t : ℕ) → t ≤ HOUR → All (λ k. t % k ≡ 0) rates → t % m ≡ 0
-  pub to_all : (t : ℕ) → t ≤ HOUR → t % m ≡ 0 → All (λ k. t % k ≡ 0) rates

@@ -7,7 +7,8 @@ use Rattle.pals_model.specs.proof.TwoCounters.{two_counters}
 use Rattle.pals_model.specs.ComponentInputs.{no_env}
 use Rattle.pals_runs.specs.declared.journal.JournalEntry.{JournalEntry}
 use Rattle.pals_runs.specs.JournalLines.{entry_line}
-use Rattle.bus_machine.specs.States.{Run, BusState, opening}
+use Rattle.bus_machine.specs.States.{BusState, opening}
+use Rattle.bus_machine.specs.Runs.{Run}
 use Rattle.bus_machine.specs.Machine.{BusEvent, Start, Finish, Send, Arrive, Drop, Repeat, after}
 use Rattle.bus_machine.specs.Replay.{Replays, entries}
 

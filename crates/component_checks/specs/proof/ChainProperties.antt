@@ -4,10 +4,11 @@ use Rattle.std.specs.Option.{option_and_then}
 use Rattle.pals_base.specs.declared.allowed_adaptors.Adaptor.{Adaptor}
 use Rattle.aadl_tree.specs.Values.{Association, Associations}
 use Rattle.aadl_tree.specs.Declarations.{Declaration}
-use Rattle.aadl_names.specs.RecognisedProperties.{association_named, association_value, name_of, text_of}
+use Rattle.aadl_names.specs.RecognisedProperties.{association_named, association_value, name_of}
+use Rattle.aadl_names.specs.PropertyValueShapes.{text_of}
 use Rattle.aadl_names.specs.ReferenceResolution.{implementation_in, connections_of}
 use Rattle.component_checks.specs.declared.chain_properties.ChainProperties.{ChainProperties}
-use Rattle.component_checks.specs.PeriodAndAdaptorFindings.{adaptor_named}
+use Rattle.component_checks.specs.AdaptorTexts.{adaptor_named}
 use Rattle.component_checks.specs.ThreadRatesAndFindings.{says}
 use Rattle.aadl_names.specs.declared.recognised_properties.PropertyName.TheVariants as properties
 

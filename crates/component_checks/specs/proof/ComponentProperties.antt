@@ -5,7 +5,8 @@ use Rattle.std.specs.Option.{option_and_then, option_or}
 use Rattle.aadl_tree.specs.Values.{Association, Associations}
 use Rattle.aadl_tree.specs.Declarations.{Subcomponent, Declaration, PackageTree}
 use Rattle.aadl_names.specs.declared.recognised_properties.PropertyName.TheVariants.{Period, Dispatch}
-use Rattle.aadl_names.specs.RecognisedProperties.{association_value, reference_of, time_of}
+use Rattle.aadl_names.specs.RecognisedProperties.{association_value}
+use Rattle.aadl_names.specs.PropertyValueShapes.{reference_of, time_of}
 use Rattle.aadl_names.specs.ReferenceResolution.{type_in, implementation_in, subcomponents_of}
 use Rattle.component_checks.specs.declared.component_properties.ComponentProperties.{ComponentProperties}
 use Rattle.component_checks.specs.BoundsAndRates.{within_hour}

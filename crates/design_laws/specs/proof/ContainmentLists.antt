@@ -3,7 +3,8 @@
 use Rattle.std.specs.Prelude.{◌↔◌, ℕ, Bool, List, Contains}
 use Rattle.aadl_uses.specs.proof.ContainmentGraphs.{Graph, IsReached, LeadsBack}
 use Rattle.aadl_uses.specs.proof.ContainmentOrders.{IsOrder}
-use Rattle.aadl_uses.specs.proof.MarkedPathCounts.{AreListed, IsMarkedAt}
+use Rattle.aadl_uses.specs.proof.MarkedPathCounts.{IsMarkedAt}
+use Rattle.aadl_uses.specs.proof.OrderedLists.{AreListed}
 use Rattle.aadl_uses.specs.ThreadsBelow.{path_before}
 
 -- all that a declaration reaches

@@ -4,8 +4,8 @@ use Rattle.aadl_tree.specs.Declarations.{PackageTree}
 use Rattle.aadl_names.specs.declared.fault.PackageFault.{PackageFault}
 use Rattle.aadl_names.specs.ReferenceResolution.{root_number}
 use Rattle.aadl_names.specs.PackageFaults.{package_faults}
-use Rattle.aadl_uses.specs.Uses.{IsRecursive}
-use Rattle.aadl_chains.specs.Chains.{IsEndFault}
+use Rattle.aadl_uses.specs.Recursion.{IsRecursive}
+use Rattle.aadl_chains.specs.ChainFaults.{IsEndFault}
 
 -- it has a root of the name, and nothing is wrong with its names, with what contains what, and with the ends of its
 -- connections

@@ -10,7 +10,8 @@ use Rattle.pals_model.specs.proof.CompositionLaws.Kinds.{PartFits}
 use Rattle.bus_machine.specs.Plans.{plan_of}
 use Rattle.bus_machine.specs.Nodes.{Work, job_out}
 use Rattle.bus_machine.specs.NodeEvents.{slot_at}
-use Rattle.bus_machine.specs.States.{Run, BusState, node_at, flight_at}
+use Rattle.bus_machine.specs.States.{BusState, node_at, flight_at}
+use Rattle.bus_machine.specs.Runs.{Run}
 use Rattle.bus_machine.specs.Agreement.{Agrees}
 
 pub record BusFits (run : Run) (s : BusState) : Type 0 where

@@ -1,6 +1,5 @@
 -- What a flight holds.
-use Rattle.std.specs.Prelude.{◌≡◌, ℕ, nat_le, min, Bool, true, false, List, ◌∷◌, ◌++◌, map, filter, All, Option}
-use Rattle.std.specs.List.{reduce}
+use Rattle.std.specs.Prelude.{ℕ, nat_le, Bool, false, List, map, filter}
 use Rattle.std.specs.Option.{option_map_or}
 use Rattle.pals_model.specs.declared.flight_copy.FlightCopy.{FlightCopy}
 
@@ -12,15 +11,6 @@ pub record FlightState : Type 0 where
 abbrev pub flight_of : List FlightCopy → ℕ → FlightState
 flight_of list room = record { copies = list; spare = room }
 
--- this item is the first of a list that passes a test, and these are the others in their order
-pub record IsFirst {X : Type 0} (passes : X → Bool) (list : List X) (first : X) (others : List X) : Type 0 where
-  pub before : List X
-  pub after : List X
-  pub all : list ≡ before ++ first ∷ after
-  pub rest : others ≡ before ++ after
-  pub here : passes first ≡ true
-  pub none_before : All (λ x. passes x ≡ false) before
-
 -- a copy whose due reading is at most this one
 abbrev pub is_due : ℕ → FlightCopy → Bool
 is_due reading copy = option_map_or (λ due. nat_le due reading) copy.due false
@@ -28,7 +18,3 @@ is_due reading copy = option_map_or (λ due. nat_le due reading) copy.due false
 -- the rounds of the copies that are due
 abbrev pub due_rounds : ℕ → List FlightCopy → List ℕ
 due_rounds reading copies = map (λ copy. copy.round) (filter (is_due reading) copies)
-
--- the least number of a list, if it has any
-abbrev pub least : List ℕ → Option ℕ
-least numbers = reduce min numbers

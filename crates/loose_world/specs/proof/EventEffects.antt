@@ -2,12 +2,12 @@
 use Rattle.std.specs.Prelude.{◌≡◌, ◌⊎◌, ℕ, false, List}
 use Rattle.step_code.specs.declared.instr.CodeParts.{CodeParts}
 use Rattle.pals_runs.specs.declared.events_and_faults.Event.{Event}
-use Rattle.bus_machine.specs.States.{Run}
+use Rattle.bus_machine.specs.Runs.{Run}
 use Rattle.bus_machine.specs.Machine.{BusEvent, Start, Step, Finish, Send, Arrive, Drop, Repeat}
 use Rattle.bus_machine.specs.Agreement.{Agrees}
 use Rattle.bus_machine.specs.Replay.{Replays}
 use Rattle.pals_bus.specs.BusValues.{BusValue, Happens}
-use Rattle.pals_bus.specs.proof.OpeningBusAndNodeValues.{opening_bus}
+use Rattle.pals_bus.specs.proof.OpeningNodes.{opening_bus}
 use Rattle.loose_world.specs.LooseRuns.{InTurn}
 use Rattle.pals_runs.specs.declared.events_and_faults.Event.TheVariants as event
 

@@ -1,6 +1,6 @@
 -- The rows of the rounds that the nodes of a bus have finished.
 use Rattle.std.specs.Prelude.{ℕ, List, map, flat_map, fold, max, length, Option, slice_get}
-use Rattle.pals_base.specs.StepSequences.{upwards}
+use Rattle.pals_base.specs.UpwardNumbers.{upwards}
 use Rattle.pals_model.specs.declared.part.Part.{Part}
 use Rattle.pals_model.specs.RoundTexts.{row_lines}
 use Rattle.bus_machine.specs.States.{node_at, finished_by_all}

@@ -5,20 +5,22 @@ use Rattle.pals_base.specs.declared.values.NodeNo.{NodeNo}
 use Rattle.pals_model.specs.RoundTexts.{text_of, report}
 use Rattle.pals_runs.specs.declared.events_and_faults.Event.{Event}
 use Rattle.pals_runs.specs.declared.journal.Stop.{Stop}
-use Rattle.bus_machine.specs.States.{Run, BusState, node_at, finished_by_all}
-use Rattle.bus_machine.specs.MissedStarts.{sent_rounds}
+use Rattle.bus_machine.specs.States.{BusState, node_at, finished_by_all}
+use Rattle.bus_machine.specs.Runs.{Run}
+use Rattle.bus_machine.specs.Nodes.{sent_rounds}
 use Rattle.bus_machine.specs.Machine.{BusEvent, IsStep}
 use Rattle.bus_machine.specs.Agreement.{Agrees}
 use Rattle.bus_machine.specs.proof.AgreementLaws.{IsRunOf}
 use Rattle.bus_machine.specs.WorldTexts.{finished_by, sends_of, sent_lines, world_rows, worldtext}
 use Rattle.pals_bus.specs.BusValues.{BusValue}
-use Rattle.pals_bus.specs.proof.OpeningBusAndNodeValues.{opening_bus}
+use Rattle.pals_bus.specs.proof.OpeningNodes.{opening_bus}
 use Rattle.loose_world.specs.proof.FinishedRows.{finished_lines, common_lines}
 use Rattle.loose_world.specs.declared.loose_run.LooseEnd.TheVariants.{All, Stopped}
 use Rattle.loose_world.specs.LooseRuns.{Tells}
 use Rattle.loose_world.specs.proof.StepAndSendCounts.{IsCounted}
 use Rattle.loose_world.specs.proof.EventEffects.{event_of, Undergoes, IsLeftBy, IsReplayed}
-use Rattle.loose_world.specs.proof.SendersAndSentCopies.{senders, HasSent}
+use Rattle.loose_world.specs.proof.SendersAndSentCopies.{senders}
+use Rattle.loose_world.specs.proof.SentCopies.{HasSent}
 use Rattle.pals_runs.specs.declared.events_and_faults.Event.TheVariants as event
 
 -- ---- counts

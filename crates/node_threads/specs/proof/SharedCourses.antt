@@ -14,7 +14,7 @@ use Rattle.bus_machine.specs.declared.node_action.Next.{Next}
 use Rattle.bus_machine.specs.proof.AgreementLaws.{IsRunOf}
 use Rattle.bus_machine.specs.Plans.{plan_of}
 use Rattle.bus_machine.specs.States.{node_at}
-use Rattle.bus_machine.specs.MissedStarts.{sent_rounds}
+use Rattle.bus_machine.specs.Nodes.{sent_rounds}
 use Rattle.bus_machine.specs.Machine.{BusEvent}
 use Rattle.bus_machine.specs.ActionsAndTargets.{next_of, target}
 use Rattle.pals_bus.specs.BusValues.{BusValue}

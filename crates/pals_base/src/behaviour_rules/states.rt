@@ -2,7 +2,7 @@
 ghost use Rattle.std.specs.Prelude.{◌≡◌, ◌||◌, ◌+◌, IfOk, length, map, filter, nat_eq, option_copied};
 ghost use Rattle.std.specs.List.{list_all};
 ghost use Rattle.pals_base.specs.SingleStep.{completes, is_complete};
-ghost use Rattle.pals_base.specs.StepSequences.{upwards};
+ghost use Rattle.pals_base.specs.UpwardNumbers.{upwards};
 ghost use Rattle.pals_base.specs.proof.SettledStates.{settles, marked, settles_next};
 ghost use Rattle.pals_base.specs.BehaviourRules.{dispatch_count, ends_unguarded, has_ways};
 

@@ -1,6 +1,6 @@
 //! The law of the numbers of a loop.
 ghost use Rattle.std.specs.Prelude.{◌≡◌, ◌<◌, ◌+ℤ◌, ◌-ℤ◌, ◌≤ℤ◌, ◌<ℤ◌, ℕ, ℤ, pos, [], ◌∷◌, length, slice_index_or, All};
-ghost use Rattle.pals_base.specs.Actions.{numbers};
+ghost use Rattle.pals_base.specs.ForRanges.{numbers};
 
 /// A loop goes from its low end to its high end by one, both ends included, and has no number
 /// where the low end is above the high one.

@@ -5,7 +5,8 @@ ghost use Rattle.pals_base.specs.declared.frames.Frame.{Frame};
 ghost use Rattle.pals_base.specs.declared.values.PortValue.{PortValue};
 ghost use Rattle.pals_base.specs.declared.behaviour.BehaviourParts.{BehaviourParts};
 ghost use Rattle.pals_base.specs.SingleStep.{fire, holding, silence};
-ghost use Rattle.pals_base.specs.StepSequences.{frame_after, outputs, columns, so_far, with_places};
+ghost use Rattle.pals_base.specs.StepSequences.{frame_after, outputs};
+ghost use Rattle.pals_base.specs.Tuples.{columns, so_far, with_places};
 ghost use Rattle.pals_base.specs.declared.values.PortValue.TheVariants.{Absent};
 
 /// Steps go one after another: no step looks ahead, and later steps go on from the frame that the

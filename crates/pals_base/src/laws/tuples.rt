@@ -1,7 +1,7 @@
 //! Laws of tuples.
 ghost use Rattle.std.specs.Prelude.{◌≡◌, ◌<◌, ◌≤◌, ℕ, List, length, slice_get, All};
 ghost use Rattle.pals_base.specs.declared.values.PortValue.{PortValue};
-ghost use Rattle.pals_base.specs.StepSequences.{column, columns, cut};
+ghost use Rattle.pals_base.specs.Tuples.{column, columns, cut};
 
 /// To cut a tuple keeps its length, does no more a second time, and does nothing past its end.
 pub fn cut_keeps_length()

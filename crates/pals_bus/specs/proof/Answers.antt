@@ -19,7 +19,7 @@ use Rattle.pals_node.specs.proof.Answers.{SendEnds}
 use Rattle.pals_bus.specs.declared.bus_error.BusError.{BusError}
 use Rattle.pals_bus.specs.declared.bus_error.MessageError.{MessageError}
 use Rattle.pals_bus.specs.BusValues.{BusValue, Happens}
-use Rattle.pals_bus.specs.proof.OpeningBusAndNodeValues.{node_value}
+use Rattle.pals_bus.specs.proof.NodeLists.{node_value}
 use Rattle.pals_node.specs.declared.answers.StartEnd.TheVariants as start
 use Rattle.pals_bus.specs.declared.bus_error.BusError.TheVariants as fault
 use Rattle.pals_bus.specs.declared.bus_error.MessageError.TheVariants as message

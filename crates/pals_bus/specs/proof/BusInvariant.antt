@@ -12,7 +12,8 @@ use Rattle.link_buffers.specs.proof.Flights.{FlightState}
 use Rattle.step_code.specs.proof.CodeMeaning.{Means}
 use Rattle.bus_machine.specs.Plans.{component_at, plan_of}
 use Rattle.bus_machine.specs.NodeEvents.{running_step}
-use Rattle.bus_machine.specs.States.{Run, BusState}
+use Rattle.bus_machine.specs.States.{BusState}
+use Rattle.bus_machine.specs.Runs.{Run}
 use Rattle.bus_machine.specs.Replay.{Replays}
 use Rattle.pals_node.specs.proof.NodeValues.{NodeValue}
 use Rattle.pals_bus.specs.declared.bus_fields.BusFields.{BusFields}

@@ -1,18 +1,18 @@
 -- The messages that are due to a node.
-use Rattle.std.specs.Prelude.{◌≡◌, ◌⊎◌, ℕ, ◌<◌, ◌≤◌, nat_eq, true, false, if◌then◌else◌, List, count_by, AllPairs, Some}
-use Rattle.std.specs.Prelude.{None, slice_get}
+use Rattle.std.specs.Prelude.{◌≡◌, ◌⊎◌, ℕ, ◌<◌, ◌≤◌, true, false, if◌then◌else◌, List, count_by, AllPairs, Some, None}
+use Rattle.std.specs.Prelude.{slice_get}
 use Rattle.pals_base.specs.declared.values.LinkNo.{LinkNo}
 use Rattle.pals_model.specs.declared.design.Link.{Link}
 use Rattle.pals_model.specs.declared.flight_copy.FlightCopy.{FlightCopy}
 use Rattle.link_buffers.specs.proof.Flights.{is_due}
 use Rattle.link_buffers.specs.declared.due_queue.DueEntry.{DueEntry}
 use Rattle.link_buffers.specs.proof.DueQueues.{is_entry, is_due_at}
-use Rattle.bus_machine.specs.States.{flight_at, link_at}
+use Rattle.bus_machine.specs.States.{flight_at}
 use Rattle.bus_machine.specs.Machine.{Arrive}
 use Rattle.std.specs.declared.alloc.AllocError.{AllocError}
 use Rattle.pals_bus.specs.declared.bus_error.BusError.{BusError}
 use Rattle.pals_bus.specs.BusValues.{BusValue, Happens}
-use Rattle.pals_bus.specs.proof.DueQueues.{comes_first, is_copy_of}
+use Rattle.pals_bus.specs.proof.DueQueues.{comes_first, flying}
 use Rattle.pals_bus.specs.declared.bus_error.BusError.TheVariants as fault
 
 -- a message of this round of this link is due to a node at a reading
@@ -50,12 +50,6 @@ pub record TakesAllDue (old : BusValue) (node reading : ℕ) (new : BusValue) : 
   pub takes : TakesDue node reading old new
   pub going : new.state.stop ≡ None
   pub none_left : (link round : ℕ) → IsDueTo new node reading link round → ⊥
-
--- how often an entry's copy is in flight to a node
-abbrev pub flying : BusValue → ℕ → DueEntry → ℕ
-flying b node e =
-    if nat_eq (link_at b.run.design e.link.0).target.0 node then count_by (is_copy_of e)
-    (flight_at b.state e.link.0) else 0
 
 -- the entries of all messages that are due to a node at a reading, in link order and then in order of rounds
 pub record AreLeft (b : BusValue) (node reading : ℕ) (left : List DueEntry) : Type 0 where

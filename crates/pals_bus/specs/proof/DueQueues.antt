@@ -10,9 +10,11 @@ use Rattle.pals_model.specs.declared.flight_copy.FlightCopy.{FlightCopy}
 use Rattle.link_buffers.specs.declared.due_queue.DueEntry.{DueEntry}
 use Rattle.link_buffers.specs.proof.DueQueues.{QueueState, queue_of, is_entry, with_entry, without_entry, is_due_at}
 use Rattle.link_buffers.specs.proof.Flights.{FlightState}
-use Rattle.bus_machine.specs.States.{no_link}
+use Rattle.bus_machine.specs.Plans.{no_link, link_at}
 use Rattle.pals_node.specs.proof.NodeValues.{NodeValue}
 use Rattle.pals_bus.specs.proof.OutOfRangeDefaults.{no_node_value, no_flight, no_queue}
+use Rattle.bus_machine.specs.States.{flight_at}
+use Rattle.pals_bus.specs.BusValues.{BusValue}
 
 -- a copy with this round and this due reading
 abbrev pub is_copy_of : DueEntry → FlightCopy → Bool
@@ -88,3 +90,9 @@ comes_first a b = nat_lt a.link.0 b.link.0 || nat_eq a.link.0 b.link.0 && nat_lt
 pub record AreDueEntries (queue : QueueState) (reading : ℕ) (due : List DueEntry) : Type 0 where
   pub are : IsPermutation (filter (is_due_at reading) queue.entries) due
   pub order : AllPairs (λ earlier later. comes_first later earlier ≡ false) due
+
+-- how often an entry's copy is in flight to a node
+abbrev pub flying : BusValue → ℕ → DueEntry → ℕ
+flying b node e =
+    if nat_eq (link_at b.run.design e.link.0).target.0 node then count_by (is_copy_of e)
+    (flight_at b.state e.link.0) else 0

@@ -1,18 +1,10 @@
 -- The opening of a bus, its step codes and its nodes, as contracts see them.
-use Rattle.std.specs.Prelude.{◌≡◌, ℕ, ◌<◌, Bool, false, List, [], length, map, slice_index_or}
+use Rattle.std.specs.Prelude.{◌≡◌, ℕ, ◌<◌, List, [], length, map, slice_index_or}
 use Rattle.step_code.specs.declared.instr.CodeParts.{CodeParts}
 use Rattle.step_code.specs.proof.CodeMeaning.{Means}
 use Rattle.pals_model.specs.declared.design.DesignParts.{DesignParts}
 use Rattle.bus_machine.specs.Plans.{component_at}
-use Rattle.bus_machine.specs.States.{Run, opening, node_at}
-use Rattle.pals_node.specs.proof.NodeValues.{NodeValue, program_of}
-use Rattle.pals_bus.specs.BusValues.{BusValue}
-
--- before the first event
-abbrev pub opening_bus : Run → List CodeParts → Bool → BusValue
-opening_bus run codes meeting =
-    record { run = run; codes = codes; meeting = meeting; closed = false; state = opening run; journal = [] }
-
+use Rattle.pals_node.specs.proof.NodeValues.{NodeValue}
 abbrev pub no_code : CodeParts
 no_code = record { instrs = []; entries = []; vars = 0; loops = 0; ins = 0; outs = 0 }
 
@@ -27,12 +19,3 @@ codes_in nodes = map (λ n. n.program.code) nodes
 pub record AreCodes (design : DesignParts) (codes : List CodeParts) : Type 0 where
   pub count : length codes ≡ length design.components
   pub mean : (node : ℕ) → node < length codes → Means (code_at codes node) (component_at design node).behaviour
-
--- one of its nodes
-abbrev pub node_value : BusValue → ℕ → NodeValue
-node_value b node =
-    record {
-      program = program_of b.run.design node (code_at b.codes node);
-      rounds = b.run.rounds;
-      state = node_at b.state node;
-    }

@@ -9,7 +9,7 @@ use Rattle.pals_model.specs.declared.flight_copy.FlightCopy.{FlightCopy}
 use Rattle.pals_model.specs.Delays.{delay_of}
 use Rattle.link_buffers.specs.proof.Flights.{FlightState, flight_of}
 use Rattle.bus_machine.specs.LinkEvents.{sent_copy}
-use Rattle.bus_machine.specs.States.{no_link}
+use Rattle.bus_machine.specs.Plans.{no_link}
 use Rattle.pals_bus.specs.proof.OutOfRangeDefaults.{no_flight}
 
 -- a link from a node

@@ -9,7 +9,9 @@ pub mod Steps
 use Rattle.std.specs.Prelude.{◌≡◌, ◌≢◌, ℕ, suc, ◌<◌, [], length, flat_map, All, Some, map, slice_get, slice_index_or}
 use Rattle.pals_base.specs.declared.values.PortValue.TheVariants.{Absent}
 use Rattle.pals_base.specs.SingleStep.{initial}
-use Rattle.pals_base.specs.StepSequences.{steps, Stepped, cut, frame_after, upwards}
+use Rattle.pals_base.specs.StepSequences.{steps, Stepped, frame_after}
+use Rattle.pals_base.specs.Tuples.{cut}
+use Rattle.pals_base.specs.UpwardNumbers.{upwards}
 use Rattle.pals_base.specs.PeriodBound.{sent_steps}
 use Rattle.pals_model.specs.declared.design.Component.{Component}
 use Rattle.pals_model.specs.declared.design.Link.{Link}

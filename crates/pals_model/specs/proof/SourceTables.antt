@@ -1,7 +1,7 @@
 -- Tables of sources, by component and in port, while they are made.
 use Rattle.std.specs.Prelude.{ℕ, List, [], map, length, slice_set, slice_index_or, drop}
 use Rattle.std.specs.List.{enumerate_from, position_from}
-use Rattle.pals_base.specs.StepSequences.{upwards}
+use Rattle.pals_base.specs.UpwardNumbers.{upwards}
 use Rattle.pals_model.specs.declared.design.Component.{Component}
 use Rattle.pals_model.specs.declared.design.DesignParts.{DesignParts}
 use Rattle.pals_model.specs.declared.port_sources.PortSource.{PortSource}

@@ -15,7 +15,7 @@ use Rattle.step_code.specs.proof.CodeMeaning.{Means}
 use Rattle.step_code.specs.proof.CodeRuns.{FitsCode}
 use Rattle.step_vm.specs.proof.RoomCapacity.{Capacity, IsRoomOf}
 use Rattle.bus_machine.specs.declared.plan.Plan.{Plan}
-use Rattle.pals_base.specs.StepSequences.{with_places}
+use Rattle.pals_base.specs.Tuples.{with_places}
 use Rattle.bus_machine.specs.Nodes.{NodeState}
 use Rattle.bus_machine.specs.NodeEvents.{finished, finished_with}
 use Rattle.pals_node.specs.declared.node_fields.NodeFields.{NodeFields}

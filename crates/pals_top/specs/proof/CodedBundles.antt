@@ -9,7 +9,7 @@ use Rattle.design_codes.specs.OverlongCodes.{AreShort}
 use Rattle.design_codes.specs.DesignBehaviours.{behaviours}
 use Rattle.scenario_json.specs.declared.scenario.Scenario.{Scenario}
 use Rattle.scenario_json.specs.proof.ScenarioValidity.{IsScenarioOf}
-use Rattle.scenario_laws.specs.proof.EventsAndTraces.{AreLooseEvents}
+use Rattle.scenario_laws.specs.proof.LooseEvents.{AreLooseEvents}
 use Rattle.pals_top.specs.declared.bundle_meaning.Coded.{Coded}
 use Rattle.pals_top.specs.declared.bundle_meaning.BundleMeaning.{BundleMeaning}
 use Rattle.pals_top.specs.ExecutionCommands.{Execution, TimedWorld, LooseWorld, Audit}

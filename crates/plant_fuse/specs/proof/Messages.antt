@@ -1,7 +1,7 @@
 -- What the components send to one another.
 use Rattle.std.specs.Prelude.{ℕ, Bool, if◌then◌else◌, List, [], length, Option, Some, None, slice_get}
 use Rattle.pals_base.specs.declared.values.PortValue.{PortValue}
-use Rattle.pals_base.specs.StepSequences.{column, cut}
+use Rattle.pals_base.specs.Tuples.{column, cut}
 use Rattle.pals_model.specs.declared.design.Link.{Link}
 use Rattle.pals_runs.specs.declared.plant_pairs.Pair.{Pair}
 use Rattle.sync_product.specs.declared.component_stage.Stage.{Stage}

@@ -2,7 +2,7 @@
 use Rattle.std.specs.Prelude.{◌≡◌, ◌≢◌, ℕ, List, map, Some, None, slice_get, slice_index_or}
 use Rattle.pals_base.specs.declared.values.PortValue.{PortValue}
 use Rattle.pals_base.specs.declared.frames.Frame.{Frame}
-use Rattle.pals_base.specs.StepSequences.{column}
+use Rattle.pals_base.specs.Tuples.{column}
 use Rattle.pals_model.specs.declared.design.Component.{Component}
 use Rattle.pals_model.specs.declared.design.DesignParts.{DesignParts}
 use Rattle.pals_model.specs.declared.part.Part.{Part}
@@ -11,8 +11,7 @@ use Rattle.pals_model.specs.Composition.{no_frame}
 use Rattle.pals_runs.specs.declared.plant_pairs.Pair.{Pair}
 use Rattle.sync_product.specs.declared.round_inputs.RoundInputs.{RoundInputs}
 use Rattle.sync_product.specs.declared.component_stage.Stage.{Stage}
-use Rattle.sync_product.specs.proof.ProductSizes.{tap_ports}
-use Rattle.sync_product.specs.proof.ComponentWiring.{IsWired}
+use Rattle.sync_product.specs.proof.ComponentWiring.{tap_ports, IsWired}
 use Rattle.sync_product.specs.proof.Rounds.{IsStepped, frames_of}
 use Rattle.plant_fuse.specs.declared.pair_steps.PairedComponent.{PairedComponent}
 use Rattle.plant_fuse.specs.proof.Partners.{partner_of}

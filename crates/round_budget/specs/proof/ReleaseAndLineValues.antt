@@ -1,6 +1,5 @@
 -- The releases and timetable lines of the code as values of the definitions, and which releases it can serve.
-use Rattle.std.specs.Prelude.{◌≡◌, ℕ, ◌*◌, ◌<◌, ◌≤◌, List, length, map}
-use Rattle.pals_base.specs.declared.limits.TheConstants.{HOUR}
+use Rattle.std.specs.Prelude.{◌≡◌, ℕ, ◌*◌, List, map}
 use Rattle.step_code.specs.declared.instr.CodeParts.{CodeParts}
 use Rattle.round_budget.specs.Budgets.{serve, by_most, line_from}
 use Rattle.round_budget.specs.declared.releases.Release.{Release}
@@ -24,10 +23,3 @@ AreLines made all = map line_value made ≡ all
 abbrev pub served_lines : List CodeParts → ℕ → ℕ → List Release → List budgets.Line
 served_lines codes nanos start releases =
     map (line_from start) (serve (λ x. nanos * by_most codes x) 0 (map release_value releases))
-
--- it has a code, comes at the start or later and within two hours, and takes an hour at most
-pub record CanServe (codes : List CodeParts) (nanos start : ℕ) (x : budgets.Release) : Type 0 where
-  pub code : x.node < length codes
-  pub late : start ≤ x.time
-  pub soon : x.time ≤ 2 * HOUR
-  pub short : nanos * by_most codes x ≤ HOUR

@@ -1,6 +1,6 @@
 -- What a timetable promises.
 use Rattle.std.specs.Prelude.{◌≡◌, ℕ, true, false, List, map, flat_map}
-use Rattle.pals_base.specs.StepSequences.{upwards}
+use Rattle.pals_base.specs.UpwardNumbers.{upwards}
 use Rattle.step_code.specs.declared.instr.CodeParts.{CodeParts}
 use Rattle.pals_model.specs.declared.design.DesignParts.{DesignParts}
 use Rattle.round_budget.specs.Budgets.{budget, by_most, total, fits, timetable}

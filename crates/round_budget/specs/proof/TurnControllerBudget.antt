@@ -3,7 +3,7 @@ use Rattle.std.specs.Prelude.{◌≡◌, ℕ, true, false, codes, List, [], ◌�
 use Rattle.step_code.specs.declared.instr.Instr.TheVariants.{Store, Port, Add, Emit, End}
 use Rattle.step_code.specs.declared.instr.CodeParts.{CodeParts}
 use Rattle.step_code.specs.proof.Examples.{surface}
-use Rattle.step_compiler.specs.proof.BlockLengthsAndStarts.{compiled}
+use Rattle.step_compiler.specs.proof.CompiledCode.{compiled}
 use Rattle.pals_model.specs.declared.design.Component.{Component}
 use Rattle.round_budget.specs.Budgets.{Line, total, fits, timetable}
 use Rattle.round_budget.specs.BudgetText.{Processor, some_is_over, budget_lines}

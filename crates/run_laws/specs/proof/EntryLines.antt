@@ -53,3 +53,8 @@ LinesDiffer = OfEntries (λ design e.
 -- and each line that tells an entry tells one of the design
 abbrev pub ToldAreIn : Type 0
 ToldAreIn = (design : DesignParts) (line : List ℕ) (e : JournalEntry) → told design line ≡ Some e → IsEntryIn design e
+
+-- a line that tells an entry of a design is that entry's line, letter by letter
+abbrev pub ToldAreLines : Type 0
+ToldAreLines =
+    (design : DesignParts) (line : List ℕ) (e : JournalEntry) → told design line ≡ Some e → line ≡ entry_line design e

@@ -10,8 +10,9 @@ use Rattle.pals_model.specs.Flights.{is_of}
 use Rattle.pals_runs.specs.declared.journal.Stop.{Stop}
 use Rattle.pals_runs.specs.declared.journal.JournalEntry.{JournalEntry}
 use Rattle.bus_machine.specs.NodeEvents.{slot_at}
-use Rattle.bus_machine.specs.States.{Run, BusState, node_at, flight_at, link_at}
-use Rattle.bus_machine.specs.MissedStarts.{sent_rounds}
+use Rattle.bus_machine.specs.States.{BusState, node_at, flight_at}
+use Rattle.bus_machine.specs.Plans.{link_at}
+use Rattle.bus_machine.specs.Runs.{Run}
 use Rattle.run_laws.specs.JournalReadings.{starts, sends, latest}
 use Rattle.run_laws.specs.proof.RunQuantifiers.{InRuns}
 use Rattle.run_laws.specs.NodeLinkQuantifiers.{EachLink}
@@ -99,9 +100,3 @@ pub record IsTimed (delay : ℕ → ℕ) (v : LinkView) : Type 0 where
 abbrev pub LinksAreTimed : Type 0
 LinksAreTimed = InRuns (λ run clocks journal s. EachLink run (λ number.
     IsTimed (delay_of run.delays number) (view run s journal number (link_at run.design number))))
-
--- the journal shows as many starts and sends of a node as it has started and sent rounds
-abbrev pub RoundsAreShown : Type 0
-RoundsAreShown = InRuns (λ run clocks journal s. (node : ℕ) →
-    (length (starts node journal) ≡ (node_at s node).count)
-    × (length (sends node journal) ≡ sent_rounds (node_at s node)))

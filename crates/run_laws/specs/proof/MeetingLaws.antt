@@ -1,7 +1,8 @@
 -- Laws of nodes that meet: what lines show, and how a run ends or stops.
 use Rattle.std.specs.Prelude.{◌≡◌, ℕ, [], None, IfSome}
 use Rattle.run_laws.specs.proof.RunQuantifiers.{InMeetings}
-use Rattle.run_laws.specs.Meetings.{ShowTargets, AllDone, IsLate, MeetingStop, DelaysFit}
+use Rattle.run_laws.specs.Meetings.{ShowTargets, AllDone, IsLate, MeetingStop}
+use Rattle.run_laws.specs.StopBounds.{DelaysFit}
 
 abbrev pub MeetingsShowTargets : Type 0
 MeetingsShowTargets = InMeetings (λ run journal s. ShowTargets run [] journal)

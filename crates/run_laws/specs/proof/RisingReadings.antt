@@ -2,8 +2,8 @@
 use Rattle.std.specs.Prelude.{◌≡◌, ℕ, ◌≤◌, List, [], ◌∷◌, ◌++◌, Some}
 use Rattle.std.specs.Option.{unwrap_or}
 use Rattle.pals_runs.specs.declared.journal.JournalEntry.{JournalEntry}
-use Rattle.bus_machine.specs.States.{Run}
-use Rattle.run_laws.specs.EntriesInLines.{Timed, timed}
+use Rattle.bus_machine.specs.Runs.{Run}
+use Rattle.run_laws.specs.EntryEventsAndReadings.{Timed, timed}
 use Rattle.run_laws.specs.JournalReadings.{latest}
 use Rattle.run_laws.specs.Runs.{target_of}
 use Rattle.run_laws.specs.proof.RunQuantifiers.{InRuns, InMeetings}

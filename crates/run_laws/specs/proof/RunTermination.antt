@@ -6,12 +6,13 @@ use Rattle.pals_clock.specs.declared.clock.Clocks.{Clocks}
 use Rattle.pals_model.specs.declared.design.Component.{Component}
 use Rattle.pals_runs.specs.declared.phase.Phase.TheVariants.{Done}
 use Rattle.pals_runs.specs.declared.journal.JournalEntry.{JournalEntry}
-use Rattle.bus_machine.specs.States.{Run, BusState, node_at}
+use Rattle.bus_machine.specs.States.{BusState, node_at}
+use Rattle.bus_machine.specs.Runs.{Run}
 use Rattle.bus_machine.specs.proof.AgreementLaws.{IsRunOf}
 use Rattle.run_laws.specs.Runs.{lists_in, HasEnded, Begin, Runs}
 use Rattle.run_laws.specs.proof.RunQuantifiers.{InRuns, InListRuns}
 use Rattle.run_laws.specs.Meetings.{AllDone}
-use Rattle.run_laws.specs.TimelyRounds.{AllOver, AllAtEnd}
+use Rattle.run_laws.specs.ListRunEndsAndStops.{AllOver, AllAtEnd}
 
 -- a run has come to its end: it has stopped, or all its nodes have come to theirs
 abbrev pub HasCome : Run → Clocks → BusState → Type 0

@@ -10,7 +10,7 @@ use Rattle.bus_machine.specs.States.{finished_by_all}
 use Rattle.run_laws.specs.TextLines.{lines_of}
 use Rattle.run_laws.specs.TraceVerdicts.{verdict}
 use Rattle.run_laws.specs.proof.RunQuantifiers.{InRuns}
-use Rattle.run_laws.specs.HistoriesAndTraces.{IsStoppedOrDone, trace_of}
+use Rattle.run_laws.specs.HistoriesAndTraces.{IsStoppedOrDone, trace_of, History, IsTraceOf}
 use Rattle.run_laws.specs.Runs.{clock_at}
 
 -- no reading of a list is greater than a reading may be
@@ -27,3 +27,13 @@ RunsAreSound = InRuns (λ run clocks journal s. run.rounds ≤ ROUNDS → AreRea
 abbrev pub TracesAreTexts : Type 0
 TracesAreTexts = InRuns (λ run clocks journal s. run.rounds ≤ ROUNDS → AreReadings clocks
     → lines_of (text_of (trace_of run journal s)) ≡ trace_of run journal s)
+
+-- what nodes do that keep to their clocks is a history
+abbrev pub RunsAreHistories : Type 0
+RunsAreHistories = InRuns (λ run clocks journal s. History run journal s)
+
+
+-- the trace of each run of nodes that keep to their clocks is one, where the run is over
+abbrev pub RunsAreTraces : Type 0
+RunsAreTraces = InRuns (λ run clocks journal s. run.rounds ≤ ROUNDS → AreReadings clocks → IsStoppedOrDone run s
+    → IsTraceOf run (trace_of run journal s) (finished_by_all run s) s.stop)

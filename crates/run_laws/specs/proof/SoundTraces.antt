@@ -1,22 +1,17 @@
 -- What a trace is that is judged sound.
 use Rattle.std.specs.Prelude.{◌≡◌, ◌↔◌, ℕ, ◌+◌, ◌*◌, ◌≤◌, List, [], Option, Some, All}
 use Rattle.pals_base.specs.PeriodBound.{alarm}
-use Rattle.pals_base.specs.declared.limits.TheConstants.{ROUNDS}
-use Rattle.pals_model.specs.declared.design.DesignParts.{DesignParts}
 use Rattle.pals_runs.specs.declared.journal.Stop.{Stop}
 use Rattle.pals_runs.specs.declared.journal.JournalEntry.{JournalEntry}
-use Rattle.pals_runs.specs.JournalLines.{entry_line}
 use Rattle.pals_runs.specs.declared.verdicts.Verdict.TheVariants.{Sound}
 use Rattle.bus_machine.specs.Plans.{plan_of}
-use Rattle.bus_machine.specs.States.{Run, BusState, finished_by_all}
+use Rattle.bus_machine.specs.States.{BusState}
+use Rattle.bus_machine.specs.Runs.{Run}
 use Rattle.bus_machine.specs.Replay.{Replays}
 use Rattle.bus_machine.specs.proof.AgreementLaws.{IsRunOf}
-use Rattle.run_laws.specs.EntriesInLines.{told}
 use Rattle.run_laws.specs.TraceVerdicts.{verdict}
-use Rattle.run_laws.specs.proof.RunQuantifiers.{InRuns}
 use Rattle.run_laws.specs.proof.RisingReadings.{LinesRise}
-use Rattle.run_laws.specs.proof.RunTraces.{AreReadings}
-use Rattle.run_laws.specs.HistoriesAndTraces.{History, IsStoppedOrDone, IsTraceOf, trace_of}
+use Rattle.run_laws.specs.HistoriesAndTraces.{History, IsTraceOf}
 use Rattle.pals_runs.specs.declared.journal.Stop.TheVariants as stop
 use Rattle.pals_runs.specs.declared.journal.JournalEntry.TheVariants as entry
 
@@ -73,19 +68,3 @@ pub record KeepsTimes (run : Run) (journal : List JournalEntry) (s : BusState) :
 abbrev pub HistoriesReplay : Type 0
 HistoriesReplay =
     (run : Run) (journal : List JournalEntry) (s : BusState) → History run journal s → KeepsTimes run journal s
-
--- ---- runs
--- what nodes do that keep to their clocks is a history
-abbrev pub RunsAreHistories : Type 0
-RunsAreHistories = InRuns (λ run clocks journal s. History run journal s)
-
--- the trace of each run of nodes that keep to their clocks is one, where the run is over
-abbrev pub RunsAreTraces : Type 0
-RunsAreTraces = InRuns (λ run clocks journal s. run.rounds ≤ ROUNDS → AreReadings clocks → IsStoppedOrDone run s
-    → IsTraceOf run (trace_of run journal s) (finished_by_all run s) s.stop)
-
--- ---- lines
--- a line that tells an entry of a design is that entry's line, letter by letter
-abbrev pub ToldAreLines : Type 0
-ToldAreLines =
-    (design : DesignParts) (line : List ℕ) (e : JournalEntry) → told design line ≡ Some e → line ≡ entry_line design e

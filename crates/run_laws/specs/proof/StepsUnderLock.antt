@@ -8,11 +8,10 @@ use Rattle.pals_model.specs.declared.design.Link.{Link}
 use Rattle.pals_model.specs.declared.flight_copy.FlightCopy.{FlightCopy}
 use Rattle.bus_machine.specs.declared.node_action.NodeAction.{NodeAction}
 use Rattle.bus_machine.specs.Plans.{plan_of}
-use Rattle.bus_machine.specs.Agreement.{Agrees}
 use Rattle.bus_machine.specs.NodeEvents.{is_waiting}
-use Rattle.bus_machine.specs.States.{Run, BusState, node_at, flight_at}
+use Rattle.bus_machine.specs.States.{BusState, node_at, flight_at}
+use Rattle.bus_machine.specs.Runs.{Run}
 use Rattle.bus_machine.specs.Machine.{BusEvent, Arrive, IsStep}
-use Rattle.bus_machine.specs.Replay.{Replays}
 use Rattle.bus_machine.specs.ActionsAndTargets.{target}
 use Rattle.run_laws.specs.TraceRules.{is_due}
 use Rattle.run_laws.specs.NodeActions.{upcoming}
@@ -20,11 +19,6 @@ use Rattle.pals_clock.specs.declared.clock.Clocks.{Clocks}
 use Rattle.pals_clock.specs.declared.clock.Clocks.TheVariants.{Lists}
 use Rattle.run_laws.specs.Runs.{clock_at, Does, HasEnded, IsAwaited, Picks, KeepsTo, left_for, next_start}
 use Rattle.run_laws.specs.proof.RunQuantifiers.{InRuns}
-
--- the journal of a run replays to its state, and the state agrees with the composition
-abbrev pub RunsReplay : Type 0
-RunsReplay = InRuns (λ run clocks journal s. Replays run journal s × Agrees run s)
-
 -- ---- clocks
 -- a list that answers has picked for its node's next action
 abbrev pub ListPicks : Type 0

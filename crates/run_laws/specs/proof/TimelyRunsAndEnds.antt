@@ -7,14 +7,17 @@ use Rattle.pals_clock.specs.declared.clock.Clocks.TheVariants.{Meet, Lists}
 use Rattle.pals_model.specs.Delays.{delay_of}
 use Rattle.pals_runs.specs.declared.journal.JournalEntry.{JournalEntry}
 use Rattle.bus_machine.specs.proof.AgreementLaws.{IsRunOf}
-use Rattle.bus_machine.specs.Plans.{plan_of}
-use Rattle.bus_machine.specs.States.{Run, BusState, link_at}
+use Rattle.bus_machine.specs.Plans.{plan_of, link_at}
+use Rattle.bus_machine.specs.States.{BusState}
+use Rattle.bus_machine.specs.Runs.{Run}
 use Rattle.bus_machine.specs.ActionsAndTargets.{target}
 use Rattle.run_laws.specs.proof.RunQuantifiers.{InRuns}
 use Rattle.run_laws.specs.NodeLinkQuantifiers.{EachNode, EachLink}
-use Rattle.run_laws.specs.TimelyRounds.{AllAtEnd, IsTimely, PicksAll}
+use Rattle.run_laws.specs.TimelyRounds.{IsTimely}
+use Rattle.run_laws.specs.ListRunEndsAndStops.{AllAtEnd, PicksAll}
 use Rattle.run_laws.specs.proof.RunTermination.{IsFirstEnded}
-use Rattle.run_laws.specs.Meetings.{AllDone, IsLate, DelaysFit}
+use Rattle.run_laws.specs.Meetings.{AllDone, IsLate}
+use Rattle.run_laws.specs.StopBounds.{DelaysFit}
 use Rattle.run_laws.specs.ListPicks.{IsPickFor}
 use Rattle.run_laws.specs.Runs.{Runs, lists_in}
 use Rattle.bus_machine.specs.declared.node_action.NodeAction.TheVariants as action

@@ -11,13 +11,14 @@ use Rattle.pals_model.specs.Flights.{is_of}
 use Rattle.pals_runs.specs.declared.phase.Phase.TheVariants.{Running}
 use Rattle.bound_checker.specs.proof.MessageTimes.{IsNear}
 use Rattle.bus_machine.specs.declared.plan.Plan.{Plan}
-use Rattle.bus_machine.specs.Plans.{plan_of}
-use Rattle.bus_machine.specs.Nodes.{NodeState, round_of, finished_steps}
+use Rattle.bus_machine.specs.Plans.{plan_of, link_at}
+use Rattle.bus_machine.specs.Nodes.{NodeState, round_of, finished_steps, sent_rounds}
 use Rattle.bus_machine.specs.NodeEvents.{may_send, slot_at}
 use Rattle.bus_machine.specs.LinkEvents.{is_in_flight}
 use Rattle.bus_machine.specs.EarliestReadings.{step_alarm}
-use Rattle.bus_machine.specs.States.{Run, node_at, flight_at, link_at}
-use Rattle.bus_machine.specs.MissedStarts.{sent_rounds, rounds_sent_on}
+use Rattle.bus_machine.specs.States.{node_at, flight_at}
+use Rattle.bus_machine.specs.Runs.{Run}
+use Rattle.bus_machine.specs.MissedStarts.{rounds_sent_on}
 use Rattle.bus_machine.specs.Agreement.{Agrees}
 use Rattle.run_laws.specs.Worlds.{World, reading_at, since_at, ready_at, sendings}
 use Rattle.run_laws.specs.Deadlines.{node_deadline, message_deadline}

@@ -7,15 +7,17 @@ use Rattle.pals_runs.specs.declared.journal.Arrived.TheVariants.{Kept}
 use Rattle.pals_runs.specs.declared.phase.Phase.TheVariants.{Done}
 use Rattle.pals_runs.specs.declared.events_and_faults.Event.{Event}
 use Rattle.bus_machine.specs.NodeEvents.{slot_at}
-use Rattle.bus_machine.specs.States.{Run, node_at, flight_at, link_at}
+use Rattle.bus_machine.specs.States.{node_at, flight_at}
+use Rattle.bus_machine.specs.Plans.{link_at}
+use Rattle.bus_machine.specs.Runs.{Run}
 use Rattle.bus_machine.specs.MissedStarts.{rounds_sent_on}
 use Rattle.bus_machine.specs.Machine.{arrival}
 use Rattle.bus_machine.specs.proof.AgreementLaws.{IsRunOf}
 use Rattle.run_laws.specs.Worlds.{World, reading_at, opening_world, world_after}
 use Rattle.run_laws.specs.Deadlines.{node_deadline, message_deadline}
-use Rattle.run_laws.specs.EventFaults.{fault_of, IsWithin}
+use Rattle.run_laws.specs.EventFaults.{fault_of}
+use Rattle.run_laws.specs.EventLists.{IsWithin, IsInStep, GoRight, world_left}
 use Rattle.run_laws.specs.proof.WorldInvariant.{Flies, IsInSlot, IsTaken, IsNowhere, KeepsTime}
-use Rattle.run_laws.specs.EventLists.{IsInStep, GoRight, world_left}
 use Rattle.pals_runs.specs.declared.events_and_faults.Event.TheVariants as event
 
 -- ---- one event

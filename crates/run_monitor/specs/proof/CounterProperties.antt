@@ -1,13 +1,13 @@
 -- Three properties of the two counters over three rounds.
 use Rattle.std.specs.Prelude.{◌≡◌, ℕ, pos, Bool, true, false, codes, List, [], ◌∷◌, ◌++◌, map}
-use Rattle.pals_base.specs.StepSequences.{upwards}
+use Rattle.pals_base.specs.UpwardNumbers.{upwards}
 use Rattle.pals_model.specs.proof.TwoCounters.{two_counters}
 use Rattle.pals_model.specs.ComponentInputs.{no_env}
 use Rattle.pals_model.specs.RoundTexts.{line_end}
 use Rattle.pals_runs.specs.declared.forms.Compare.TheVariants.{Eq, Lt, Gt}
 use Rattle.pals_runs.specs.Formula.{Formula, Var, Not, Or, Previous, Historically, Since}
-use Rattle.run_monitor.specs.FormulaSemantics.{holds}
-use Rattle.run_monitor.specs.FalseProperties.{history, is_violated}
+use Rattle.run_monitor.specs.FormulaSemantics.{holds, history}
+use Rattle.run_monitor.specs.FalseProperties.{is_violated}
 use Rattle.run_monitor.specs.WatchText.{formulas_of, watch_text}
 
 -- what a formula says at each of the rounds

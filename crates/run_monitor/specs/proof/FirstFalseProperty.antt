@@ -4,8 +4,8 @@ use Rattle.pals_model.specs.declared.design.DesignParts.{DesignParts}
 use Rattle.pals_model.specs.declared.environment.Env.{Env}
 use Rattle.pals_runs.specs.Formula.{Formula}
 use Rattle.run_monitor.specs.declared.false_property.FalseProperty.{FalseProperty}
-use Rattle.run_monitor.specs.FormulaSemantics.{holds}
-use Rattle.run_monitor.specs.FalseProperties.{history, violation, is_violated}
+use Rattle.run_monitor.specs.FormulaSemantics.{holds, history}
+use Rattle.run_monitor.specs.FalseProperties.{violation, is_violated}
 
 -- all formulas hold at a round
 abbrev pub AllHold : DesignParts → Env → ℕ → List Formula → ℕ → Type 0

@@ -1,15 +1,9 @@
 -- Laws of formulas of monitors, and of the history of a design, which grows by a row each round.
 use Rattle.std.specs.Prelude.{◌≡◌, ◌↔◌, IsTrue, ℕ, suc, ◌<◌, ◌≤◌, List, [], ◌∷◌, ◌++◌, length}
 use Rattle.pals_base.specs.declared.frames.Frame.{Frame}
-use Rattle.pals_model.specs.declared.design.DesignParts.{DesignParts}
-use Rattle.pals_model.specs.declared.environment.Env.{Env}
-use Rattle.pals_model.specs.Composition.{comp}
-use Rattle.pals_model.specs.RoundTexts.{text_of}
 use Rattle.pals_runs.specs.Formula.{Formula, Previous, Once, Historically, Since}
 use Rattle.run_monitor.specs.FormulaSemantics.{holds}
 use Rattle.run_monitor.specs.proof.BitPerFormula.{further, bits_after}
-use Rattle.run_monitor.specs.FalseProperties.{history}
-use Rattle.run_monitor.specs.WatchText.{watched_lines, watched_rows}
 
 abbrev pub Holds : Formula → List (List Frame) → ℕ → Type 0
 Holds f h n = IsTrue (holds f h n)
@@ -39,25 +33,3 @@ PastStays = (f : Formula) (h more : List (List Frame)) (n : ℕ) → n < length 
 abbrev pub OneBitEach : Type 0
 OneBitEach = (f : Formula) (h : List (List Frame)) (row : List Frame) →
     further (bits_after h) row f ≡ holds f (h ++ row ∷ []) (length h)
-
--- ---- the history of a design
--- it has a row for each round
-abbrev pub HistoryHasRounds : Type 0
-HistoryHasRounds = (design : DesignParts) (env : Env) (rounds : ℕ) → length (history design env rounds) ≡ rounds
-
--- each round adds its frames
-abbrev pub HistoryGoesOn : Type 0
-HistoryGoesOn = (design : DesignParts) (env : Env) (rounds : ℕ) →
-    history design env (suc rounds) ≡ history design env rounds ++ (comp design env (suc rounds)).frames ∷ []
-
--- what is said of a round is what was said when it was the last one
-abbrev pub SaidAtOnce : Type 0
-SaidAtOnce = (f : Formula) (design : DesignParts) (env : Env) (round rounds : ℕ) → round < rounds →
-    holds f (history design env rounds) round ≡ holds f (history design env (suc round)) round
-
--- so each round adds its lines
-abbrev pub RowsGoOn : Type 0
-RowsGoOn = (design : DesignParts) (env : Env) (rounds : ℕ) (properties : List (List ℕ × Formula)) →
-    watched_rows design env (suc rounds) properties
-    ≡ watched_rows design env rounds properties
-    ++ text_of (watched_lines properties (history design env (suc rounds)) rounds)

@@ -8,7 +8,8 @@ use Rattle.pals_model.specs.declared.environment.Env.{Env}
 use Rattle.pals_runs.specs.Formula.{Formula}
 use Rattle.run_monitor.specs.declared.false_property.FalseProperty.{FalseProperty}
 use Rattle.run_monitor.specs.contracts.false_property.FalseProperty.{the_row as violations}
-use Rattle.run_monitor.specs.FalseProperties.{history, verdicts, violation}
+use Rattle.run_monitor.specs.FalseProperties.{verdicts, violation}
+use Rattle.run_monitor.specs.FormulaSemantics.{history}
 use Rattle.run_monitor.specs.proof.MonitorState.{MonitorState, state_code, whole, said, StandsFor, GoesOn}
 
 pub record MonitorsState : Type 0 where

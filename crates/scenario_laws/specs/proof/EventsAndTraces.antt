@@ -1,28 +1,10 @@
 -- A scenario that was read has no more events and trace lines than a list may have, and events of its loose world.
-use Rattle.std.specs.Prelude.{◌≤◌, true, ℕ, List, length, All, Ok}
+use Rattle.std.specs.Prelude.{◌≤◌, ℕ, List, length, Ok}
 use Rattle.pals_base.specs.declared.limits.TheConstants.{LIST_ITEMS}
 use Rattle.pals_model.specs.declared.design.DesignParts.{DesignParts}
 use Rattle.pals_runs.specs.declared.commands.Command.{Command}
-use Rattle.pals_runs.specs.declared.commands.Command.TheVariants.{World}
-use Rattle.pals_runs.specs.declared.events_and_faults.Event.{Event}
 use Rattle.scenario_json.specs.declared.scenario.Scenario.{Scenario}
 use Rattle.scenario_json.specs.Scenarios.{Means}
-use Rattle.loose_world.specs.LooseRuns.{IsLooseIn}
-
--- the command `world --loose`
-abbrev pub loosely : List ℕ → Command
-loosely root = World root true
-
--- events of a loose world of a design, and no more than a list may have
-pub record AreLooseEvents (design : DesignParts) (events : List Event) : Type 0 where
-  pub each : All (IsLooseIn design) events
-  pub few : length events ≤ LIST_ITEMS
-
-abbrev pub EventsAreLoose : Type 0
-EventsAreLoose =
-    (bytes root : List ℕ) (design : DesignParts) (scenario : Scenario) → Means bytes design (loosely root) (Ok scenario)
-    → AreLooseEvents design scenario.events
-
 -- ---- of any command
 abbrev pub EventsAreFew : Type 0
 EventsAreFew =

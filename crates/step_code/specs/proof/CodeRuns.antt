@@ -85,3 +85,9 @@ pub record Sized (c : CodeParts) (frame : Frame) (inputs : List PortValue) : Typ
   pub vars : length frame.vars ≡ c.vars
   pub ins : length frame.held ≡ c.ins
   pub inputs' : length inputs ≡ c.ins
+
+abbrev pub IsOver : Outcome → Type 0
+IsOver (Ended state slots outs) = Unit {0}
+IsOver (Trapped trap) = Unit {0}
+IsOver Stuck = Unit {0}
+IsOver Unfinished = ⊥

@@ -4,7 +4,8 @@ use Rattle.std.specs.Prelude.{◌≡◌, ℕ, ◌<◌, ◌≤◌, List, Option, 
 use Rattle.step_code.specs.declared.instr.Instr.{Instr}
 use Rattle.step_code.specs.PathWeights.{onward}
 use Rattle.step_code.specs.proof.CodeRuns.{Outcome, Ended, Trapped, Stuck, Unfinished}
-use Rattle.step_code.specs.proof.StackHeights.{takes, after, Member, Reaches, ways, Fed}
+use Rattle.step_code.specs.proof.StackHeights.{takes, after, Member, Reaches, ways}
+use Rattle.step_code.specs.proof.SlotsAndPorts.{Fed}
 
 -- rule 2 finds nothing anywhere, nor does rule 3 with two instructions
 pub record IsLevel (code : List Instr) (entries : List (Option ℕ)) : Type 0 where

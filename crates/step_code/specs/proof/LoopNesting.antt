@@ -5,7 +5,6 @@ use Rattle.step_code.specs.declared.instr.Instr.{Instr}
 use Rattle.step_code.specs.declared.instr.Instr.TheVariants.{Store, Jump, JumpZero, LoopStart, LoopNext, End}
 use Rattle.step_code.specs.declared.loops.LoopSpan.{LoopSpan}
 use Rattle.step_code.specs.Loops.{around}
-use Rattle.step_code.specs.proof.CodeRuns.{Outcome, Ended, Trapped, Stuck, Unfinished}
 
 -- a slot of none of these loops
 abbrev pub Free : List LoopSpan → ℕ → Type 0
@@ -52,9 +51,3 @@ Nests code p other = On code p (p + 1)
 
 pub record IsNested (code : List Instr) : Type 0 where
   pub each : (p : ℕ) (i : Instr) → slice_get code p ≡ Some i → Nests code p i
-
-abbrev pub IsOver : Outcome → Type 0
-IsOver (Ended state slots outs) = Unit {0}
-IsOver (Trapped trap) = Unit {0}
-IsOver Stuck = Unit {0}
-IsOver Unfinished = ⊥

@@ -24,17 +24,6 @@ takes (Emit x) = 1
 takes (End state) = 0
 takes binary = 2
 
--- the slot or the port that it names is there
-abbrev pub Fed : ℕ → ℕ → ℕ → Instr → Type 0
-Fed slots ins outs (Load x) = x < slots
-Fed slots ins outs (Store x) = x < slots
-Fed slots ins outs (Port x) = x < ins
-Fed slots ins outs (Fresh x) = x < ins
-Fed slots ins outs (Emit x) = x < outs
-Fed slots ins outs (LoopStart slot low high exit) = slot < slots
-Fed slots ins outs (LoopNext slot high to) = slot < slots
-Fed slots ins outs other = Unit {0}
-
 -- how many numbers it pushes
 abbrev pub gives : Instr → ℕ
 gives (Store x) = 0

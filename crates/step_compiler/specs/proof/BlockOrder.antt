@@ -4,7 +4,7 @@ use Rattle.std.specs.Prelude.{length, map, find, fold, replicate, slice_index_or
 use Rattle.std.specs.List.{list_any}
 use Rattle.pals_base.specs.declared.behaviour.BehaviourParts.{BehaviourParts}
 use Rattle.pals_base.specs.PlainTrees.{Edge}
-use Rattle.pals_base.specs.StepSequences.{upwards}
+use Rattle.pals_base.specs.UpwardNumbers.{upwards}
 use Rattle.step_compiler.specs.LaidOutCode.{states_of, complete_states}
 
 -- whether a state's block is placed

@@ -1,10 +1,11 @@
 -- How the components of a design are wired.
-use Rattle.std.specs.Prelude.{◌≡◌, ℕ, Some, slice_get}
+use Rattle.std.specs.Prelude.{◌≡◌, ℕ, Some, slice_get, nat_eq, List, map, filter}
 use Rattle.pals_model.specs.declared.design.DesignParts.{DesignParts}
 use Rattle.pals_model.specs.ComponentInputs.{sources_of, all_sources}
 use Rattle.sync_product.specs.declared.wiring.WiredComponent.{WiredComponent}
 use Rattle.sync_product.specs.declared.wiring.Wiring.{Wiring}
-use Rattle.sync_product.specs.proof.ProductSizes.{tap_ports, all_taps}
+use Rattle.std.specs.List.{enumerate_from}
+use Rattle.pals_model.specs.declared.design.Tap.{Tap}
 
 -- a component of a design
 pub record IsWired (design : DesignParts) (node : ℕ) (wired : WiredComponent) : Type 0 where
@@ -16,3 +17,11 @@ pub record IsWired (design : DesignParts) (node : ℕ) (wired : WiredComponent) 
 pub record IsWiring (design : DesignParts) (wiring : Wiring) : Type 0 where
   pub sources_are : wiring.sources ≡ all_sources design
   pub taps_are : wiring.taps ≡ all_taps design
+
+-- the out ports of a component that root out ports show, in their order
+abbrev pub tap_ports : List Tap → ℕ → List ℕ
+tap_ports taps node = map (λ (tap : Tap). tap.out_port) (filter (λ (tap : Tap). nat_eq tap.source.0 node) taps)
+
+
+abbrev pub all_taps : DesignParts → List (List ℕ)
+all_taps design = map (λ numbered. tap_ports design.taps numbered.0) (enumerate_from 0 design.components)

@@ -1,6 +1,6 @@
 -- Laws of products.
 use Rattle.std.specs.Prelude.{◌≡◌, ℕ, suc, map, length}
-use Rattle.pals_base.specs.StepSequences.{upwards}
+use Rattle.pals_base.specs.UpwardNumbers.{upwards}
 use Rattle.pals_model.specs.declared.design.DesignParts.{DesignParts}
 use Rattle.pals_model.specs.declared.environment.Env.{Env}
 use Rattle.pals_model.specs.Composition.{comp, part}

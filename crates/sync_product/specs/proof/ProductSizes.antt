@@ -1,25 +1,16 @@
 -- The sizes of a product's frames, tuples and stages, which stay the same from round to round.
-use Rattle.std.specs.Prelude.{ℕ, nat_eq, List, length, map, filter, replicate}
+use Rattle.std.specs.Prelude.{ℕ, List, length, map, replicate}
 use Rattle.std.specs.List.{enumerate_from}
 use Rattle.pals_base.specs.declared.values.PortValue.{PortValue}
 use Rattle.pals_base.specs.declared.frames.Frame.{Frame}
 use Rattle.pals_base.specs.PeriodBound.{sent_steps}
 use Rattle.pals_model.specs.declared.design.Component.{Component}
 use Rattle.pals_model.specs.declared.design.Link.{Link}
-use Rattle.pals_model.specs.declared.design.Tap.{Tap}
 use Rattle.pals_model.specs.declared.design.DesignParts.{DesignParts}
 use Rattle.pals_model.specs.declared.part.Part.{Part}
-use Rattle.pals_model.specs.ComponentInputs.{rate_of}
+use Rattle.pals_model.specs.PortKinds.{rate_of}
 use Rattle.sync_product.specs.declared.component_stage.Stage.{Stage}
-
--- ---- taps
--- the out ports of a component that root out ports show, in their order
-abbrev pub tap_ports : List Tap → ℕ → List ℕ
-tap_ports taps node = map (λ (tap : Tap). tap.out_port) (filter (λ (tap : Tap). nat_eq tap.source.0 node) taps)
-
-abbrev pub all_taps : DesignParts → List (List ℕ)
-all_taps design = map (λ numbered. tap_ports design.taps numbered.0) (enumerate_from 0 design.components)
-
+use Rattle.sync_product.specs.proof.ComponentWiring.{tap_ports}
 -- ---- frames: their variables and held inputs
 pub record FrameSize : Type 0 where
   pub vars : ℕ

@@ -10,14 +10,15 @@ use Rattle.pals_base.specs.declared.frames.Frame.{Frame}
 use Rattle.pals_base.specs.declared.values.PortValue.{PortValue}
 use Rattle.pals_base.specs.declared.values.PortValue.TheVariants.{Absent}
 use Rattle.pals_base.specs.SingleStep.{initial}
-use Rattle.pals_base.specs.StepSequences.{Stepped, upwards}
+use Rattle.pals_base.specs.StepSequences.{Stepped}
+use Rattle.pals_base.specs.UpwardNumbers.{upwards}
 use Rattle.pals_model.specs.declared.design.Component.{Component}
 use Rattle.pals_model.specs.declared.design.DesignParts.{DesignParts}
 use Rattle.pals_model.specs.declared.part.Part.{Part}
 use Rattle.pals_model.specs.declared.environment.Env.{Env}
 use Rattle.pals_model.specs.ComponentInputs.{values_at}
 use Rattle.pals_model.specs.Composition.{Configuration, part_of, opening, next, all_steps}
-use Rattle.sync_product.specs.proof.ProductSizes.{tap_ports}
+use Rattle.sync_product.specs.proof.ComponentWiring.{tap_ports}
 
 -- a design, its configuration after some rounds, and what its components left in the last of them
 pub record ProductState : Type 0 where

@@ -3,7 +3,8 @@ use Rattle.std.specs.Prelude.{◌≡◌, ℕ, Bool, if◌then◌else◌, List, [
 use Rattle.pals_base.specs.declared.values.PortValue.{PortValue}
 use Rattle.pals_base.specs.declared.values.PortValue.TheVariants.{Absent}
 use Rattle.pals_base.specs.declared.frames.Frame.{Frame}
-use Rattle.pals_base.specs.StepSequences.{frame_after, outputs, column, columns, cut}
+use Rattle.pals_base.specs.StepSequences.{frame_after, outputs}
+use Rattle.pals_base.specs.Tuples.{column, columns, cut}
 use Rattle.pals_model.specs.declared.design.Component.{Component}
 use Rattle.pals_model.specs.declared.design.Link.{Link}
 use Rattle.pals_model.specs.declared.part.Part.{Part}
@@ -12,7 +13,7 @@ use Rattle.pals_model.specs.ComponentInputs.{reading, sources_of}
 use Rattle.pals_model.specs.Composition.{no_frame}
 use Rattle.sync_product.specs.declared.round_inputs.RoundInputs.{RoundInputs}
 use Rattle.sync_product.specs.declared.component_stage.Stage.{Stage}
-use Rattle.sync_product.specs.proof.ProductSizes.{tap_ports}
+use Rattle.sync_product.specs.proof.ComponentWiring.{tap_ports}
 
 -- a place of a row where it counts, else an absent one
 abbrev pub place_before : Bool → ℕ → List PortValue → PortValue

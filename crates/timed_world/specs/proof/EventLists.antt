@@ -2,8 +2,8 @@
 use Rattle.std.specs.Prelude.{◌≡◌, ℕ, ◌≤◌, List, length, take, Some, slice_get}
 use Rattle.pals_runs.specs.declared.events_and_faults.Event.{Event}
 use Rattle.pals_runs.specs.declared.events_and_faults.EventFault.{EventFault}
-use Rattle.run_laws.specs.EventFaults.{fault_of, IsWithin}
-use Rattle.run_laws.specs.EventLists.{world_left}
+use Rattle.run_laws.specs.EventFaults.{fault_of}
+use Rattle.run_laws.specs.EventLists.{IsWithin, world_left}
 use Rattle.timed_world.specs.proof.WorldValues.{WorldValue, world_of}
 use Rattle.timed_world.specs.declared.event_list.WorldEnd.{WorldEnd}
 use Rattle.timed_world.specs.declared.event_list.WorldEnd.TheVariants as end

@@ -9,7 +9,7 @@ use Rattle.pals_runs.specs.declared.events_and_faults.Event.{Event}
 use Rattle.bus_machine.specs.Machine.{BusEvent}
 use Rattle.bus_machine.specs.proof.AgreementLaws.{IsRunOf}
 use Rattle.pals_bus.specs.BusValues.{BusValue, Happens}
-use Rattle.pals_bus.specs.proof.OpeningBusAndNodeValues.{opening_bus}
+use Rattle.pals_bus.specs.proof.OpeningNodes.{opening_bus}
 use Rattle.run_laws.specs.Worlds.{World, world_run, zeros, bus_event, world_after}
 use Rattle.run_laws.specs.proof.WorldInvariant.{KeepsTime}
 

@@ -2,7 +2,7 @@
 use Rattle.std.specs.Prelude.{◌≡◌, ◌<◌, true, false, length, Option, option_map, IfSome}
 use Rattle.pals_runs.specs.declared.journal.JournalEntry.{JournalEntry}
 use Rattle.run_laws.specs.EntriesOfDesigns.{IsEntryIn}
-use Rattle.run_laws.specs.EntriesInLines.{has_reading, timed}
+use Rattle.run_laws.specs.EntryEventsAndReadings.{has_reading, timed}
 use Rattle.run_laws.specs.TraceVerdicts.{Audit, audit_after}
 use Rattle.trace_audit.specs.declared.entry_clocks.ClockReading.{ClockReading}
 use Rattle.trace_audit.specs.declared.replay.Replay.{Replay}

@@ -1,6 +1,6 @@
 -- The clocks that entries read.
 use Rattle.std.specs.Prelude.{ℕ, Option, Some}
-use Rattle.run_laws.specs.EntriesInLines.{Timed}
+use Rattle.run_laws.specs.EntryEventsAndReadings.{Timed}
 use Rattle.trace_audit.specs.declared.entry_clocks.ClockReading.{ClockReading}
 
 abbrev pub timed_of : ClockReading → Timed

@@ -3,7 +3,7 @@ use Rattle.std.specs.Prelude.{◌≡◌, ℕ, true, false, if◌then◌else◌, 
 use Rattle.pals_base.specs.declared.values.NodeNo.{NodeNo}
 use Rattle.pals_runs.specs.declared.journal.JournalEntry.{JournalEntry}
 use Rattle.bus_machine.specs.Machine.{BusEvent, Start}
-use Rattle.run_laws.specs.EntriesInLines.{timed, event_of}
+use Rattle.run_laws.specs.EntryEventsAndReadings.{timed, event_of}
 use Rattle.run_laws.specs.TraceRules.{alarm_at, fits, has_due, is_before, too_early, waits}
 use Rattle.pals_bus.specs.BusValues.{BusValue, Happens}
 use Rattle.trace_audit.specs.proof.EntryClocks.{read_at}

@@ -5,13 +5,15 @@ use Rattle.pals_base.specs.declared.values.PortValue.{PortValue}
 use Rattle.pals_base.specs.declared.frames.Frame.{Frame}
 use Rattle.pals_base.specs.PeriodBound.{sent_steps}
 use Rattle.pals_base.specs.SingleStep.{initial}
-use Rattle.pals_base.specs.StepSequences.{column, cut, frame_after, outputs}
+use Rattle.pals_base.specs.StepSequences.{frame_after, outputs}
+use Rattle.pals_base.specs.Tuples.{column, cut}
 use Rattle.pals_model.specs.declared.design.Component.{Component}
 use Rattle.pals_model.specs.declared.design.Link.{Link}
 use Rattle.pals_model.specs.declared.design.Tap.{Tap}
 use Rattle.pals_model.specs.declared.design.DesignParts.{DesignParts}
 use Rattle.pals_model.specs.declared.part.Part.{Part}
-use Rattle.pals_model.specs.ComponentInputs.{rate_of, inputs_of}
+use Rattle.pals_model.specs.ComponentInputs.{inputs_of}
+use Rattle.pals_model.specs.PortKinds.{rate_of}
 use Rattle.pals_model.specs.Composition.{no_frame, opening}
 use Rattle.sync_product.specs.declared.component_stage.Stage.{Stage}
 use Rattle.sync_product.specs.proof.ProductSizes.{PartSize, part_size, part_size_of, message_sizes}

@@ -7,17 +7,14 @@ use Rattle.pals_model.specs.declared.design.Link.{Link}
 use Rattle.pals_model.specs.declared.design.Tap.{Tap}
 use Rattle.pals_model.specs.declared.design.DesignParts.{DesignParts}
 use Rattle.pals_model.specs.declared.part.Part.{Part}
-use Rattle.pals_model.specs.declared.port_sources.PortSource.{PortSource}
-use Rattle.pals_model.specs.ComponentInputs.{all_sources}
 use Rattle.pals_model.specs.Composition.{no_frame, opening}
 use Rattle.pals_runs.specs.declared.vote_faults.VoteFault.{VoteFault}
-use Rattle.sync_product.specs.declared.component_stage.Stage.{Stage}
-use Rattle.sync_product.specs.proof.ProductSizes.{stage_size, stage_sizes, message_sizes}
+use Rattle.sync_product.specs.proof.ProductSizes.{message_sizes}
 use Rattle.sync_product.specs.proof.Rounds.{frames_of}
 use Rattle.triple_vote.specs.declared.replica_layer.Layer.{Layer}
 use Rattle.triple_vote.specs.Replicas.{is_replicated, copies_of, Voted, for_replicas, for_receivers, is_fault, fault_or}
 use Rattle.triple_vote.specs.Replicas.{vote_of}
-use Rattle.triple_vote.specs.proof.ReplicaLayers.{lengths, tap_sizes, HasRoom, is_there, IsMade}
+use Rattle.triple_vote.specs.proof.ReplicaLayers.{lengths, HasRoom, is_there, IsMade}
 
 -- ---- by the number of the replica
 abbrev pub there_in : List Layer → List (List Bool)
@@ -125,17 +122,3 @@ pub record AreOpened (design : DesignParts) (replicated : List Bool) (layers : L
   pub layers_are : HaveReplicas design replicated (there_in layers)
   pub frames : (replica : ℕ) → replica < 3
       → frames_of (slice_index_or (parts_in layers) replica []) ≡ (opening design).frames
-
--- the tables are the design's
-pub record HasTables (design : DesignParts) (replicated : List Bool) (sources : List (List PortSource))
-    (stages : List Stage) : Type 0 where
-  pub replicated_fit : length replicated ≡ length design.components
-  pub sources_are : sources ≡ all_sources design
-  pub stages_fit : map stage_size stages ≡ stage_sizes design
-
-pub record HasReplicas (design : DesignParts) (replicated : List Bool) (layers : List Layer)
-    (heard : List (List (List PortValue))) (shown : List (List PortValue)) : Type 0 where
-  pub layers_fit : AreThree design layers
-  pub layers_are : HaveReplicas design replicated (there_in layers)
-  pub heard_fit : AreHeard design heard
-  pub shown_fit : lengths shown ≡ tap_sizes design

@@ -10,7 +10,8 @@ use Rattle.pals_base.specs.declared.values.PortValue.TheVariants.{Absent}
 use Rattle.pals_model.specs.declared.design.Tap.{Tap}
 use Rattle.pals_model.specs.declared.design.DesignParts.{DesignParts}
 use Rattle.pals_model.specs.declared.environment.Env.{Env}
-use Rattle.pals_model.specs.ComponentInputs.{rate_of, values_at}
+use Rattle.pals_model.specs.ComponentInputs.{values_at}
+use Rattle.pals_model.specs.PortKinds.{rate_of}
 use Rattle.pals_runs.specs.declared.vote_faults.VoteFault.{VoteFault}
 use Rattle.triple_vote.specs.Replicas.{Voted, voted_opening, vnext, vshown_by}
 

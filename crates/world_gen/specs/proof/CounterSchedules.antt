@@ -7,7 +7,7 @@ use Rattle.pals_model.specs.proof.TwoCounters.{two_counters}
 use Rattle.pals_model.specs.ComponentInputs.{no_env}
 use Rattle.pals_runs.specs.declared.events_and_faults.Event.{Event}
 use Rattle.pals_runs.specs.declared.events_and_faults.Event.TheVariants.{Pass, Start, Step, Finish, Send, Arrive}
-use Rattle.bus_machine.specs.States.{Run}
+use Rattle.bus_machine.specs.Runs.{Run}
 use Rattle.run_laws.specs.Worlds.{world_run}
 use Rattle.bus_machine.specs.proof.StoppedCounterRuns.{a, b, to_a, to_b}
 use Rattle.run_laws.specs.proof.TwoCounterWorlds.{counters_world, refused}

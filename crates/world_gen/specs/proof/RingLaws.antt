@@ -1,11 +1,12 @@
 -- Laws of rings.
 use Rattle.std.specs.Prelude.{◌≡◌, ℕ, ◌*◌, ◌<◌, ◌≤◌, ℤ, pos, ◌+ℤ◌, ◌≤ℤ◌, ◌<ℤ◌, map, fold, sum_by, slice_index_or}
 use Rattle.pals_base.specs.declared.limits.TheConstants.{COMPONENTS}
-use Rattle.pals_base.specs.StepSequences.{upwards}
+use Rattle.pals_base.specs.UpwardNumbers.{upwards}
 use Rattle.pals_model.specs.ComponentInputs.{no_env}
 use Rattle.pals_model.specs.DesignRules.{IsDesign}
 use Rattle.pals_runs.specs.declared.phase.Phase.TheVariants.{Done}
-use Rattle.bus_machine.specs.States.{Run, BusState, node_at}
+use Rattle.bus_machine.specs.States.{BusState, node_at}
+use Rattle.bus_machine.specs.Runs.{Run}
 use Rattle.bus_machine.specs.MissedStarts.{rounds_sent_on}
 use Rattle.bus_machine.specs.Agreement.{Agrees}
 use Rattle.run_laws.specs.Worlds.{world_run}

@@ -3,11 +3,11 @@ use Rattle.std.specs.Prelude.{◌≡◌, ℕ, ◌<◌, List, length}
 use Rattle.pals_model.specs.declared.design.DesignParts.{DesignParts}
 use Rattle.pals_runs.specs.declared.phase.Phase.TheVariants.{Done}
 use Rattle.pals_runs.specs.declared.events_and_faults.Event.{Event}
-use Rattle.bus_machine.specs.States.{Run, node_at}
+use Rattle.bus_machine.specs.States.{node_at}
+use Rattle.bus_machine.specs.Runs.{Run}
 use Rattle.bus_machine.specs.proof.AgreementLaws.{IsRunOf}
 use Rattle.run_laws.specs.Worlds.{opening_world}
-use Rattle.run_laws.specs.EventFaults.{IsWithin}
-use Rattle.run_laws.specs.EventLists.{world_left}
+use Rattle.run_laws.specs.EventLists.{IsWithin, world_left}
 use Rattle.world_gen.specs.proof.Schedules.{AreMoments, schedule_at}
 
 -- a schedule is within the bounds, and ends with all rounds finished and sent

@@ -3,11 +3,10 @@
 use Rattle.std.specs.Prelude.{◌≡◌, ◌≢◌, ℕ, suc, ◌+◌, ◌-◌, ◌*◌, ◌/◌, ◌%◌, ◌<◌, ◌≤◌, max, nat_eq, if◌then◌else◌, List, []}
 use Rattle.std.specs.Prelude.{◌∷◌, ◌++◌, length, replicate, flat_map, position, Option, Some, None}
 use Rattle.pals_base.specs.PeriodBound.{alarm}
-use Rattle.pals_base.specs.StepSequences.{upwards}
+use Rattle.pals_base.specs.UpwardNumbers.{upwards}
 use Rattle.pals_model.specs.declared.design.DesignParts.{DesignParts}
 use Rattle.pals_runs.specs.declared.events_and_faults.Event.{Event}
-use Rattle.bus_machine.specs.Plans.{plan_of}
-use Rattle.bus_machine.specs.States.{link_at}
+use Rattle.bus_machine.specs.Plans.{plan_of, link_at}
 use Rattle.pals_runs.specs.declared.events_and_faults.Event.TheVariants as event
 
 -- ---- when things come

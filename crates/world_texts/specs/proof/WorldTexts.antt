@@ -2,8 +2,8 @@
 use Rattle.std.specs.Prelude.{◌≡◌, ℕ, false, List, ◌++◌}
 use Rattle.pals_model.specs.RoundTexts.{text_of}
 use Rattle.pals_runs.specs.declared.events_and_faults.Event.{Event}
-use Rattle.bus_machine.specs.States.{Run}
-use Rattle.pals_bus.specs.proof.OpeningBusAndNodeValues.{opening_bus}
+use Rattle.bus_machine.specs.Runs.{Run}
+use Rattle.pals_bus.specs.proof.OpeningNodes.{opening_bus}
 use Rattle.run_laws.specs.Worlds.{opening_world}
 use Rattle.loose_world.specs.LooseRuns.{InTurn}
 use Rattle.loose_world.specs.proof.EventEffects.{Undergoes}

@@ -1,7 +1,7 @@
 use Rattle.std.proofs.Common.{◌∙◌, reverse, subst, sym, List, ℕ}
 use Rattle.aadl_tree.specs.proof.PackageViews.{placed}
 use Rattle.aadl_chains.specs.Chains.{Port}
-use Rattle.aadl_chains.proofs.OutermostFirstWalks.{rank_falls}
+use Rattle.aadl_chains.proofs.DeclarationRanks.{rank_falls}
 use Rattle.aadl_chains.proofs.LinkLimits.{thread_at}
 use Rattle.aadl_chains.proofs.TracedChains.{Descending, descend_first, descend_more, descend_thread, descend_none}
 use Rattle.aadl_chains.proofs.chain_tracing.descend.Goals as goal

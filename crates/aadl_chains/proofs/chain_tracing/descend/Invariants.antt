@@ -3,7 +3,7 @@ use Rattle.aadl_tree.specs.proof.PackageViews.{placed}
 use Rattle.aadl_uses.specs.Uses as uses
 use Rattle.aadl_chains.specs.proof.PortsJoinedInside.{is_in_at}
 use Rattle.aadl_chains.specs.proof.Walks.{OneEach}
-use Rattle.aadl_chains.proofs.OutermostFirstWalks.{rank}
+use Rattle.aadl_chains.proofs.DeclarationRanks.{rank}
 use Rattle.aadl_chains.proofs.TracedChains.{Descending}
 use Rattle.aadl_chains.proofs.chain_tracing.descend.Given as goal
 

@@ -5,7 +5,7 @@ use Rattle.aadl_tree.specs.proof.PackageViews.{placed}
 use Rattle.aadl_uses.specs.proof.PackageContainment.{targets_in}
 use Rattle.aadl_uses.proofs.ThreadCounts.{tells}
 use Rattle.aadl_chains.specs.proof.LimitedCounts.{IsNumber}
-use Rattle.aadl_chains.specs.proof.EnteredPortCounts.{EndsLink}
+use Rattle.aadl_chains.specs.proof.EnteredThreadPorts.{EndsLink}
 use Rattle.aadl_chains.proofs.LinkLimits.{more_links, one_each}
 use Rattle.aadl_chains.proofs.link_limit.has_too_many_links.Goals as goal
 

@@ -6,7 +6,7 @@ use Rattle.aadl_uses.proofs.KnownPrefixes.{FrontOf, no_front, front_known, front
 use Rattle.std.proofs.lemmas.List.{length-map}
 use Rattle.list_lemmas.proofs.ElementPositions.{Contains-from_slice_get}
 use Rattle.aadl_chains.specs.proof.LimitedCounts.{IsNumber}
-use Rattle.aadl_chains.specs.proof.EnteredPortCounts.{EndsLink}
+use Rattle.aadl_chains.specs.proof.EnteredThreadPorts.{EndsLink}
 use Rattle.aadl_chains.proofs.PortCountTables.{known_below}
 use Rattle.aadl_chains.proofs.link_limit.link_counts.Goals.{in-Some, in_default}
 use Rattle.aadl_chains.proofs.link_limit.link_counts.Goals as goal

@@ -2,7 +2,7 @@ use Rattle.aadl_tree.specs.proof.PackageViews.{placed}
 use Rattle.aadl_uses.specs.proof.PackageContainment.{containment}
 use Rattle.aadl_uses.proofs.KnownPrefixes.{FrontOf}
 use Rattle.aadl_chains.specs.proof.LimitedCounts.{IsNumber}
-use Rattle.aadl_chains.specs.proof.EnteredPortCounts.{EndsLink}
+use Rattle.aadl_chains.specs.proof.EnteredThreadPorts.{EndsLink}
 use Rattle.aadl_chains.proofs.link_limit.link_counts.Given as goal
 
 abbrev pub invariant-loop-at : goal.invariant-loop-at

@@ -1,6 +1,6 @@
 use Rattle.aadl_tree.specs.proof.PackageViews.{placed}
 use Rattle.aadl_chains.specs.proof.LimitedCounts.{IsNumber}
-use Rattle.aadl_chains.specs.proof.EnteredPortCounts.{FromThread, AmongFirst}
+use Rattle.aadl_chains.specs.proof.EnteredThreadPorts.{FromThread, AmongFirst}
 use Rattle.aadl_chains.proofs.link_limit.links_carried.Given as goal
 
 -- by the connections so far

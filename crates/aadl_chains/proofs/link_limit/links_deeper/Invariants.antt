@@ -1,6 +1,6 @@
 use Rattle.aadl_tree.specs.proof.PackageViews.{placed}
 use Rattle.aadl_chains.specs.proof.LimitedCounts.{IsNumber}
-use Rattle.aadl_chains.specs.proof.EnteredPortCounts.{Deeper, AmongFirst}
+use Rattle.aadl_chains.specs.proof.EnteredThreadPorts.{Deeper, AmongFirst}
 use Rattle.aadl_chains.proofs.link_limit.links_deeper.Given as goal
 
 -- below the subcomponents so far

@@ -1,4 +1,4 @@
-use Rattle.aadl_grammar.proofs.Fates.GrammarLanguages.{one_package, one_behaviour, package_kept, behaviour_kept}
+use Rattle.aadl_grammar.proofs.DerivationTrees.UniqueTrees.{one_package, one_behaviour, package_kept, behaviour_kept}
 use Rattle.aadl_grammar.proofs.fate_and_uniqueness_laws.a_text_has_one_tree.Goals as goal
 
 pub returns-clause-package : goal.returns-clause-package

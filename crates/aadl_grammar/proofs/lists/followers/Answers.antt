@@ -1,4 +1,4 @@
-use Rattle.aadl_grammar.proofs.TopSymbolMoves.{exits, no_reads}
+use Rattle.aadl_grammar.proofs.ParserFaults.{exits, no_reads}
 use Rattle.aadl_grammar.proofs.ListSteps.{item_runs, grown}
 use Rattle.aadl_grammar.proofs.lists.followers.Goals as goal
 

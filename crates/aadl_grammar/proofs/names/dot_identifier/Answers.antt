@@ -2,7 +2,8 @@ use Rattle.std.proofs.Common.{◌∙◌, arith, refl}
 use Rattle.aadl_grammar.specs.proof.GrammarSymbols as s
 use Rattle.aadl_grammar.specs.proof.StackMachine.{move, depth}
 use Rattle.aadl_grammar.specs.proof.ParserAnswers.{here}
-use Rattle.aadl_grammar.proofs.TopSymbolMoves.{takes_row, omits_unless, exits, no_reads, along}
+use Rattle.aadl_grammar.proofs.TopSymbolMoves.{takes_row, omits_unless}
+use Rattle.aadl_grammar.proofs.ParserFaults.{exits, no_reads, along}
 use Rattle.aadl_grammar.proofs.PartSequences.{nothing, marked}
 use Rattle.aadl_grammar.proofs.names.dot_identifier.Goals as goal
 

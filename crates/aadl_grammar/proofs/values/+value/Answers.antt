@@ -1,7 +1,8 @@
 use Rattle.std.proofs.Common.{◌∙◌, ◌∷◌, [], ◌++◌, ap, sym, refl, arith}
 use Rattle.aadl_grammar.specs.proof.ParserAnswers.{here}
 use Rattle.aadl_grammar.proofs.TopSymbolMoves.{takes_row, deep_row, omits_unless, begins_as, enters_as, before_closer}
-use Rattle.aadl_grammar.proofs.TopSymbolMoves.{misses_at, along, exits, no_reads, too_deep, flag_runs, only_takes}
+use Rattle.aadl_grammar.proofs.TopSymbolMoves.{misses_at, flag_runs, only_takes}
+use Rattle.aadl_grammar.proofs.ParserFaults.{along, exits, no_reads, too_deep}
 use Rattle.aadl_grammar.proofs.PartSequences.{nothing, then, marked, respelled, shorter, flagged}
 use Rattle.aadl_tree.specs.SpellingParts.{plain}
 use Rattle.aadl_tree.specs.Values.{reference, classifier, value_parts, values_parts, association_parts}

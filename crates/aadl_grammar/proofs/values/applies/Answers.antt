@@ -1,8 +1,10 @@
 use Rattle.std.proofs.Common.{◌∙◌, ◌∷◌, [], ◌++◌, ap, sym, refl, arith, rules, map, Some, None}
 use Rattle.aadl_grammar.specs.proof.ParserAnswers.{here, AnyRoom}
-use Rattle.aadl_grammar.proofs.TopSymbolMoves.{takes_row, omits_unless, along, exits, no_reads}
+use Rattle.aadl_grammar.proofs.TopSymbolMoves.{takes_row, omits_unless}
+use Rattle.aadl_grammar.proofs.ParserFaults.{along, exits, no_reads}
 use Rattle.aadl_grammar.proofs.PartSequences.{nothing, then, marked, respelled, begun}
-use Rattle.aadl_grammar.proofs.ListSymbols.{path_list, spelled, items_of, list_from, same_answer, item_advances}
+use Rattle.aadl_grammar.proofs.ListSymbols.{path_list}
+use Rattle.aadl_grammar.proofs.ListAnswers.{spelled, items_of, list_from, same_answer, item_advances}
 use Rattle.aadl_tree.specs.declared.mark.Mark.TheVariants as k
 use Rattle.aadl_tree.specs.Names.{path_parts}
 use Rattle.aadl_tree.specs.Values.{applies_parts}

@@ -1,6 +1,7 @@
 use Rattle.std.proofs.Common.{◌∙◌, ◌∷◌, [], ap, sym, refl, arith}
 use Rattle.aadl_grammar.specs.proof.ParserAnswers.{here}
-use Rattle.aadl_grammar.proofs.TopSymbolMoves.{takes_row, begins_past, acts_as, along, exits, no_reads}
+use Rattle.aadl_grammar.proofs.TopSymbolMoves.{takes_row, begins_past, acts_as}
+use Rattle.aadl_grammar.proofs.ParserFaults.{along, exits, no_reads}
 use Rattle.aadl_grammar.proofs.PartSequences.{nothing, then, told, respelled}
 use Rattle.aadl_tree.specs.Values.{named, value_parts}
 use Rattle.aadl_tree.specs.proof.NameViews.{reference_view}

@@ -1,7 +1,7 @@
 use Rattle.std.proofs.Common.{◌∙◌, ◌∷◌, [], ap, sym, refl, arith}
 use Rattle.aadl_grammar.specs.proof.ParserAnswers.{here}
 use Rattle.aadl_grammar.proofs.TopSymbolMoves.{takes_row, deep_row, omits_unless, refuses_unless, begins_as, enters_as}
-use Rattle.aadl_grammar.proofs.TopSymbolMoves.{along, exits, no_reads, too_deep}
+use Rattle.aadl_grammar.proofs.ParserFaults.{along, exits, no_reads, too_deep}
 use Rattle.aadl_grammar.proofs.PartSequences.{nothing, respelled}
 use Rattle.aadl_tree.specs.Values.{properties_parts}
 use Rattle.aadl_tree.specs.proof.ValueViews.{associations_view}

@@ -1,6 +1,7 @@
 use Rattle.std.proofs.Common.{◌∙◌, ◌∷◌, ap, sym, refl, arith}
 use Rattle.aadl_grammar.specs.proof.ParserAnswers.{here}
-use Rattle.aadl_grammar.proofs.TopSymbolMoves.{takes_row, omits_unless, along, exits, no_reads}
+use Rattle.aadl_grammar.proofs.TopSymbolMoves.{takes_row, omits_unless}
+use Rattle.aadl_grammar.proofs.ParserFaults.{along, exits, no_reads}
 use Rattle.aadl_grammar.proofs.PartSequences.{nothing, marked, respelled}
 use Rattle.aadl_tree.specs.SpellingParts.{plain}
 use Rattle.aadl_tree.specs.Values.{quantity_parts}

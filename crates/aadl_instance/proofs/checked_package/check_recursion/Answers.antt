@@ -1,7 +1,7 @@
 use Rattle.std.proofs.Common.{inr, subst}
 use Rattle.aadl_tree.specs.proof.PackageViews.{placed}
-use Rattle.aadl_uses.specs.proof.PackageContainment.{FirstIn}
-use Rattle.aadl_uses.specs.Uses.{IsRecursive}
+use Rattle.aadl_uses.specs.proof.FirstRecursion.{FirstIn}
+use Rattle.aadl_uses.specs.Recursion.{IsRecursive}
 use Rattle.aadl_instance.proofs.FaultPrecedence.{recursion_fault}
 use Rattle.aadl_instance.proofs.checked_package.check_recursion.Goals as goal
 

@@ -1,7 +1,7 @@
 use Rattle.std.proofs.Common.{subst}
 use Rattle.aadl_tree.specs.proof.PackageViews.{placed}
-use Rattle.aadl_uses.specs.proof.PackageContainment.{FirstIn}
-use Rattle.aadl_chains.specs.Chains.{IsEndFault}
+use Rattle.aadl_uses.specs.proof.FirstRecursion.{FirstIn}
+use Rattle.aadl_chains.specs.ChainFaults.{IsEndFault}
 use Rattle.aadl_chains.proofs.PermittedConnections.{declared}
 use Rattle.aadl_instance.proofs.FaultPrecedence.{end_fault}
 use Rattle.aadl_instance.proofs.checked_package.connection_fault.Goals as goal

@@ -1,5 +1,5 @@
 use Rattle.std.proofs.Common.{◌∙◌, sym}
-use Rattle.aadl_instance.proofs.Roots.{system_spelled, no_system}
+use Rattle.aadl_instance.proofs.RootSearch.{system_spelled, no_system}
 use Rattle.aadl_instance.proofs.root.is_root_implementation.Goals as goal
 
 pub returns : goal.returns

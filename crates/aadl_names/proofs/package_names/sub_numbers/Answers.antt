@@ -2,7 +2,7 @@ use Rattle.std.proofs.Common.{arith}
 use Rattle.aadl_tree.specs.Names.{same_name}
 use Rattle.aadl_tree.specs.proof.DeclarationViews.{subcomponent_view}
 use Rattle.aadl_tree.specs.proof.PlaceMaps.{kept_place}
-use Rattle.aadl_names.proofs.MatchesAndMemberTables.{next_first, last_first}
+use Rattle.aadl_names.proofs.FirstMatches.{next_first, last_first}
 use Rattle.aadl_names.proofs.package_names.sub_numbers.Goals as goal
 
 pub loop-number-preserved : goal.loop-number-preserved

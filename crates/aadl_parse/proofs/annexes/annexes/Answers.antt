@@ -1,11 +1,12 @@
 use Rattle.std.proofs.Common.{◌∙◌, ◌∷◌, [], refl, arith}
 use Rattle.aadl_grammar.specs.proof.ParserAnswers.{here}
-use Rattle.aadl_grammar.proofs.TopSymbolMoves.{omits_unless, enters_as, along, exits, no_reads}
+use Rattle.aadl_grammar.proofs.TopSymbolMoves.{omits_unless, enters_as}
+use Rattle.aadl_grammar.proofs.ParserFaults.{along, exits, no_reads}
 use Rattle.aadl_grammar.proofs.PartSequences.{pushed}
 use Rattle.aadl_tree.specs.Annexes.{annex_parts}
-use Rattle.aadl_tree.specs.proof.DeclarationViews.{annex_view}
+use Rattle.aadl_tree.specs.proof.AnnexViews.{annex_view}
 use Rattle.aadl_tree.specs.proof.PlaceMaps.{kept_place}
-use Rattle.aadl_parse.proofs.DeclarationStarts.{annex_begun}
+use Rattle.aadl_parse.proofs.AnnexProgress.{annex_begun}
 use Rattle.aadl_grammar.specs.proof.GrammarSymbols as s
 use Rattle.aadl_grammar.specs.proof.StackMachine.{move, depth}
 use Rattle.aadl_parse.proofs.annexes.annexes.Goals as goal

@@ -1,7 +1,7 @@
 use Rattle.std.proofs.Common.{◌≡◌, ℕ, ◌+◌, ◌∷◌, length, map}
 use Rattle.std.specs.Prelude.{flat_map}
 use Rattle.aadl_tree.specs.Annexes.{annex_parts}
-use Rattle.aadl_tree.specs.proof.DeclarationViews.{annex_view}
+use Rattle.aadl_tree.specs.proof.AnnexViews.{annex_view}
 use Rattle.aadl_tree.specs.proof.PlaceMaps.{kept_place}
 use Rattle.aadl_tree.specs.declared.nesting_limit.TheConstants.{GREATEST_NESTING}
 use Rattle.aadl_grammar.specs.proof.GrammarSymbols as s

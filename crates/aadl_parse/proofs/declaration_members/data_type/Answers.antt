@@ -1,6 +1,7 @@
 use Rattle.std.proofs.Common.{◌∙◌, [], refl, arith}
 use Rattle.aadl_grammar.specs.proof.ParserAnswers.{here}
-use Rattle.aadl_grammar.proofs.TopSymbolMoves.{omits_unless, enters_as, along, exits, no_reads}
+use Rattle.aadl_grammar.proofs.TopSymbolMoves.{omits_unless, enters_as}
+use Rattle.aadl_grammar.proofs.ParserFaults.{along, exits, no_reads}
 use Rattle.aadl_grammar.proofs.PartSequences.{nothing}
 use Rattle.aadl_grammar.proofs.ValueAndPropertyLists.{starts_at}
 use Rattle.aadl_grammar.specs.proof.GrammarSymbols as s

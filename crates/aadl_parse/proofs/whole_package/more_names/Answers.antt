@@ -5,7 +5,8 @@ use Rattle.aadl_tree.specs.proof.PlaceMaps.{kept_place}
 use Rattle.aadl_grammar.specs.proof.GrammarSymbols as s
 use Rattle.aadl_grammar.specs.proof.ParserAnswers.{AnyRoom}
 use Rattle.aadl_grammar.proofs.PartSequences.{begun}
-use Rattle.aadl_grammar.proofs.ListSymbols.{name_list, whole_list, same_answer, item_advances}
+use Rattle.aadl_grammar.proofs.ListSymbols.{name_list}
+use Rattle.aadl_grammar.proofs.ListAnswers.{whole_list, same_answer, item_advances}
 use Rattle.aadl_parse.proofs.whole_package.more_names.Goals as goal
 
 pub followers-requires-clause-advances : goal.followers-requires-clause-advances

@@ -5,8 +5,7 @@ use Rattle.aadl_tree.specs.proof.ValueViews.{value_view, association_view, assoc
 use Rattle.aadl_tree.specs.proof.PlaceMaps.{no_place}
 use Rattle.aadl_tree.specs.SpellingParts.{plain}
 use Rattle.aadl_tree.specs.declared.mark.Mark.TheVariants as k
-use Rattle.aadl_tree.proofs.ValueViews.{view-List, view-Record, view-Reference, view-Classifier}
-use Rattle.aadl_tree.proofs.FieldViews.{view_out_association}
+use Rattle.aadl_tree.proofs.ValueViews.{view-List, view-Record, view-Reference, view-Classifier, view_out_association}
 use Rattle.aadl_print.proofs.PrintedParts.{printed_append, next_written, last_written, parted}
 use Rattle.aadl_print.proofs.values.+value.Goals as goal
 

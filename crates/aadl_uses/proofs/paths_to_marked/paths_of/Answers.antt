@@ -1,5 +1,5 @@
 use Rattle.std.proofs.Common.{◌+◌, ◌++◌, ◌∙◌, ap, arith, length, map, subst, sym}
-use Rattle.aadl_uses.specs.proof.MarkedPathCounts.{AreListed}
+use Rattle.aadl_uses.specs.proof.OrderedLists.{AreListed}
 use Rattle.aadl_uses.specs.ThreadsBelow.{path_before}
 use Rattle.aadl_uses.proofs.MarkedPathCounts.{Begun, listed_more, listed_same, all_listed, below_is}
 use Rattle.aadl_uses.specs.proof.PathTables.{paths_from}

@@ -1,5 +1,5 @@
 use Rattle.std.proofs.Common.{map}
-use Rattle.aadl_uses.specs.proof.MarkedPathCounts.{AreListed}
+use Rattle.aadl_uses.specs.proof.OrderedLists.{AreListed}
 use Rattle.aadl_uses.specs.ThreadsBelow.{path_before}
 use Rattle.aadl_uses.proofs.MarkedPathCounts.{Begun}
 use Rattle.aadl_uses.proofs.paths_to_marked.paths_of.Given as goal

@@ -1,5 +1,5 @@
 use Rattle.std.proofs.Common.{◌∙◌}
-use Rattle.analysis_texts.proofs.FaultAndReplicaTables.{filed_more}
+use Rattle.analysis_texts.proofs.RoundFaultTables.{filed_more}
 use Rattle.analysis_texts.proofs.faults_by_round.by_round.Goals as goal
 
 pub loop-fault-preserved : goal.loop-fault-preserved

@@ -1,5 +1,5 @@
 use Rattle.std.proofs.Common.{◌≡◌, [], map}
-use Rattle.pals_base.specs.StepSequences.{upwards}
+use Rattle.pals_base.specs.UpwardNumbers.{upwards}
 use Rattle.analysis_texts.specs.ReplicasAndRoundFaults.{faults_of}
 use Rattle.analysis_texts.proofs.faults_by_round.no_faults.Given as goal
 

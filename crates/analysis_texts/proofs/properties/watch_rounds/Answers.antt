@@ -7,7 +7,8 @@ use Rattle.pals_model.specs.RoundTexts.{text_of}
 use Rattle.pals_model.proofs.ShapeLaws.{length-values_at}
 use Rattle.run_monitor.specs.proof.SeveralMonitors.{HasWatched}
 use Rattle.run_monitor.specs.WatchText.{watched_lines, watched_rows}
-use Rattle.run_monitor.specs.FalseProperties.{history, violation, is_violated}
+use Rattle.run_monitor.specs.FalseProperties.{violation, is_violated}
+use Rattle.run_monitor.specs.FormulaSemantics.{history}
 use Rattle.analysis_texts.specs.MonitoredFormulas.{named, formulas}
 use Rattle.analysis_texts.proofs.WatchedRounds.{found_is, found_tells, found_within, rows_more, watched_whole}
 use Rattle.analysis_texts.proofs.properties.watch_rounds.Goals as goal

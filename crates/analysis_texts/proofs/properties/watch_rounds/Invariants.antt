@@ -2,7 +2,7 @@ use Rattle.std.proofs.Common.{◌≡◌, length}
 use Rattle.pals_model.specs.Composition.{comp}
 use Rattle.run_monitor.specs.proof.SeveralMonitors.{HasWatched}
 use Rattle.run_monitor.specs.WatchText.{watched_rows}
-use Rattle.run_monitor.specs.FalseProperties.{history}
+use Rattle.run_monitor.specs.FormulaSemantics.{history}
 use Rattle.analysis_texts.specs.MonitoredFormulas.{named, formulas}
 use Rattle.analysis_texts.proofs.properties.watch_rounds.Given as goal
 

@@ -1,5 +1,5 @@
 use Rattle.std.proofs.Common.{rules, ◌≡◌, ◌∙◌, ◌++◌, ◌-◌, codes, decimal, true, map, ap, sym, arith, append_assoc}
-use Rattle.pals_base.specs.StepSequences.{upwards}
+use Rattle.pals_base.specs.UpwardNumbers.{upwards}
 use Rattle.triple_vote.specs.VotedText.{replica_name}
 use Rattle.analysis_texts.specs.proof.ReplicaNamesAndLines.{names_of}
 use Rattle.analysis_texts.proofs.FaultAndReplicaTables.{name_more}

@@ -1,5 +1,5 @@
 use Rattle.std.proofs.Common.{◌≡◌, ◌-◌, map, true}
-use Rattle.pals_base.specs.StepSequences.{upwards}
+use Rattle.pals_base.specs.UpwardNumbers.{upwards}
 use Rattle.triple_vote.specs.VotedText.{replica_name}
 use Rattle.analysis_texts.proofs.replica_names.names_of.Given as goal
 

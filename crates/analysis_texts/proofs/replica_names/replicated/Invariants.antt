@@ -1,5 +1,5 @@
 use Rattle.std.proofs.Common.{◌≡◌, map, take}
-use Rattle.pals_base.specs.StepSequences.{upwards}
+use Rattle.pals_base.specs.UpwardNumbers.{upwards}
 use Rattle.analysis_fields.specs.ReplicasAndFaults.{is_among}
 use Rattle.analysis_texts.proofs.replica_names.replicated.Given as goal
 

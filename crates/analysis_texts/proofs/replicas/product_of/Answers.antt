@@ -1,7 +1,7 @@
 use Rattle.std.proofs.Common.{◌≡◌, ◌∙◌, List, length, map, sym, ap, ap₂}
 use Rattle.std.specs.Arc.{arc_value}
 use Rattle.std.proofs.lemmas.Result.{IfOk-weaker}
-use Rattle.pals_base.specs.StepSequences.{upwards}
+use Rattle.pals_base.specs.UpwardNumbers.{upwards}
 use Rattle.pals_base.proofs.UpwardNumbers.{length-map_upwards}
 use Rattle.pals_model.specs.declared.design.Component.{Component}
 use Rattle.pals_model.specs.declared.design.DesignParts.{DesignParts}

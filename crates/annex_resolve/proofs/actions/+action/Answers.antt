@@ -16,7 +16,7 @@ use Rattle.aadl_tree.specs.Actions.{actions, choose}
 use Rattle.aadl_tree.specs.proof.ActionViews.{action_view, actions_view, block_view, mores_view, elsifs_view}
 use Rattle.aadl_tree.specs.proof.ActionViews.{otherwise_of as listed_otherwise}
 use Rattle.aadl_tree.proofs.ActionViews.{view-Assign, view-Send, view-If, view-For, view-out-choice, view-out-loop}
-use Rattle.aadl_tree.proofs.FieldViews.{view-out-actions, view-out-block}
+use Rattle.aadl_tree.proofs.ActionViews.{view-out-actions, view-out-block}
 use Rattle.annex_resolve.specs.NamesAndFindings.{entry_named}
 use Rattle.annex_resolve.proofs.ResolvedActions.{assigned, sent, same_action, one_action, next_action, all_actions}
 use Rattle.annex_resolve.proofs.ResolvedActions.{no_actions, some_actions, same_block, branch_read, one_branch}

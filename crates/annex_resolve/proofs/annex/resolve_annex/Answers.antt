@@ -1,6 +1,6 @@
 use Rattle.std.proofs.Common.{◌∙◌}
 use Rattle.aadl_tree.specs.proof.PlaceMaps.{kept_place}
-use Rattle.aadl_tree.specs.proof.DeclarationViews.{annex_tree_view}
+use Rattle.aadl_tree.specs.proof.AnnexViews.{annex_tree_view}
 use Rattle.annex_resolve.proofs.AnnexFindings.{annex_found}
 use Rattle.annex_resolve.proofs.annex.resolve_annex.Goals as goal
 

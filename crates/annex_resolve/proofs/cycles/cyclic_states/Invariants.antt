@@ -1,5 +1,5 @@
 use Rattle.std.proofs.Common.{◌≡◌, map}
-use Rattle.pals_base.specs.StepSequences.{upwards}
+use Rattle.pals_base.specs.UpwardNumbers.{upwards}
 use Rattle.annex_resolve.specs.IncompleteStateCycles.{is_on_cycle}
 use Rattle.annex_resolve.specs.proof.ReachTables.{IsTable}
 use Rattle.annex_resolve.proofs.cycles.cyclic_states.Given as goal

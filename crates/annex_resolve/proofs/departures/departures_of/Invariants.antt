@@ -1,6 +1,6 @@
 use Rattle.std.proofs.Common.{◌≡◌, map, take}
 use Rattle.aadl_tree.specs.proof.PlaceMaps.{kept_place}
-use Rattle.aadl_tree.specs.proof.DeclarationViews.{transition_view}
+use Rattle.aadl_tree.specs.proof.AnnexViews.{transition_view}
 use Rattle.annex_resolve.specs.BehavioursAndFindings.{leg_of}
 use Rattle.annex_resolve.proofs.departures.departures_of.Given as goal
 

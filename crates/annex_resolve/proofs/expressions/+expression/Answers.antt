@@ -10,15 +10,14 @@ use Rattle.aadl_tree.specs.declared.expressions.Factor.TheViews.{out-Expression,
 use Rattle.aadl_tree.specs.proof.PlaceMaps.{kept_place}
 use Rattle.aadl_tree.specs.proof.ExpressionViews.{primary_view, factor_view, term_view, sum_view, relation_view}
 use Rattle.aadl_tree.proofs.ExpressionViews.{view-Whole, view-Truth, view-Group, view-Abs, view-Not, view-Plain}
-use Rattle.aadl_tree.proofs.ExpressionViews.{view-out-expression, view-out-sum, view-out-relation}
-use Rattle.aadl_tree.proofs.FieldViews.{view-out-term}
+use Rattle.aadl_tree.proofs.ExpressionViews.{view-out-expression, view-out-sum, view-out-relation, view-out-term}
 use Rattle.annex_resolve.proofs.SeveralOperands.{empty_by, some_by}
-use Rattle.annex_resolve.proofs.ResolvedTermsAndSums.{term_alone, term_several, sum_alone, sum_several, relation_alone}
-use Rattle.annex_resolve.proofs.ResolvedExpressions.{relation_compared, expression_alone, expression_several}
-use Rattle.annex_resolve.proofs.ResolvedExpressions.{factors_none, factors_next, of_factors, terms_none, terms_next}
-use Rattle.annex_resolve.proofs.ResolvedExpressions.{of_terms, relations_none, relations_next, of_relations}
-use Rattle.annex_resolve.proofs.ResolvedExpressions.{factor_absolute, factor_negated, factor_plain, primary_number}
-use Rattle.annex_resolve.proofs.ResolvedExpressions.{primary_truth, primary_group}
+use Rattle.annex_resolve.proofs.ResolvedTermsAndSums.{term_alone, term_several, sum_alone, sum_several}
+use Rattle.annex_resolve.proofs.ResolvedExpressions.{relation_alone, relation_compared, expression_alone}
+use Rattle.annex_resolve.proofs.ResolvedExpressions.{expression_several, factors_none, factors_next, of_factors}
+use Rattle.annex_resolve.proofs.ResolvedExpressions.{terms_none, terms_next, of_terms, relations_none, relations_next}
+use Rattle.annex_resolve.proofs.ResolvedExpressions.{of_relations, factor_absolute, factor_negated, factor_plain}
+use Rattle.annex_resolve.proofs.ResolvedExpressions.{primary_number, primary_truth, primary_group}
 use Rattle.annex_resolve.proofs.expressions.+expression.Goals as goal
 use Rattle.annex_resolve.proofs.expressions.+expression.Goals.{resolve_sum-else-is_none-via-then-is_none+else-is_empty}
 use Rattle.annex_resolve.proofs.expressions.+expression.Goals.{resolve_sum-else-is_none-via-else-is_none}

@@ -1,7 +1,7 @@
 use Rattle.std.proofs.Common.{◌≡◌, ◌++◌, ◌∷◌, map, take}
 use Rattle.aadl_tree.specs.proof.PlaceMaps.{kept_place}
 use Rattle.aadl_tree.specs.proof.NameViews.{identifier_view}
-use Rattle.aadl_tree.specs.proof.DeclarationViews.{state_view}
+use Rattle.aadl_tree.specs.proof.AnnexViews.{state_view}
 use Rattle.annex_resolve.specs.BehavioursAndFindings.{state_at}
 use Rattle.annex_resolve.proofs.states.add_states.Given as goal
 

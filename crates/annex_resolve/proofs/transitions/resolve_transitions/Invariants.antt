@@ -1,7 +1,7 @@
 use Rattle.std.proofs.Common.{◌≡◌, ◌++◌, map, take}
 use Rattle.aadl_tree.specs.proof.PlaceMaps.{kept_place}
 use Rattle.std.specs.Prelude.{flat_map}
-use Rattle.aadl_tree.specs.proof.DeclarationViews.{transition_view}
+use Rattle.aadl_tree.specs.proof.AnnexViews.{transition_view}
 use Rattle.annex_resolve.specs.BehavioursAndFindings.{edge_of, transition_findings}
 use Rattle.annex_resolve.proofs.transitions.resolve_transitions.Given as goal
 

@@ -1,4 +1,4 @@
-use Rattle.answer_laws.proofs.UniqueScenariosAndReports.{one_report}
+use Rattle.answer_laws.proofs.UniqueCheckReports.{one_report}
 use Rattle.answer_laws.proofs.bundles.one_report.Goals as goal
 
 pub returns : goal.returns

@@ -1,7 +1,8 @@
 use Rattle.std.proofs.Common.{◌<◌}
 use Rattle.pals_top.specs.AnalysisAnswers.{command_of}
 use Rattle.answer_laws.proofs.StatusCases.{done, without_text, without_design, without_scenario}
-use Rattle.answer_laws.proofs.AnswerStatuses.{has_tree, has_design, analysis_ways}
+use Rattle.answer_laws.proofs.AnswerStatuses.{analysis_ways}
+use Rattle.answer_laws.proofs.BundleContents.{has_tree, has_design}
 use Rattle.answer_laws.proofs.statuses.statuses_of_analyses.Goals as goal
 
 pub returns-clause-done : goal.returns-clause-done

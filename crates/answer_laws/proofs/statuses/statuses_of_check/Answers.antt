@@ -1,6 +1,7 @@
 use Rattle.std.proofs.Common.{◌≡◌}
 use Rattle.answer_laws.proofs.StatusCases.{zero_is_small, done, without_text, without_design}
-use Rattle.answer_laws.proofs.AnswerStatuses.{has_tree, check_ways}
+use Rattle.answer_laws.proofs.AnswerStatuses.{check_ways}
+use Rattle.answer_laws.proofs.BundleContents.{has_tree}
 use Rattle.answer_laws.proofs.statuses.statuses_of_check.Goals as goal
 
 pub returns-clause-done : goal.returns-clause-done

@@ -1,7 +1,8 @@
 use Rattle.std.proofs.Common.{◌∙◌, ◌∷◌, [], ◌++◌, ap, sym, refl, arith}
 use Rattle.aadl_grammar.specs.proof.ParserAnswers.{here}
 use Rattle.aadl_grammar.proofs.TopSymbolMoves.{takes_row, deep_row, omits_unless, refuses_unless, begins_as}
-use Rattle.aadl_grammar.proofs.TopSymbolMoves.{before_closer, misses_at, along, exits, no_reads, too_deep, only_takes}
+use Rattle.aadl_grammar.proofs.TopSymbolMoves.{before_closer, misses_at, only_takes}
+use Rattle.aadl_grammar.proofs.ParserFaults.{along, exits, no_reads, too_deep}
 use Rattle.aadl_grammar.proofs.PartSequences.{nothing, then, marked, respelled, shorter, placed_at}
 use Rattle.std.specs.Prelude.{Some, None}
 use Rattle.std.proofs.lemmas.List.{append-nil}

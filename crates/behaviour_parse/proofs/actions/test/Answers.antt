@@ -1,6 +1,7 @@
 use Rattle.std.proofs.Common.{◌∙◌, ◌∷◌, ap, sym, refl, arith}
 use Rattle.aadl_grammar.specs.proof.ParserAnswers.{here}
-use Rattle.aadl_grammar.proofs.TopSymbolMoves.{takes_row, deep_row, refuses_unless, along, exits, no_reads, too_deep}
+use Rattle.aadl_grammar.proofs.TopSymbolMoves.{takes_row, deep_row, refuses_unless}
+use Rattle.aadl_grammar.proofs.ParserFaults.{along, exits, no_reads, too_deep}
 use Rattle.aadl_grammar.proofs.PartSequences.{nothing, then, marked}
 use Rattle.aadl_tree.specs.declared.mark.Mark.TheVariants as k
 use Rattle.aadl_grammar.specs.proof.GrammarSymbols as s

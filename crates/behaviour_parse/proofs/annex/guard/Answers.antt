@@ -1,7 +1,7 @@
 use Rattle.std.proofs.Common.{◌∙◌, ◌∷◌, [], refl, arith}
 use Rattle.aadl_grammar.specs.proof.ParserAnswers.{here}
-use Rattle.aadl_grammar.proofs.TopSymbolMoves.{takes_row, omits_unless, before_closer, misses_at, along, exits}
-use Rattle.aadl_grammar.proofs.TopSymbolMoves.{no_reads, only_takes}
+use Rattle.aadl_grammar.proofs.TopSymbolMoves.{takes_row, omits_unless, before_closer, misses_at, only_takes}
+use Rattle.aadl_grammar.proofs.ParserFaults.{along, exits, no_reads}
 use Rattle.aadl_grammar.proofs.PartSequences.{nothing, then, marked}
 use Rattle.aadl_grammar.specs.proof.ParseTable.{on, rows}
 use Rattle.aadl_tree.specs.declared.mark.Mark.TheVariants as k

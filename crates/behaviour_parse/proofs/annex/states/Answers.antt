@@ -1,11 +1,13 @@
 use Rattle.std.proofs.Common.{◌∙◌, ◌∷◌, [], refl, arith, rules, None}
 use Rattle.aadl_tree.specs.Annexes.{state_parts}
-use Rattle.aadl_tree.specs.proof.DeclarationViews.{state_view}
+use Rattle.aadl_tree.specs.proof.AnnexViews.{state_view}
 use Rattle.aadl_tree.specs.proof.PlaceMaps.{kept_place}
 use Rattle.aadl_grammar.specs.proof.ParserAnswers.{here, AnyRoom}
-use Rattle.aadl_grammar.proofs.TopSymbolMoves.{takes_row, omits_unless, along, exits, no_reads}
+use Rattle.aadl_grammar.proofs.TopSymbolMoves.{takes_row, omits_unless}
+use Rattle.aadl_grammar.proofs.ParserFaults.{along, exits, no_reads}
 use Rattle.aadl_grammar.proofs.PartSequences.{nothing, marked, begun}
-use Rattle.aadl_grammar.proofs.ListSymbols.{word_list, whole_list, same_answer, item_advances}
+use Rattle.aadl_grammar.proofs.ListSymbols.{word_list}
+use Rattle.aadl_grammar.proofs.ListAnswers.{whole_list, same_answer, item_advances}
 use Rattle.aadl_grammar.specs.proof.GrammarSymbols as s
 use Rattle.aadl_grammar.specs.proof.StackMachine.{move, depth}
 use Rattle.behaviour_parse.proofs.annex.states.Goals as goal

@@ -6,10 +6,11 @@ use Rattle.aadl_tree.specs.Actions.{block_parts}
 use Rattle.aadl_tree.specs.Annexes.{guard_parts, label_parts}
 use Rattle.aadl_tree.specs.proof.NameViews.{identifier_view}
 use Rattle.aadl_tree.specs.proof.ActionViews.{block_view}
-use Rattle.aadl_tree.specs.proof.DeclarationViews.{guard_view}
+use Rattle.aadl_tree.specs.proof.AnnexViews.{guard_view}
 use Rattle.aadl_tree.specs.proof.PlaceMaps.{kept_place}
 use Rattle.aadl_grammar.specs.proof.ParserAnswers.{here}
-use Rattle.aadl_grammar.proofs.TopSymbolMoves.{begins_as, along, exits, no_reads}
+use Rattle.aadl_grammar.proofs.TopSymbolMoves.{begins_as}
+use Rattle.aadl_grammar.proofs.ParserFaults.{along, exits, no_reads}
 use Rattle.aadl_grammar.proofs.PartSequences.{then, respelled}
 use Rattle.behaviour_parse.proofs.DeclarationStarts.{departed}
 use Rattle.aadl_tree.specs.declared.mark.Mark.TheVariants as k

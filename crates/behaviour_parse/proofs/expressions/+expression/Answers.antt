@@ -3,7 +3,8 @@ use mir.Val.{to_z, of_z, SFits}
 use Rattle.std.proofs.Common.{◌≡◌, ◌∙◌, ◌∷◌, [], ◌++◌, ap, sym, refl, arith, true, false, rules, to_z-of_z, Some, None}
 use Rattle.aadl_grammar.specs.proof.ParserAnswers.{here}
 use Rattle.aadl_grammar.proofs.TopSymbolMoves.{takes_row, deep_row, omits_unless, refuses_unless, begins_as}
-use Rattle.aadl_grammar.proofs.TopSymbolMoves.{begins_past, along, exits, no_reads, too_deep, a_word_at}
+use Rattle.aadl_grammar.proofs.TopSymbolMoves.{begins_past, a_word_at}
+use Rattle.aadl_grammar.proofs.ParserFaults.{along, exits, no_reads, too_deep}
 use Rattle.aadl_grammar.proofs.PartSequences.{nothing, then, marked, named, respelled, shorter, placed_at}
 use Rattle.aadl_tree.specs.SpellingParts.{token}
 use Rattle.aadl_tree.specs.Terminals.{whole}

@@ -2,7 +2,8 @@ use Rattle.std.proofs.Common.{◌≡◌, ◌∙◌, map, length, sym, ap, subst,
 use Rattle.std.proofs.Common.{of_z, w64}
 use Rattle.std.proofs.lemmas.Int.{ints, to_z-of_z}
 use mir.Val.{SFits}
-use Rattle.pals_base.specs.Actions.{Effect, act, acts, act_first, for_each, numbers}
+use Rattle.pals_base.specs.Actions.{Effect, act, acts, act_first, for_each}
+use Rattle.pals_base.specs.ForRanges.{numbers}
 use Rattle.pals_base.specs.SingleStep.{is_present}
 use Rattle.pals_base.specs.PlainTrees.{For}
 use Rattle.pals_base.specs.proof.TreeViews.{action_of, actions_along, branches_along}

@@ -3,7 +3,7 @@ use Rattle.std.proofs.lemmas.Grind.{common_steps}
 use Rattle.std.proofs.lemmas.Int.{to_z-of_z}
 use mir.Val.{SFits}
 use Rattle.pals_base.specs.SingleStep.{holding}
-use Rattle.behaviour_sem.proofs.TransitionsAndInputs.{holding-set}
+use Rattle.behaviour_sem.proofs.HeldInputs.{holding-set}
 use Rattle.behaviour_sem.proofs.step.hold.Goals as goal
 
 pub loop-at-preserved : goal.loop-at-preserved

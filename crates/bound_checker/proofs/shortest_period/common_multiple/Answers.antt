@@ -1,7 +1,8 @@
 use Rattle.std.proofs.Common.{◌+◌, ◌∷◌, [], ◌++◌, take, get_or, min, sym, subst}
 use Rattle.std.proofs.lemmas.List.{take_more}
 use Rattle.pals_base.specs.declared.limits.TheConstants.{HOUR}
-use Rattle.bound_checker.specs.proof.DivisorsAndMultiples.{HasMultiplesOf, IsLeastCommon}
+use Rattle.bound_checker.specs.proof.DivisorsAndMultiples.{IsLeastCommon}
+use Rattle.bound_checker.specs.proof.RateMultiples.{HasMultiplesOf}
 use Rattle.bound_checker.proofs.RateMultiples.{multiples_of_more}
 use Rattle.bound_checker.proofs.shortest_period.common_multiple.Goals as goal
 

@@ -8,7 +8,7 @@ use Rattle.pals_model.specs.RoundTexts.{line_end}
 use Rattle.pals_report.proofs.LinePerItem.{lines_turn, lines_all}
 use Rattle.code_listing.specs.Listings.{state_line}
 use Rattle.code_listing.specs.NumberRanges.{EntryFits}
-use Rattle.code_listing.proofs.AddedLines.{pair_within, pair_at, pairs_end, holds_turn, holds_all}
+use Rattle.code_listing.proofs.ZippedAndNumberedItems.{pair_within, pair_at, pairs_end, holds_turn, holds_all}
 use Rattle.code_listing.proofs.component.add_states.Goals as goal
 
 pub loop-state-preserved : goal.loop-state-preserved

@@ -2,7 +2,7 @@ use Rattle.pals_model.specs.RoundTexts.{line_end}
 use Rattle.pals_report.proofs.LinePerItem.{lines_turn}
 use Rattle.code_listing.specs.Listings.{variable_line}
 use Rattle.code_listing.specs.NumberRanges.{FirstFits}
-use Rattle.code_listing.proofs.AddedLines.{holds_turn}
+use Rattle.code_listing.proofs.ZippedAndNumberedItems.{holds_turn}
 use Rattle.code_listing.proofs.component.add_variables.Goals as goal
 
 pub loop-variable-preserved : goal.loop-variable-preserved

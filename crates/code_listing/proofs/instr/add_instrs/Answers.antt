@@ -5,7 +5,8 @@ use Rattle.pals_model.specs.RoundTexts.{line_end}
 use Rattle.pals_report.proofs.LinePerItem.{lines_turn, lines_all}
 use Rattle.code_listing.specs.Listings.{instr_line}
 use Rattle.code_listing.specs.NumberRanges.{InstrFits}
-use Rattle.code_listing.proofs.AddedLines.{numbered_within, numbered_at, numbered_end, holds_turn, holds_all}
+use Rattle.code_listing.proofs.ZippedAndNumberedItems.{numbered_within, numbered_at, numbered_end, holds_turn}
+use Rattle.code_listing.proofs.ZippedAndNumberedItems.{holds_all}
 use Rattle.code_listing.proofs.instr.add_instrs.Goals as goal
 
 pub loop-place-preserved : goal.loop-place-preserved

@@ -6,8 +6,8 @@ use Rattle.std.proofs.lemmas.List.{length_push}
 use Rattle.std.proofs.lemmas.Slice.Zip.{zip_turn, zip_end}
 use Rattle.code_listing.specs.Listings.{component_lines}
 use Rattle.code_listing.specs.NumberRanges.{NumbersFit}
-use Rattle.code_listing.proofs.AddedLines.{blocks_turn, blocks_all, pair_within, pair_at, pairs_end, holds_turn}
-use Rattle.code_listing.proofs.AddedLines.{holds_all}
+use Rattle.code_listing.proofs.AddedLines.{blocks_turn, blocks_all}
+use Rattle.code_listing.proofs.ZippedAndNumberedItems.{pair_within, pair_at, pairs_end, holds_turn, holds_all}
 use Rattle.code_listing.proofs.listing.add_components.Goals as goal
 
 pub loop-component-preserved : goal.loop-component-preserved

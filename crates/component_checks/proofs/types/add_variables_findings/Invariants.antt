@@ -1,6 +1,6 @@
 use Rattle.std.proofs.Common.{◌≡◌, ◌++◌, map, take}
 use Rattle.std.specs.Prelude.{flat_map}
-use Rattle.aadl_tree.specs.proof.DeclarationViews.{variable_view}
+use Rattle.aadl_tree.specs.proof.AnnexViews.{variable_view}
 use Rattle.aadl_tree.specs.proof.PlaceMaps.{kept_place}
 use Rattle.component_checks.specs.TypeFindings.{variable_findings}
 use Rattle.component_checks.proofs.types.add_variables_findings.Given as goal

@@ -3,7 +3,7 @@ use Rattle.std.specs.List.{enumerate_from}
 use Rattle.std.proofs.lemmas.List.{length-map}
 use Rattle.list_lemmas.proofs.ListOperations.{append_is_nil}
 use Rattle.annex_resolve.specs.declared.violation.TheConstants.{NO_INITIAL}
-use Rattle.annex_resolve.specs.NamesAndFindings.{found_if}
+use Rattle.annex_resolve.specs.FindingRecords.{found_if}
 use Rattle.annex_resolve.specs.BehavioursAndFindings.{declared, states_of, transitions_of, leg_of, behaviour_of}
 use Rattle.annex_resolve.specs.BehavioursAndFindings.{has_initial, transition_findings, rule_findings, state_rules}
 use Rattle.annex_resolve.specs.BehavioursAndFindings.{cycles_of}

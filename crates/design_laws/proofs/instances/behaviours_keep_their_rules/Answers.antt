@@ -1,4 +1,4 @@
-use Rattle.design_laws.proofs.ShownInstancesAndRules.{all_rules}
+use Rattle.design_laws.proofs.InstanceBehaviourRules.{all_rules}
 use Rattle.design_laws.proofs.instances.behaviours_keep_their_rules.Goals as goal
 
 pub returns : goal.returns

@@ -2,7 +2,7 @@ use Rattle.std.proofs.Common.{◌∙◌, sym, ap}
 use Rattle.std.specs.Prelude.{option_map}
 use Rattle.aadl_tree.specs.proof.PlaceMaps.{kept_place}
 use Rattle.aadl_tree.specs.proof.DeclarationViews.{connection_view}
-use Rattle.component_checks.specs.PeriodAndAdaptorFindings.{adaptor_named}
+use Rattle.component_checks.specs.AdaptorTexts.{adaptor_named}
 use Rattle.model_violations.specs.ConnectionsAndCarriers.{adaptor_text}
 use Rattle.model_violations.specs.ChainTargets.{end_name, end_kind, end_rate}
 use Rattle.model_violations.specs.proof.ThreadRates.{tree_of}

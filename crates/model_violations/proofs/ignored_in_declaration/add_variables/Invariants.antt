@@ -1,6 +1,6 @@
 use Rattle.std.proofs.Common.{◌≡◌, ◌++◌, map, take}
 use Rattle.std.specs.Prelude.{flat_map}
-use Rattle.aadl_tree.specs.proof.DeclarationViews.{variable_view}
+use Rattle.aadl_tree.specs.proof.AnnexViews.{variable_view}
 use Rattle.aadl_tree.specs.proof.PlaceMaps.{kept_place}
 use Rattle.model_violations.specs.IgnoredProperties.{variable_ignored}
 use Rattle.model_violations.proofs.ignored_in_declaration.add_variables.Given as goal

@@ -1,6 +1,6 @@
 use Rattle.std.proofs.Common.{◌∙◌, sym}
 use Rattle.aadl_tree.specs.proof.PlaceMaps.{kept_place}
-use Rattle.aadl_tree.specs.proof.DeclarationViews.{annex_view}
+use Rattle.aadl_tree.specs.proof.AnnexViews.{annex_view}
 use Rattle.aadl_names.specs.BehaviourAnnexes.{behaviour_in}
 use Rattle.model_violations.proofs.FilteredAndFirstItems.{first_here, first_later}
 use Rattle.model_violations.proofs.thread_behaviour.first_behaviour.Goals as goal

@@ -2,7 +2,8 @@ use Rattle.std.proofs.Common.{◌≡◌, ◌∙◌, ◌++◌, Some, map, sym, ap
 use Rattle.std.specs.Prelude.{slice_get}
 use Rattle.aadl_tree.specs.proof.PlaceMaps.{kept_place}
 use Rattle.aadl_tree.specs.proof.PackageViews.{placed}
-use Rattle.aadl_tree.specs.proof.DeclarationViews.{annex_tree_view, annex_view, implementation_view}
+use Rattle.aadl_tree.specs.proof.DeclarationViews.{implementation_view}
+use Rattle.aadl_tree.specs.proof.AnnexViews.{annex_tree_view, annex_view}
 use Rattle.aadl_names.specs.BehaviourAnnexes.{behaviours}
 use Rattle.annex_resolve.specs.BehavioursAndFindings.{behaviour_of, annex_findings}
 use Rattle.component_checks.specs.TypeFindings.{variables_findings}

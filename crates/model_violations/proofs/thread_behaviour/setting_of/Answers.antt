@@ -1,11 +1,11 @@
 use Rattle.std.proofs.Common.{◌≡◌, ◌∙◌, map, length, ap, arith}
 use Rattle.aadl_tree.specs.proof.PlaceMaps.{kept_place}
 use Rattle.aadl_tree.specs.proof.PackageViews.{placed}
-use Rattle.aadl_tree.specs.proof.DeclarationViews.{annex_tree_view, feature_view, implementation_view}
+use Rattle.aadl_tree.specs.proof.DeclarationViews.{feature_view, implementation_view}
+use Rattle.aadl_tree.specs.proof.AnnexViews.{annex_tree_view}
 use Rattle.aadl_names.specs.ReferenceResolution.{ports_at}
 use Rattle.model_violations.specs.PortsAndVariables.{ins_in, outs_in, variables_of, values_by, scope_by}
-use Rattle.model_violations.proofs.FilteredAndFirstItems.{ports_both}
-use Rattle.model_violations.proofs.PortAndVariableLists.{of_lists}
+use Rattle.model_violations.proofs.PortAndVariableLists.{ports_both, of_lists}
 use Rattle.model_violations.proofs.thread_behaviour.setting_of.Goals as goal
 
 pub setting_by-requires-clause-ins : goal.setting_by-requires-clause-ins

@@ -10,7 +10,7 @@ use Rattle.aadl_tree.specs.proof.ExpressionViews.{primary_view, factor_view, fac
 use Rattle.aadl_tree.specs.proof.ExpressionViews.{relation_view, relations_view}
 use Rattle.aadl_tree.specs.proof.PlaceMaps.{kept_place}
 use Rattle.aadl_tree.proofs.ExpressionViews.{view-Group, view-out-sum, view-out-relation, view-out-expression}
-use Rattle.aadl_tree.proofs.FieldViews.{view-out-term}
+use Rattle.aadl_tree.proofs.ExpressionViews.{view-out-term}
 use Rattle.aadl_names.specs.NameUsesInAnnexes.{factor_uses, factors_uses, term_uses, terms_uses, relation_uses}
 use Rattle.aadl_names.specs.NameUsesInAnnexes.{relations_uses}
 use Rattle.name_faults.specs.proof.BehaviourScopes.{known_by}

@@ -5,7 +5,7 @@ use Rattle.std.specs.List.{flat_map, enumerate_from}
 use Rattle.aadl_tree.specs.proof.PackageViews.{placed}
 use Rattle.aadl_tree.specs.proof.DeclarationViews.{declaration_view}
 use Rattle.aadl_tree.specs.proof.PlaceMaps.{kept_place}
-use Rattle.aadl_names.specs.FirstFaults.{wrong_if}
+use Rattle.aadl_names.specs.DuplicateNames.{wrong_if}
 use Rattle.aadl_names.specs.proof.FirstFaultSoFar.{found}
 use Rattle.aadl_names.specs.Spelling.{spelled_name}
 use Rattle.aadl_names.specs.PackageFaults.{declaration_faults, wrong_names}

@@ -1,5 +1,5 @@
 use Rattle.std.proofs.Common.{◌≡◌, map, drop}
-use Rattle.aadl_tree.specs.proof.DeclarationViews.{annex_view}
+use Rattle.aadl_tree.specs.proof.AnnexViews.{annex_view}
 use Rattle.aadl_tree.specs.proof.PlaceMaps.{kept_place}
 use Rattle.aadl_names.specs.BehaviourAnnexes.{behaviours, first_behaviour}
 use Rattle.name_faults.proofs.duplicates_by_space.first_behaviour.Given as goal

@@ -6,7 +6,7 @@ use Rattle.aadl_tree.specs.Names.{same_name}
 use Rattle.aadl_tree.specs.proof.PackageViews.{placed}
 use Rattle.aadl_tree.specs.proof.DeclarationViews.{implementation_view}
 use Rattle.aadl_tree.specs.proof.PlaceMaps.{kept_place}
-use Rattle.aadl_names.specs.FirstFaults.{wrong_if}
+use Rattle.aadl_names.specs.DuplicateNames.{wrong_if}
 use Rattle.aadl_names.specs.proof.FirstFaultSoFar.{found}
 use Rattle.aadl_names.specs.Spelling.{spelled_implementation}
 use Rattle.aadl_names.specs.ReferenceResolution.{type_numbered, type_of}

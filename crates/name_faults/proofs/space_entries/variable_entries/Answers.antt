@@ -1,9 +1,9 @@
 use Rattle.std.proofs.Common.{refl, map, ap, ◌∙◌}
 use Rattle.aadl_tree.specs.Names.{identifiers}
-use Rattle.aadl_tree.specs.proof.DeclarationViews.{variable_view}
+use Rattle.aadl_tree.specs.proof.AnnexViews.{variable_view}
 use Rattle.aadl_tree.specs.proof.PlaceMaps.{kept_place}
 use Rattle.std.specs.List.{flat_map}
-use Rattle.aadl_names.specs.Spelling.{entry_of}
+use Rattle.aadl_names.specs.DuplicateNames.{entry_of}
 use Rattle.aadl_names.proofs.GrowingLists.{next_added, last_added}
 use Rattle.std.proofs.lemmas.List.{map-append}
 use Rattle.name_faults.proofs.space_entries.variable_entries.Goals as goal

@@ -1,6 +1,6 @@
 use Rattle.std.proofs.Common.{◌≡◌, map, drop}
 use Rattle.std.specs.List.{flat_map}
-use Rattle.aadl_tree.specs.proof.DeclarationViews.{transition_view}
+use Rattle.aadl_tree.specs.proof.AnnexViews.{transition_view}
 use Rattle.aadl_tree.specs.proof.PlaceMaps.{kept_place}
 use Rattle.aadl_names.specs.proof.FirstFaultSoFar.{found}
 use Rattle.aadl_names.specs.PackageFaults.{transition_uses}

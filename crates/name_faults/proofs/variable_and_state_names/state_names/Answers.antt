@@ -4,7 +4,7 @@ use Rattle.std.specs.List.{flat_map}
 use Rattle.std.specs.Option.{option_or}
 use Rattle.std.proofs.lemmas.List.Folds.{list_any-append}
 use Rattle.aadl_tree.specs.declared.annex.StateDeclaration.{StateDeclaration}
-use Rattle.aadl_tree.specs.proof.DeclarationViews.{state_view}
+use Rattle.aadl_tree.specs.proof.AnnexViews.{state_view}
 use Rattle.aadl_tree.specs.proof.PlaceMaps.{kept_place}
 use Rattle.aadl_names.specs.PackageFaults.{is_among}
 use Rattle.name_faults.specs.proof.ConditionalValues.{value_if, is_marked}

@@ -2,7 +2,7 @@ use Rattle.std.proofs.Common.{◌≡◌, ℕ, List, map, drop}
 use Rattle.aadl_tree.specs.Names.{identifiers}
 use Rattle.std.specs.List.{flat_map}
 use Rattle.std.specs.Option.{option_or}
-use Rattle.aadl_tree.specs.proof.DeclarationViews.{state_view}
+use Rattle.aadl_tree.specs.proof.AnnexViews.{state_view}
 use Rattle.aadl_tree.specs.proof.PlaceMaps.{kept_place}
 use Rattle.aadl_names.specs.proof.NameTables.{value_of}
 use Rattle.aadl_names.specs.PackageFaults.{is_among}

@@ -1,5 +1,5 @@
 use Rattle.std.proofs.Common.{◌≡◌, ◌++◌, drop}
-use Rattle.pals_base.specs.StepSequences.{column}
+use Rattle.pals_base.specs.Tuples.{column}
 use Rattle.pals_base.proofs.tuples.column.Given as goal
 
 -- the places so far, and those of the tuples that are left

@@ -4,7 +4,7 @@ use Rattle.std.proofs.lemmas.List.Elements.{All-from_get_or}
 use Rattle.pals_base.specs.declared.limits.TheConstants.{PORTS}
 use Rattle.pals_base.specs.declared.values.LinkNo.{LinkNo}
 use Rattle.link_buffers.specs.proof.DueQueues.{QueueState}
-use Rattle.bus_machine.specs.States.{no_link}
+use Rattle.bus_machine.specs.Plans.{no_link}
 use Rattle.pals_bus.specs.proof.OutOfRangeDefaults.{no_link_no, no_queue}
 use Rattle.pals_bus.proofs.QueueChanges.{queues_reserved_one}
 use Rattle.pals_bus.proofs.flights.reserve_queues.Goals as goal

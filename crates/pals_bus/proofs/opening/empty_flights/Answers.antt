@@ -1,5 +1,5 @@
 use Rattle.pals_model.specs.declared.design.Link.{Link}
-use Rattle.bus_machine.specs.States.{no_link}
+use Rattle.bus_machine.specs.Plans.{no_link}
 use Rattle.pals_bus.specs.proof.OutOfRangeDefaults.{no_flight}
 use Rattle.pals_bus.proofs.Openings.{map_more}
 use Rattle.pals_bus.proofs.opening.empty_flights.Goals as goal

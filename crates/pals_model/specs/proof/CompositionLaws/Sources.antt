@@ -6,7 +6,8 @@ use Rattle.pals_base.specs.Adaptors.{adapt}
 use Rattle.pals_model.specs.declared.design.Link.{Link}
 use Rattle.pals_model.specs.declared.design.Feed.{Feed}
 use Rattle.pals_model.specs.declared.design.DesignParts.{DesignParts}
-use Rattle.pals_model.specs.ComponentInputs.{rate_of, root_of, link_goes_to, feed_goes_to, source_of, reading}
+use Rattle.pals_model.specs.ComponentInputs.{root_of, link_goes_to, feed_goes_to, source_of, reading}
+use Rattle.pals_model.specs.PortKinds.{rate_of}
 use Rattle.pals_model.specs.DesignRules.{IsDesign}
 use Rattle.pals_model.specs.declared.port_sources.PortSource.TheVariants as source
 

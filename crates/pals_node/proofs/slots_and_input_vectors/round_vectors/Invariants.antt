@@ -1,7 +1,8 @@
 use Rattle.std.proofs.Common.{◌≡◌, List, map}
 use Rattle.std.specs.Prelude.{Option, zip}
 use Rattle.pals_base.specs.declared.values.PortValue.{PortValue}
-use Rattle.pals_base.specs.StepSequences.{column, upwards}
+use Rattle.pals_base.specs.Tuples.{column}
+use Rattle.pals_base.specs.UpwardNumbers.{upwards}
 use Rattle.bus_machine.specs.declared.plan.Input.{Input}
 use Rattle.bus_machine.specs.Nodes.{brought}
 use Rattle.pals_node.proofs.slots_and_input_vectors.round_vectors.Given as goal

@@ -1,5 +1,5 @@
 use Rattle.std.proofs.Common.{◌≡◌, length, take}
-use Rattle.pals_base.specs.StepSequences.{cut}
+use Rattle.pals_base.specs.Tuples.{cut}
 use Rattle.pals_node.proofs.written_tuples.write_cut.Given as goal
 
 -- the first places are written

@@ -1,5 +1,5 @@
 use Rattle.std.proofs.Common.{◌≡◌, ◌<◌, length, take, All}
-use Rattle.pals_base.specs.StepSequences.{with_places}
+use Rattle.pals_base.specs.Tuples.{with_places}
 use Rattle.pals_node.proofs.written_tuples.write_places.Given as goal
 
 -- the first tuples have their places

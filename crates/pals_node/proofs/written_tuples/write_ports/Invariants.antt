@@ -1,5 +1,5 @@
 use Rattle.std.proofs.Common.{◌≡◌, length, map, take, All, [], slice_index_or}
-use Rattle.pals_base.specs.StepSequences.{cut}
+use Rattle.pals_base.specs.Tuples.{cut}
 use Rattle.pals_node.proofs.written_tuples.write_ports.Given as goal
 
 -- the first tuples are written

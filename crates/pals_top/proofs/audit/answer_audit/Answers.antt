@@ -1,6 +1,6 @@
 use Rattle.std.proofs.Common.{rules, ◌≡◌}
 use Rattle.run_laws.specs.TraceVerdicts.{verdict}
-use Rattle.pals_top.specs.LooseWorlds.{run_of}
+use Rattle.pals_top.specs.BundleScenarios.{run_of}
 use Rattle.pals_top.proofs.Audits.{audited}
 use Rattle.pals_top.proofs.LooseWorlds.{rules_of}
 use Rattle.pals_top.proofs.audit.answer_audit.Goals as goal

@@ -1,6 +1,6 @@
 use Rattle.std.proofs.Common.{refl}
 use Rattle.std.specs.Fmt.{digits}
-use Rattle.step_compiler.specs.proof.BlockLengthsAndStarts.{compiled}
+use Rattle.step_compiler.specs.proof.CompiledCode.{compiled}
 use Rattle.round_budget.proofs.laws.turn_is_budgeted.Goals as goal
 
 pub returns : goal.returns

@@ -1,5 +1,5 @@
 use Rattle.std.proofs.Common.{◌≡◌, ◌++◌, map}
-use Rattle.pals_base.specs.StepSequences.{upwards}
+use Rattle.pals_base.specs.UpwardNumbers.{upwards}
 use Rattle.round_budget.specs.Budgets.{release_of}
 use Rattle.round_budget.specs.proof.ReleaseAndLineValues.{release_value}
 use Rattle.round_budget.proofs.releases.add_releases.Given as goal

@@ -4,7 +4,8 @@ use Rattle.std.specs.List.{AllByRecursion as Every}
 use Rattle.pals_base.specs.PeriodBound.{alarm}
 use Rattle.round_budget.specs.Budgets as budgets
 use Rattle.round_budget.specs.Budgets.{releases, in_order, serve, by_most, line_from, numbers}
-use Rattle.round_budget.specs.proof.ReleaseAndLineValues.{release_value, line_value, CanServe}
+use Rattle.round_budget.specs.proof.ReleaseAndLineValues.{release_value, line_value}
+use Rattle.round_budget.specs.proof.ServableReleases.{CanServe}
 use Rattle.round_budget.proofs.ServableReleases.{all_can_serve, all_of_values}
 use Rattle.round_budget.proofs.timetables.lines.Goals as goal
 

@@ -2,8 +2,9 @@ use Rattle.std.proofs.Common.{None, Some, length, pos, sym, subst, slice_index_o
 use Rattle.step_code.specs.declared.instr.Instr.TheVariants.{Push}
 use Rattle.step_code.specs.PathWeights.{onward}
 use Rattle.step_code.specs.proof.VerifierAnswers.{AreThere}
-use Rattle.step_code.proofs.ReachedHeights.{known_by, held_at, low_held, unreached_heights, unreached_clean}
-use Rattle.step_code.proofs.ReachedHeights.{passed_clean, passed_heights, passed_fault, known_there}
+use Rattle.step_code.proofs.ReachedHeights.{held_at, low_held, unreached_heights}
+use Rattle.step_code.proofs.CheckedPlaces.{known_by, unreached_clean, passed_clean, passed_heights, passed_fault}
+use Rattle.step_code.proofs.CheckedPlaces.{known_there}
 use Rattle.step_code.proofs.verifier.check_place.Goals as goal
 
 pub pass_on-requires-clause-low : goal.pass_on-requires-clause-low

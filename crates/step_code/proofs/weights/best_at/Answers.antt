@@ -5,7 +5,7 @@ use Rattle.step_code.specs.declared.instr.Instr.TheVariants.{Push}
 use Rattle.step_code.specs.PathWeights.{onward, greatest, weight_at}
 use Rattle.step_code.specs.proof.VerifierAnswers.{AreThere}
 use Rattle.step_code.specs.CappedWeights.{capped}
-use Rattle.step_code.proofs.ReachedHeights.{known_there}
+use Rattle.step_code.proofs.CheckedPlaces.{known_there}
 use Rattle.step_code.proofs.VerifiedPlaces.{verified_known}
 use Rattle.step_code.proofs.CappedWeights.{best_here}
 use Rattle.step_code.proofs.weights.best_at.Goals as goal

@@ -1,7 +1,7 @@
 use Rattle.std.proofs.Common.{◌≡◌, ◌∙◌, true, false, [], ◌∷◌, ◌++◌, sym, ap, append-nil}
 use Rattle.std.specs.Prelude.{slice_get, filter}
 use Rattle.pals_base.specs.SingleStep.{completes, is_complete}
-use Rattle.pals_base.specs.StepSequences.{upwards}
+use Rattle.pals_base.specs.UpwardNumbers.{upwards}
 use Rattle.step_compiler.proofs.NumbersFromZero.{filter_more}
 use Rattle.step_compiler.proofs.block_order.complete_states.Goals as goal
 use Rattle.step_compiler.proofs.block_order.complete_states.Goals.{then-is_complete+in_ok-push, else-is_complete}

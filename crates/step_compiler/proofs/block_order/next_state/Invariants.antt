@@ -1,6 +1,6 @@
 use Rattle.std.proofs.Common.{◌≡◌, ◌-◌, length}
 use Rattle.std.specs.Prelude.{find}
-use Rattle.pals_base.specs.StepSequences.{upwards}
+use Rattle.pals_base.specs.UpwardNumbers.{upwards}
 use Rattle.step_compiler.specs.proof.BlockOrder.{may_follow, next_state}
 use Rattle.step_compiler.proofs.block_order.next_state.Given as goal
 

@@ -6,7 +6,8 @@ use Rattle.step_code.specs.declared.instr.CodeParts.{CodeParts}
 use Rattle.step_compiler.specs.LaidOutCode.{states_of}
 use Rattle.step_compiler.specs.proof.BlockOrder.{block_order}
 use Rattle.step_compiler.specs.LoopDepths.{depth_edges}
-use Rattle.step_compiler.specs.proof.BlockLengthsAndStarts.{in_list, block_starts, compiled}
+use Rattle.step_compiler.specs.proof.BlockLengthsAndStarts.{in_list}
+use Rattle.step_compiler.specs.proof.CompiledCode.{block_starts, compiled}
 use Rattle.step_compiler.specs.BlockInstructions.{start_of, blocks_code, entry_of}
 use Rattle.step_compiler.proofs.BlockOrderCompleteness.{order_within}
 use Rattle.step_compiler.proofs.compiler.compiled.Goals as goal

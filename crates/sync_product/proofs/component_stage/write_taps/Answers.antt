@@ -2,8 +2,8 @@ use Rattle.std.proofs.Common.{◌≡◌, ◌∙◌, ℕ, List, ap, sym, length, 
 use Rattle.std.proofs.lemmas.List.{length-map, get_or-map}
 use Rattle.list_lemmas.proofs.ListOperations.{filled_more}
 use Rattle.pals_base.specs.declared.values.PortValue.{PortValue}
-use Rattle.pals_base.specs.StepSequences.{column}
-use Rattle.pals_base.proofs.StepSequences.{cut_whole}
+use Rattle.pals_base.specs.Tuples.{column}
+use Rattle.pals_base.proofs.ColumnsAndCutTuples.{cut_whole}
 use Rattle.sync_product.proofs.SizePreservation.{same_sizes}
 use Rattle.sync_product.proofs.PortColumns.{length-column}
 use Rattle.sync_product.proofs.TupleLengths.{size_of_out, count_of_outs}

@@ -4,7 +4,7 @@ use Rattle.std.proofs.lemmas.Option.{slice_get-get_or}
 use Rattle.list_lemmas.proofs.ListOperations.{filled_more}
 use Rattle.pals_base.specs.declared.values.PortValue.{PortValue}
 use Rattle.pals_base.specs.PeriodBound.{sent_steps}
-use Rattle.pals_base.proofs.StepSequences.{length-cut}
+use Rattle.pals_base.proofs.ColumnsAndCutTuples.{length-cut}
 use Rattle.pals_model.specs.declared.design.Component.{Component}
 use Rattle.pals_model.specs.declared.design.Link.{Link}
 use Rattle.pals_model.specs.DesignRules.{IsLink}
@@ -15,7 +15,7 @@ use Rattle.sync_product.proofs.SizePreservation.{same_sizes}
 use Rattle.sync_product.proofs.ComponentLists.{count_of_sized, within_same}
 use Rattle.sync_product.proofs.LinkMessages.{sized_message, sent_item}
 use Rattle.sync_product.proofs.PortColumns.{length-column}
-use Rattle.pals_model.specs.ComponentInputs.{rate_of}
+use Rattle.pals_model.specs.PortKinds.{rate_of}
 use Rattle.sync_product.proofs.messages.send_all.Goals as goal
 
 pub write_port_tuple-requires : goal.write_port_tuple-requires

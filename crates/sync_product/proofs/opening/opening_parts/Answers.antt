@@ -8,7 +8,7 @@ use Rattle.pals_base.specs.declared.frames.Frame.{Frame}
 use Rattle.pals_model.specs.declared.design.Component.{Component}
 use Rattle.pals_model.specs.declared.part.Part.{Part}
 use Rattle.sync_product.specs.proof.ProductStates.{opening_part}
-use Rattle.sync_product.specs.proof.ProductSizes.{tap_ports}
+use Rattle.sync_product.specs.proof.ComponentWiring.{tap_ports}
 use Rattle.sync_product.proofs.ComponentLists.{entry_at, within_table, item_at}
 use Rattle.sync_product.proofs.opening.opening_parts.Goals as goal
 

@@ -1,7 +1,7 @@
 use Rattle.std.proofs.Common.{◌≡◌, ◌∙◌, ◌+◌, ap, sym, length, take, map, arith}
 use Rattle.std.proofs.lemmas.Grind.{common_steps}
 use Rattle.list_lemmas.proofs.ListOperations.{filled_more, filled_all}
-use Rattle.pals_base.specs.StepSequences.{column}
+use Rattle.pals_base.specs.Tuples.{column}
 use Rattle.sync_product.specs.proof.Rounds.{brought}
 use Rattle.sync_product.proofs.PortColumns.{column_of_map-at, length-column_of_map}
 use Rattle.sync_product.proofs.round_inputs.write_inputs.Goals as goal

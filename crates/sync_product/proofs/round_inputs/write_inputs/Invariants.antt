@@ -1,5 +1,5 @@
 use Rattle.std.proofs.Common.{◌≡◌, length, take, map}
-use Rattle.pals_base.specs.StepSequences.{column}
+use Rattle.pals_base.specs.Tuples.{column}
 use Rattle.sync_product.specs.proof.Rounds.{brought}
 use Rattle.sync_product.proofs.round_inputs.write_inputs.Given as goal
 

@@ -4,7 +4,7 @@ use Rattle.list_lemmas.proofs.ListOperations.{length-map_enumerate_from}
 use Rattle.pals_model.specs.declared.design.Component.{Component}
 use Rattle.pals_model.specs.DesignRules.{IsTap}
 use Rattle.pals_model.proofs.FirstMatches.{at_element}
-use Rattle.sync_product.specs.proof.ProductSizes.{tap_ports}
+use Rattle.sync_product.specs.proof.ComponentWiring.{tap_ports}
 use Rattle.sync_product.proofs.ComponentLists.{item_at}
 use Rattle.sync_product.proofs.TapPortTable.{table_from, no_taps, with_tap}
 use Rattle.sync_product.proofs.taps.all_taps.Goals as goal

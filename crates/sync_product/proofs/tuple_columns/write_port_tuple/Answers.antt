@@ -1,8 +1,8 @@
 use Rattle.std.proofs.Common.{◌≡◌, ◌∙◌, ◌+◌, nat_lt, ap, length, take, arith}
 use Rattle.std.proofs.lemmas.Grind.{common_steps}
 use Rattle.list_lemmas.proofs.ListOperations.{filled_more, filled_all}
-use Rattle.pals_base.specs.StepSequences.{column, cut}
-use Rattle.pals_base.proofs.StepSequences.{length-cut}
+use Rattle.pals_base.specs.Tuples.{column, cut}
+use Rattle.pals_base.proofs.ColumnsAndCutTuples.{length-cut}
 use Rattle.sync_product.specs.proof.Rounds.{place_before}
 use Rattle.sync_product.proofs.PortColumns.{cut_column-at, length-column}
 use Rattle.sync_product.proofs.tuple_columns.write_port_tuple.Goals as goal

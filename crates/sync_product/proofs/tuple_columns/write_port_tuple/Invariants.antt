@@ -1,5 +1,5 @@
 use Rattle.std.proofs.Common.{◌≡◌, length, take}
-use Rattle.pals_base.specs.StepSequences.{column, cut}
+use Rattle.pals_base.specs.Tuples.{column, cut}
 use Rattle.sync_product.proofs.tuple_columns.write_port_tuple.Given as goal
 
 -- the first places are written

@@ -1,7 +1,7 @@
 use Rattle.std.proofs.Common.{◌≡◌, ℕ, List, ◌∙◌, [], ◌∷◌, ◌++◌, length, map, ap, sym, subst, arith}
 use Rattle.std.proofs.lemmas.Grind.{common_steps}
 use Rattle.pals_model.specs.declared.design.Link.{Link}
-use Rattle.bus_machine.specs.States.{no_link}
+use Rattle.bus_machine.specs.Plans.{no_link}
 use Rattle.pals_bus.proofs.Openings.{map_more}
 use Rattle.pals_model.specs.Delays.{AreDelays}
 use Rattle.pals_model.specs.DesignRules.{IsGamma}

@@ -4,7 +4,7 @@ use Rattle.bus_machine.specs.NodeEvents.{is_waiting}
 use Rattle.bus_machine.specs.Machine.{Start}
 use Rattle.run_laws.specs.TraceRules.{alarm_at, falls}
 use Rattle.pals_node.specs.proof.Answers.{is_early, StartEnds}
-use Rattle.pals_bus.specs.proof.OpeningBusAndNodeValues.{node_value}
+use Rattle.pals_bus.specs.proof.NodeLists.{node_value}
 use Rattle.pals_bus.specs.proof.Answers.{BusStartEnds}
 use Rattle.trace_audit.proofs.BrokenRules.{early_breaks}
 use Rattle.trace_audit.proofs.StartRules.{started, misses}

@@ -8,7 +8,7 @@ use Rattle.bus_machine.specs.Plans.{plan_of}
 use Rattle.bus_machine.specs.States.{node_at}
 use Rattle.bus_machine.specs.Machine.{Send}
 use Rattle.pals_node.specs.proof.Answers.{is_early, SendEnds}
-use Rattle.pals_bus.specs.proof.OpeningBusAndNodeValues.{node_value}
+use Rattle.pals_bus.specs.proof.NodeLists.{node_value}
 use Rattle.pals_bus.specs.proof.Answers.{BusSendEnds}
 use Rattle.trace_audit.proofs.BrokenRules.{early_breaks}
 use Rattle.trace_audit.proofs.redone_events.send.Goals as goal

@@ -9,10 +9,10 @@ use Rattle.bus_machine.specs.Plans.{plan_of}
 use Rattle.bus_machine.specs.States.{node_at}
 use Rattle.bus_machine.specs.Machine.{Step}
 use Rattle.pals_node.specs.proof.Answers.{is_early, StepEnds}
-use Rattle.pals_bus.specs.proof.OpeningBusAndNodeValues.{node_value}
+use Rattle.pals_bus.specs.proof.NodeLists.{node_value}
 use Rattle.pals_bus.specs.proof.Answers.{BusStepEnds}
 use Rattle.trace_audit.proofs.BrokenRules.{early_breaks}
-use Rattle.trace_audit.proofs.OrderAndOwedStops.{next_is, step_fits}
+use Rattle.trace_audit.proofs.StepOrder.{next_is, step_fits}
 use Rattle.trace_audit.proofs.redone_events.step.Goals as goal
 
 pub returns-in-Err-Refused-NotYet-clause-rule : goal.returns-in-Err-Refused-NotYet-clause-rule

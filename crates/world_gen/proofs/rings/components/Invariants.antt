@@ -1,5 +1,5 @@
 use Rattle.std.proofs.Common.{◌≡◌, map}
-use Rattle.pals_base.specs.StepSequences.{upwards}
+use Rattle.pals_base.specs.UpwardNumbers.{upwards}
 use Rattle.world_gen.specs.Rings.{ring_component}
 use Rattle.world_gen.proofs.rings.components.Given as goal
 

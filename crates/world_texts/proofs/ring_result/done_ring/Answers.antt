@@ -6,7 +6,7 @@ use Rattle.pals_model.specs.ComponentInputs.{no_env}
 use Rattle.pals_runs.specs.declared.events_and_faults.Event.{Event}
 use Rattle.timed_world.specs.proof.WorldValues.{WorldValue, opening_value}
 use Rattle.timed_world.specs.proof.EventLists.{Leads}
-use Rattle.world_texts.proofs.RingSumsAndCodes.{all_done}
+use Rattle.world_texts.proofs.DoneRings.{all_done}
 use Rattle.world_texts.proofs.ring_result.done_ring.Goals as goal
 
 pub returns : goal.returns

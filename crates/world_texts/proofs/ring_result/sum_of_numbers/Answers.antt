@@ -1,7 +1,8 @@
 use Rattle.std.proofs.Common.{◌∙◌, sym, subst, rules, FitsSigned, w64}
 use Rattle.std.proofs.lemmas.Int.{to_z-of_z}
 use Rattle.world_gen.specs.Rings.{ring_number}
-use Rattle.world_texts.proofs.RingSumsAndCodes.{sum_first, sum_more, next_sum_fits, added}
+use Rattle.world_texts.proofs.RingSumsAndCodes.{sum_first, sum_more}
+use Rattle.world_texts.proofs.DoneRings.{next_sum_fits, added}
 use Rattle.world_texts.proofs.ring_result.sum_of_numbers.Goals as goal
 
 pub overflow_add-sum : goal.overflow_add-sum

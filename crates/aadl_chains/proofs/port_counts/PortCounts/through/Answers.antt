@@ -3,7 +3,8 @@ use Rattle.list_lemmas.proofs.Booleans.{opposed}
 use Rattle.aadl_tree.specs.proof.PackageViews.{placed}
 use Rattle.aadl_names.specs.declared.port_place.PortPlace.TheVariants.{Inner}
 use Rattle.aadl_chains.specs.proof.LimitedCounts.{IsNumber}
-use Rattle.aadl_chains.specs.proof.EnteredPortCounts.{Through, taken_by}
+use Rattle.aadl_chains.specs.proof.EnteredPortCountTables.{taken_by}
+use Rattle.aadl_chains.specs.proof.EnteredThreadPorts.{Through}
 use Rattle.aadl_chains.proofs.FirstIncomingConnections.{own_no_inner, none_no_inner}
 use Rattle.aadl_chains.proofs.PortCountTables.{through-number, through-second, through-none}
 use Rattle.aadl_chains.proofs.port_counts.PortCounts.through.Goals as goal

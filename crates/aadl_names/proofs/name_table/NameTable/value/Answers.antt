@@ -3,8 +3,7 @@ use Rattle.std.specs.Char.{is_ascii_uppercase}
 use Rattle.std.specs.List.{list_any}
 use Rattle.std.specs.Map.{lookup}
 use Rattle.std.specs.Str.{bytes_eq}
-use Rattle.aadl_names.specs.Spelling.{folded}
-use Rattle.aadl_names.specs.proof.NameTables.{value_of}
+use Rattle.aadl_names.specs.proof.NameTables.{folded, value_of}
 use Rattle.aadl_names.proofs.Lookups.{lookup_keys, own_key}
 use Rattle.aadl_names.proofs.name_table.NameTable.value.Goals as goal
 

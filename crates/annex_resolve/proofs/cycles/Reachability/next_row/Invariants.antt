@@ -1,5 +1,5 @@
 use Rattle.std.proofs.Common.{◌≡◌, ◌+◌, map}
-use Rattle.pals_base.specs.StepSequences.{upwards}
+use Rattle.pals_base.specs.UpwardNumbers.{upwards}
 use Rattle.annex_resolve.specs.IncompleteStateCycles.{reaches}
 use Rattle.annex_resolve.proofs.cycles.Reachability.next_row.Given as goal
 

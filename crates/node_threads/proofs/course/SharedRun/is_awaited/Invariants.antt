@@ -1,5 +1,5 @@
 use Rattle.std.proofs.Common.{ℕ, ◌<◌}
-use Rattle.bus_machine.specs.States.{link_at}
+use Rattle.bus_machine.specs.Plans.{link_at}
 use Rattle.node_threads.specs.proof.SharedCourses.{IsSentOn}
 use Rattle.node_threads.proofs.course.SharedRun.is_awaited.Given as goal
 

@@ -1,7 +1,7 @@
 use Rattle.std.proofs.Common.{◌≡◌, ◌-◌, length}
 use Rattle.std.specs.List.{list_all}
 use Rattle.pals_base.specs.BehaviourRules.{has_ways}
-use Rattle.pals_base.specs.StepSequences.{upwards}
+use Rattle.pals_base.specs.UpwardNumbers.{upwards}
 use Rattle.pals_base.proofs.behaviour.BehaviourParts.has_ways.Given as goal
 
 -- all have their ways exactly where those that are left do

@@ -1,6 +1,6 @@
 use Rattle.std.proofs.Common.{◌≡◌, length, map}
 use Rattle.pals_base.specs.proof.SettledStates.{settles}
-use Rattle.pals_base.specs.StepSequences.{upwards}
+use Rattle.pals_base.specs.UpwardNumbers.{upwards}
 use Rattle.pals_base.proofs.behaviour_rules.states.settled_states.Given as goal
 
 -- the marks after `_round` rounds

@@ -1,4 +1,4 @@
-use Rattle.pals_base.proofs.StepSequences.{length-columns, length-each_column, slice_get-columns}
+use Rattle.pals_base.proofs.ColumnsAndCutTuples.{length-columns, length-each_column, slice_get-columns}
 use Rattle.pals_base.proofs.laws.tuples.columns_follow_lists.Goals as goal
 
 pub returns-clause-count : goal.returns-clause-count

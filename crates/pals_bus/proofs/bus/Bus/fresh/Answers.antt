@@ -4,12 +4,12 @@ use Rattle.step_code.specs.declared.instr.CodeParts.{CodeParts}
 use Rattle.pals_model.specs.declared.design.DesignParts.{DesignParts}
 use Rattle.pals_model.specs.declared.delays.Delays.{Delays}
 use Rattle.pals_model.specs.Delays.{AreDelays}
-use Rattle.bus_machine.specs.States.{Run}
+use Rattle.bus_machine.specs.Runs.{Run}
 use Rattle.pals_node.specs.proof.NodeValues.{NodeValue, opening_value}
 use Rattle.pals_bus.specs.BusValues.{BusValue}
 use Rattle.pals_bus.specs.proof.BusInvariant.{value_of}
-use Rattle.pals_bus.specs.proof.OpeningNodes.{AreOpening}
-use Rattle.pals_bus.specs.proof.OpeningBusAndNodeValues.{AreCodes, codes_in, opening_bus}
+use Rattle.pals_bus.specs.proof.OpeningNodes.{AreOpening, opening_bus}
+use Rattle.pals_bus.specs.proof.OpeningBusAndNodeValues.{AreCodes, codes_in}
 use Rattle.pals_bus.proofs.NodeChanges.{codes_mean}
 use Rattle.pals_bus.proofs.Openings.{codes_open, nodes_anew, run_anew}
 use Rattle.pals_bus.proofs.bus.Bus.fresh.Goals as goal

@@ -5,7 +5,7 @@ use Rattle.std.specs.Vec.Iter.{into_iter_items}
 use Rattle.pals_base.specs.declared.limits.TheConstants.{HOUR}
 use Rattle.pals_model.specs.declared.flight_copy.FlightCopy.{FlightCopy}
 use Rattle.pals_model.specs.Delays.{delay_of}
-use Rattle.bus_machine.specs.States.{link_at}
+use Rattle.bus_machine.specs.Plans.{link_at}
 use Rattle.pals_bus.specs.declared.bus_fields.BusFields.{BusFields}
 use Rattle.pals_bus.specs.proof.OutOfRangeDefaults.{no_link_no, no_queue}
 use Rattle.pals_bus.specs.proof.LinksFrom.{no_numbers}

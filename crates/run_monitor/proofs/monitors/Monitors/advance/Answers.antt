@@ -2,7 +2,7 @@ use Rattle.std.proofs.Common.{◌≡◌, ◌∙◌, List, ap, sym, subst, not}
 use Rattle.std.specs.Prelude.{position}
 use Rattle.std.specs.Option.{option_or}
 use Rattle.run_monitor.specs.proof.FormBits.{row_of}
-use Rattle.run_monitor.specs.FalseProperties.{history}
+use Rattle.run_monitor.specs.FormulaSemantics.{history}
 use Rattle.run_monitor.specs.proof.MonitorState.{MonitorState, said}
 use Rattle.run_monitor.specs.proof.SeveralMonitors.{MonitorsState, HasWatched}
 use Rattle.run_monitor.proofs.HistoryGrowth.{history_has_rounds}

@@ -1,5 +1,6 @@
 use Rattle.std.proofs.Common.{◌≡◌, take, map}
-use Rattle.pals_base.specs.StepSequences.{columns, frame_after, outputs}
+use Rattle.pals_base.specs.StepSequences.{frame_after, outputs}
+use Rattle.pals_base.specs.Tuples.{columns}
 use Rattle.sync_product.specs.proof.Rounds.{brought}
 use Rattle.sync_product.specs.proof.ProductSizes.{frame_size, frame_size_of, stage_size}
 use Rattle.sync_product.proofs.component_stage.Stage.make_steps.Given as goal

@@ -6,7 +6,7 @@ use Rattle.pals_model.specs.declared.design.DesignParts.{DesignParts}
 use Rattle.pals_model.specs.DesignRules.{IsDesign}
 use Rattle.sync_product.specs.declared.round_inputs.RoundInputs.{RoundInputs}
 use Rattle.sync_product.specs.proof.ProductSizes.{part_size, part_size_of, part_sizes, stage_size, stage_sizes}
-use Rattle.sync_product.specs.proof.ProductSizes.{tap_ports}
+use Rattle.sync_product.specs.proof.ComponentWiring.{tap_ports}
 use Rattle.sync_product.specs.proof.Rounds.{frames_of, sent_by}
 use Rattle.sync_product.specs.proof.ProductStates.{ProductState, advanced}
 use Rattle.sync_product.proofs.ComponentLists.{count_of_sized}

@@ -4,7 +4,8 @@ use Rattle.std.specs.Arc.{arc_value}
 use Rattle.list_lemmas.proofs.ListOperations.{length-map_enumerate_from}
 use Rattle.pals_model.specs.declared.design.Component.{Component}
 use Rattle.sync_product.specs.proof.ProductStates.{ProductState}
-use Rattle.sync_product.specs.proof.ProductSizes.{part_size, part_size_of, part_sizes, tap_ports}
+use Rattle.sync_product.specs.proof.ProductSizes.{part_size, part_size_of, part_sizes}
+use Rattle.sync_product.specs.proof.ComponentWiring.{tap_ports}
 use Rattle.sync_product.proofs.ComponentLists.{count_of_sized}
 use Rattle.sync_product.proofs.product.Product.part.Goals as goal
 

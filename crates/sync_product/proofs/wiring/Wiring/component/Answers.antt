@@ -2,7 +2,7 @@ use Rattle.std.proofs.Common.{◌∙◌, ℕ, ◌<◌, ap, length, arith}
 use Rattle.list_lemmas.proofs.ElementPositions.{slice_get-map_enumerate}
 use Rattle.pals_model.specs.declared.design.Component.{Component}
 use Rattle.pals_model.specs.ComponentInputs.{sources_of}
-use Rattle.sync_product.specs.proof.ProductSizes.{tap_ports}
+use Rattle.sync_product.specs.proof.ComponentWiring.{tap_ports}
 use Rattle.sync_product.proofs.ComponentLists.{entry_at, item_at, within_table}
 use Rattle.sync_product.proofs.wiring.Wiring.component.Goals as goal
 

@@ -1,9 +1,10 @@
 use Rattle.std.proofs.Common.{◌≡◌, ℕ, ◌-◌, ap, sym, ◌∙◌, subst, arith}
 use Rattle.std.proofs.lemmas.Grind.{common_steps}
-use Rattle.bus_machine.specs.States.{node_at, link_at}
+use Rattle.bus_machine.specs.States.{node_at}
+use Rattle.bus_machine.specs.Plans.{link_at}
 use Rattle.timed_world.specs.proof.FlightFaults.{flying_past}
 use Rattle.timed_world.specs.proof.WorldValues.{WorldValue, KeepsWorld, world_of}
-use Rattle.timed_world.proofs.SingleCopiesInFlight.{first_is_past, first_is_not}
+use Rattle.timed_world.proofs.MessagesPastDeadline.{first_is_past, first_is_not}
 use Rattle.timed_world.proofs.world.World.link_past.Goals as goal
 
 pub returns-in-Some : goal.returns-in-Some

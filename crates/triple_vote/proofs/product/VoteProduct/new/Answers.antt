@@ -4,7 +4,8 @@ use Rattle.pals_base.specs.declared.values.PortValue.{PortValue}
 use Rattle.pals_base.specs.declared.values.PortValue.TheVariants.{Absent}
 use Rattle.pals_model.specs.declared.design.Tap.{Tap}
 use Rattle.pals_model.specs.declared.design.DesignParts.{DesignParts}
-use Rattle.pals_model.specs.ComponentInputs.{rate_of, all_sources}
+use Rattle.pals_model.specs.ComponentInputs.{all_sources}
+use Rattle.pals_model.specs.PortKinds.{rate_of}
 use Rattle.pals_model.specs.Composition.{opening}
 use Rattle.sync_product.specs.proof.ProductSizes.{stage_sizes}
 use Rattle.triple_vote.specs.proof.VotedStates.{voted_begun}

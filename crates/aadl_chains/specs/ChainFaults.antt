@@ -1,0 +1,35 @@
+-- Connections on no chain, and second ones into a port.
+use Rattle.std.specs.Prelude.{◌≡◌, ◌⊎◌, ◌≢◌, ℕ, List, Some, slice_get, Contains}
+use Rattle.aadl_tree.specs.Declarations.{Connection, PackageTree}
+use Rattle.aadl_names.specs.declared.fault.PackageFault.{PackageFault}
+use Rattle.aadl_names.specs.declared.fault.PackageFault.TheVariants.{DeadEnd, TwoSources}
+use Rattle.aadl_names.specs.ReferenceResolution.{implementation_at, connections_of}
+use Rattle.aadl_uses.specs.Uses.{standing, IsInUse}
+use Rattle.aadl_uses.specs.SecondConnections.{IsDuplicate}
+use Rattle.aadl_uses.specs.Wiring.{wires_at}
+use Rattle.aadl_chains.specs.Chains.{IsChain, Place, Port}
+
+-- a connection of an implementation in use that is on no chain, wherever it stands in the design
+pub record IsDeadEnd (tree : PackageTree ℕ) (root : ℕ) (x : Connection ℕ) : Type 0 where
+  pub number : ℕ
+  pub connection : ℕ
+  pub used : IsInUse tree root number
+  pub is_connection : slice_get (connections_of (implementation_at tree number)) connection ≡ Some x
+  pub on_none : (chain : List Place) (from to : Port) (place : Place) → IsChain tree root chain from to
+      → Contains chain place
+      → standing tree root place.path ≡ Some number → place.connection ≢ connection
+
+
+-- a connection of an implementation in use into a port into which one goes that stands before it
+pub record IsSecondEnd (tree : PackageTree ℕ) (root : ℕ) (x : Connection ℕ) : Type 0 where
+  pub number : ℕ
+  pub connection : ℕ
+  pub used : IsInUse tree root number
+  pub is_connection : slice_get (connections_of (implementation_at tree number)) connection ≡ Some x
+  pub is_second : IsDuplicate (wires_at tree number) connection
+
+
+abbrev pub IsEndFault : PackageTree ℕ → ℕ → PackageFault → Type 0
+IsEndFault tree root fault =
+    ((x : Connection ℕ) × IsDeadEnd tree root x × (fault ≡ DeadEnd x.name.spelling x.name.at))
+    ⊎ ((x : Connection ℕ) × IsSecondEnd tree root x × (fault ≡ TwoSources x.name.spelling x.name.at))

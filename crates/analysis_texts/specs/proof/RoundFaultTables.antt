@@ -1,0 +1,8 @@
+-- The table of the faults of each round.
+use Rattle.std.specs.Prelude.{List, [], ◌∷◌, ◌++◌, slice_set, slice_index_or}
+use Rattle.pals_runs.specs.declared.vote_faults.VoteFault.{VoteFault}
+use Rattle.analysis_fields.specs.declared.replica_faults.RoundFault.{RoundFault}
+
+-- one more fault, behind those of its round, if a table of the first rounds has it
+abbrev pub filed : List (List VoteFault) → RoundFault → List (List VoteFault)
+filed table f = slice_set table f.round (slice_index_or table f.round [] ++ f.fault ∷ [])
